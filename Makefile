@@ -2,6 +2,8 @@
 # make try    answers the sample session in about two minutes, by a program that is not proved; SESSION=FILE has other
 #             commands, CLASSES=FILE the classes for them
 # make run    builds the program, proved, and answers the sample session
+# make front  builds the front, front/, as bin/metad-front; make front-needs installs the Debian packages that this needs, where
+#             it may, and otherwise says which
 # make test   proves everything from nothing, and runs every test
 # make tests  runs every test on bin/metad as it is; make rows, random, program, slice, memory, nests, spared,
 #             classes, clients, documents, machines, machines_files, hosting, scaling, measures, tools and test_install run those of tests/test_rows and so on
@@ -26,7 +28,7 @@ PYTHON_OF_TESTS = 3.11
 NEEDS = @CC="$(CC)" sh tools/needs.sh
 TRY = (make try answers a session in about two minutes, not proved)
 
-.PHONY: all try run test budget tests $(TESTS) test_install test_package libraries bench tables install uninstall dist deb clean
+.PHONY: all try run front front-needs test_front test budget needs_of_tests tests $(TESTS) test_install test_package libraries bench tables install uninstall dist deb clean
 
 all: bin/metad
 
@@ -46,10 +48,25 @@ try:
 run: bin/metad
 	bin/metad < $(CRATE)/stdin
 
+front: bin/metad-front
+
+bin/metad-front: tools/front.py $(shell find front -name target -prune -o -type f -print)
+	$(NEEDS) python3=$(PYTHON)
+	mkdir -p bin
+	python3 tools/front.py build
+
+# the tests beside the front's code
+test_front:
+	python3 tools/front.py test
+
+front-needs:
+	$(NEEDS) python3=$(PYTHON)
+	python3 tools/front.py needs
+
 test:
 	$(NEEDS) rt cc python3=$(PYTHON_OF_TESTS)
 	@echo "Proving everything and running every test takes an hour or more on four processors $(TRY)"
-	$(MAKE) --no-print-directory budget
+	$(MAKE) --no-print-directory budget front-needs
 	rt ci
 	mkdir -p bin
 	cp $(CRATE)/out/$(PROGRAM) bin/metad
@@ -59,17 +76,18 @@ budget:
 	$(NEEDS) python3=$(PYTHON)
 	python3 tools/budget.py .
 
-# all tests on bin/metad as it is, each with how many cases it has; the targets below it are those of tests/test_*
-tests: libraries
+# is looked at before anything is built for tests
+needs_of_tests:
 	$(NEEDS) python3=$(PYTHON_OF_TESTS)
+
+# all tests on bin/metad as it is, each with how many cases it has; the targets below it are those of tests/test_*
+tests: needs_of_tests libraries bin/metad-front test_front
 	python3 -m unittest -v
 
-$(TESTS): libraries
-	$(NEEDS) python3=$(PYTHON_OF_TESTS)
+$(TESTS): needs_of_tests libraries bin/metad-front
 	python3 -m unittest -v tests.test_$@
 
-test_install test_package:
-	$(NEEDS) python3=$(PYTHON_OF_TESTS)
+test_install test_package: needs_of_tests bin/metad-front
 	python3 -m unittest -v tests.$@
 
 libraries: bin/refuse_growth.so bin/early_signal.so
@@ -98,18 +116,20 @@ FOLDERS = $(filter-out ./,$(sort $(dir $(DOCUMENTS)))) clients examples
 CLIENT = python/metad
 OF_CLIENT = $(patsubst clients/%,%,$(wildcard clients/$(CLIENT)/*.py clients/$(CLIENT)/py.typed))
 # each is installed as metad-TOOL; what they are made of stands in these folders
-TOOLS = explain check shell front slice inspect
-PARTS = explaining checking shelling fronting slicing inspecting
+TOOLS = explain check shell slice inspect
+PARTS = explaining checking shelling slicing inspecting
 # what the inspector shows beside its code: its page, and the classes of a server without a class file
 PAGE = inspecting/page
 OF_PAGE = $(patsubst clients/%,%,$(wildcard clients/$(PAGE)/* clients/inspecting/*.json))
 OF_TOOLS = $(TOOLS) $(patsubst clients/%,%,$(wildcard $(PARTS:%=clients/%/*.py))) $(OF_PAGE)
 
-# takes bin/metad as it is
+# takes bin/metad and bin/metad-front as they are
 install:
 	@test -f bin/metad || { echo "bin/metad is not there yet: make builds it"; exit 1; }
+	@test -f bin/metad-front || { echo "bin/metad-front is not there yet: make front builds it"; exit 1; }
 	install -d "$(BIN)" "$(MAN)" "$(DOC)" "$(SHARE)"
 	install bin/metad "$(BIN)/metad"
+	install bin/metad-front "$(BIN)/metad-front"
 	install -m 644 man/metad.1 "$(MAN)/metad.1"
 	for it in $(DOCUMENTS); do install -D -m 644 "$$it" "$(DOC)/$$it" || exit; done
 	for it in $(OF_CLIENT); do install -D -m 644 "clients/$$it" "$(SHARE)/$$it" || exit; done
@@ -129,7 +149,7 @@ endif
 
 # takes away all that install puts there, what Python has left beside it, and the folders that hold nothing else
 uninstall:
-	rm -f "$(BIN)/metad" $(TOOLS:%="$(BIN)/metad-%") "$(MAN)/metad.1" $(if $(SITE),"$(DESTDIR)$(SITE)/metad")
+	rm -f "$(BIN)/metad" "$(BIN)/metad-front" $(TOOLS:%="$(BIN)/metad-%") "$(MAN)/metad.1" $(if $(SITE),"$(DESTDIR)$(SITE)/metad")
 	rm -f $(DOCUMENTS:%="$(DOC)/%") $(OF_CLIENT:%="$(SHARE)/%") $(OF_TOOLS:%="$(SHARE)/%")
 	rm -rf "$(SHARE)/$(CLIENT)/__pycache__" $(PARTS:%="$(SHARE)/%/__pycache__")
 	for it in $(FOLDERS:%="$(DOC)/%") "$(DOC)" "$(SHARE)/$(CLIENT)" "$(SHARE)/python" "$(SHARE)/$(PAGE)" $(PARTS:%="$(SHARE)/%") "$(SHARE)"; do \

@@ -6,17 +6,16 @@ import os
 import re
 import shutil
 import signal
+import socket
 import subprocess
 import sys
+import time
 from configparser import ConfigParser
 from contextlib import contextmanager
 from pathlib import Path
 
 from tests.test_clients import PYTHON
-from tests.test_clients.fronts import FRONT, NEW, PATIENCE, Client, FrontCases, Log, classes_in, reply
-
-from fronting.program import parser  # isort: skip
-from fronting.server import SECONDS_TO_END  # isort: skip
+from tests.test_clients.fronts import FRONT, NEW, PATIENCE, Client, FrontCases, Log, classes_in, front_help, parser, reply
 
 from .support.documents import version
 from .support.program import ROOT, SECONDS
@@ -30,7 +29,9 @@ EXPOSED = 3.0  # how much of 10 `systemd-analyze security` may find at most
 EXPOSURE = re.compile(r"Overall exposure level for \S+: ([0-9.]+)")
 CALLED = re.compile(r"^\d+ +(\w+)\(", re.MULTILINE)  # system calls that strace tells of
 OF_SOCKETS = re.compile(r"\bsocket(?:pair)?\((\w+)")
-HAS_WORKERS = "--workers" in parser().format_help()
+WATCHDOG_MICROSECONDS = 600_000  # in place of the 30 seconds of the units
+SECONDS_TO_END = 5  # which the front gives its server
+HAS_WORKERS = "--workers" in front_help()
 HELD = re.compile(r"^```\n((?:(?!```).*\n)*)```$", re.MULTILINE)  # blocks of a page that are not run
 
 
@@ -145,6 +146,33 @@ class Units(FrontCases):
         self.assertEqual(json.loads(lines[-2])["warning"], "E23")
         self.assertEqual(json.loads(lines[-1])["reply"], {"events": 100, "left": 20, "lost": 0, "mismatched": 0})
 
+    def test_notifies(self):
+        """Services that start a front expect it to say when it serves and, often enough, that it is not stuck. It does, and
+        one that is stopped says nothing for as long as systemd waits."""
+        for name in ("metad-front.service", "metad-front@.service"):
+            service = sections_of(SYSTEMD / name)["Service"]
+            self.assertEqual((service["Type"], service["WatchdogSec"], service["Restart"]), ("notify", "30", "on-failure"), name)
+        if shutil.which("systemd-socket-activate") is None:
+            self.skipTest("systemd-socket-activate is not on the path")
+        place = str(Path(self.room, "notify"))
+        with socket.socket(socket.AF_UNIX, socket.SOCK_DGRAM) as link:
+            link.bind(place)
+            link.settimeout(PATIENCE)
+            with self.activated({}, own=[f"NOTIFY_SOCKET={place}", f"WATCHDOG_USEC={WATCHDOG_MICROSECONDS}"]) as path, Client(path) as client:
+                said = link.recv(4_096).decode()
+                self.assertIn("READY=1", said.splitlines(), "what it says first")
+                self.assertEqual(json.loads(client.ask(NEW))["reply"], 1, "a client")
+                begun, count = time.monotonic(), 5
+                for _ in range(count):
+                    self.assertEqual(link.recv(4_096).decode().splitlines(), ["WATCHDOG=1"], "what it says then")
+                self.assertGreater(time.monotonic() - begun, (count - 2) * WATCHDOG_MICROSECONDS / 2e6, "it says so too often")
+                os.kill(self.activating.pid, signal.SIGSTOP)
+                link.settimeout(3 * WATCHDOG_MICROSECONDS / 1e6)
+                with self.assertRaises(TimeoutError, msg="where it is stopped"):
+                    while link.recv(4_096):
+                        pass
+                os.kill(self.activating.pid, signal.SIGCONT)
+
     def test_hardening(self):
         """All services are confined in the same way."""
         (first, *others) = ({it for it in path.read_text().partition(NO_MORE)[2].splitlines()} for path in SYSTEMD.glob("*.service"))
@@ -203,15 +231,17 @@ class Units(FrontCases):
                 process.terminate()
 
     @contextmanager
-    def activated(self, variables, before=()):
-        """The path of a socket that is passed to what the service starts, which these words are put before."""
+    def activated(self, variables, before=(), own=()):
+        """The path of a socket that is passed to what the service starts, which these words are put before, with these
+        variables of its own. `activating` becomes what is started."""
         path, log = Path(self.room, "socket"), Log(Path(self.room, "log"))
         _, *words = self.given(variables)
-        words = [*before, sys.executable, str(FRONT), *(self.program if it == PROGRAM else it for it in words)]
+        words = [*before, str(FRONT), *(self.program if it == PROGRAM else it for it in words)]
         path.unlink(missing_ok=True)
         with log.path.open("wb") as stderr:
-            given = ["systemd-socket-activate", "--listen", str(path), *words]
-            with subprocess.Popen(given, stderr=stderr, cwd=self.room) as process:
+            given = ["systemd-socket-activate", *(f"--setenv={it}" for it in own), "--listen", str(path), *words]
+            with subprocess.Popen(given, stderr=stderr, cwd=self.room) as self.activating:
+                process = self.activating
                 try:
                     self.wait_for(path, process)
                     yield path
@@ -299,7 +329,7 @@ class Cluster(FrontCases):
         commands = [self.front[it]["exec"]["command"] for it in ("readinessProbe", "livenessProbe")]
         for command in commands:
             self.assertNotEqual(self.probe(command, here), 0, "where there is no front")
-        given = [sys.executable, FRONT, *(self.program if it == "/usr/local/bin/metad" else it for it in words[1:])]
+        given = [FRONT, *(self.program if it == "/usr/local/bin/metad" else it for it in words[1:])]
         with subprocess.Popen(given, stderr=subprocess.DEVNULL) as process:
             try:
                 self.wait_for(path, process)
@@ -308,7 +338,7 @@ class Cluster(FrontCases):
                 os.kill(server, signal.SIGSTOP)
                 for command in commands:
                     with self.assertRaises(subprocess.TimeoutExpired, msg="where its server does not answer"):
-                        self.probe(command, here, seconds=1)
+                        self.probe(command, here, seconds=4)
                 os.kill(server, signal.SIGCONT)
             finally:
                 process.terminate()

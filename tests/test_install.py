@@ -17,10 +17,10 @@ from .support.program import ROOT, SECONDS, lay_out, make, run_shell
 SHARED = {"bin", "share", "share/man", "share/man/man1", "share/doc"}  # folders that are not the program's own
 DOC = "share/doc/metad"
 TOOLS = {
-    "explain": "explaining", "check": "checking", "shell": "shelling", "front": "fronting", "slice": "slicing", "inspect": "inspecting",
+    "explain": "explaining", "check": "checking", "shell": "shelling", "slice": "slicing", "inspect": "inspecting",
 }  # fmt: skip
 LINKS = {f"bin/metad-{tool}": f"share/metad/{tool}" for tool in TOOLS}
-PROGRAMS = {"bin/metad", *LINKS, *LINKS.values()}
+PROGRAMS = {"bin/metad", "bin/metad-front", *LINKS, *LINKS.values()}
 DOCUMENTS = ("README.md", "docs/PROTOCOL.md", "clients/python/README.md", "examples/traffic_light/session")
 CLIENT = "share/metad/python"
 ALWAYS = PROGRAMS | {"share/man/man1/metad.1", f"{CLIENT}/metad/__init__.py", *(f"{DOC}/{it}" for it in DOCUMENTS)}
@@ -43,7 +43,8 @@ def files_in(top):
 
 def wanted_files():
     """What is to be installed, each with the file that it is made of."""
-    made = {"bin/metad": ROOT / "bin" / "metad", "share/man/man1/metad.1": ROOT / "man" / "metad.1"}
+    made = {name: ROOT / name for name in ("bin/metad", "bin/metad-front")}
+    made |= {"share/man/man1/metad.1": ROOT / "man" / "metad.1"}
     for tool, parts in TOOLS.items():
         made |= {name: ROOT / "clients" / tool for name in (f"bin/metad-{tool}", f"share/metad/{tool}")}
         made |= {f"share/metad/{parts}/{path.name}": path for path in (ROOT / "clients" / parts).glob("*.py")}
@@ -148,7 +149,7 @@ class Install(Cases):
         own = {**os.environ, "PYTHONPATH": str(link.parent)}
         words = ["python3", "-c", "import metad, metad.fronts; print(metad.fronts.front_words()[-1])"]
         ran = subprocess.run(words, capture_output=True, text=True, env=own, timeout=SECONDS)
-        self.assertEqual((ran.stdout, ran.stderr), (f"{stage}/usr/share/metad/front\n", ""), "the front that it finds")
+        self.assertEqual((ran.stdout, ran.stderr), (f"{stage}/usr/bin/metad-front\n", ""), "the front that it finds")
         for _ in range(2):
             ran = make("uninstall", f"DESTDIR={stage}", "PREFIX=/usr", f"SITE={site}")
             self.assertEqual((ran.returncode, ran.stderr), (0, ""), ran.stdout)

@@ -12,9 +12,8 @@ from pathlib import Path
 from tempfile import TemporaryDirectory
 
 from tests.test_clients import CLIENTS, PYTHON
-from tests.test_clients.fronts import NEW, STATUS, Client, error, reply
+from tests.test_clients.fronts import NEW, STATUS, Client, error, reply, front_help
 
-from fronting.program import parser  # isort: skip
 
 from .support.cases import ProgramCases
 from .support.lines import text_of
@@ -27,7 +26,7 @@ PORT, INNER_PORT, UP, DOWN = example.PORT, example.INNER_PORT, example.UP, examp
 NAMES = ("ann", "eve", "tom")  # which the page says to be on two, one and three
 CHILDREN = '{"do":"children"}'
 HEALTH_STATUS = '{"do":"status","session":"health"}'
-HAS_WORKERS = "--workers" in parser().format_help()
+HAS_WORKERS = "--workers" in front_help()
 RULE = re.compile(r'^echo "(.*)" \| socat', re.MULTILINE)
 SOURCES = [f"127.77.1.{number}" for number in range(1, 61)]
 

@@ -102,11 +102,12 @@ class Packages(Cases):
         self.check_use(top, top / "share/metad/python")
 
     def test_glibc(self):
-        """The oldest glibc is that of the newest symbol that the program asks for, and the README says it too."""
+        """The oldest glibc is that of the newest symbol that the programs ask for, and the README says it too."""
         path = self.made("dist", "once")
         with tarfile.open(path) as tar:
             about = tar.extractfile(f"metad-{version()[0]}-x86_64-linux/README").read().decode()
-        symbols = subprocess.run(["objdump", "-T", ROOT / "bin" / "metad"], capture_output=True, text=True, timeout=SECONDS).stdout
+        words = ["objdump", "-T", *(ROOT / "bin" / it for it in ("metad", "metad-front"))]
+        symbols = subprocess.run(words, capture_output=True, text=True, timeout=SECONDS).stdout
         asked = [tuple(map(int, it.split("."))) for it in re.findall(r"\bGLIBC_([0-9.]+)", symbols)]
         self.assertTrue(asked, "the program asks for nothing of glibc")
         wanted = ".".join(map(str, max(asked)))

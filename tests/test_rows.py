@@ -4,6 +4,7 @@ import re
 import shutil
 import unittest
 from dataclasses import dataclass
+from pathlib import Path
 from subprocess import CompletedProcess
 from tempfile import TemporaryDirectory
 
@@ -15,11 +16,13 @@ from .support.documents import BLOCK, GIVEN, GUIDE, README, examples_of, line_nu
 from .support.pages import check_page
 from .support.program import ROOT, ROWS, Row, lay_out, rows_in, run_shell
 from .support.protocol import PROTOCOL
+from .test_clients.fronts import FRONT
 
 EXAMPLES = ROOT / "examples"
 CLIENTS = ROOT / "clients"
 PART_OR_RECIPE = re.compile(rf"^```(part \w+|console)\n{BLOCK}```$", re.MULTILINE)
 COMMAND = "$ "
+STARTED = re.compile(r"^(?:until |while |if |! )?(bin/[\w-]+)", re.MULTILINE)  # by a command of a recipe
 MAY_LACK = ("jq", "socat")
 
 
@@ -127,7 +130,13 @@ def lacking(block):
 
 def lay_out_guide(room, program):
     """Puts into a folder what the recipes of the guide find at the root of the repository."""
-    lay_out(room, {"bin/metad": program, "clients": CLIENTS, "examples": EXAMPLES})
+    lay_out(room, {"bin/metad": program, "bin/metad-front": FRONT, "clients": CLIENTS, "examples": EXAMPLES})
+
+
+def not_laid_out(room, commands):
+    """What a recipe starts of `bin` and does not find there, in words, or None. It might wait for that without an end."""
+    started = sorted(set(STARTED.findall("\n".join(commands))))
+    return next((f"it starts {it}, which is not there" for it in started if not Path(room, it).exists()), None)
 
 
 def recipe_fault(block, program):
@@ -140,6 +149,8 @@ def recipe_fault(block, program):
         return "it has no command"
     with TemporaryDirectory(prefix="metad-recipe-") as room:
         lay_out_guide(room, program)
+        if not_laid_out(room, commands):
+            return not_laid_out(room, commands)
         ran = run_shell("\n".join(["exec 2>&1", *commands]), room, LC_ALL="C", PYTHONDONTWRITEBYTECODE="1")
     fault = difference(wanted.encode(), ran.stdout + ran.stderr)
     return "\n".join([fault, "its commands:", *(f"    {COMMAND}{it}" for it in commands)]) if fault else None

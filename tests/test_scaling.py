@@ -12,9 +12,8 @@ from collections import defaultdict
 from pathlib import Path
 from tempfile import TemporaryDirectory
 
-from tests.test_clients.fronts import NEW, Client, FrontCases
+from tests.test_clients.fronts import NEW, Client, FrontCases, front_help, parser
 
-from fronting.program import parser  # isort: skip
 
 from .generators import mixed, signals
 from .plain.classes import Classes
@@ -32,7 +31,7 @@ COMMAND = re.compile(r"^```\n((?:(?!```).*\n)+)```$", re.MULTILINE)
 PING = '{"do":"invoke","object":1,"method":"ping()","args":[]}'
 PUBLISH = '{"do":"publish","object":1,"signal":"ping()","name":"bell"}'
 SPIN = '{"do":"spin"}'
-HAS_WORKERS = "--workers" in parser().format_help()
+HAS_WORKERS = "--workers" in front_help()
 ROUNDED = 0.05  # by how much a sum may differ from what is said, which is rounded
 
 

@@ -22,6 +22,7 @@ from typing import IO, Callable, Dict, List, Sequence, Tuple, cast
 
 ROOT = Path(__file__).resolve().parent.parent
 PROGRAM = ROOT / "bin" / "metad"
+FRONT = ROOT / "bin" / "metad-front"
 OF_MAKE = ("MAKEFLAGS", "MAKELEVEL", "MFLAGS")
 ELF = b"\x7fELF\x02\x01"  # how programs begin that are of 64 bits, the lowest byte first
 PROCESSOR, X86_64 = 18, 62  # where they say for which processor they are, and what is said of this one
@@ -98,6 +99,13 @@ def needs_of(program: Path) -> Tuple[List[str], str]:
     return re.findall(r"NEEDED\s+(\S+)", told), ".".join(map(str, max(versions, default=FIRST_GLIBC)))
 
 
+def needs_of_all() -> Tuple[List[str], str]:
+    """The libraries that the program and the front need, and the oldest glibc that has all that they ask for."""
+    libraries, versions = zip(*map(needs_of, (PROGRAM, FRONT)))
+    newest = max(versions, key=lambda it: tuple(map(int, it.split("."))))
+    return sorted({it for found in libraries for it in found}), newest
+
+
 def said_by(words: Sequence[object], **more: str) -> str:
     """What a program writes, which has to end well."""
     own = {key: value for key, value in os.environ.items() if key not in OF_MAKE}
@@ -114,6 +122,8 @@ def install(stage: Path, *words: str) -> None:
     """Installs into a folder, by the Makefile."""
     if not PROGRAM.is_file():
         raise Unable("bin/metad is not there yet: make builds it")
+    if not FRONT.is_file():
+        raise Unable("bin/metad-front is not there yet: make front builds it")
     said_by(["make", "-s", "-C", ROOT, "install", f"DESTDIR={stage}", *words])
 
 
@@ -143,7 +153,7 @@ def tarball(folder: Path) -> Path:
     with TemporaryDirectory(prefix="metad-package-") as room:
         top = Path(room, name)
         install(top, "PREFIX=")
-        (top / "README").write_text(ABOUT.format(version=version(), glibc=needs_of(PROGRAM)[1], python=OLDEST_PYTHON))
+        (top / "README").write_text(ABOUT.format(version=version(), glibc=needs_of_all()[1], python=OLDEST_PYTHON))
         (top / "SHA256SUMS").write_text(sums_of(top, "sha256"))
         settle(top, epoch())
         write_tarball(path, top)
@@ -198,7 +208,7 @@ def describe(top: Path) -> None:
 
 def depends() -> str:
     """The packages of Debian that the program and the tools need."""
-    libraries, glibc = needs_of(PROGRAM)
+    libraries, glibc = needs_of_all()
     named = [it.partition(".so")[0] + ".so" for it in libraries]
     unknown = [it for it in named if it not in PACKAGES]
     if unknown:

@@ -1,4 +1,4 @@
-"""The lines that metad writes, and what each of them means."""
+"""The lines that metad writes, and those that a front adds for a live session, and what each of them means."""
 
 from __future__ import annotations
 
@@ -137,9 +137,25 @@ class InError(Line):
         return f"{plain(self.property)} of object {self.object} is in error, {in_error(self.warning)}"
 
 
+@dataclass(frozen=True)
+class OfFront(Line):
+    """What came of a `spin` that a front has given by itself, for a live session. It answers no command of the client."""
+
+    front: str
+    reply: Any = None
+    error: str = ""
+
+    def said(self) -> str:
+        if self.error:
+            return f"the front's own spin is refused, {coded(self.error)}; events do not come by themselves any more"
+        return f"by the front's own spin: {replies.said_of_spin({}, self.reply)}"
+
+
 LINES: list[tuple[type[Line], dict[str, Holds]]] = [
     (Reply, {"reply": is_any, "session": is_text}),
     (Error, {"error": is_text, "session": is_text}),
+    (OfFront, {"front": lambda word: bool(word == "spin"), "reply": IS_SPIN, "session": is_text}),
+    (OfFront, {"error": is_text, "front": lambda word: bool(word == "spin"), "session": is_text}),
     (Call, {"args": is_list, "call": is_text, "object": is_number, "sender": is_whole, "session": is_text}),
     (Warned, {"object": is_number, "session": is_text, "warning": lambda code: is_text(code) and code != NO_TURNS}),
     (Warned, {"session": is_text, "warning": lambda code: bool(code == NO_TURNS)}),

@@ -8,7 +8,7 @@ from typing import Callable, Iterator, Union
 from .commands import Command
 from .drawing import MARKS
 from .knowledge import Knowledge
-from .lines import NO_SESSION, Error, Line, line_of
+from .lines import NO_SESSION, Error, Line, OfFront, line_of
 from .refusing import further
 from .words import Misfit, counted, plain
 
@@ -29,6 +29,9 @@ class Telling:
     def tell(self, raw: bytes) -> None:
         """Says a line and what it means."""
         line = line_of(raw)
+        if isinstance(line, OfFront):
+            self.say(raw.rstrip(b"\n"))
+            return self.mean(f"session {plain(line.session)}: {line.said()}")
         if line is not None and self.commands and self.command is None:
             self.begin()
         self.say(raw.rstrip(b"\n"))

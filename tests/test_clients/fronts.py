@@ -1,6 +1,9 @@
 """How tests start servers and fronts, and clients that talk with a front by lines as they are."""
 
+import argparse
 import json
+import os
+import re
 import socket
 import subprocess
 import sys
@@ -11,11 +14,12 @@ from tempfile import TemporaryDirectory
 
 from tests.support.cases import ProgramCases
 from tests.support.lines import text_of
-from tests.support.program import SECONDS
+from tests.support.program import ROOT, SECONDS
 
 from . import CLIENTS
 
-FRONT = CLIENTS / "front"
+FRONT = Path(os.environ.get("METAD_FRONT") or ROOT / "bin" / "metad-front")  # the front that is tested
+PASSED = "-"  # stands for a socket that the front was passed
 PATIENCE = 30  # seconds in which a front has to listen, to answer and to end
 STATUS = '{"do":"status"}'
 NEW = '{"class":"Probe","do":"new"}'
@@ -88,7 +92,23 @@ class Client:
 
 def front_of(*words, **how):
     pipe = subprocess.PIPE
-    return subprocess.Popen([sys.executable, FRONT, *words], stdout=pipe, stderr=pipe, text=True, **how)
+    return subprocess.Popen([FRONT, *words], stdout=pipe, stderr=pipe, text=True, **how)
+
+
+def front_help():
+    """What the front says of its words."""
+    return subprocess.run([FRONT, "--help"], capture_output=True, text=True, timeout=PATIENCE, check=True).stdout
+
+
+def parser():
+    """Reads words as the front's help says that the front does."""
+    made = argparse.ArgumentParser(allow_abbrev=False)
+    for name, value in re.findall(r"^  (--[a-z-]+)(?: ([A-Z]+))?(?:  |$)", front_help(), re.MULTILINE):
+        made.add_argument(name, **({"type": int if value == "N" else str} if value else {"action": "store_true"}))
+    made.add_argument("socket")
+    made.add_argument("program")
+    made.add_argument("args", nargs=argparse.REMAINDER)
+    return made
 
 
 def listens(path):
@@ -151,7 +171,7 @@ class FrontCases(ClientCases):
         """The path of a front, and its process, whose log is `log`. At the end it is asked to end, and has to; where it
         is quiet, with nothing to say."""
         path, log = Path(self.room, "socket"), Log(Path(self.room, "log"))
-        given = [sys.executable, FRONT, *options, path, *(server or [self.program]), *words]
+        given = [FRONT, *options, path, *(server or [self.program]), *words]
         with log.path.open("wb") as stderr, subprocess.Popen(given, stdout=subprocess.PIPE, stderr=stderr) as process:
             process.log = log
             try:

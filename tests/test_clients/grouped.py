@@ -9,6 +9,7 @@ import threading
 import time
 from collections import defaultdict
 from contextlib import contextmanager
+from hashlib import blake2b
 from pathlib import Path
 
 from tests.generators import mixed, signals
@@ -233,6 +234,17 @@ class WorkerCases(FrontCases):
         wanted = runs.told_alone(self.program, clients.names)
         for name in sorted(wanted.keys() | clients.told.keys()):
             self.assertEqual(clients.told[name], wanted[name], f"what {name} is told")
+
+
+def worker_of(group, count):
+    """The worker that a group belongs to where there are so many, as the front's page says it, and without a ring."""
+
+    def point(text):
+        return int(blake2b(text.encode(), digest_size=8).hexdigest(), 16)
+
+    points = [(point(f"{number}/{at}"), number) for number in range(1, count + 1) for at in range(128)]
+    behind = [it for it in points if it[0] >= point(group)]
+    return min(behind or points)[1]
 
 
 def servers_of(process):

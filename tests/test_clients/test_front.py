@@ -1,4 +1,4 @@
-"""The front (clients/front): many clients at once, each compared with a server of its own, and clients that write rubbish,
+"""The front (front/): many clients at once, each compared with a server of its own, and clients that write rubbish,
 write without end, do not read or go away.
 
 What a client has to be told is taken from docs/PROTOCOL.md.
@@ -6,7 +6,6 @@ What a client has to be told is taken from docs/PROTOCOL.md.
 
 import json
 import os
-import random
 import re
 import select
 import subprocess
@@ -16,16 +15,16 @@ from concurrent.futures import ThreadPoolExecutor
 from pathlib import Path
 
 import metad
-from fronting.lines import with_session
 
 from tests.generators.sessions import CLASSES, life_of
 from tests.support.lines import text_of
 from tests.support.pages import check_page
 from tests.support.program import lay_out
 
+from . import CLIENTS as CLIENTS_FOLDER
 from .fronts import FRONT, NEW, PATIENCE, STATUS, Client, FrontCases, classes_in, error, front_of, reply
 
-PAGE = FRONT.parent / "fronting" / "README.md"
+PAGE = CLIENTS_FOLDER / "fronting" / "README.md"
 QUIET = 0.4
 CLIENTS = 50
 LINE_MOST = 65_536
@@ -78,22 +77,6 @@ RUBBISH = (
 )
 
 
-PIECES = (*'{}[],:"\\-e1 ', '"a"', '"session"', '"c1"', "tru", "true", "\\u00", "{}", '"session":"c1"', '{"a":1}')
-CHANCE_LINES = 30_000
-
-
-def read_strictly(line):
-    """Whether a line is JSON, and its value."""
-
-    def refuse(word):
-        raise ValueError(word)
-
-    try:
-        return True, json.loads(line, parse_constant=refuse)
-    except ValueError:
-        return False, None
-
-
 def ask_long(path):
     """Whether a client is told what it has to be where its lines and the answers are long."""
     text, count = "n" * TEXT_MOST, 10
@@ -131,7 +114,7 @@ class Page(FrontCases):
         monitor, control, desks = (Path(self.room, name) for name in ("metad.monitor", "metad.control", "desks.sock"))
         workers = ["--quiet", "--workers", "2", "--record", Path(self.room, "records"), "--control", control, desks, self.program]
         with self.front(options=("--quiet", "--share", "team", "--monitor", monitor)) as (path, _):
-            lay_out(self.room, {"metad.sock": path, "bin/metad": self.program, "clients/front": FRONT})
+            lay_out(self.room, {"metad.sock": path, "bin/metad": self.program, "bin/metad-front": FRONT})
             with front_of(*workers) as process:
                 try:
                     self.assertIn("listening", next(line for line in process.stderr if "control" not in line), "what it says")
@@ -142,10 +125,10 @@ class Page(FrontCases):
     def test_words(self):
         """The page tells of each option that there is, and its line of usage is that of the help."""
         page = PAGE.read_text()
-        shown = subprocess.run([sys.executable, FRONT, "--help"], capture_output=True, text=True, timeout=PATIENCE).stdout
+        shown = subprocess.run([FRONT, "--help"], capture_output=True, text=True, timeout=PATIENCE).stdout
         options = re.findall(r"^  (?:-h, )?(--\S+(?: [A-Z]+)?)  ", shown, re.MULTILINE)
         self.assertEqual(sorted(re.findall(r"^\| `(--.*?)` \|", page, re.MULTILINE)), sorted(options), "the options")
-        self.assertIn(shown.splitlines()[0].replace("usage: metad-front", "clients/front"), page.splitlines(), "the usage")
+        self.assertIn(shown.splitlines()[0].replace("usage: metad-front", "bin/metad-front"), page.splitlines(), "the usage")
 
 
 class Lines(FrontCases):
@@ -164,18 +147,6 @@ class Lines(FrontCases):
             self.assertEqual(client.hear(), NO_JSON, "a line that is no UTF-8")
             for line in ("{}", " { } ", '{"do":"jump"}', '{"session":5}', '{"do":"status","more":1}'):
                 self.assertEqual(client.ask(line), error("E02", name), f"the answer to {line}")
-
-    def test_naming(self):
-        """By chance: a line in which the front has named a session is JSON where it was before, and names that session."""
-        chance, objects = random.Random(1), 0
-        for _ in range(CHANCE_LINES):
-            line = "".join(chance.choices(PIECES, k=chance.randrange(9)))
-            line = chance.choice((line, f"{{{line}}}"))
-            is_json, value = read_strictly(line)
-            wanted = {**value, "session": "name"} if isinstance(value, dict) else value
-            objects += isinstance(value, dict)
-            self.assertEqual(read_strictly(with_session(line.encode(), "name")), (is_json, wanted), f"what {line} becomes")
-        self.assertGreater(objects, CHANCE_LINES / 100, "how many were objects")
 
     def test_longest(self):
         """What the front puts into a line counts: the longest line, and one that is longer by a byte."""
@@ -335,7 +306,7 @@ class Clients(FrontCases):
     def test_full(self):
         """A front that can have no more files takes no more clients until others go, and is quiet meanwhile."""
         path = Path(self.room, "socket")
-        words = ["sh", "-c", 'ulimit -n 32; exec "$@"', "sh", sys.executable, FRONT, "--quiet", path, self.program]
+        words = ["sh", "-c", 'ulimit -n 32; exec "$@"', "sh", FRONT, "--quiet", path, self.program]
         with subprocess.Popen(words, stderr=subprocess.PIPE, text=True) as process:
             try:
                 self.wait_for(path, process)

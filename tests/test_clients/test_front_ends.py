@@ -5,6 +5,7 @@ import os
 import signal
 import subprocess
 import sys
+import time
 from contextlib import contextmanager
 from pathlib import Path
 
@@ -15,6 +16,8 @@ from .fronts import FRONT, NEW, PATIENCE, STATUS, Client, FrontCases, front_of, 
 USAGE = "usage: metad-front [options] SOCKET PROGRAM [ARGS...]\n"
 HELLO = "metad-front: the server wrote no line of the protocol: b'hello'\n"
 REFUSED = "metad: class file refused: C01 at class 0\nmetad-front: the server has ended with status 1\n"
+CALL = '{"args":[],"call":"note()","object":1,"sender":0,"session":"c1"}'
+SECONDS_TO_END = 5 + 10 + 5  # of the server, of monitors that read, and for a busy machine
 TAKING_ITS_TIME = "import signal, time; signal.signal(signal.SIGTERM, signal.SIG_IGN); time.sleep(100)"
 
 
@@ -26,7 +29,9 @@ class Ends(FrontCases):
         """A front, a client of it that was answered, and the number of its server."""
         note = Path(self.room, "pid")
         path = Path(self.room, "socket")
-        process = front_of("--quiet", path, "sh", "-c", f'echo $$ > "{note}"; exec "{self.program}"')
+        # who runs these tests in the background may have them pass over interrupts
+        own = {"preexec_fn": lambda: signal.signal(signal.SIGINT, signal.SIG_DFL)}
+        process = front_of("--quiet", path, "sh", "-c", f'echo $$ > "{note}"; exec "{self.program}"', **own)
         try:
             self.wait_for(path, process)
             with Client(path) as client:
@@ -36,10 +41,10 @@ class Ends(FrontCases):
             process.kill()
             process.communicate()
 
-    def said(self, *words):
-        """What a front says that listened, and of its end."""
-        listening = f"metad-front: listening at {self.room}/socket\n"
-        return "".join([listening, *(f"metad-front: {it}\n" for it in words)])
+    def said(self, *words, before=0):
+        """What a front says that listened, and of its end; so many of the words before that."""
+        words = [*words[:before], f"listening at {self.room}/socket", *words[before:]]
+        return "".join(f"metad-front: {it}\n" for it in words)
 
     def test_server_ends(self):
         """The server's end ends the front, which says how, and its clients."""
@@ -89,7 +94,7 @@ class Ends(FrontCases):
     def test_hangup_passed_over(self):
         """A front that was started to pass over hangups, as by nohup, does."""
         path = Path(self.room, "socket")
-        words = ["sh", "-c", 'trap "" HUP; exec "$@"', "sh", sys.executable, FRONT, "--quiet", path, self.program]
+        words = ["sh", "-c", 'trap "" HUP; exec "$@"', "sh", FRONT, "--quiet", path, self.program]
         with subprocess.Popen(words, stderr=subprocess.DEVNULL) as process:
             try:
                 self.wait_for(path, process)
@@ -115,6 +120,34 @@ class Ends(FrontCases):
         finally:
             process.kill()
             process.communicate()
+
+    def test_asked_meanwhile(self):
+        """The front ends in its time whatever its clients and its server do: beside clients that flood it, do not read and do
+        not end their lines, and with a server that is stopped, that writes without an end, or that passes over SIGTERM."""
+        stopped = f'kill -STOP $$; exec "{self.program}"'
+        endless = f'trap "" TERM; read line; while :; do echo \'{CALL}\'; done'
+        for what, script in (("stopped", stopped), ("endless", endless), ("usual", f'exec "{self.program}"')):
+            with self.subTest(server=what):
+                path, monitor = Path(self.room, "socket"), Path(self.room, "monitor")
+                process = front_of("--quiet", "--monitor", monitor, path, "sh", "-c", script)
+                try:
+                    # nobody has connected before the first one, so its session is that of the calls
+                    self.assertEqual(process.stderr.readline() + process.stderr.readline(), self.said(f"monitors at {monitor}", before=1))
+                    with Client(path) as first, Client(path) as half, Client(path) as flood, Client(monitor):
+                        first.say(STATUS)
+                        half.link.sendall(60_000 * b"x")
+                        flood.link.setblocking(False)
+                        with self.assertRaises(BlockingIOError):
+                            while True:
+                                flood.link.send(1_000 * f"{STATUS}\n".encode())
+                        begun = time.monotonic()
+                        process.terminate()
+                        said = process.communicate(timeout=PATIENCE)
+                    self.assertEqual((process.returncode, *said), (0, "", ""), "its end")
+                    self.assertLess(time.monotonic() - begun, SECONDS_TO_END, "how long it takes")
+                finally:
+                    process.kill()
+                    process.communicate()
 
     def test_asked_early(self):
         """The front ends too where it is asked to right before it waits: the third time, when the connection by which
@@ -154,7 +187,7 @@ class Ends(FrontCases):
             (("--monitor",), None),
         ):
             with self.subTest(words=given):
-                ran = subprocess.run([sys.executable, FRONT, *given], capture_output=True, text=True, timeout=PATIENCE)
+                ran = subprocess.run([FRONT, *given], capture_output=True, text=True, timeout=PATIENCE)
                 self.assertEqual((ran.returncode, ran.stdout, path.exists()), (2, "", False), "its status")
                 self.assertTrue(ran.stderr.startswith(USAGE + "metad-front: error: "), ran.stderr)
                 self.assertNotIn("Traceback", ran.stderr, "what it says")
@@ -176,7 +209,7 @@ class Ends(FrontCases):
             (("--quiet", path, "echo", "hello"), self.said() + HELLO),
         ):
             with self.subTest(words=given):
-                ran = subprocess.run([sys.executable, FRONT, *given], capture_output=True, text=True, timeout=PATIENCE)
+                ran = subprocess.run([FRONT, *given], capture_output=True, text=True, timeout=PATIENCE)
                 self.assertEqual((ran.returncode, ran.stdout, path.exists()), (1, "", False), f"its status: {ran.stderr}")
                 self.assertNotIn("Traceback", ran.stderr, "what it says")
                 wanted_lines = sorted((wanted or ran.stderr).splitlines())
@@ -192,13 +225,13 @@ class Ends(FrontCases):
                 (("--quiet", "-h"), subprocess.PIPE, (0, "")),
                 (("--help",), full, (1, "metad-front: standard output cannot be written: No space left on device\n")),
             ):
-                run = [sys.executable, FRONT, *words]
+                run = [FRONT, *words]
                 ran = subprocess.run(run, stdout=where, stderr=subprocess.PIPE, text=True, timeout=PATIENCE)
                 self.assertEqual((ran.returncode, ran.stderr), wanted, f"the end of {words}")
                 self.assertTrue(where is full or ran.stdout.startswith(USAGE), "the help")
         reader, writer = os.pipe()
         os.close(reader)
-        ran = subprocess.run([sys.executable, FRONT, "--help"], stdout=writer, stderr=subprocess.PIPE, timeout=PATIENCE)
+        ran = subprocess.run([FRONT, "--help"], stdout=writer, stderr=subprocess.PIPE, timeout=PATIENCE)
         os.close(writer)
         self.assertEqual((ran.returncode, ran.stderr), (0, b""), "where nobody reads it")
 

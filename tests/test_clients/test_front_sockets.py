@@ -9,12 +9,9 @@ import sys
 from contextlib import contextmanager
 from pathlib import Path
 
-from fronting.program import parser
-from fronting.sockets import PASSED
-
 from tests.support.program import ROOT
 
-from .fronts import FRONT, NEW, PATIENCE, Client, FrontCases, Log, front_of, reply
+from .fronts import FRONT, NEW, PASSED, PATIENCE, Client, FrontCases, Log, front_of, parser, reply
 
 PASS = """
 import os, sys
@@ -41,7 +38,7 @@ class Sockets(FrontCases):
 
     def refused(self, *words, **how):
         """What is said by a front that ends with status 1."""
-        ran = subprocess.run([sys.executable, FRONT, *words], capture_output=True, text=True, timeout=PATIENCE, **how)
+        ran = subprocess.run([FRONT, *words], capture_output=True, text=True, timeout=PATIENCE, **how)
         self.assertEqual((ran.returncode, ran.stdout), (1, ""), ran.stderr)
         return ran.stderr
 
@@ -106,7 +103,7 @@ class Sockets(FrontCases):
     def test_taken_away(self):
         """A front that ends does not take away what stands at its path instead of its socket."""
         path, log = Path(self.room, "socket"), Log(Path(self.room, "log"))
-        with log.path.open("wb") as stderr, subprocess.Popen([sys.executable, FRONT, path, self.program], stderr=stderr) as process:
+        with log.path.open("wb") as stderr, subprocess.Popen([FRONT, path, self.program], stderr=stderr) as process:
             try:
                 log.wait_for(self, f"metad-front: listening at {path}", process)
                 path.unlink()
@@ -128,7 +125,7 @@ class Sockets(FrontCases):
     @contextmanager
     def passed(self, number, *words, pid="", count="1"):
         """A front to which a file is passed as systemd does it."""
-        given = [sys.executable, "-c", PASS, str(number), pid, count, sys.executable, str(FRONT), *words]
+        given = [sys.executable, "-c", PASS, str(number), pid, count, str(FRONT), *words]
         pipe = subprocess.PIPE
         with subprocess.Popen(given, stdout=pipe, stderr=pipe, text=True, pass_fds=[number, 3]) as process:
             try:

@@ -2,21 +2,17 @@
 
 import json
 import os
-import random
 import re
-import socket
 import stat
 import subprocess
 import sys
 import time
-from contextlib import contextmanager, suppress
+from contextlib import contextmanager
 from pathlib import Path
-
-from fronting.clients import PIECE, Unread
 
 from tests.support.lines import text_of
 
-from .fronts import FRONT, NEW, PATIENCE, STATUS, Client, ClientCases, FrontCases, classes_in, error, reply
+from .fronts import FRONT, NEW, PATIENCE, STATUS, Client, FrontCases, classes_in, error, reply
 
 TEXT = "n" * 4_096
 UNREAD_MOST = 16 * 1024 * 1024
@@ -84,7 +80,7 @@ class Logging(FrontCases):
     def test_nobody_reads(self):
         """Nobody waits for whoever reads what the front says: lines are left out, and then it is said how many."""
         path, (reader, writer) = Path(self.room, "socket"), os.pipe()
-        with subprocess.Popen([sys.executable, FRONT, path, self.program], stderr=writer) as process:
+        with subprocess.Popen([FRONT, path, self.program], stderr=writer) as process:
             os.close(writer)
             try:
                 self.wait_for(path, process)
@@ -233,36 +229,3 @@ class Monitors(FrontCases):
             told = slow.until_closed().decode().splitlines()
             self.assertEqual(told[:3], [reply(1, "c1"), reply(True, "c1"), line], "what it had been told")
             self.assertLess(len(told), count, "how much it is told")
-
-
-class UnreadTelling(ClientCases):
-    """What is kept of a client that reads slowly."""
-
-    def test_pieces(self):
-        """All that it is told comes in order, whatever the pieces are and however little is taken at once."""
-        chance, unread, told, came = random.Random(1), Unread(), bytearray(), bytearray()
-        one, other = socket.socketpair()
-        with one, other:
-            one.setblocking(False)
-            one.setsockopt(socket.SOL_SOCKET, socket.SO_SNDBUF, 4_096)
-            for _ in range(400):
-                piece = chance.randbytes(chance.choice((0, 1, 30, PIECE - 1, PIECE, 3 * PIECE)))
-                told += piece
-                unread += piece
-                with suppress(BlockingIOError):
-                    while unread and unread.send(one):
-                        pass
-                if len(told) - len(unread) > len(came):
-                    came += other.recv(chance.randrange(1, 2 * PIECE))
-                self.assertEqual(bool(unread), len(unread) > 0, "whether there is something")
-            while unread:
-                with suppress(BlockingIOError):
-                    unread.send(one)
-                came += other.recv(PIECE)
-            one.shutdown(socket.SHUT_WR)
-            came += other.makefile("rb").read()
-        self.assertEqual(len(unread), 0, "what is left")
-        self.assertEqual(came, told, "what came")
-        unread += b"left"
-        unread.clear()
-        self.assertEqual((len(unread), bool(unread)), (0, False), "what is left when it is forgotten")

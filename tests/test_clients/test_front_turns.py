@@ -1,12 +1,8 @@
-"""Whose command the server of a front is given next."""
+"""Whose command the server of a front is given next. The rule itself is tested beside its code, in front/src/turns.rs."""
 
 import json
-import random
 import time
 from pathlib import Path
-
-from fronting.clients import Client as Served
-from fronting.turns import CREDIT, TURN, UNDER_WAY_MOST, UNDER_WAY_OF_ONE, Turns
 
 from tests.support.lines import text_of
 
@@ -16,111 +12,8 @@ TEXT = "n" * 4_096
 CALLS = 100
 EAR = {"name": "Ear", "super": "QObject", "signals": ["told(QString)"], "slots": [{"sig": "hear(QString)", "body": []}]}
 TELL = text_of({"do": "invoke", "object": 1, "method": "told(QString)", "args": [TEXT]})
-LINE = b"x" * 20
 QUIET = 0.4
 WRONG = '{"front":"nothing"}'
-
-
-class Shares(FrontCases):
-    """What clients get of a server by their turns, without a server: each command is answered by as many bytes as is said
-    of its client."""
-
-    def setUp(self):
-        super().setUp()
-        self.turns = Turns()
-
-    def clients(self, count, lines):
-        """Clients that wait with so many lines each."""
-        clients = [Served(str(number), None) for number in range(count)]
-        self.turns.clients = count
-        for client in clients:
-            self.ask(client, lines)
-        return clients
-
-    def ask(self, client, lines):
-        client.waiting.extend([LINE] * lines)
-        self.turns.await_turn(client)
-
-    def give(self):
-        """Gives the server all that it may be given."""
-        while (client := self.turns.next()) is not None:
-            self.turns.give(client, client.waiting.popleft())
-            self.assertLessEqual(len(self.turns.under_way), UNDER_WAY_MOST, "commands under way")
-            self.assertLessEqual(client.under_way, UNDER_WAY_OF_ONE, "those of a client")
-            self.turns.await_turn(client)
-
-    def answer(self, length):
-        """Lets the server answer a command by so many bytes; whose it was."""
-        owner = self.turns.under_way[0].client
-        self.turns.tell(b"x" * length)
-        self.turns.answer()
-        self.turns.await_turn(owner)
-        return owner
-
-    def go_on(self, commands):
-        """Lets the server do so many commands, each answered by 40 bytes."""
-        for _ in range(commands):
-            self.give()
-            self.answer(40)
-
-    def served(self, lengths, commands):
-        """How many commands each client has had when the server has done so many."""
-        clients = self.clients(len(lengths), commands)
-        had = [0] * len(clients)
-        for _ in range(commands):
-            self.give()
-            number = int(self.turns.under_way[0].client.name)
-            self.answer(lengths[number])
-            had[number] += 1
-        return had
-
-    def test_equal(self):
-        """Equal clients have equal turns."""
-        had = self.served([40] * 10, 5_000)
-        self.assertLessEqual(max(had) - min(had), UNDER_WAY_MOST, f"how often each had its turn: {had}")
-
-    def test_bytes(self):
-        """Clients have equal parts in bytes, however much they ask for with each command."""
-        small, heavy, other = self.served([100, 1_000_000, 100], 30_000)
-        self.assertLessEqual(abs(small - other), UNDER_WAY_MOST, "two that ask for the same")
-        self.assertGreater(heavy, 5, "one that asks for much is not left out")
-        most = small * (100 + 512 + len(LINE)) + UNDER_WAY_OF_ONE * 1_000_000
-        self.assertLessEqual(heavy * 1_000_000, most, "what it had beside the others")
-
-    def test_alone(self):
-        """A client that has the server for itself may have as many commands under way as there may be, and fewer beside
-        others."""
-        (client,) = self.clients(1, 100)
-        while (given := self.turns.next()) is not None:
-            self.turns.give(given, given.waiting.popleft())
-            if client.expected > 40:
-                self.answer(40)
-            self.turns.await_turn(given)
-        self.assertEqual(client.under_way, UNDER_WAY_MOST, "alone")
-        while self.turns.under_way:
-            self.answer(40)
-        self.turns.clients = 2
-        self.give()
-        self.assertEqual(client.under_way, UNDER_WAY_OF_ONE, "beside another one")
-
-    def test_quiet(self):
-        """A client that was quiet goes before those that wait, however many they are, but saves up no turns."""
-        busy, quiet, chance = self.clients(50, 5_000), Served("quiet", None), random.Random(1)
-        self.go_on(2_000)
-        for number in range(1_000):
-            self.go_on(chance.randrange(60, 200))
-            self.ask(quiet, 1)
-            self.assertIs(self.turns.next(), quiet, f"whose turn it is the time {number}")
-            self.turns.give(quiet, quiet.waiting.popleft())
-            while quiet.under_way:
-                self.answer(40)
-        before = sum(len(client.waiting) for client in busy)
-        self.ask(quiet, 1_000)
-        while len(quiet.waiting) > 500:
-            self.go_on(1)
-        others = before - sum(len(client.waiting) for client in busy)
-        saved = (CREDIT + 2 * TURN) // (512 + len(LINE) + 40) + UNDER_WAY_OF_ONE + 1
-        self.assertGreaterEqual(others, 50 * (500 - saved) - UNDER_WAY_MOST, "what the others had meanwhile")
 
 
 class Beside(FrontCases):

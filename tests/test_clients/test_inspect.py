@@ -1,4 +1,4 @@
-"""The inspector behind a front (clients/inspecting, clients/fronting/inspector.py): who may look, what is known by lines, what
+"""The inspector behind a front (clients/inspecting, front/src/inspector.rs): who may look, what is known by lines, what
 is asked and written with leave, and that nobody waits for it."""
 
 import http.client
@@ -12,10 +12,6 @@ import sys
 import time
 from pathlib import Path
 
-from fronting.inspector import Inspector, LeftOut
-from fronting.log import Log
-from fronting.turns import Turns
-from fronting.watch import Watch
 from inspecting.feed import Asking, Feed
 from inspecting.serving import HEADERS
 
@@ -284,17 +280,6 @@ class Nobody(InspectCases):
             self.assertEqual(found["rows"][0]["objects"], [0, False])
             self.assertEqual(client.ask(CELL), reply(2, "c1"))
             asker.until(self, lambda it: it["commands"] > 3 and it["waiting"] == 0, "about")
-
-    def test_nothing_else(self):
-        """What was left out is said as soon as all before it is taken, though no other line comes."""
-        near, far = socket.socketpair()
-        with near, far:
-            inspector = Inspector(near, Watch(), Log(is_quiet=True), may_speak=False)
-            inspector.join(Turns(), lambda _name: None)
-            inspector.left_out = LeftOut(7, {"c1"})
-            inspector.settle()
-            far.settimeout(PATIENCE)
-            self.assertEqual(far.recv(4096), b'!{"left":7,"sessions":["c1"],"under_way":[]}\n')
 
     def test_killed(self):
         """One that is killed is done without."""

@@ -1,23 +1,18 @@
 """What the inspector keeps where lines were left out: nothing of sessions whose clients have gone."""
 
+import json
 import os
 import signal
-import socket
 
-from fronting.clients import Client as FrontClient
-from fronting.clients import Session
-from fronting.inspector import Inspector, LeftOut
-from fronting.log import Log
-from fronting.turns import Turns
-from fronting.watch import Watch
 from inspecting.feed import Asking, Feed
 from inspecting.world import DEPARTED_MOST
 
 from tests.support.lines import text_of
 
-from .fronts import PATIENCE, Client
+from .fronts import Client
 from .inspected import world_of
 from .inspectors import InspectCases
+from .stand_ins import StandInCases
 
 ROUNDS = 60
 EACH = 25  # sessions that come and go in each round
@@ -169,21 +164,6 @@ class Gaps(InspectCases):
             churn.do("a", do="leave", **where)
         self.assertEqual(churn.world.listeners, {"c1": {"a"}})
 
-    def test_front(self):
-        """The front does not name sessions whose clients have gone as those of which lines were left out."""
-        near, far = socket.socketpair()
-        with near, far:
-            inspector, turns = Inspector(near, Watch(), Log(is_quiet=True), may_speak=False), Turns()
-            sessions = {name: Session(name, is_shared=False) for name in ("c1", "c2")}
-            inspector.join(turns, sessions.get)
-            inspector.left_out = LeftOut()
-            for session in (*sessions.values(), Session("c3", is_shared=False)):
-                inspector.given(FrontClient(session.name, near, session=session), session, b"{}")
-            inspector.forget(sessions.pop("c2"))
-            inspector.settle()
-            far.settimeout(PATIENCE)
-            self.assertEqual(far.recv(4096), b'!{"gone":"c2"}\n!{"left":3,"sessions":["c1"],"under_way":[]}\n')
-
     def test_whole(self):
         """Behind a front, the sessions that are shown after a gap are those whose clients are there."""
         with self.shown() as (path, process, asker), Client(path) as stays:
@@ -209,3 +189,32 @@ class Gaps(InspectCases):
             asker.until(self, lambda it: it["left_out"] > 0 and not it["waiting"], "about")
             stays.ask('{"do":"status"}')
             asker.until(self, lambda it: [row["name"] for row in it["rows"]] == ["c1"], "sessions")
+
+
+class Told(StandInCases):
+    """What a front tells of lines that it has left out."""
+
+    def test_front(self):
+        """The front does not name sessions whose clients have gone as those of which lines were left out."""
+        text = text_of({"do": "set", "object": 1, "property": "tag", "value": LONG_TEXT})
+        new = '{"do":"new","class":"Cell"}'
+        with self.handed("--share", "team") as (path, _, _, page), Client(path) as stays, Client(path) as member:
+            member.ask('{"front":"share","session":"team"}')
+            goes = Client(path)
+            for it in (stays, goes):
+                it.ask(new)
+            for _ in range(40):  # the page's process reads nothing of it
+                stays.say(*[text] * 50)
+                for _ in range(50):
+                    stays.hear()
+            for it in (member, goes, stays):
+                it.ask(new)
+            goes.leave()
+            for _ in range(5):
+                with Client(path) as one:
+                    one.ask(new)
+            stays.ask(new)
+            *_, last = page.told(lambda line: line.startswith(b'!{"left"'))
+            told = json.loads(last[1:])
+            self.assertEqual(told["sessions"], ["c1", "team"])
+            self.assertGreater(told["left"], 10)

@@ -2,24 +2,20 @@
 
 import json
 import os
-import shutil
+import re
+import signal
 import socket
 import subprocess
-import sys
-from contextlib import contextmanager
+from contextlib import ExitStack, contextmanager
 from pathlib import Path
 
-from fronting.clients import Session
-from fronting.inspector import Inspector
-from fronting.log import Log
-from fronting.turns import Turns
-from fronting.watch import Watch
-from inspecting.allowed import LINE_MOST, READING, WRITING
+from explaining.held import LEVELS
+from inspecting.allowed import LINE_MOST, READING, WRITING, is_allowed, is_session, text_of, value_of
 
-from . import CLIENTS
-from .fronts import PATIENCE, Client, FrontCases, Log as FrontLog, reply
+from .fronts import PATIENCE, Client, reply
 from .hostile import SET, Hostile
 from .inspectors import InspectCases
+from .stand_ins import WRITES, StandInCases, given_in, refused_in
 
 SEED = int(os.environ.get("SEED", "1"))
 REQUESTS = 1_000
@@ -115,195 +111,199 @@ class Forged(InspectCases):
                 self.assertGreater(len(given), 2 * len(HELD) + 20, "some of the requests were allowed")
 
 
-class Said(Log):
-    """Keeps what is said."""
-
-    def __init__(self):
-        super().__init__(is_quiet=True)
-        self.words = []
-
-    def say(self, words):
-        self.words.append(words)
+NUMBERED = re.compile(rb"([1-9][0-9]{0,14})(?: .*)?", re.DOTALL)
+DROPPED = "metad-front: the inspector was dropped, since it sent a line that is no request, and nothing more is shown"
+NOT_ALLOWED = "metad-front: the inspector asked for a command that is not allowed, which is refused"
+EACH_OF = 8  # of so many random strings that are no requests one is written as it is
+GET_X = '{"do":"get","object":1,"property":"x"}'
 
 
-class Fed(InspectCases):
-    """The front's side of what the page's process writes to."""
+def requests_in(data):
+    """The lines that the front hears in some bytes: it passes over blank ones. None has about as many levels as JSON may have."""
+    return [line for line in data.split(b"\n") if line.strip(b" \t\r") and abs(line.count(b"[") - LEVELS) > 2]
 
-    def setUp(self):
-        super().setUp()
-        self.log, self.turns, self.killed = Said(), Turns(), 0
-        self.sessions = {name: Session(name, is_shared=False, is_begun=True) for name in ("c1", "c2", "team")}
 
-    def begin(self, may_write):
-        """An inspector, and the side of its process."""
-        near, far = socket.socketpair()
-        self.addCleanup(near.close)
-        self.addCleanup(far.close)
-        watch = Watch()
-        self.addCleanup(watch.selector.close)
-        inspector = Inspector(near, watch, self.log, may_speak=True, may_write=may_write)
-        inspector.when_closed = self.note_killed
-        inspector.join(self.turns, self.sessions.get)
-        inspector.push()
-        return inspector, far
+def is_request(line):
+    """Whether a line begins by a number, and is no longer than lines may be."""
+    return len(line) <= LINE_MOST and NUMBERED.fullmatch(line) is not None
 
-    def note_killed(self):
-        self.killed += 1
 
-    def feed(self, inspector, far, data):
-        """Writes bytes as the page's process, and has the front read them; answers the lines that the server is given."""
-        far.settimeout(PATIENCE)
-        for at in range(0, len(data), 10_000):
-            if not inspector.is_gone:
-                far.sendall(data[at : at + 10_000])
-                inspector.watch.wait(0)
-        while not inspector.is_gone and inspector.watch.selector.select(0) and inspector.link.recv(1, socket.MSG_PEEK):
-            inspector.watch.wait(0)
-        return list(self.given(inspector))
+def asked_in(line, may_write):
+    """The number of a request, and the command with its session, or None where it is to be refused."""
+    number, name, text = (line.split(b" ", 2) + [b"", b""])[:3]
+    try:
+        command = value_of(text) if is_session(name.decode()) and name in (b"c1", b"c2", b"team") else None
+        is_right = is_allowed(command, True, may_write) and text_of(command)
+    except ValueError:
+        is_right = False
+    return int(number), {**command, "session": name.decode()} if is_right else None
 
-    def given(self, inspector):
-        """What the server is given for the inspector, and answers at once."""
-        while speaker := self.turns.next():
-            session, line = speaker.take()
-            self.turns.give(speaker, line)
-            inspector.given(speaker, session, line)
-            self.turns.await_turn(speaker)
-            self.turns.answer()
-            yield session, line
 
-    def check(self, lines, words):
-        """All lines are commands of these words, for the sessions that they wait for."""
-        for session, line in lines:
-            self.assertNotIn(b"\n", line)
-            self.assertLessEqual(len(line), LINE_MOST)
-            command = json.loads(line)
-            self.assertEqual(command["session"], session.name, line)
-            self.assertIn(session.name, self.sessions)
-            self.assertIn(command["do"], words, line)
+class Fed(StandInCases):
+    """What a front does of which the page's process asks for anything at all."""
+
+    @contextmanager
+    def begun(self, *options):
+        """A front with two clients and a session that is shared, all of which have an object: its page, its log, one client,
+        and its record."""
+        record = Path(self.room, "record")
+        with ExitStack() as stack:
+            path, _, log, page = stack.enter_context(self.handed("--share", "team", "--record", str(record), *options))
+            clients = [stack.enter_context(Client(path)) for _ in range(3)]
+            clients[2].ask('{"front":"share","session":"team"}')
+            self.assertEqual([it.ask(CELL) for it in clients], [reply(1, name) for name in ("c1", "c2", "team")])
+            yield page, log, clients[0], record
+
+    def check_record(self, record, words):
+        """Beyond what the clients gave, the server was given only commands of these words, for sessions that are there."""
+        given = [json.loads(line) for line in record.read_bytes().splitlines()]
+        ends = {"reset"} if given[-1]["do"] == "reset" else set()  # where clients have gone
+        self.assertLessEqual({it["do"] for it in given[3:]}, {*words, *ends})
+        self.assertLessEqual({it["session"] for it in given}, {"c1", "c2", "team"})
+
+    def check_heard(self, page, lines, may_write):
+        """Of these requests those are done that are allowed, and the others are refused."""
+        asked = [asked_in(line, may_write) for line in lines]
+        page.say(b"\n".join(lines))
+        told = page.until_answered("c1", "c2", "team")
+        self.assertEqual(refused_in(told), [number for number, command in asked if command is None], lines)
+        given = given_in(told)
+        self.assertCountEqual(given, [it for it in asked if it[1] is not None], lines)
+        return len(given)
+
+    def feed(self, made, strings, may_write):
+        """Writes random strings to one front, up to one that it is dropped for; answers how many requests were done, and
+        whether it was dropped."""
+        count = 0
+        words = {*READING, *WRITING} if may_write else {*READING}
+        with self.begun("--inspect-write" if may_write else "--inspect-ask") as (page, log, client, record):
+            for lines in strings:
+                if all(map(is_request, lines)):
+                    count += self.check_heard(page, lines, may_write)
+                    continue
+                if made.randrange(EACH_OF):
+                    count += self.check_heard(page, [it for it in lines if is_request(it)], may_write)
+                    continue
+                page.say(b"\n".join(lines) + b"\n")
+                list(page.told())
+                log.wait_for(self, DROPPED)
+                self.assertTrue(page.has_ended(), "the process is ended")
+                self.assertIn('"session":"c1"', client.ask(GET_X))
+                self.check_record(record, {*words, "get"})
+                return count, True
+            self.check_record(record, words)
+            return count, False
 
     def test_random(self):
         """Of 1,000 random strings none ends the front, or has it give the server more than it may."""
         made, dropped, count = Hostile(SEED), 0, 0
-        for may_write, words in ((False, {*READING}), (True, {*READING, *WRITING})):
-            inspector, far = self.begin(may_write)
-            for _ in range(STRINGS // 2):
-                pieces = [made.line() for _ in range(made.randint(1, 3))]
-                data = b"\n".join(pieces) + (b"\n" if made.random() < 0.9 else b"")
-                lines = self.feed(inspector, far, data)
-                self.check(lines, words)
-                count += len(lines)
-                inspector.settle()
-                if inspector.is_gone:
-                    dropped += 1
-                    inspector, far = self.begin(may_write)
-                far.setblocking(False)
-                try:
-                    far.recv(1 << 20)
-                except BlockingIOError:
-                    pass
-        self.assertGreater(dropped, 50)
+        strings = (requests_in(b"\n".join(made.line() for _ in range(made.randint(1, 3)))) for _ in range(STRINGS))
+        for may_write in (False, True):
+            half = (next(strings) for _ in range(STRINGS // 2))
+            is_dropped = True
+            while is_dropped:
+                more, is_dropped = self.feed(made, half, may_write)
+                count, dropped = count + more, dropped + is_dropped
+        self.assertGreater(dropped, 25)
         self.assertGreater(count, 25)
-        self.assertEqual(self.killed, dropped)
-        self.assertEqual(inspector.held.bytes, 0)
 
     def test_refused(self):
         """What may not be asked for is refused by its number, and what is allowed beside it is done."""
-        for may_write, numbers, words in ((False, [1, 2, 3, 4, 5, 6, 7, 8], ["get"]), (True, [2, 3, 4, 5, 6, 7, 8], ["set", "get"])):
-            inspector, far = self.begin(may_write)
-            asked = (
-                SET, '{"do":"reset"}', '{"do":"get","session":"c2","object":1}', '{"do":["get"]}', '{"do":"set","value":NaN}',
-                '{"do":"get","object":%s}' % ("[" * 200 + "]" * 200), '{"do":"get","property":"\\ud800"}', '{"do":"get","do":"new","class":"Cell"}',
-            )  # fmt: skip
-            data = "".join(f"{at} c1 {it}\n" for at, it in enumerate(asked, 1)) + '9 c1 {"do":"get","object":1,"property":"x"}\n'
-            self.assertEqual([json.loads(line)["do"] for _, line in self.feed(inspector, far, data.encode())], words)
-            inspector.settle()
-            told = far.recv(1 << 20).splitlines()
-            self.assertEqual([it for line in told if line[:1] == b"!" for it in json.loads(line[1:])["refused"]], numbers)
-            self.assertEqual(self.log.words, ["the inspector asked for a command that is not allowed, which is refused"])
-            self.log.words.clear()
+        asked = (
+            SET, '{"do":"reset"}', '{"do":"get","session":"c2","object":1}', '{"do":["get"]}', '{"do":"set","value":NaN}',
+            '{"do":"get","object":%s}' % ("[" * 200 + "]" * 200), '{"do":"get","property":"\\ud800"}', '{"do":"get","do":"new","class":"Cell"}',
+        )  # fmt: skip
+        lines = "".join(f"{at} c1 {it}\n" for at, it in enumerate(asked, 1)) + f"9 c1 {GET_X}\n"
+        for option, numbers, words in (("--inspect-ask", [1, 2, 3, 4, 5, 6, 7, 8], ["get"]), ("--inspect-write", [2, 3, 4, 5, 6, 7, 8], ["set", "get"])):
+            with self.begun(option) as (page, log, client, _):
+                page.say(lines.encode())
+                told = page.until_answered("c1")
+                self.assertEqual([it["do"] for _, it in given_in(told)], words)
+                self.assertEqual(refused_in(told), numbers)
+                self.assertEqual(log.lines().count(NOT_ALLOWED), 1)
+                self.assertEqual(client.ask(GET_X), reply(77 if "set" in words else 0, "c1"))
 
     def test_not_begun(self):
         """A session that was given no command is not asked, so that it is not begun; nor is one that is not there."""
-        self.sessions["c2"].is_begun = False
-        inspector, far = self.begin(may_write=True)
-        self.assertEqual(self.feed(inspector, far, b'1 c2 {"do":"status"}\n2 c3 {"do":"status"}\n'), [])
-        inspector.settle()
-        self.assertEqual(far.recv(4_096), b'!{"refused":[1]}\n!{"refused":[2]}\n')
+        record = Path(self.room, "record")
+        with self.handed("--inspect-write", "--record", str(record)) as (path, _, _, page), Client(path) as client, Client(path):
+            client.ask(CELL)
+            page.say(b'1 c2 {"do":"status"}\n2 c3 {"do":"status"}\n')
+            told = page.until_answered("c1")
+            self.assertEqual((refused_in(told), given_in(told)), ([1, 2], []))
+            self.assertEqual({json.loads(line)["session"] for line in record.read_bytes().splitlines()}, {"c1"})
 
     def test_no_leave(self):
         """Without leave nothing is done."""
-        near, far = socket.socketpair()
-        with near, far:
-            inspector = Inspector(near, Watch(), self.log, may_speak=False)
-            inspector.join(self.turns, self.sessions.get)
-            self.assertEqual(self.feed(inspector, far, b'1 c1 {"do":"status"}\n2 c1 ' + SET.encode() + b"\n"), [])
+        with self.begun() as (page, _, client, record):
+            page.say(b'1 c1 {"do":"status"}\n2 c1 ' + SET.encode() + b"\n")
+            told = page.until_refused()
+            self.assertEqual((refused_in(told), given_in(told)), ([1, 2, 999_999_999_999_999], []))
+            self.assertEqual(client.ask(GET_X), reply(0, "c1"))
+            self.check_record(record, {"get"})
 
     def test_dropped(self):
-        """One that writes lines without a number is dropped, with what it has asked for, and the log says why."""
-        for line in (b"boom", b"-1 c1 {}", b"\xff\xfe", b"1" * 40 + b" c1 {}", b"x" * 200_000):
-            inspector, far = self.begin(may_write=False)
-            self.assertEqual(self.feed(inspector, far, b'1 c1 {"do":"status"}\n' + line + b"\n"), [], line[:20])
-            self.assertTrue(inspector.is_gone)
-            self.assertEqual(self.log.words.pop(), "the inspector was dropped, since it sent a line that is no request, and nothing more is shown")
+        """One that writes lines without a number is dropped with what it has asked for, and ended, and the log says why."""
+        for line in (b"boom", b"-1 c1 {}", b"0 c1 {}", b"\xff\xfe", b"1" * 40 + b" c1 {}", b"x" * 200_000):
+            with self.subTest(line=line[:20]), self.begun("--inspect-write") as (page, log, client, record):
+                page.say(b"1 c1 " + SET.encode() + b"\n" + line + b"\n")
+                self.assertNotIn(b"boom", b"".join(page.told()))
+                log.wait_for(self, DROPPED)
+                self.assertTrue(page.has_ended())
+                self.assertIn('"session":"c1"', client.ask(GET_X))
+                self.check_record(record, {"set", "get"})
+
+    def server_of(self, process):
+        """The number of the process of a front's server."""
+        found = subprocess.run(["ps", "-o", "pid=,args=", "--ppid", str(process.pid)], capture_output=True, text=True).stdout
+        return next(int(line.split()[0]) for line in found.splitlines() if line.split()[1] == str(self.program))
+
+    def asked_much(self, page, session, texts):
+        """How many of some commands are not refused."""
+        for number, text in enumerate(texts, 1):
+            page.say(f"{number} {session} {text}\n".encode())
+        told = page.until_refused()
+        return len(texts) + 1 - len(refused_in(told)), told
 
     def test_much(self):
-        """One that asks for more than may wait is refused the rest."""
-        inspector, far = self.begin(may_write=True)
-        inspector.turns = Turns()  # where nothing is given
-        text = "x" * 4_000
-        for at in range(1, 1_001):
-            far.sendall(f'{at} c1 {{"do":"set","object":1,"property":"tag","value":"{text}"}}\n'.encode())
-            inspector.watch.wait(0)
-            inspector.settle()
-        held = sum(len(it) for one in inspector.askers.values() for it in one.waiting)
-        self.assertTrue(900_000 < held <= 1 << 20, held)
-        self.assertEqual(inspector.held.bytes, held)
-        inspector.forget(self.sessions["c1"])
-        self.assertEqual((inspector.held.bytes, inspector.askers), (0, {}))
-
-
-STAND_IN = """import os, socket, sys, time
-number = int(sys.argv[1].partition("=")[2])
-link = socket.socket(fileno=number)
-held = b""
-while b'"session":"c1"}' not in held:
-    held += link.recv(65536)
-link.sendall(open(os.environ["SENT"], "rb").read())
-while link.recv(65536):
-    pass
-"""  # writes what it is to, once there is a session c1
-
-
-class StandIn(FrontCases):
-    """A front whose page's process is another program, which writes what it likes."""
-
-    @contextmanager
-    def front_with(self, sent, option):
-        """The path of such a front, its process, and what it says."""
-        place, path, log = Path(self.room, "clients"), Path(self.room, "socket"), FrontLog(Path(self.room, "log"))
-        place.mkdir()
-        shutil.copytree(CLIENTS / "fronting", place / "fronting", ignore=shutil.ignore_patterns("__pycache__"))
-        shutil.copy(CLIENTS / "front", place / "front")
-        for name in ("inspecting", "explaining", "checking"):
-            (place / name).symlink_to(CLIENTS / name)
-        (place / "inspect").write_text(STAND_IN)
-        Path(self.room, "sent").write_bytes(sent)
-        words = [sys.executable, place / "front", "--quiet", "--inspect", "0", option, path, self.program]
-        with log.path.open("wb") as stderr, subprocess.Popen(words, stderr=stderr, env={**os.environ, "SENT": str(Path(self.room, "sent"))}) as process:
+        """One that asks for more than may wait is refused the rest, and may ask again when that has gone."""
+        text = '{"do":"set","object":1,"property":"tag","value":"%s"}' % ("x" * 4_000)
+        least, most = 900_000 // len(text), (1 << 20) // len(text) + 32  # 32 may be under way
+        with self.handed("--inspect-write") as (path, process, _, page), Client(path) as other, Client(path) as third:
+            server = self.server_of(process)
+            client = Client(path)
+            for it in (client, other, third):
+                it.ask(CELL)
+            os.kill(server, signal.SIGSTOP)
             try:
-                log.wait_for(self, f"metad-front: listening at {path}", process)
-                yield path, process, log
-                process.terminate()
-                self.assertEqual(process.wait(PATIENCE), 0, log.lines())
+                waiting, told = self.asked_much(page, "c3", [text] * 1_000)
+                self.assertTrue(least < waiting <= most, waiting)
+                client.leave()
+                told += page.told(lambda line: line == b'!{"gone":"c3"}')
+                self.assertEqual(len(given_in(told)) + len(refused_in(told)), 1_001, "what has waited is refused")
+                waiting, _ = self.asked_much(page, "c1", [text] * 1_000)
+                self.assertTrue(least < waiting <= most, f"once more: {waiting}")
             finally:
-                process.kill()
+                os.kill(server, signal.SIGCONT)
+            page.until_answered("c1")
+            os.kill(server, signal.SIGSTOP)
+            try:
+                waiting, _ = self.asked_much(page, "c2", ['{"do":"status"}'] * 1_100)
+                self.assertTrue(1_024 <= waiting <= 1_024 + 32, f"small ones: {waiting}")
+            finally:
+                os.kill(server, signal.SIGCONT)
+
+
+class StandIn(StandInCases):
+    """A front whose page's process is another program, which writes what it likes."""
 
     def check(self, sent, option, said, value):
         """After something was sent this is said, and the client is served as before, with this value of x."""
-        with self.front_with(sent, option) as (path, process, log), Client(path) as client:
+        Path(self.room, "sent").write_bytes(sent)
+        with self.front_with(WRITES, option, own={"SENT": str(Path(self.room, "sent"))}) as (path, process, log), Client(path) as client:
             self.assertEqual(client.ask(CELL), reply(1, "c1"))
             log.wait_for(self, f"metad-front: the inspector {said}", process)
-            self.assertEqual(client.ask('{"do":"get","object":1,"property":"x"}'), reply(value, "c1"))
+            self.assertEqual(client.ask(GET_X), reply(value, "c1"))
 
     def test_garbage(self):
         """A process that writes what is no request is dropped and ended, and the front goes on."""

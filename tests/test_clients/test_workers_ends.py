@@ -11,12 +11,10 @@ import sys
 import time
 from pathlib import Path
 
-from fronting.groups import Ring
-
 from tests.support.lines import text_of
 
 from .fronts import NEW, PATIENCE, Client, error, reply
-from .grouped import Greeted, Killer, Named, Runs, WorkerCases, hello, seed_of, servers_of, wait_until
+from .grouped import Greeted, Killer, Named, Runs, WorkerCases, hello, seed_of, servers_of, wait_until, worker_of
 
 QUIET = 0.4
 KILLS = 100
@@ -91,11 +89,11 @@ class Ends(WorkerCases):
 
     def far_from(self, group):
         """A group that is with the other one of two workers."""
-        return next(it for it in LAMPS if Ring(2).number_of(it) != Ring(2).number_of(group))
+        return next(it for it in LAMPS if worker_of(it, 2) != worker_of(group, 2))
 
     def near(self, group):
         """A group that is with the same one of two workers."""
-        return next(it for it in LAMPS if Ring(2).number_of(it) == Ring(2).number_of(group))
+        return next(it for it in LAMPS if worker_of(it, 2) == worker_of(group, 2))
 
     def half(self, later, *options, together=1):
         """A front whose server tells half of its first answer, and once it is started again all, with these arguments and so
@@ -251,7 +249,7 @@ class Ends(WorkerCases):
 
     def test_full(self):
         """A front whose clients have all files that they may still has some for a worker that is started again."""
-        words = ["sh", "-c", 'ulimit -n 64; exec "$@"', "sh", sys.executable, *self.front_words("--workers", "2", RECORDED, str(self.records))]
+        words = ["sh", "-c", 'ulimit -n 64; exec "$@"', "sh", *self.front_words("--workers", "2", RECORDED, str(self.records))]
         path = Path(self.room, "socket")
         with subprocess.Popen([*words, self.program], stderr=subprocess.PIPE, text=True) as process:
             try:
@@ -286,7 +284,7 @@ class Ends(WorkerCases):
 
     def test_class_file(self):
         """A front whose servers cannot be started ends with status 1."""
-        words = [sys.executable, *self.front_words("--workers", "2"), self.program, "/dev/null"]
+        words = [*self.front_words("--workers", "2"), self.program, "/dev/null"]
         ran = subprocess.run(words, capture_output=True, text=True, timeout=30)
         self.assertEqual(ran.returncode, 1, ran.stderr)
         self.assertIn("metad-front: the server has ended with status 1\n", ran.stderr, "what it says")

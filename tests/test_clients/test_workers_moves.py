@@ -155,7 +155,7 @@ class Control(WorkerCases):
     """What is asked of a running front."""
 
     def run_front(self, *words):
-        ran = subprocess.run([sys.executable, FRONT, *words], capture_output=True, text=True, timeout=PATIENCE)
+        ran = subprocess.run([FRONT, *words], capture_output=True, text=True, timeout=PATIENCE)
         return ran.returncode, ran.stdout, ran.stderr
 
     def test_words(self):

@@ -4,15 +4,12 @@ import json
 import os
 import signal
 from collections import Counter
-from hashlib import blake2b
 from pathlib import Path
-
-from fronting.groups import Ring, group_of
 
 from tests.support.lines import text_of
 
 from .fronts import NEW, Client, error, reply
-from .grouped import WorkerCases, by_session, hello, servers_of, wait_until
+from .grouped import WorkerCases, by_session, hello, servers_of, wait_until, worker_of
 
 NO_GROUP, NOT_KNOWN = error("F03", "-"), error("F01", "-")
 MOST = 64  # bytes of a name
@@ -27,32 +24,6 @@ NAMED = ("--group-from", "name")
 class Rings(WorkerCases):
     """Which worker a group belongs to, as the page says it."""
 
-    def number_of(self, group, count):
-        """The worker of a group, found without a ring that is sorted."""
-
-        def point(text):
-            return int(blake2b(text.encode(), digest_size=8).hexdigest(), 16)
-
-        points = [(point(f"{number}/{at}"), number) for number in range(1, count + 1) for at in range(128)]
-        behind = [it for it in points if it[0] >= point(group)]
-        return min(behind or points)[1]
-
-    def test_ring(self):
-        """A group belongs to the first point at or behind its own, and to the first of all where none is behind it."""
-        groups = [f"g{at}" for at in range(100)]
-        for count in (1, 2, 3, 16):
-            ring = Ring(count)
-            self.assertEqual([ring.number_of(it) for it in groups], [self.number_of(it, count) for it in groups], f"{count} workers")
-
-    def test_shares(self):
-        """Workers have about as many groups each, and one more takes only what becomes its own."""
-        groups = [f"g{at}" for at in range(10_000)]
-        before, after = (list(map(Ring(count).number_of, groups)) for count in (4, 5))
-        moved = [new for old, new in zip(before, after) if old != new]
-        self.assertEqual(set(moved), {5}, "where those groups go that move")
-        for found, share in ((Counter(before), 2_500), (Counter(after), 2_000)):
-            self.assertTrue(all(share * 0.7 < it < share * 1.3 for it in found.values()), f"shares: {found}")
-
     def test_places(self):
         """The front puts each group where that says, clients without hello among them."""
         with self.workers(4) as (path, _):
@@ -61,7 +32,7 @@ class Rings(WorkerCases):
                 if number % 2:
                     client.ask(hello(f"g{number}"))
                 client.ask(NEW)
-            wanted = {name: self.number_of(name, 4) for name in (f"g{at}" if at % 2 else f"c{at}" for at in range(1, 41))}
+            wanted = {name: worker_of(name, 4) for name in (f"g{at}" if at % 2 else f"c{at}" for at in range(1, 41))}
             self.assertEqual(self.places(), wanted, "the places")
             self.assertEqual(len(set(wanted.values())), 4, "workers that have some")
             for client in clients:
@@ -161,11 +132,6 @@ class Apart(WorkerCases):
 
 class Named(WorkerCases):
     """Clients that name sessions by themselves."""
-
-    def test_group(self):
-        """What stands before the first two underscores is the group, or the whole name where nothing does."""
-        for name, group in (("a__b", "a"), ("a__b__c", "a"), ("a", "a"), ("a_b", "a_b"), ("__a", "__a"), ("a___b", "a"), ("_", "_")):
-            self.assertEqual(group_of(name), group, name)
 
     def test_listeners(self):
         """Calls come to all who have named that session and are there, answers to who has asked."""

@@ -1,0 +1,175 @@
+//! What the page's process asks for: a line with a number, the name of a session, and a command.
+//!
+//! Browsers talk to that process, so the front does not trust it. Whatever it writes, a server is given only commands that are
+//! allowed here: the front reads each of them, writes it anew, and puts the session in by itself.
+
+use std::collections::BTreeMap;
+
+use serde_json::value::RawValue;
+
+use crate::lines::{object_of, LINE_MOST};
+
+/// Digits of the number of a command, at most.
+const DIGITS_MOST: usize = 15;
+/// Bytes that a line may need beside a command, for the name of its session.
+const BESIDE: usize = 128;
+/// What asks a session and changes nothing there, with its keys, and what may change something.
+const READING: [(&str, &[&str]); 6] = [
+    ("children", &["object"]),
+    ("get", &["object", "property"]),
+    ("meta", &["class"]),
+    ("status", &[]),
+    ("bindingError", &["object", "property"]),
+    ("dynamicNames", &["object"]),
+];
+const WRITING: [(&str, &[&str]); 2] =
+    [("invoke", &["object", "method", "args", "type"]), ("set", &["object", "property", "value"])];
+
+/// What the page may do in addition to looking.
+#[derive(Clone, Copy, Debug, Default)]
+pub struct Leave {
+    pub ask: bool,
+    pub write: bool,
+}
+
+impl Leave {
+    /// The command that a text is, written anew; nothing where it is not allowed, or where the server would not read it. Keys
+    /// that are there twice are written once, with the last value, and values as they were.
+    pub fn command_in(self, text: &[u8]) -> Option<Vec<u8>> {
+        object_of(text)?;
+        let members: BTreeMap<String, &RawValue> = serde_json::from_slice(text).ok()?;
+        let word: String = serde_json::from_str(members.get("do")?.get()).ok()?;
+        let is = |rows: &[(&str, &[&str])]| {
+            let keys = rows.iter().find(|(name, _)| *name == word).map(|(_, keys)| *keys);
+            keys.map_or(false, |keys| members.keys().all(|key| key == "do" || keys.contains(&key.as_str())))
+        };
+        if !(self.ask && is(&READING) || self.write && is(&WRITING)) {
+            return None;
+        }
+        serde_json::to_vec(&members).ok().filter(|command| command.len() <= LINE_MOST - BESIDE)
+    }
+}
+
+/// A line of the process: a number, a session and a command, none of which but the number was looked at. A line without a
+/// number asks for nothing, and can only come from a broken process.
+pub fn asked_in(line: &[u8]) -> Option<(u64, &[u8], &[u8])> {
+    let mut parts = line.splitn(3, |byte| *byte == b' ');
+    let digits = parts.next().filter(|it| it.len() <= DIGITS_MOST && it.iter().all(u8::is_ascii_digit))?;
+    let number = std::str::from_utf8(digits).ok().filter(|it| !it.starts_with('0'))?.parse().ok()?;
+    Some((number, parts.next().unwrap_or_default(), parts.next().unwrap_or_default()))
+}
+
+#[cfg(test)]
+mod tests {
+    use serde_json::Value;
+
+    use super::*;
+
+    const GET: &str = r#"{"do":"get","object":1,"property":"x"}"#;
+    const SET: &str = r#"{"do":"set","object":1,"property":"x","value":1}"#;
+    const NONE: Leave = Leave { ask: false, write: false };
+    const ASK: Leave = Leave { ask: true, write: false };
+    const BOTH: Leave = Leave { ask: true, write: true };
+
+    fn text_in(leave: Leave, text: &str) -> Option<String> {
+        leave.command_in(text.as_bytes()).map(|it| String::from_utf8(it).unwrap())
+    }
+
+    #[test]
+    fn the_page_reads_only_where_it_may_not_write() {
+        assert_eq!(text_in(ASK, GET).as_deref(), Some(GET));
+        assert_eq!(text_in(BOTH, SET).as_deref(), Some(SET));
+        assert_eq!((text_in(ASK, SET), text_in(NONE, GET), text_in(NONE, SET)), (None, None, None));
+    }
+
+    #[test]
+    fn what_the_server_would_not_read_is_not_allowed() {
+        let deep = format!(r#"{{"do":"set","object":1,"property":"x","value":{}{}}}"#, "[".repeat(200), "]".repeat(200));
+        let long = format!(r#"{{"do":"set","object":1,"property":"x","value":"{}"}}"#, "x".repeat(LINE_MOST - BESIDE - 40));
+        let commands = [
+            r#"{"do":"reset"}"#,
+            r#"{"do":"get","do":"new","class":"Cell"}"#,
+            r#"{"do":"status","session":"c2"}"#,
+            r#"{"do":"status","\u0073ession":"c2"}"#,
+            r#"{"do":"get"}{"do":"set"}"#,
+            r#"{"do":["get"]}"#,
+            r#"{"do":"set","value":NaN}"#,
+            r#"{"do":"set","value":1e999}"#,
+            r#"{"do":"get","property":"\ud800"}"#,
+            "[]",
+            "",
+            &deep,
+            &long,
+        ];
+        for command in commands {
+            assert_eq!(text_in(BOTH, command), None, "{command}");
+        }
+        assert_eq!(BOTH.command_in(b"{\"do\":\"get\",\"property\":\"\xff\"}"), None);
+    }
+
+    #[test]
+    fn commands_are_written_anew_with_their_values_as_they_are() {
+        let text = r#" {"object" : 1, "d\u006f":"reset","do":"set","value":1180591620717411303424,"value": 0.12345678901234567890 }"#;
+        assert_eq!(text_in(BOTH, text).as_deref(), Some(r#"{"do":"set","object":1,"value":0.12345678901234567890}"#));
+    }
+
+    #[test]
+    fn lines_of_the_process_have_a_number_first() {
+        assert_eq!(asked_in(b"7 c1 {\"do\":\"status\"}"), Some((7, b"c1".as_slice(), b"{\"do\":\"status\"}".as_slice())));
+        assert_eq!(asked_in(b"7"), Some((7, b"".as_slice(), b"".as_slice())));
+        assert_eq!(asked_in(b"999999999999999 \xff"), Some((999_999_999_999_999, b"\xff".as_slice(), b"".as_slice())));
+        for line in ["boom", "", "0 c1 {}", "07 c1 {}", "-1 c1 {}", " 7 c1", "+7 c1", "1_0 c1", "1000000000000000 c1 {}"] {
+            assert_eq!(asked_in(line.as_bytes()), None, "{line}");
+        }
+    }
+
+    /// Random pieces of JSON: what is allowed is a command of a word that may be, and says the same as the text.
+    #[test]
+    fn random_texts_give_only_what_is_allowed() {
+        let pieces = [
+            "{",
+            "}",
+            "[",
+            "]",
+            ",",
+            ":",
+            "\"",
+            "\\",
+            "1",
+            " ",
+            "\"do\":",
+            "\"do\":\"get\"",
+            "\"do\":\"set\"",
+            "\"do\":\"reset\"",
+            "\"object\":1",
+            "\"value\":",
+            "\"session\":\"c2\"",
+            "\"property\":\"x\"",
+            "\"d\\u006f\":\"set\"",
+            "null",
+            "\n",
+            "\u{2028}",
+        ];
+        let (mut state, mut allowed) = (7_u64, 0);
+        let mut random = |most: usize| {
+            state = state.wrapping_mul(6_364_136_223_846_793_005).wrapping_add(1_442_695_040_888_963_407);
+            (state >> 33) as usize % most
+        };
+        for _ in 0..60_000 {
+            let inside: Vec<&str> = (0..random(6)).map(|_| pieces[random(pieces.len())]).collect();
+            let text = format!("{{{}}}", inside.join([",", ""][random(2)]));
+            let command = match text_in(ASK, &text) {
+                Some(command) => command,
+                None => continue,
+            };
+            allowed += 1;
+            let (before, after): (Value, Value) =
+                (serde_json::from_str(&text).unwrap(), serde_json::from_str(&command).unwrap());
+            assert_eq!((&before, after["do"].as_str()), (&after, Some("get")), "{text}");
+            let keys: Vec<&String> = after.as_object().unwrap().keys().collect();
+            assert!(keys.iter().all(|key| ["do", "object", "property"].contains(&key.as_str())), "{text}");
+            assert_eq!(command.matches("\"do\"").count(), 1, "{text}");
+        }
+        assert!(allowed > 50, "{allowed}");
+    }
+}

@@ -1,0 +1,435 @@
+//! Clients that come, write, read and go, each with a session of its own or for one that is shared.
+
+use std::time::Duration;
+
+use mio::net::UnixStream;
+use serde_json::{json, Map, Value};
+
+use crate::front::Front;
+use crate::groups::{group_of, is_group, BETWEEN};
+use crate::lines::{asked_of_front, has_only, is_name, line_of, refusal, RESET};
+use crate::people::{
+    Came, Client, ClientKey, Link, Owner, Session, SessionKey, Speaker, SpeakerKey, Speech, UNREAD_OF_ALL, UNREAD_SLOW,
+};
+use crate::tokens::{token, Kind};
+
+/// How long answers wait for further ones, at most: longer where others wait for turns, and never so long as this.
+const HELD: Duration = Duration::from_millis(1);
+const HELD_FOR_EACH: Duration = Duration::from_micros(20);
+const HELD_LONGEST: Duration = Duration::from_millis(20);
+/// Those whose clients have gone and whose commands are still to be done, from which on no more clients are let in.
+const LEFT_MOST: usize = 2_000;
+/// How many bytes of answers wait, at most.
+const HELD_MOST: usize = 4_096;
+/// A line that asks the front for nothing that it does.
+pub const NOT_KNOWN: &str = "F01";
+/// A line that asks for a session that is not shared.
+const NOT_SHARED: &str = "F02";
+/// A line that asks for a group of a name that no group has.
+const NO_GROUP: &str = "F03";
+pub const ASKS_NOTHING: &str = "its first line asks for nothing that there is";
+
+impl Front {
+    /// Takes a new client.
+    pub fn enter_client(&mut self, stream: UnixStream) {
+        self.count += 1;
+        let number = self.count;
+        let key = self.clients.vacant_entry().key();
+        let mut link = Link::new(stream, token(Kind::Client, key));
+        link.watch(self.poll.registry());
+        let speech =
+            if self.named_by_clients { Speech::Named(Box::default()) } else { Speech::One(self.speaker_for(key, number)) };
+        self.clients.insert(Client { number, link, speech, is_touched: false });
+        self.touch(key);
+        self.log.note(&format!("c{number} has come"));
+    }
+
+    /// Who speaks for a new client, which has a session of its own.
+    fn speaker_for(&mut self, client: ClientKey, number: u64) -> SpeakerKey {
+        let name = format!("c{number}");
+        let mut session = Session::new(&name, false);
+        session.members.push(client);
+        session.holds = 1;
+        let session = self.sessions.insert(session);
+        if let Some(inspector) = &mut self.inspector {
+            inspector.sessions.insert(name, session);
+        }
+        let mut speaker = Speaker::new(Owner::Client(client), session);
+        if self.pool.is_none() {
+            self.workers[0].turns.enter(&mut speaker);
+        }
+        let speaker = self.speakers.insert(speaker);
+        if self.live.are_all {
+            self.let_live(speaker);
+        }
+        speaker
+    }
+
+    /// Has a client looked after.
+    pub fn touch(&mut self, key: ClientKey) {
+        if let Some(client) = self.clients.get_mut(key) {
+            if !client.is_touched {
+                client.is_touched = true;
+                self.touched.push(key);
+            }
+        }
+    }
+
+    /// Has a client looked after where something of it may be read.
+    pub fn touch_if_readable(&mut self, key: ClientKey) {
+        if self.clients.get(key).map_or(false, |client| client.link.is_readable) {
+            self.touch(key);
+        }
+    }
+
+    /// Lets a client read lines.
+    pub fn deliver(&mut self, key: ClientKey, lines: &[u8]) {
+        if let Some(client) = self.clients.get_mut(key) {
+            client.link.tell(lines);
+            if !client.is_touched {
+                client.is_touched = true;
+                self.touched.push(key);
+            }
+        }
+    }
+
+    /// Takes note of what a client's connection is ready for.
+    pub fn stir_client(&mut self, key: ClientKey, is_readable: bool, is_hung_up: bool) {
+        if let Some(client) = self.clients.get_mut(key) {
+            client.link.stir(is_readable, is_hung_up);
+        }
+        self.touch(key);
+    }
+
+    /// Looks after the clients that something has come of.
+    pub fn settle(&mut self) {
+        let mut touched = std::mem::take(&mut self.touched);
+        for key in touched.drain(..) {
+            self.look_after(key);
+        }
+        touched.append(&mut self.touched);
+        self.touched = touched;
+    }
+
+    /// Lets a client take what it is told, reads it where that is its turn, and lets it go where it is done.
+    fn look_after(&mut self, key: ClientKey) {
+        let client = match self.clients.get_mut(key) {
+            Some(client) => client,
+            None => return,
+        };
+        client.is_touched = false;
+        if !self.is_held(key) {
+            let link = &mut self.clients[key].link;
+            link.held_since = None;
+            link.is_due = false;
+            link.write(self.poll.registry());
+        }
+        let client = &self.clients[key];
+        if client.link.is_readable && self.is_read(key) {
+            self.read_client(key);
+        }
+        let awaits = self.awaits(key);
+        self.count_unread(key);
+        let client = &mut self.clients[key];
+        let is_left = client.link.is_left() && matches!(client.speech, Speech::One(_));
+        if is_left || client.link.is_done(awaits) {
+            return self.close_client(key);
+        }
+        let is_slow = client.link.unread.len() > UNREAD_SLOW;
+        match &client.speech {
+            Speech::One(speaker) => {
+                let speaker = *speaker;
+                self.await_turn(speaker, is_slow);
+            }
+            Speech::Named(_) => self.await_turns(key, is_slow),
+        }
+        if self.clients[key].link.is_readable && self.is_read(key) {
+            self.touch(key); // more of a long line is there
+        }
+    }
+
+    /// Whether a client's answers wait for further ones, so that fewer writes give them: for a short time, where more of what
+    /// it has asked for is under way.
+    fn is_held(&mut self, key: ClientKey) -> bool {
+        let link = &self.clients[key].link;
+        let unread = link.unread.len();
+        if unread == 0 || unread > HELD_MOST || link.is_due || link.has_ended || !self.awaits(key) {
+            return false;
+        }
+        let link = &mut self.clients[key].link;
+        if link.held_since.is_none() {
+            link.held_since = Some(self.now);
+            self.held.push_back((self.now, key));
+        }
+        true
+    }
+
+    /// How long answers wait for further ones now.
+    fn hold_time(&self) -> Duration {
+        let waiting: usize = self.workers.iter().map(|worker| worker.turns.waiting()).sum();
+        (HELD + HELD_FOR_EACH * waiting as u32).min(HELD_LONGEST)
+    }
+
+    /// Has the clients looked after whose answers have waited for long enough; answers in what time others have.
+    pub fn touch_held(&mut self) -> Option<Duration> {
+        let hold_time = self.hold_time();
+        while let Some(&(since, key)) = self.held.front() {
+            let is_held = self.clients.get(key).map_or(false, |client| client.link.held_since == Some(since));
+            if is_held && self.now < since + hold_time {
+                return Some(since + hold_time - self.now);
+            }
+            self.held.pop_front();
+            if is_held {
+                self.clients[key].link.is_due = true;
+                self.touch(key);
+            }
+        }
+        None
+    }
+
+    /// Counts what a client has not read. Where all clients together leave too much, the one that leaves most is closed.
+    fn count_unread(&mut self, key: ClientKey) {
+        let link = &mut self.clients[key].link;
+        self.unread = self.unread + link.unread.len() - link.counted;
+        link.counted = link.unread.len();
+        while self.unread > UNREAD_OF_ALL {
+            let most = self.clients.iter().max_by_key(|(_, client)| client.link.counted).map(|(most, _)| most);
+            let link = &mut self.clients[most.unwrap_or(key)].link;
+            self.unread -= std::mem::take(&mut link.counted);
+            link.unread.clear();
+            link.overflow();
+            self.touch(most.unwrap_or(key));
+        }
+    }
+
+    /// Lets a speaker wait for its turn.
+    pub fn await_turn(&mut self, key: SpeakerKey, is_slow: bool) {
+        let speaker = &mut self.speakers[key];
+        speaker.is_slow = is_slow;
+        let at = speaker.group.map_or(0, |group| self.groups[group].worker);
+        self.workers[at].turns.await_turn(key, speaker);
+    }
+
+    /// Whether a client is read now: not while what it has written waits, and not while it has much to read.
+    fn is_read(&self, key: ClientKey) -> bool {
+        let client = &self.clients[key];
+        let waits = match &client.speech {
+            Speech::One(speaker) => !self.speakers[*speaker].waiting.is_empty(),
+            Speech::Named(voices) => voices.busy.iter().any(|voice| !self.speakers[*voice].waiting.is_empty()),
+        };
+        !(waits || client.link.has_ended || client.link.unread.len() > UNREAD_SLOW)
+    }
+
+    /// Whether a client is still to be answered something.
+    fn awaits(&self, key: ClientKey) -> bool {
+        match &self.clients[key].speech {
+            Speech::One(speaker) => self.speakers[*speaker].awaits(),
+            Speech::Named(voices) => voices.busy.iter().any(|voice| self.speakers[*voice].awaits()),
+        }
+    }
+
+    /// Reads what a client has written, and lets its lines wait for their turns.
+    fn read_client(&mut self, key: ClientKey) {
+        let client = &mut self.clients[key];
+        let came = client.link.read(&mut self.chunk);
+        let (has_spoken, link) = (client.link.has_spoken, &mut client.link);
+        let queue = match &client.speech {
+            Speech::One(speaker) => &mut self.speakers[*speaker].waiting,
+            Speech::Named(_) => &mut self.sorted,
+        };
+        match came {
+            Came::Nothing => return,
+            Came::Bytes(count) => link.cutter.feed(&self.chunk[..count], |line| queue.push(line)),
+            Came::End => link.cutter.finish(|line| queue.push(line)),
+        }
+        if queue.is_empty() {
+            return;
+        }
+        client.link.has_spoken = true;
+        match client.speech {
+            Speech::One(speaker) if !has_spoken => self.hear_first(key, speaker),
+            Speech::One(_) => {}
+            Speech::Named(_) => self.sort(key, has_spoken),
+        }
+        if !has_spoken {
+            self.clients[key].link.write(self.poll.registry());
+        }
+    }
+
+    /// Hears the first lines of a client.
+    fn hear_first(&mut self, key: ClientKey, speaker: SpeakerKey) {
+        let asked = self.speakers[speaker].waiting.first().and_then(asked_of_front);
+        if let Some(asked) = asked {
+            self.speakers[speaker].waiting.pop();
+            self.do_for(key, speaker, &asked);
+        }
+        if !self.clients[key].link.fault.is_empty() {
+            self.speakers[speaker].waiting.clear();
+            return;
+        }
+        if self.pool.is_some() {
+            let session = self.speakers[speaker].session;
+            let name = group_of(&self.sessions[session].name).to_string();
+            self.enter_group(session, &name, speaker);
+        }
+        self.spin_first(speaker);
+    }
+
+    /// Does what a client's first line asks of the front.
+    fn do_for(&mut self, key: ClientKey, speaker: SpeakerKey, asked: &Map<String, Value>) {
+        let is_live = asked.get("live").map_or(false, |live| *live == true);
+        let mut asked = asked.clone();
+        if is_live {
+            asked.remove("live");
+        }
+        if asked["front"] == "hello" && is_live && has_only(&asked, &["front"]) {
+            return self.answer_for(key, self.speakers[speaker].session, true);
+        }
+        if self.pool.is_some() && asked["front"] == "hello" {
+            return self.greet(key, speaker, &asked, is_live);
+        }
+        if !has_only(&asked, &["front", "session"]) || asked["front"] != "share" {
+            return self.refuse(key, NOT_KNOWN, ASKS_NOTHING);
+        }
+        match asked["session"].as_str().and_then(|name| self.shared.get(name)) {
+            Some(&session) => self.share(key, speaker, session, is_live),
+            None => self.refuse(key, NOT_SHARED, "it has asked for a session that is not shared"),
+        }
+    }
+
+    /// Puts a client's session into the group that it asks for.
+    fn greet(&mut self, key: ClientKey, speaker: SpeakerKey, asked: &Map<String, Value>, is_live: bool) {
+        let session = self.speakers[speaker].session;
+        let group = asked.get("group").and_then(Value::as_str).filter(|group| is_group(group));
+        let name = group.map(|group| format!("{group}{BETWEEN}{}", self.sessions[session].name));
+        match name.filter(|name| has_only(asked, &["front", "group"]) && is_name(name)) {
+            None => self.refuse(key, NO_GROUP, "its first line names no group"),
+            Some(name) => {
+                if let Some(inspector) = &mut self.inspector {
+                    inspector.sessions.remove(&self.sessions[session].name);
+                    inspector.sessions.insert(name.clone(), session);
+                }
+                let found = &mut self.sessions[session];
+                found.member = crate::lines::member_of(&name);
+                found.name = name;
+                self.answer_for(key, session, is_live);
+            }
+        }
+    }
+
+    /// Lets a client speak for a shared session.
+    fn share(&mut self, key: ClientKey, speaker: SpeakerKey, session: SessionKey, is_live: bool) {
+        let own = std::mem::replace(&mut self.speakers[speaker].session, session);
+        if let Some(inspector) = &mut self.inspector {
+            inspector.sessions.remove(&self.sessions[own].name);
+        }
+        let was_live = self.sessions[own].is_live;
+        self.end_live(own);
+        self.let_go_of(own);
+        self.sessions[session].members.push(key);
+        if was_live {
+            self.let_live(speaker);
+        }
+        self.answer_for(key, session, is_live);
+    }
+
+    /// Tells a client for which session it speaks, and has it told the events of it where it asks for that.
+    fn answer_for(&mut self, key: ClientKey, session: SessionKey, is_live: bool) {
+        if let (true, Speech::One(speaker)) = (is_live, &self.clients[key].speech) {
+            self.let_live(*speaker);
+        }
+        let (client, session) = (&mut self.clients[key], &self.sessions[session]);
+        let answer = json!({"reply": true, "session": session.name});
+        let live = json!({"live": true, "reply": true, "session": session.name});
+        client.link.tell(&line_of(if is_live { &live } else { &answer }));
+        self.log.note(&format!("c{} speaks for {}", client.number, session.name));
+    }
+
+    /// Refuses a client's first line.
+    pub fn refuse(&mut self, key: ClientKey, code: &str, fault: &str) {
+        let link = &mut self.clients[key].link;
+        link.tell(&refusal(code));
+        link.refuse(fault);
+    }
+
+    /// Lets a client go. Its commands under way are done, and nobody is told of them.
+    fn close_client(&mut self, key: ClientKey) {
+        let client = self.clients.remove(key);
+        self.unread -= client.link.counted;
+        self.log.note(&format!("c{} {}", client.number, client.link.how_done()));
+        let is_left = client.link.is_left();
+        drop(client.link);
+        match client.speech {
+            Speech::One(speaker) => self.leave_session(key, speaker, is_left),
+            Speech::Named(voices) => self.leave_all(key, *voices),
+        }
+        if self.left < LEFT_MOST {
+            self.doors.reopen();
+        }
+    }
+
+    /// Has nobody speak for a session any more in the name of a client that has gone. What it has written and has left is
+    /// still done.
+    fn leave_session(&mut self, client: ClientKey, key: SpeakerKey, is_left: bool) {
+        let speaker = &mut self.speakers[key];
+        speaker.owner = Owner::Gone;
+        speaker.is_slow = false;
+        if !is_left {
+            speaker.waiting.clear();
+        }
+        let has_lines = !speaker.waiting.is_empty();
+        speaker.owes_spin = false;
+        let session = speaker.session;
+        self.sessions[session].members.retain(|member| *member != client);
+        if self.pool.is_none() {
+            self.workers[0].turns.clients -= 1;
+        }
+        if !self.sessions[session].is_shared {
+            self.end_live(session);
+            self.forget_session(session);
+            if self.sessions[session].is_begun || has_lines {
+                self.speakers[key].waiting.push(RESET);
+            }
+        }
+        self.await_turn(key, false);
+        if self.pool.is_some() {
+            self.leave_pool(session, key);
+        }
+        self.drop_if_over(key);
+        self.count_left(key);
+    }
+
+    /// Counts one whose client has gone and whose commands are still to be done. Where these are many, no more are let in.
+    fn count_left(&mut self, key: SpeakerKey) {
+        if let Some(speaker) = self.speakers.get_mut(key).filter(|speaker| speaker.owner == Owner::Gone) {
+            speaker.is_left = true;
+            self.left += 1;
+            if self.left >= LEFT_MOST {
+                self.doors.shut();
+            }
+        }
+    }
+
+    /// Forgets a speaker whose client has gone, and of which nothing is under way any more.
+    pub fn drop_if_over(&mut self, key: SpeakerKey) {
+        let is_over = |speaker: &Speaker| speaker.owner == Owner::Gone && !speaker.awaits();
+        if !self.speakers.get(key).map_or(false, is_over) {
+            return;
+        }
+        let speaker = self.speakers.remove(key);
+        self.left -= usize::from(speaker.is_left);
+        if self.left == LEFT_MOST / 2 && speaker.is_left {
+            self.doors.reopen();
+        }
+        self.let_go_of(speaker.session);
+    }
+
+    /// Forgets a session that nothing refers to any more.
+    pub fn let_go_of(&mut self, key: SessionKey) {
+        let session = &mut self.sessions[key];
+        session.holds = session.holds.saturating_sub(1);
+        if session.holds == 0 && !session.is_shared {
+            self.sessions.remove(key);
+        }
+    }
+}

@@ -1,0 +1,286 @@
+//! What goes between the clients and the servers: all that the front knows, and its loop.
+
+use std::collections::{HashMap, HashSet, VecDeque};
+use std::ffi::OsString;
+use std::io;
+use std::process::Child;
+use std::time::{Duration, Instant};
+
+use mio::event::Event;
+use mio::{Events, Poll};
+use slab::Slab;
+
+use crate::doors::Doors;
+use crate::groups::Group;
+use crate::guests::Guest;
+use crate::inspector::Inspector;
+use crate::live::Live;
+use crate::log::{Ended, Log};
+use crate::notifying::Notifier;
+use crate::people::{Client, ClientKey, GroupKey, Owner, ReplayKey, Session, SessionKey, Speaker};
+use crate::pool::Pool;
+use crate::queue::Queue;
+use crate::replaying::Replay;
+use crate::tokens::{read, Kind};
+use crate::worker::Worker;
+
+/// Bytes that are read of a client at once: no more than a line may have.
+pub const CHUNK: usize = 16_384;
+/// How often the front goes on by itself before it looks again at what has come.
+const ROUNDS: usize = 8;
+/// How long the front looks for what may come at once, and how much less eagerly after it was in vain.
+const EAGER: Duration = Duration::from_micros(25);
+const IN_VAIN: i32 = 16;
+const EAGER_MOST: i32 = 16;
+/// Events are waited for in these, without the rest of one.
+const MILLISECOND: Duration = Duration::from_millis(1);
+/// The session of commands of the front itself.
+pub const NO_SESSION: SessionKey = 0;
+
+/// Why the front stops.
+#[derive(Debug, PartialEq, Eq)]
+pub enum Stop {
+    /// It was asked to.
+    Asked,
+    /// It cannot go on.
+    Ended(Ended),
+}
+
+impl From<Ended> for Stop {
+    fn from(ended: Ended) -> Stop {
+        Stop::Ended(ended)
+    }
+}
+
+impl From<io::Error> for Stop {
+    fn from(error: io::Error) -> Stop {
+        Stop::Ended(Ended(error.to_string()))
+    }
+}
+
+/// The clients of one server, or of several, and what goes between.
+pub struct Front {
+    pub poll: Poll,
+    pub log: Log,
+    pub doors: Doors,
+    pub clients: Slab<Client>,
+    pub speakers: Slab<Speaker>,
+    pub sessions: Slab<Session>,
+    pub guests: HashMap<usize, Guest>,
+    pub next_guest: usize,
+    pub workers: Vec<Worker>,
+    /// The words that start a server.
+    pub server_words: (OsString, Vec<OsString>),
+    /// What there is only where there may be several servers.
+    pub pool: Option<Pool>,
+    pub groups: Slab<Group>,
+    /// Groups of whose records something is to be written.
+    pub changed: HashSet<GroupKey>,
+    /// Joins of other groups that were mentioned.
+    pub in_vain: usize,
+    pub replays: HashMap<ReplayKey, Replay>,
+    pub next_replay: ReplayKey,
+    pub inspector: Option<Inspector>,
+    /// The process of the page, also where it is not told anything any more.
+    pub page: Option<Child>,
+    pub live: Live,
+    pub notifier: Notifier,
+    /// How long a server may be silent that has a command under way.
+    pub patience: Option<Duration>,
+    /// Clients name sessions by themselves.
+    pub named_by_clients: bool,
+    /// Sessions that clients may share.
+    pub shared: HashMap<String, SessionKey>,
+    /// Clients so far.
+    pub count: u64,
+    /// Monitors and operators so far.
+    pub guest_counts: [usize; 3],
+    /// Monitors that are there.
+    pub monitors: usize,
+    /// Those who ask for the health of the front and are there.
+    pub checks: usize,
+    /// Those whose clients have gone and whose commands are still to be done.
+    pub left: usize,
+    /// Bytes that all clients together have not read.
+    pub unread: usize,
+    /// Clients that are to be looked after.
+    pub touched: Vec<ClientKey>,
+    /// Clients whose answers wait for further ones, and since when.
+    pub held: VecDeque<(Instant, ClientKey)>,
+    /// Whether the front looks for what may come at once: where it is more than 0.
+    pub eagerness: i32,
+    /// When events were waited for the last time.
+    pub now: Instant,
+    pub touched_guests: Vec<usize>,
+    /// Where what a client wrote is read to.
+    pub chunk: Vec<u8>,
+    /// Lines that were read of a client and are still to be sorted.
+    pub sorted: Queue,
+}
+
+impl Front {
+    /// A front with so many servers, none of which has begun.
+    pub fn new(count: usize, server_words: (OsString, Vec<OsString>), log: Log) -> io::Result<Front> {
+        let (mut speakers, mut sessions) = (Slab::new(), Slab::new());
+        sessions.insert(Session::new("", true));
+        let workers = (1..=count).map(|number| {
+            let sweeper = speakers.insert(Speaker::new(Owner::Sweeper, NO_SESSION));
+            Worker::new(number, sweeper)
+        });
+        Ok(Front {
+            poll: Poll::new()?,
+            log,
+            doors: Doors::default(),
+            clients: Slab::new(),
+            workers: workers.collect(),
+            speakers,
+            sessions,
+            guests: HashMap::new(),
+            next_guest: 0,
+            server_words,
+            pool: None,
+            groups: Slab::new(),
+            changed: HashSet::new(),
+            in_vain: 0,
+            replays: HashMap::new(),
+            next_replay: 0,
+            inspector: None,
+            page: None,
+            live: Live::default(),
+            notifier: Notifier::new(),
+            patience: None,
+            named_by_clients: false,
+            shared: HashMap::new(),
+            count: 0,
+            guest_counts: [0; 3],
+            checks: 0,
+            monitors: 0,
+            left: 0,
+            unread: 0,
+            touched: Vec::new(),
+            held: VecDeque::new(),
+            eagerness: 0,
+            now: Instant::now(),
+            touched_guests: Vec::new(),
+            chunk: vec![0; CHUNK],
+            sorted: Queue::default(),
+        })
+    }
+
+    /// Lets clients share a session of this name.
+    pub fn let_share(&mut self, name: &str) {
+        let key = self.sessions.insert(Session::new(name, true));
+        self.shared.insert(name.to_string(), key);
+    }
+
+    /// Serves until a server ends in whose place none comes, or the front is asked to end.
+    pub fn serve(&mut self) -> Result<(), Stop> {
+        let mut events = Events::with_capacity(1_024);
+        loop {
+            let ticks = self.notifier.tick();
+            let others = [self.next_due(), self.look_at_servers(), self.touch_held(), self.look_at_checks()];
+            let due = [ticks, self.doors.look_again()].into_iter().chain(others).flatten().min();
+            let due = due.map(|time| time + MILLISECOND); // so that less than one is not taken for nothing
+            let timeout = if self.is_stirred() { Some(Duration::ZERO) } else { due };
+            match self.wait(&mut events, timeout) {
+                Err(error) if error.kind() != io::ErrorKind::Interrupted => return Err(error.into()),
+                Err(_) => continue,
+                Ok(()) => {}
+            }
+            self.now = Instant::now();
+            self.touch_held();
+            for event in &events {
+                self.stir(event)?;
+            }
+            self.let_in();
+            self.work()?;
+            for _ in 0..ROUNDS {
+                if !self.is_stirred() {
+                    break;
+                }
+                self.work()?;
+            }
+        }
+    }
+
+    /// Waits until something comes. Where one client and one server talk with each other, what comes next is often there
+    /// within microseconds, so the front looks for it for a short time before it sleeps, unless that was in vain lately.
+    fn wait(&mut self, events: &mut Events, timeout: Option<Duration>) -> io::Result<()> {
+        let under_way: usize = self.workers.iter().map(|worker| worker.turns.under_way.len()).sum();
+        if timeout != Some(Duration::ZERO) && under_way <= 1 && !events.is_empty() {
+            self.eagerness += 1;
+            let begun = Instant::now();
+            while self.eagerness > 0 {
+                self.poll.poll(events, Some(Duration::ZERO))?;
+                if !events.is_empty() {
+                    self.eagerness = self.eagerness.min(EAGER_MOST);
+                    return Ok(());
+                }
+                if begun.elapsed() > EAGER {
+                    self.eagerness -= IN_VAIN;
+                }
+            }
+        }
+        self.poll.poll(events, timeout)
+    }
+
+    /// Does what a source is ready for.
+    fn stir(&mut self, event: &Event) -> Result<(), Stop> {
+        let (kind, key) = read(event.token());
+        let (is_readable, is_hung_up) = (event.is_readable(), event.is_read_closed() || event.is_error());
+        match kind {
+            Kind::Client => self.stir_client(key, is_readable, is_hung_up),
+            Kind::Guest => self.stir_guest(key, is_readable, is_hung_up),
+            Kind::ServerOutput => self.stir_server(key, is_hung_up)?,
+            Kind::ServerInput => self.push(key),
+            Kind::Door => self.doors.stir(key),
+            Kind::Alarm => return Err(Stop::Asked),
+            Kind::Input => self.look_at_input()?,
+            Kind::Inspector => self.stir_inspector(is_readable, is_hung_up),
+        }
+        Ok(())
+    }
+
+    /// Does what is to be done after what has come.
+    fn work(&mut self) -> Result<(), Stop> {
+        self.settle();
+        self.settle_guests();
+        self.settle_inspector();
+        for at in 0..self.workers.len() {
+            self.give(at);
+        }
+        self.tend()?;
+        Ok(())
+    }
+
+    /// Whether what was done has more to be done, as where a group is closed or has moved.
+    fn is_stirred(&mut self) -> bool {
+        let has_released = self.pool.as_mut().map_or(false, |pool| std::mem::take(&mut pool.has_released));
+        has_released
+            || self.is_inspector_heard()
+            || !self.touched.is_empty()
+            || !self.touched_guests.is_empty()
+            || self.doors.is_stirred()
+    }
+
+    /// In what time a process is to be started, if one is.
+    fn next_due(&self) -> Option<Duration> {
+        self.pool.as_ref()?;
+        let missing = self.workers.iter().filter(|worker| worker.server.is_none());
+        let due = missing.map(|worker| worker.due).min()?;
+        Some(due.saturating_duration_since(Instant::now()))
+    }
+
+    /// Ends the front where standard input has ended; what stands there is passed over.
+    fn look_at_input(&mut self) -> Result<(), Stop> {
+        use nix::poll::{poll, PollFd, PollFlags};
+        let mut looked_at = [PollFd::new(0, PollFlags::POLLIN)];
+        while let Ok(1..) = poll(&mut looked_at, 0) {
+            match nix::unistd::read(0, &mut self.chunk) {
+                Ok(1..) => {}
+                _ => return Err(Stop::Asked),
+            }
+        }
+        Ok(())
+    }
+}

@@ -1,0 +1,93 @@
+//! Gives many clients of a Unix-domain socket a session each of one `metad`, or of several.
+//!
+//! `lines` reads the lines of both sides, and `queue` keeps bytes and lines that wait. `people` is what is known of
+//! connections, sessions and speakers, and `turns` decides whose command a server is given next. `server` is a process, and
+//! `worker` what is under way with it and who is told of that. `front` is the loop, with `doors`, `clients` and `guests`.
+//! Where there are several servers, `groups` says which sessions belong together, `ring` where each group is, `pool` what is
+//! done where a server ends, `records` what it was given and told, `replaying` brings another one there, and `moving` lets
+//! a group change its server. `naming` is for clients that name sessions by themselves, `control` where a running front is
+//! asked for groups, `asking` a run that asks, and `inspector` the process that shows all of it as a page, and `asked` what
+//! that one may ask for. `live` has clients told their events as they come.
+
+#![forbid(unsafe_code)]
+
+mod asked;
+mod asking;
+mod clients;
+mod command_line;
+mod control;
+mod doors;
+mod front;
+mod groups;
+mod guests;
+mod health;
+mod inspector;
+mod lines;
+mod live;
+mod log;
+mod moving;
+mod naming;
+mod notifying;
+mod people;
+mod pool;
+mod program;
+mod queue;
+mod records;
+mod replaying;
+mod resuming;
+mod ring;
+mod server;
+mod sockets;
+mod spawn;
+mod tokens;
+mod turns;
+mod worker;
+
+use std::env;
+use std::ffi::OsString;
+use std::io::{self, ErrorKind, Write};
+use std::process::ExitCode;
+
+use command_line::{read, say_wrong, Words, HELP};
+use front::Stop;
+use log::{reason, say, Ended};
+
+fn main() -> ExitCode {
+    let words: Vec<OsString> = env::args_os().skip(1).collect();
+    if words.first().map_or(false, |word| word == spawn::BECOME) {
+        return spawn::become_another(&words[1..]).into();
+    }
+    let status = match read(&words) {
+        Words::Help => shown(Ok(HELP.to_string())),
+        Words::Groups(path) => shown(asking::groups(&path)),
+        Words::Move(path, group, worker) => shown(asking::move_group(&path, &group, worker)),
+        Words::Wrong(usage, fault) => say_wrong(usage, &fault),
+        Words::Serve(options) => match program::serve(*options) {
+            Ok(()) | Err(Stop::Asked) => 0,
+            Err(Stop::Ended(Ended(why))) => {
+                say(&why);
+                1
+            }
+        },
+    };
+    status.into()
+}
+
+/// Shows a text on standard output; answers the status that the run ends with.
+fn shown(text: Result<String, Ended>) -> u8 {
+    let text = match text {
+        Ok(text) => text,
+        Err(Ended(why)) => {
+            say(&why);
+            return 1;
+        }
+    };
+    let mut output = io::stdout();
+    match output.write_all(text.as_bytes()).and_then(|()| output.flush()) {
+        Err(error) if error.kind() != ErrorKind::BrokenPipe => {
+            say(&format!("standard output cannot be written: {}", reason(&error)));
+            1
+        }
+        _ => 0,
+    }
+}

@@ -1,0 +1,145 @@
+//! Clients that name sessions by themselves, as many as they like, over several servers.
+
+use std::collections::HashSet;
+
+use serde_json::Value;
+
+use crate::clients::{ASKS_NOTHING, NOT_KNOWN};
+use crate::front::{Front, NO_SESSION};
+use crate::groups::group_of;
+use crate::lines::{asked_of_front, is_name, object_of, NOBODY};
+use crate::people::{ClientKey, Owner, Session, SessionKey, Speaker, SpeakerKey, Speech, Voices, UNREAD_SLOW};
+
+/// The session that a line is for, as the server reads it; that of no session where it names none.
+pub fn session_in(line: &[u8]) -> String {
+    let command = object_of(line);
+    let name = command.as_ref().and_then(|it| it.get("session")).and_then(Value::as_str).filter(|name| is_name(name));
+    name.unwrap_or(NOBODY).to_string()
+}
+
+impl Front {
+    /// Lets each line that was read of a client wait for its turn with the server of its session.
+    pub fn sort(&mut self, key: ClientKey, has_spoken: bool) {
+        let mut lines = std::mem::take(&mut self.sorted);
+        if !has_spoken && lines.first().map_or(false, |line| asked_of_front(line).is_some()) {
+            self.refuse(key, NOT_KNOWN, ASKS_NOTHING);
+            lines.clear();
+        }
+        while let Some(line) = lines.first() {
+            self.route(key, line);
+            lines.pop();
+        }
+        self.sorted = lines;
+    }
+
+    /// Lets a line wait for its turn.
+    fn route(&mut self, key: ClientKey, line: &[u8]) {
+        let name = session_in(line);
+        let voice = match name.as_str() {
+            NOBODY => self.voice(key, &format!("{NOBODY}c{}", self.clients[key].number)),
+            _ => self.voice(key, group_of(&name)),
+        };
+        let session = self.session_named(&name, voice);
+        let speaker = &mut self.speakers[voice];
+        let is_busy = speaker.awaits();
+        speaker.waiting.push(line);
+        let more = speaker.more.get_or_insert_with(Box::default);
+        more.named.push_back(session);
+        if more.members.insert(session) {
+            self.sessions[session].members.push(key);
+        }
+        match &mut self.clients[key].speech {
+            Speech::Named(voices) if !is_busy => voices.busy.push(voice),
+            _ => {}
+        }
+    }
+
+    /// The session of this name in the group of a speaker.
+    fn session_named(&mut self, name: &str, voice: SpeakerKey) -> SessionKey {
+        let group = match self.speakers[voice].group {
+            Some(group) => group,
+            None => return NO_SESSION,
+        };
+        if let Some(session) = self.groups[group].sessions.get(name) {
+            return *session;
+        }
+        let mut session = Session::new(name, true);
+        session.group = Some(group);
+        let session = self.sessions.insert(session);
+        self.groups[group].sessions.insert(name.to_string(), session);
+        session
+    }
+
+    /// Who speaks for a group in the name of a client.
+    fn voice(&mut self, key: ClientKey, name: &str) -> SpeakerKey {
+        let group = self.group(name);
+        if let Speech::Named(voices) = &mut self.clients[key].speech {
+            if let Some(voice) = voices.of_groups.get(&group) {
+                return *voice;
+            }
+            let voice = self.speakers.insert(Speaker::new(Owner::Client(key), NO_SESSION));
+            voices.of_groups.insert(group, voice);
+            self.speakers[voice].is_slow = self.clients[key].link.unread.len() > UNREAD_SLOW;
+            self.enter_speaker(group, voice);
+            return voice;
+        }
+        unreachable!("only clients that name sessions have voices")
+    }
+
+    /// Lets the speakers of a client wait for their turns.
+    pub fn await_turns(&mut self, key: ClientKey, is_slow: bool) {
+        if let Speech::Named(voices) = &mut self.clients[key].speech {
+            let speakers = &self.speakers;
+            voices.busy.retain(|voice| speakers[*voice].awaits());
+            for voice in voices.busy.clone() {
+                self.await_turn(voice, is_slow);
+            }
+        }
+    }
+
+    /// The session of the next line of a speaker.
+    pub fn session_of_next(&mut self, key: SpeakerKey) -> SessionKey {
+        let speaker = &mut self.speakers[key];
+        let named = speaker.more.as_mut().and_then(|more| more.named.pop_front());
+        named.unwrap_or(speaker.session)
+    }
+
+    /// Has nobody speak for sessions any more in the name of a client that has gone. The sessions stay.
+    pub fn leave_all(&mut self, client: ClientKey, voices: Voices) {
+        for (group, voice) in voices.of_groups {
+            let speaker = &mut self.speakers[voice];
+            speaker.owner = Owner::Gone;
+            speaker.is_slow = false;
+            speaker.waiting.clear();
+            for session in speaker.more.take().map_or_else(HashSet::new, |more| more.members) {
+                self.sessions[session].members.retain(|member| *member != client);
+            }
+            self.leave_group(group, voice);
+            if self.groups[group].under_way == 0 {
+                self.idle(group);
+            }
+            self.drop_if_over(voice);
+        }
+    }
+}
+
+#[cfg(test)]
+mod tests {
+    use super::*;
+
+    #[test]
+    fn the_session_is_read_as_the_server_reads_it() {
+        for (line, name) in [
+            ("{\"do\":\"new\",\"session\":\"a\",\"session\":\"b\"}", "b"),
+            ("{\"session\":\"a\",\"\\u0073ession\":\"\\u0062\"}", "b"),
+            ("{\"session\":\"b\",\"session\":5}", "-"),
+            ("{\"value\":{\"session\":\"b\"},\"session\":\"a\"}", "a"),
+            ("{\"session\":\"a b\"}", "-"),
+            ("{\"session\":\"a\",\"x\":NaN}", "-"),
+            ("[{\"session\":\"a\"}]", "-"),
+            ("{\"session\":\"a\"", "-"),
+        ] {
+            assert_eq!(session_in(line.as_bytes()), name, "{line}");
+        }
+    }
+}

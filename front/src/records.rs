@@ -1,0 +1,250 @@
+//! What a group's server was given and what it told, in a file that people can read and that can be replayed.
+//!
+//! A line that the server was given is written after `> `, one that it told as it is. Lines are in the order in which they
+//! were given and told, so an answer may come after the command that was given next.
+
+use std::fs::{self, File, OpenOptions};
+use std::io::{self, BufRead, BufReader, Cursor, Write};
+use std::os::unix::fs::{DirBuilderExt, OpenOptionsExt};
+use std::path::{Path, PathBuf};
+
+use nix::unistd::{access, AccessFlags};
+
+use crate::log::{reason, Ended, Log};
+use crate::server::RECORD_FLAGS;
+
+const GIVEN: &[u8] = b"> ";
+pub const ENDING: &str = ".lines";
+/// Bytes that are kept before they are written.
+const FRESH_MOST: usize = 1_048_576;
+
+/// The record of one group. What cannot be written ends it, and then the group cannot be brought back.
+pub struct GroupRecord {
+    /// Where it is; nowhere for one that is kept in memory.
+    path: Option<PathBuf>,
+    fresh: Vec<u8>,
+    size: u64,
+    /// Lines that were given.
+    pub count: usize,
+    pub is_whole: bool,
+    is_there: bool,
+}
+
+impl GroupRecord {
+    pub fn new(path: Option<PathBuf>) -> GroupRecord {
+        GroupRecord { path, fresh: Vec::new(), size: 0, count: 0, is_whole: true, is_there: false }
+    }
+
+    /// The record that is there of an earlier front, without half a line at its end.
+    pub fn resume(path: &Path) -> io::Result<GroupRecord> {
+        let whole = whole_lines(path)?;
+        OpenOptions::new().write(true).custom_flags(RECORD_FLAGS.bits()).open(path)?.set_len(whole)?;
+        let count = lines_given(path)?.count();
+        let (path, fresh) = (Some(path.to_path_buf()), Vec::new());
+        Ok(GroupRecord { path, fresh, size: whole, count, is_whole: true, is_there: true })
+    }
+
+    /// Writes down a line that the server is given.
+    pub fn given(&mut self, line: &[u8], log: &mut Log) {
+        self.count += 1;
+        self.add(&[GIVEN, line, b"\n"], log);
+    }
+
+    /// Writes down lines that the server has told.
+    pub fn told(&mut self, lines: &[u8], log: &mut Log) {
+        self.add(&[lines], log);
+    }
+
+    fn add(&mut self, parts: &[&[u8]], log: &mut Log) {
+        if !self.is_whole {
+            return;
+        }
+        for part in parts {
+            self.fresh.extend_from_slice(part);
+            self.size += part.len() as u64;
+        }
+        if self.fresh.len() > FRESH_MOST {
+            self.write(log);
+        }
+    }
+
+    /// Writes what is new, to a file that nobody but its owner may read.
+    pub fn write(&mut self, log: &mut Log) {
+        let path = match &self.path {
+            Some(path) if self.is_whole && !self.fresh.is_empty() => path,
+            _ => return,
+        };
+        let mut options = OpenOptions::new();
+        options
+            .mode(0o600)
+            .custom_flags(RECORD_FLAGS.bits())
+            .create(true)
+            .append(self.is_there)
+            .write(true)
+            .truncate(!self.is_there);
+        let written = options.open(path).and_then(|mut file| {
+            self.is_there = true;
+            file.write_all(&self.fresh)
+        });
+        self.fresh.clear();
+        self.fresh.shrink_to(4_096);
+        if let Err(error) = written {
+            self.is_whole = false;
+            let path = path.display();
+            log.say(&format!("{path} cannot be written: {}; its group cannot be brought back", reason(&error)));
+        }
+    }
+
+    /// Forgets all, since nothing of it is left with the server.
+    pub fn begin_anew(&mut self) {
+        self.fresh.clear();
+        (self.size, self.count, self.is_whole) = (0, 0, true);
+        if let Some(path) = self.path.as_ref().filter(|_| self.is_there) {
+            let _ = OpenOptions::new().write(true).open(path).and_then(|file| file.set_len(0));
+        }
+    }
+
+    /// Takes the file away.
+    pub fn end(&mut self) {
+        if let Some(path) = self.path.as_ref().filter(|_| std::mem::take(&mut self.is_there)) {
+            let _ = fs::remove_file(path);
+        }
+    }
+
+    /// The lines of it as it is now.
+    pub fn content(&mut self, log: &mut Log) -> io::Result<Content> {
+        self.write(log);
+        let reader: Box<dyn BufRead> = match self.path.as_ref().filter(|_| self.is_there) {
+            Some(path) => Box::new(BufReader::with_capacity(65_536, File::open(path)?)),
+            None => Box::new(Cursor::new(self.fresh.clone())),
+        };
+        Ok(Content { reader, left: self.size })
+    }
+}
+
+/// The bytes of the whole lines of a file.
+fn whole_lines(path: &Path) -> io::Result<u64> {
+    let mut reader = BufReader::new(open(path)?);
+    let (mut line, mut whole) = (Vec::new(), 0);
+    while reader.read_until(b'\n', &mut line)? > 0 && line.ends_with(b"\n") {
+        whole += line.len() as u64;
+        line.clear();
+    }
+    Ok(whole)
+}
+
+fn open(path: &Path) -> io::Result<File> {
+    OpenOptions::new().read(true).custom_flags(RECORD_FLAGS.bits()).open(path)
+}
+
+/// The lines of a record file that a server was given, without their ends.
+pub fn lines_given(path: &Path) -> io::Result<impl Iterator<Item = Vec<u8>>> {
+    let left = fs::metadata(path)?.len();
+    let mut given = Given(Content { reader: Box::new(BufReader::new(open(path)?)), left });
+    Ok(std::iter::from_fn(move || given.next()))
+}
+
+/// The lines of a record, up to where it ended when they were asked for.
+pub struct Content {
+    reader: Box<dyn BufRead>,
+    left: u64,
+}
+
+impl Content {
+    /// The next line that was given, or that was told, with its end.
+    fn next(&mut self, is_given: bool, line: &mut Vec<u8>) -> bool {
+        while self.left > 0 {
+            line.clear();
+            let count = self.reader.read_until(b'\n', line).unwrap_or(0);
+            if count == 0 {
+                return false;
+            }
+            self.left = self.left.saturating_sub(count as u64);
+            if line.starts_with(GIVEN) == is_given {
+                return true;
+            }
+        }
+        false
+    }
+}
+
+/// The lines of a record that the server was given, one after the other.
+pub struct Given(pub Content);
+
+impl Given {
+    /// The next line, without its end.
+    pub fn next(&mut self) -> Option<Vec<u8>> {
+        let mut line = Vec::new();
+        self.0
+            .next(true, &mut line)
+            .then(|| line[GIVEN.len()..].strip_suffix(b"\n").unwrap_or(&line[GIVEN.len()..]).to_vec())
+    }
+}
+
+/// The lines of a record that the server has told, as bytes.
+pub struct Told {
+    content: Content,
+    held: Vec<u8>,
+    line: Vec<u8>,
+}
+
+impl Told {
+    pub fn new(content: Content) -> Told {
+        Told { content, held: Vec::new(), line: Vec::new() }
+    }
+
+    /// The next so many bytes, or as many as there are.
+    pub fn take(&mut self, count: usize) -> Vec<u8> {
+        while self.held.len() < count && self.content.next(false, &mut self.line) {
+            self.held.extend_from_slice(&self.line);
+        }
+        self.held.drain(..count.min(self.held.len())).collect()
+    }
+
+    /// The line that begins so, with the rest of it, as far as it is there.
+    pub fn line_at(&mut self, part: &[u8]) -> Vec<u8> {
+        let mut line = part.to_vec();
+        while !line.ends_with(b"\n") {
+            match self.take(1).first() {
+                Some(byte) => line.push(*byte),
+                None => break,
+            }
+        }
+        line
+    }
+}
+
+/// A folder for records, which is made where it is not there. Only its owner may look into one that is made.
+pub fn folder(path: &Path) -> Result<PathBuf, Ended> {
+    let made = fs::DirBuilder::new().recursive(true).mode(0o700).create(path);
+    let shown = path.display();
+    made.map_err(|error| Ended(format!("{shown} cannot be made: {}", reason(&error))))?;
+    match access(path, AccessFlags::W_OK | AccessFlags::X_OK) {
+        Ok(()) => Ok(path.to_path_buf()),
+        Err(_) => Err(Ended(format!("{shown} cannot be written"))),
+    }
+}
+
+#[cfg(test)]
+mod tests {
+    use super::*;
+
+    #[test]
+    fn what_was_given_and_told_is_read_apart() {
+        let mut log = Log::new(true);
+        let mut record = GroupRecord::new(None);
+        record.given(b"one", &mut log);
+        record.given(b"two", &mut log);
+        record.told(b"1\n22\n", &mut log);
+        record.given(b"three", &mut log);
+        record.told(b"333\n", &mut log);
+        let mut given = Given(record.content(&mut log).unwrap());
+        let lines: Vec<Vec<u8>> = std::iter::from_fn(|| given.next()).collect();
+        assert_eq!(lines, [b"one".to_vec(), b"two".to_vec(), b"three".to_vec()]);
+        let mut told = Told::new(record.content(&mut log).unwrap());
+        assert_eq!((told.take(3), told.line_at(b"2")), (b"1\n2".to_vec(), b"22\n".to_vec()));
+        assert_eq!((told.take(100), told.take(1)), (b"333\n".to_vec(), Vec::new()));
+        record.begin_anew();
+        assert_eq!(Given(record.content(&mut log).unwrap()).next(), None);
+    }
+}

@@ -1,0 +1,249 @@
+//! A server: its process, what it is given, and what it writes.
+
+use std::ffi::OsString;
+use std::fs::{File, OpenOptions};
+use std::io::{self, ErrorKind, Read, Write};
+use std::os::unix::fs::OpenOptionsExt;
+use std::os::unix::io::{AsRawFd, RawFd};
+use std::os::unix::process::ExitStatusExt;
+use std::path::{Path, PathBuf};
+use std::process::{Child, ChildStdin, ChildStdout, ExitStatus};
+use std::time::Instant;
+
+use mio::unix::SourceFd;
+use mio::{Interest, Registry, Token};
+use nix::fcntl::{fcntl, FcntlArg, OFlag};
+
+use crate::log::{reason, Ended, Log};
+use crate::queue::Pending;
+use crate::spawn::{started, SECONDS_TO_END};
+
+/// Bytes that are read of a server at once.
+const CHUNK: usize = 262_144;
+/// Bytes that the pipes to and from a server hold, where that is allowed.
+const PIPE: i32 = 1_048_576;
+
+/// A record is no link to another file, and no pipe that nobody reads.
+pub const RECORD_FLAGS: OFlag = OFlag::from_bits_truncate(OFlag::O_NOFOLLOW.bits() | OFlag::O_NONBLOCK.bits());
+
+/// A file of all lines as the server is given them, in their order. What cannot be written ends the record, and not the
+/// front.
+pub struct Record {
+    path: PathBuf,
+    file: Option<File>,
+}
+
+impl Record {
+    pub fn new(path: &Path) -> Result<Record, Ended> {
+        let file = OpenOptions::new()
+            .write(true)
+            .create(true)
+            .truncate(true)
+            .mode(0o600)
+            .custom_flags(RECORD_FLAGS.bits())
+            .open(path);
+        let file = file.map_err(|error| Ended(format!("{} cannot be written: {}", path.display(), reason(&error))))?;
+        Ok(Record { path: path.to_path_buf(), file: Some(file) })
+    }
+
+    /// Writes lines, before the server is given them.
+    fn write(&mut self, lines: &[u8], log: &mut Log) {
+        let written = self.file.as_mut().map_or(Ok(()), |file| file.write_all(lines));
+        if let Err(error) = written {
+            self.file = None;
+            let path = self.path.display();
+            log.say(&format!("{path} cannot be written: {}; nothing more is recorded", reason(&error)));
+        }
+    }
+}
+
+/// What a read of a server has brought.
+#[derive(Debug, PartialEq, Eq)]
+pub enum Brought {
+    Nothing,
+    /// Whole lines of so many bytes, at the beginning of the buffer; and whether more may be there.
+    Lines(usize, bool),
+    /// The end of what it writes.
+    End,
+}
+
+/// What a server has written and was not told yet.
+pub struct Written {
+    pub bytes: Vec<u8>,
+    /// Bytes of a line that has not ended.
+    begun: usize,
+}
+
+impl Written {
+    fn new() -> Written {
+        Written { bytes: vec![0; CHUNK], begun: 0 }
+    }
+
+    fn read(&mut self, from: &mut impl Read) -> io::Result<Brought> {
+        if self.bytes.len() < self.begun + CHUNK / 2 {
+            self.bytes.resize(self.begun + CHUNK, 0);
+        }
+        let count = from.read(&mut self.bytes[self.begun..])?;
+        if count == 0 {
+            return Ok(Brought::End);
+        }
+        let (before, end) = (self.begun, self.begun + count);
+        let whole = memchr::memrchr(b'\n', &self.bytes[before..end]).map_or(0, |at| before + at + 1);
+        self.begun = end;
+        Ok(Brought::Lines(whole, end == self.bytes.len()))
+    }
+
+    /// Drops the lines at the beginning, which were told.
+    pub fn told(&mut self, whole: usize) {
+        self.bytes.copy_within(whole..self.begun, 0);
+        self.begun -= whole;
+    }
+}
+
+/// A program that is given lines, and answers each.
+pub struct Server {
+    pub child: Child,
+    input: ChildStdin,
+    output: ChildStdout,
+    /// What it has not taken yet.
+    pub given: Pending,
+    pub written: Written,
+    record: Option<Record>,
+    /// Bytes at the end of what it was given that are not recorded yet.
+    unrecorded: usize,
+    watches_writing: bool,
+}
+
+impl Server {
+    /// Starts a server.
+    pub fn start(program: &OsString, args: &[OsString], record: Option<Record>) -> Result<Server, Ended> {
+        let mut child = started(program, args, true)?;
+        let pipes = child.stdin.take().zip(child.stdout.take());
+        let (input, output) = pipes.ok_or_else(|| Ended("the server has no pipes".to_string()))?;
+        for number in [input.as_raw_fd(), output.as_raw_fd()] {
+            let _ = fcntl(number, FcntlArg::F_SETPIPE_SZ(PIPE));
+            let _ = fcntl(number, FcntlArg::F_SETFL(OFlag::O_NONBLOCK));
+        }
+        let (given, written) = (Pending::default(), Written::new());
+        Ok(Server { child, input, output, given, written, record, unrecorded: 0, watches_writing: false })
+    }
+
+    /// Begins to wait for what it writes.
+    pub fn watch(&self, registry: &Registry, token: Token) -> Result<(), Ended> {
+        watched(registry.register(&mut SourceFd(&self.output.as_raw_fd()), token, Interest::READABLE))
+    }
+
+    /// Waits for what it writes as if that were new, since not all of it was read.
+    pub fn watch_again(&self, registry: &Registry, token: Token) -> Result<(), Ended> {
+        watched(registry.reregister(&mut SourceFd(&self.output.as_raw_fd()), token, Interest::READABLE))
+    }
+
+    /// Appends a line to what it is given, which it is let take by `push`. Answers the bytes of the line, without its end.
+    pub fn give(&mut self, put: impl FnOnce(&mut Vec<u8>)) -> usize {
+        let bytes = self.given.end();
+        let before = bytes.len();
+        put(bytes);
+        let length = bytes.len() - before;
+        bytes.push(b'\n');
+        if self.record.is_some() {
+            self.unrecorded += length + 1;
+        }
+        length
+    }
+
+    /// The last line that it was given, of so many bytes, without its end.
+    pub fn last(&self, length: usize) -> &[u8] {
+        &self.given.last(length + 1)[..length]
+    }
+
+    /// Lets it take what it was given, as far as it does at once.
+    pub fn push(&mut self, registry: &Registry, token: Token, log: &mut Log) {
+        if self.unrecorded > 0 {
+            if let Some(record) = &mut self.record {
+                record.write(self.given.last(self.unrecorded), log);
+            }
+            self.unrecorded = 0;
+        }
+        if self.given.is_empty() {
+            return;
+        }
+        let is_all = match self.given.give(&mut self.input) {
+            Ok(is_all) => is_all,
+            Err(_) => {
+                self.given.clear(); // it is ending, which the end of its output tells
+                true
+            }
+        };
+        if is_all == self.watches_writing {
+            self.watches_writing = !is_all;
+            let number: RawFd = self.input.as_raw_fd();
+            let _ = match is_all {
+                true => registry.deregister(&mut SourceFd(&number)),
+                false => registry.register(&mut SourceFd(&number), token, Interest::WRITABLE),
+            };
+        }
+    }
+
+    /// Reads what it has written.
+    pub fn read(&mut self) -> Brought {
+        match self.written.read(&mut self.output) {
+            Ok(brought) => brought,
+            Err(error) if matches!(error.kind(), ErrorKind::WouldBlock | ErrorKind::Interrupted) => Brought::Nothing,
+            Err(_) => Brought::End,
+        }
+    }
+
+    /// Waits until it has ended, for some seconds; answers how, where it has.
+    pub fn status(&mut self) -> Option<ExitStatus> {
+        let until = Instant::now() + SECONDS_TO_END;
+        loop {
+            match self.child.try_wait() {
+                Ok(Some(status)) => return Some(status),
+                Ok(None) if Instant::now() < until => std::thread::sleep(std::time::Duration::from_millis(1)),
+                _ => return None,
+            }
+        }
+    }
+
+    /// How it has ended, in words.
+    pub fn how_ended(&mut self) -> String {
+        let status = match self.status() {
+            Some(status) => status,
+            None => return "the server writes no more".to_string(),
+        };
+        match (status.signal(), status.code()) {
+            (Some(signal), _) => format!("the server was ended by signal {signal}"),
+            (None, code) => format!("the server has ended with status {}", code.unwrap_or(-1)),
+        }
+    }
+}
+
+fn watched(done: io::Result<()>) -> Result<(), Ended> {
+    done.map_err(|error| Ended(format!("the server cannot be watched: {}", reason(&error))))
+}
+
+#[cfg(test)]
+mod tests {
+    use super::*;
+
+    #[test]
+    fn lines_of_any_length_come_whole() {
+        let long = "x".repeat(CHUNK + CHUNK / 3) + "\n";
+        let text = format!("one\ntwo\n{long}three\nhalf");
+        let (mut from, mut written, mut came) = (text.as_bytes(), Written::new(), Vec::new());
+        loop {
+            match written.read(&mut from).unwrap() {
+                Brought::Lines(whole, _) => {
+                    assert!(whole == 0 || written.bytes[whole - 1] == b'\n');
+                    came.extend_from_slice(&written.bytes[..whole]);
+                    written.told(whole);
+                }
+                other => {
+                    assert_eq!(other, Brought::End);
+                    break;
+                }
+            }
+        }
+        assert_eq!(came, text.strip_suffix("half").unwrap().as_bytes());
+    }
+}

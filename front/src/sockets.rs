@@ -1,0 +1,135 @@
+//! Where clients connect: a socket of the front's own, or one that it was passed.
+
+use std::env;
+use std::fs::{self, File, Permissions};
+use std::io::{self, ErrorKind};
+use std::os::unix::fs::{FileTypeExt, MetadataExt, PermissionsExt};
+use std::os::unix::io::{AsRawFd, RawFd};
+use std::os::unix::net::UnixListener;
+use std::path::{Path, PathBuf};
+use std::time::Duration;
+
+use listenfd::ListenFd;
+use nix::errno::Errno;
+use nix::fcntl::{flock, FlockArg};
+use nix::sys::socket::sockopt::{AcceptConn, SockType};
+use nix::sys::socket::{getsockname, getsockopt, AddressFamily, SockType as Kind, SockaddrLike, SockaddrStorage};
+use socket2::{Domain, SockAddr, Socket, Type};
+
+use crate::log::{reason, Ended};
+
+/// Clients that wait to be accepted, at most.
+const WAITING_MOST: i32 = 1_024;
+/// The number of the file that systemd passes first.
+const FIRST_PASSED: RawFd = 3;
+const TRIES: usize = 10;
+const PAUSE: Duration = Duration::from_millis(100);
+const NOT_PASSED: &str = "no socket was passed: LISTEN_PID has to be the front's, and LISTEN_FDS to be 1";
+const NOT_LISTENING: &str = "what was passed is no Unix-domain socket at which somebody listens";
+
+/// A socket of the front's own at a path, which goes with this value unless something else is there meanwhile.
+pub struct Bound {
+    path: PathBuf,
+    place: (u64, u64),
+}
+
+impl Drop for Bound {
+    fn drop(&mut self) {
+        if place_of(&self.path).map_or(false, |place| place == self.place) {
+            let _ = fs::remove_file(&self.path);
+        }
+    }
+}
+
+/// A socket at this path where clients can connect, with these rights.
+pub fn listening(path: &Path, mode: Option<u32>) -> Result<(UnixListener, Bound), Ended> {
+    bind(path, mode).map_err(|error| Ended(format!("{} cannot be bound: {}", path.display(), reason(&error))))
+}
+
+fn bind(path: &Path, mode: Option<u32>) -> io::Result<(UnixListener, Bound)> {
+    let folder = path.parent().filter(|it| !it.as_os_str().is_empty()).unwrap_or_else(|| Path::new("."));
+    let _lock = alone_in(folder)?;
+    make_room(path)?;
+    let socket = Socket::new(Domain::UNIX, Type::STREAM, None)?;
+    socket.bind(&SockAddr::unix(path)?)?;
+    let bound = Bound { path: path.to_path_buf(), place: place_of(path)? };
+    if let Some(mode) = mode {
+        fs::set_permissions(path, Permissions::from_mode(mode))?;
+    }
+    socket.listen(WAITING_MOST)?;
+    let listener = UnixListener::from(socket);
+    listener.set_nonblocking(true)?;
+    Ok((listener, bound))
+}
+
+/// Keeps other fronts from binding in a folder meanwhile, where the folder can be read: of two that begin at once, one must
+/// not take away what the other has just bound. Who keeps the folder locked for long delays a start, and cannot prevent it.
+fn alone_in(folder: &Path) -> io::Result<Option<File>> {
+    let file = match File::open(folder) {
+        Ok(file) => file,
+        Err(error) if error.kind() == ErrorKind::PermissionDenied => return Ok(None),
+        Err(error) => return Err(error),
+    };
+    for _ in 0..TRIES {
+        match flock(file.as_raw_fd(), FlockArg::LockExclusiveNonblock) {
+            Ok(()) => return Ok(Some(file)),
+            Err(Errno::EWOULDBLOCK) => std::thread::sleep(PAUSE),
+            Err(error) => return Err(error.into()),
+        }
+    }
+    Ok(None) // whoever keeps it locked for so long is no front that begins
+}
+
+/// Takes a socket away at which nobody answers, as a front that was killed leaves it.
+fn make_room(path: &Path) -> io::Result<()> {
+    match fs::symlink_metadata(path) {
+        Err(error) if error.kind() == ErrorKind::NotFound => Ok(()),
+        Err(error) => Err(error),
+        Ok(found) if found.file_type().is_socket() => take_away(path),
+        Ok(_) => Ok(()),
+    }
+}
+
+fn take_away(path: &Path) -> io::Result<()> {
+    let link = Socket::new(Domain::UNIX, Type::STREAM, None)?;
+    link.set_nonblocking(true)?;
+    match link.connect(&SockAddr::unix(path)?) {
+        Err(error) if error.kind() == ErrorKind::ConnectionRefused => fs::remove_file(path),
+        // where it would block, so many wait there that there is no room for more
+        Err(error) if error.kind() != ErrorKind::WouldBlock => Err(error),
+        _ => Err(io::Error::new(ErrorKind::Other, "somebody answers there")),
+    }
+}
+
+/// What tells the file at a path from all others.
+fn place_of(path: &Path) -> io::Result<(u64, u64)> {
+    let found = fs::symlink_metadata(path)?;
+    Ok((found.dev(), found.ino()))
+}
+
+/// The socket that systemd has passed, which stays where it is at the end.
+pub fn passed() -> Result<UnixListener, Ended> {
+    let is = |name: &str, value: &str| env::var(name).map_or(false, |it| it == value);
+    if !is("LISTEN_PID", &std::process::id().to_string()) || !is("LISTEN_FDS", "1") {
+        return Err(Ended(NOT_PASSED.to_string()));
+    }
+    let listens = getsockopt(FIRST_PASSED, AcceptConn)
+        .map_err(|error| Ended(format!("what was passed is no socket: {}", reason(&error.into()))))?;
+    let is_stream = getsockopt(FIRST_PASSED, SockType) == Ok(Kind::Stream);
+    let family = getsockname::<SockaddrStorage>(FIRST_PASSED).ok().and_then(|it| it.family());
+    if !(listens && is_stream && family == Some(AddressFamily::Unix)) {
+        return Err(Ended(NOT_LISTENING.to_string()));
+    }
+    let listener = ListenFd::from_env().take_unix_listener(0);
+    let listener = listener.ok().flatten().ok_or_else(|| Ended(NOT_LISTENING.to_string()))?;
+    let not_set = |error: io::Error| Ended(format!("what was passed cannot be used: {}", reason(&error)));
+    listener.set_nonblocking(true).map_err(not_set)?;
+    Ok(listener)
+}
+
+/// Whether a file is one of those that end, and whose end can be waited for.
+pub fn is_pipe(number: RawFd) -> bool {
+    let kind = fs::metadata(format!("/proc/self/fd/{number}")).map(|found| found.file_type());
+    let is_piped = kind.map_or(false, |kind| kind.is_fifo() || kind.is_socket());
+    is_piped || nix::unistd::isatty(number) == Ok(true)
+}

@@ -1,0 +1,105 @@
+//! How other programs are started: in a session of their own, so that signals of a terminal reach the front alone, and
+//! with the knowledge whether they could be started.
+//!
+//! The front starts itself once more, which leaves the front's session and then becomes the other program.
+
+use std::ffi::{OsStr, OsString};
+use std::io::{self, Read};
+use std::os::unix::io::{AsRawFd, RawFd};
+use std::os::unix::net::UnixStream;
+use std::os::unix::process::CommandExt;
+use std::process::{Child, Command, Stdio};
+use std::time::{Duration, Instant};
+
+use nix::fcntl::{fcntl, FcntlArg, FdFlag};
+use nix::sys::signal::{killpg, Signal};
+use nix::unistd::{setsid, write, Pid};
+
+use crate::log::{reason, Ended};
+
+/// The first word of a run that becomes another program.
+pub const BECOME: &str = "--become-another-program";
+const THIS_PROGRAM: &str = "/proc/self/exe";
+/// Words of the environment that are for the front alone.
+const OF_PASSING: [&str; 6] =
+    ["LISTEN_PID", "LISTEN_FDS", "LISTEN_FDNAMES", "NOTIFY_SOCKET", "WATCHDOG_PID", "WATCHDOG_USEC"];
+const LOOK: Duration = Duration::from_millis(2);
+/// What a program has to end in, before it is killed.
+pub const SECONDS_TO_END: Duration = Duration::from_secs(5);
+
+/// Starts a program, with or without pipes to it. What it writes on standard error goes to that of the front.
+pub fn started(program: &OsStr, args: &[OsString], has_pipes: bool) -> Result<Child, Ended> {
+    start(program, args, has_pipes)
+        .map_err(|error| Ended(format!("{} cannot be started: {}", program.to_string_lossy(), reason(&error))))
+}
+
+fn start(program: &OsStr, args: &[OsString], has_pipes: bool) -> io::Result<Child> {
+    let (mut near, far) = UnixStream::pair()?;
+    keep_open(far.as_raw_fd())?;
+    let stdio = || if has_pipes { Stdio::piped() } else { Stdio::null() };
+    let mut command = Command::new(THIS_PROGRAM);
+    command.arg(BECOME).arg(far.as_raw_fd().to_string()).arg(program).args(args).stdin(stdio()).stdout(stdio());
+    for name in OF_PASSING {
+        command.env_remove(name);
+    }
+    let mut child = command.spawn()?;
+    drop(far);
+    let mut said = String::new();
+    near.read_to_string(&mut said)?;
+    if said.is_empty() {
+        return Ok(child);
+    }
+    child.wait()?;
+    Err(said.parse().map_or_else(|_| io::Error::new(io::ErrorKind::Other, said), io::Error::from_raw_os_error))
+}
+
+/// Becomes another program; returns where that fails, which whoever has started this run is told.
+pub fn become_another(words: &[OsString]) -> u8 {
+    let number = words.first().and_then(|word| word.to_str()?.parse::<RawFd>().ok());
+    let (number, program) = match (number, words.get(1)) {
+        (Some(number), Some(program)) => (number, program),
+        _ => return 2,
+    };
+    let _ = fcntl(number, FcntlArg::F_SETFD(FdFlag::FD_CLOEXEC));
+    let _ = setsid();
+    let error = Command::new(program).args(&words[2..]).exec();
+    let said = error.raw_os_error().map_or_else(|| reason(&error), |it| it.to_string());
+    let _ = write(number, said.as_bytes());
+    1
+}
+
+/// Lets programs that are started have a file of the front.
+pub fn keep_open(number: RawFd) -> io::Result<()> {
+    fcntl(number, FcntlArg::F_SETFD(FdFlag::empty()))?;
+    Ok(())
+}
+
+/// Ends programs and what they have started: asks all of them to, and kills those that have not ended in time.
+pub fn end_all(children: &mut [&mut Child], time: Duration) {
+    children.iter_mut().for_each(|child| signal_all(child, Signal::SIGTERM));
+    let until = Instant::now() + time;
+    for child in children.iter_mut() {
+        while child.try_wait().map_or(false, |status| status.is_none()) && Instant::now() < until {
+            std::thread::sleep(LOOK);
+        }
+        kill(child);
+    }
+}
+
+/// Ends a program and what it has started at once.
+pub fn kill(child: &mut Child) {
+    signal_all(child, Signal::SIGKILL);
+    let _ = child.wait();
+}
+
+/// Has a program and what it has started end at once, and does not wait for that.
+pub fn kill_at_once(child: &mut Child) {
+    signal_all(child, Signal::SIGKILL);
+}
+
+/// Sends a signal to a program that has not ended, and to what it has started.
+fn signal_all(child: &mut Child, signal: Signal) {
+    if let Ok(None) = child.try_wait() {
+        let _ = killpg(Pid::from_raw(child.id() as i32), signal);
+    }
+}

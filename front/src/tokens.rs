@@ -1,0 +1,51 @@
+//! How the sources of events are told apart.
+
+use mio::Token;
+
+/// What a source of events is.
+#[derive(Clone, Copy, Debug, PartialEq, Eq)]
+pub enum Kind {
+    Client,
+    Guest,
+    ServerOutput,
+    ServerInput,
+    Door,
+    Alarm,
+    Input,
+    Inspector,
+}
+
+const KINDS: [Kind; 8] = [
+    Kind::Client,
+    Kind::Guest,
+    Kind::ServerOutput,
+    Kind::ServerInput,
+    Kind::Door,
+    Kind::Alarm,
+    Kind::Input,
+    Kind::Inspector,
+];
+
+/// The token of a source: which one it is of its kind.
+pub fn token(kind: Kind, key: usize) -> Token {
+    Token(key * KINDS.len() + kind as usize)
+}
+
+/// What a token says.
+pub fn read(token: Token) -> (Kind, usize) {
+    (KINDS[token.0 % KINDS.len()], token.0 / KINDS.len())
+}
+
+#[cfg(test)]
+mod tests {
+    use super::*;
+
+    #[test]
+    fn tokens_are_read_as_they_were_made() {
+        for kind in KINDS {
+            for key in [0, 1, 4_097] {
+                assert_eq!(read(token(kind, key)), (kind, key));
+            }
+        }
+    }
+}

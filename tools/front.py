@@ -1,0 +1,123 @@
+#!/usr/bin/env python3
+"""Builds the front, front/, as bin/metad-front; or what loads it to measure it, as bin/metad-load; or
+runs the tests beside its code; or installs what that needs.
+
+The crates that it stands on are taken from Debian's packages where these are installed, and otherwise cargo fetches them.
+Usage: front.py build|load|test|needs
+"""
+
+from __future__ import annotations
+
+import os
+import re
+import shutil
+import subprocess
+import sys
+from pathlib import Path
+from typing import Callable, Dict, List, Optional
+
+ROOT = Path(__file__).resolve().parent.parent
+SOURCE = ROOT / "front"
+WORK = ROOT / "bin" / "build-front"
+SYSTEM = Path("/usr/share/cargo/registry")
+PACKAGES = (
+    "cargo", "rustc", "librust-blake2b-simd-dev", "librust-listenfd-dev", "librust-memchr-dev", "librust-mio-dev",
+    "librust-nix-dev", "librust-sd-notify-dev", "librust-serde-json-dev", "librust-signal-hook-dev", "librust-slab-dev", "librust-socket2-dev",
+)  # fmt: skip
+ADVICE = f"the front needs cargo and some crates: apt-get install {' '.join(PACKAGES)}"
+CONFIG = f"""\
+[source.crates-io]
+replace-with = "system"
+
+[source.system]
+directory = "{SYSTEM}"
+"""
+
+
+class Unable(Exception):
+    """Why the front cannot be built, as a text for people."""
+
+
+def cargo() -> Optional[str]:
+    """Where cargo is."""
+    places = os.pathsep.join([os.environ.get("PATH", ""), str(Path.home() / ".cargo" / "bin")])
+    return shutil.which("cargo", path=places)
+
+
+def has_crates() -> bool:
+    """Whether the system has all crates of Cargo.lock, of these versions."""
+    lock = (SOURCE / "Cargo.lock").read_text()
+    found = re.findall(r'name = "(.+)"\nversion = "(.+)"\nsource = ', lock)
+    return all((SYSTEM / f"{name}-{version}").is_dir() for name, version in found)
+
+
+def lay_out() -> List[str]:
+    """A folder to build in, where cargo may change the lock file; answers further words for cargo."""
+    WORK.mkdir(parents=True, exist_ok=True)
+    for name in ("Cargo.toml", "Cargo.lock"):
+        shutil.copy(SOURCE / name, WORK / name)
+    link = WORK / "src"
+    if not link.is_symlink():
+        link.symlink_to(SOURCE / "src")
+    if not has_crates():
+        return []
+    (WORK / "system.toml").write_text(CONFIG)
+    return ["--config", "system.toml", "--offline"]
+
+
+def run_cargo(*words: str) -> None:
+    """Has cargo do something with the package."""
+    program = cargo()
+    if program is None:
+        raise Unable(ADVICE)
+    own = {**os.environ, "CARGO_TARGET_DIR": str(WORK / "target"), "PATH": f"{Path(program).parent}{os.pathsep}{os.environ['PATH']}"}
+    if subprocess.run([program, *lay_out(), *words], cwd=WORK, env=own).returncode:
+        raise Unable(f"cargo has not done it. Where it cannot fetch crates, {ADVICE}")
+
+
+def build(name: str = "metad-front", *more: str) -> None:
+    """Builds a program of the package into bin/."""
+    run_cargo("build", "--release", "--quiet", "--bin", name, *more)
+    made = ROOT / "bin" / name
+    shutil.copy(WORK / "target" / "release" / name, made.with_suffix(".new"))
+    made.with_suffix(".new").replace(made)
+
+
+def needs() -> None:
+    """Installs what the front needs, where this may be done; else says what to install."""
+    if cargo() is not None and has_crates():
+        return
+    if os.geteuid() != 0 or shutil.which("apt-get") is None:
+        print(ADVICE)
+        return
+    wanted = PACKAGES if cargo() is None else PACKAGES[2:]
+    # a new machine may not have the lists of packages yet; where they cannot be fetched, those that it has may do
+    for words in (("update", "-q"), ("install", "-y", "-q", "--no-install-recommends", *wanted)):
+        done = subprocess.run(["apt-get", *words], stdout=subprocess.DEVNULL)
+    if done.returncode:
+        raise Unable(ADVICE)
+
+
+def main() -> int:
+    kinds: Dict[str, Callable[[], None]] = {
+        "build": build,
+        "load": lambda: build("metad-load", "--features", "load"),
+        "test": lambda: run_cargo("test", "--quiet"),
+        "needs": needs,
+    }
+    if sys.argv[1:] == ["--help"]:
+        print(__doc__)
+        return 0
+    if len(sys.argv) != 2 or sys.argv[1] not in kinds:
+        print("usage: front.py build|load|test|needs", file=sys.stderr)
+        return 2
+    try:
+        kinds[sys.argv[1]]()
+    except (OSError, Unable) as error:
+        print(f"front.py: {error}", file=sys.stderr)
+        return 1
+    return 0
+
+
+if __name__ == "__main__":
+    sys.exit(main())
