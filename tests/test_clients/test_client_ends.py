@@ -125,7 +125,7 @@ class Ends(ClientCases):
         with socket.socket(socket.AF_UNIX) as listener:
             listener.bind(str(path))
             listener.listen()
-            with metad.connect(path) as server, listener.accept()[0] as link:
+            with metad.connect(path, live=False) as server, listener.accept()[0] as link:
                 session = server.session("mine")
                 first, *under_way = [session.send("new", class_="QObject") for _ in range(4)]
                 link.recv(1)

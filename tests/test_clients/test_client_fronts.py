@@ -6,11 +6,15 @@ import subprocess
 import sys
 import tempfile
 import time
+from collections.abc import Sequence
+from operator import index
 from pathlib import Path
+from unittest import mock
 
 import metad
+from metad import fronts
 
-from tests.support.program import SECONDS
+from tests.support.program import ROOT, SECONDS
 
 from . import PYTHON
 from .fronts import PATIENCE, FrontCases, listens
@@ -41,7 +45,7 @@ class StartedFronts(FrontCases):
         """A monitor is told all lines, or those of one session, up to the front's end."""
         started = metad.start_front(self.program, classes=LAMP, timeout=PATIENCE, monitor=True)
         with started as front, front.monitor() as all_lines:
-            with front.connect() as one, front.connect() as other:
+            with front.connect(live=False) as one, front.connect(live=False) as other:
                 sessions = [it.session("a") for it in (one, other)]
                 made = [it.new("Lamp") for it in sessions]
                 with front.monitor(sessions[1].known_as) as lines_of_one:
@@ -133,6 +137,21 @@ class StartedFronts(FrontCases):
         while listens(path):
             self.assertLess(time.monotonic(), until, "whether it still listens")
             time.sleep(0.02)
+
+    def test_oldest_paths(self):
+        """The front beside the package is found in Python 3.8 too, whose paths cut no list of their parents."""
+
+        class Parents(Sequence):
+            def __len__(self):
+                return len(fronts_path.parents)
+
+            def __getitem__(self, at):
+                return fronts_path.parents[index(at)]  # which a slice is not
+
+        fronts_path, path = Path(fronts.__file__).resolve(), mock.Mock()
+        path.resolve.return_value.parents = Parents()
+        with mock.patch.object(fronts, "Path", return_value=path):
+            self.assertEqual(fronts.front_words(), [str(ROOT / "bin" / "metad-front")], "where it is")
 
     def test_not_started(self):
         """What does not start is told, and leaves nothing."""

@@ -16,7 +16,8 @@ object that is not there and a line that is too long are refused there. Values t
 NaN, raise `NoValue`, and are not sent.
 
 Calls of slots and functors, and warnings, are told to the callbacks of their session before the call of the command
-returns. Commands can be sent without waiting: `Session.send` returns a `Pending`, and its `result` waits. Replies come
+returns. Behind a front a session is live where the front has live sessions: events come unasked, and `wait_for` and
+`calls` of a session wait for them. Elsewhere events wait for `spin`. Commands can be sent without waiting: `Session.send` returns a `Pending`, and its `result` waits. Replies come
 in the order of the commands, over the whole server.
 
 `Session.create` makes an object whose properties, signals and slots are reached by their names, see `proxies`. The
@@ -38,6 +39,7 @@ from .errors import (
     NoRelay,
     NoValue,
     NotAnswered,
+    NotLive,
     NotStarted,
     OtherSession,
     Refused,
@@ -46,11 +48,12 @@ from .errors import (
     StrangeLine,
 )
 from .fronts import Front, start_front
-from .hearing import Listener, OnCall, OnWarning
+from .hearing import Listener, OnCall, OnSpun, OnWarning
 from .lines import NOBODY, Call, Meta, Spun, Status, Value, Warned
 from .monitors import Monitor, monitor
 from .proxies import Connected, Heard, Method, Property, Proxy, SignalSpy, wait_for
 from .shapes import with_relay
+from .waiting import Calls
 
 __version__ = "0.8.0"
 
@@ -59,6 +62,7 @@ __all__ = [
     "Ambiguous",
     "BINDING_ERRORS",
     "Call",
+    "Calls",
     "ClassFileRefused",
     "Connected",
     "ConnectionClosed",
@@ -76,8 +80,10 @@ __all__ = [
     "NoRelay",
     "NoValue",
     "NotAnswered",
+    "NotLive",
     "NotStarted",
     "OnCall",
+    "OnSpun",
     "OnWarning",
     "OtherSession",
     "Pending",

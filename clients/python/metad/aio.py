@@ -12,8 +12,9 @@
     asyncio.run(main())
 
 Callbacks are plain functions. They are called in the thread of the event loop, by the task that waits for an answer,
-before it gets that; they may `send` commands and make tasks, and cannot wait for answers. A task that is cancelled
-while it waits leaves its command under way. Objects by their names are in `aio_proxies`, and reached from here too.
+before it gets that; they may `send` commands and make tasks, and cannot wait for answers. In a live session, which a
+front offers, a task of the server calls them as lines come, also while nobody waits. A task that is cancelled while it
+waits leaves its command under way. Objects by their names are in `aio_proxies`, and reached from here too.
 """
 
 from __future__ import annotations
@@ -22,19 +23,22 @@ import asyncio
 from contextlib import suppress
 from tempfile import TemporaryDirectory
 from types import TracebackType
-from typing import TYPE_CHECKING, Any, Callable, Coroutine, Dict, Generator, Optional, Sequence, Type, TypeVar, cast
+from typing import TYPE_CHECKING, Any, Callable, Coroutine, Dict, Generator, List, Optional, Sequence, Type, TypeVar, Union, cast, overload
 
 from . import commands
 from .aio_proxies import Connected, Heard, Method, Property, Proxy, SignalSpy, hear_post, wait_for
+from .aio_waiting import Calls, Done, came, tell_on, wait_until
 from .client import reply_of
 from .commands import Asked, make_method
-from .connection import Answer, Connection, Once, ProgramConnection, SocketConnection, Word
+from .connection import Answer, Connection, ProgramConnection, Word
 from .errors import ClassFileRefused, NotAnswered, OtherSession, Refused
 from .hearing import Hearing, OnCall, OnWarning
 from .holding import START_SECONDS, Holder, class_words
 from .lines import Value, command_line
+from .reaching import Making
 from .shapes import Shape, with_relay
 from .tools import fault_in
+from .waiting import not_in_time
 
 if TYPE_CHECKING:
     from typing_extensions import Concatenate, ParamSpec
@@ -44,6 +48,7 @@ if TYPE_CHECKING:
 Replied = TypeVar("Replied")
 
 __all__ = [
+    "Calls",
     "Connected",
     "Heard",
     "Method",
@@ -78,7 +83,7 @@ class Pending:
         All that came before the answer is told to callbacks first. It can be asked for again, after a wait that was
         cancelled too, and says the same however often it is asked.
         """
-        await _came(self._answer)
+        await came(self._answer)
         return reply_of(self._asked, self._session.server.connection.settled(self._answer))
 
     def __await__(self) -> Generator[Any, None, Value]:
@@ -179,9 +184,31 @@ class Session(Hearing):
         return shapes[class_]
 
     async def listen(self, from_: str, name: str, types: Sequence[str], told: Callable[..., object]) -> Heard:
-        """Has a function called with what another session publishes under a name, with these types, when this one
-        spins. It needs a relay, see `with_relay`."""
+        """Has a function called with what another session publishes under a name, with these types: as it comes in a live
+        session, otherwise when this one spins. It needs a relay, see `with_relay`."""
         return await hear_post(self, from_, name, types, told)
+
+    @overload
+    async def wait_for(self, what: Method, timeout: Optional[float] = 5.0) -> List[Value]: ...
+
+    @overload
+    async def wait_for(self, what: Callable[[], Done], timeout: Optional[float] = 5.0) -> Done: ...
+
+    async def wait_for(
+        self, what: Union[Method, Callable[[], Done]], timeout: Optional[float] = 5.0
+    ) -> Union[List[Value], Done]:
+        """Waits until a predicate returns something true, or until a signal is sent, as `wait_for` of `metad.Session`
+        does."""
+        if isinstance(what, Method):
+            return await wait_for(what, timeout)
+        done = await wait_until(self, what, timeout)
+        if not done:
+            raise not_in_time(timeout)
+        return done
+
+    def calls(self, timeout: Optional[float] = None) -> Calls:
+        """The calls of the session's slots and functors from now on, as `calls` of `metad.Session`, for `async for`."""
+        return Calls(self, timeout)
 
     def _give(self, asked: Asked[Any]) -> Pending:
         line = command_line(self.name, asked.do, asked.keys)
@@ -201,6 +228,9 @@ class Server(Holder):
     def __init__(self, connection: Connection) -> None:
         self._sessions: Dict[str, Session] = {}
         self._hold(connection)
+        self._teller: Optional[asyncio.Task[None]] = None
+        if connection.is_live:
+            self._teller = asyncio.get_running_loop().create_task(tell_on(connection))
 
     async def __aenter__(self) -> Server:
         return self
@@ -217,7 +247,10 @@ class Server(Holder):
 
         A callback that is given takes the place of the one before.
         """
-        session = self._sessions.setdefault(name, Session(self, name))
+        if name not in self._sessions:
+            self._sessions[name] = Session(self, name)
+            self.connection.add(self._sessions[name])
+        session = self._sessions[name]
         session.on_call = session.on_call if on_call is None else on_call
         session.on_warning = session.on_warning if on_warning is None else on_warning
         return session
@@ -226,7 +259,9 @@ class Server(Holder):
         """Ends the server's input behind all that was given, and waits for its end where that can be seen; returns its
         exit status where it was started here. Closing again does nothing more."""
         self._hang_up()
-        await _came(self.connection.closed())
+        await came(self.connection.closed())
+        if self._teller is not None:
+            await asyncio.wait([self._teller])
         return self.connection.status()
 
 
@@ -240,7 +275,7 @@ async def start(
         try:
             connection.open()
             answer = connection.ask_first()
-            await asyncio.wait_for(_came(answer), timeout)
+            await asyncio.wait_for(came(answer), timeout)
             await _started(connection, answer, given)
         except asyncio.TimeoutError:
             connection.kill()
@@ -261,28 +296,16 @@ async def _started(connection: ProgramConnection, answer: Answer, given: Sequenc
         raise
 
 
-async def connect(path: Word, share: Optional[str] = None, group: Optional[str] = None) -> Server:
-    """Connects with the Unix-domain socket of a front, as `metad.connect` does."""
-    connection = SocketConnection(path, share, group)
+async def connect(
+    path: Word, share: Optional[str] = None, group: Optional[str] = None, *, live: Optional[bool] = None
+) -> Server:
+    """Connects with the Unix-domain socket of a front, as `metad.connect` does. The loop goes on meanwhile."""
+    making = Making(path, share, group, live)
+    try:
+        await came(making)
+    except BaseException:
+        making.give_up()
+        raise
+    connection = making.made()
     connection.open()
     return Server(connection)
-
-
-async def _came(once: Once) -> None:
-    """Waits for what comes once. A wait that is cancelled disturbs nobody."""
-    loop = asyncio.get_running_loop()
-    future: asyncio.Future[None] = loop.create_future()
-
-    def wake() -> None:
-        if not future.done():
-            future.set_result(None)
-
-    def bell() -> None:
-        with suppress(RuntimeError):  # the loop was closed, and nobody waits any more
-            loop.call_soon_threadsafe(wake)
-
-    once.ring(bell)
-    try:
-        await future
-    finally:
-        once.silence(bell)

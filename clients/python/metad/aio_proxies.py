@@ -12,12 +12,12 @@ function is called by way of a relay, as it is without asyncio. It is a plain fu
 
 from __future__ import annotations
 
-import asyncio
 from typing import TYPE_CHECKING, Any, Awaitable, Callable, Coroutine, Dict, Generator, List, Optional, Sequence
 
+from .aio_waiting import wait_until
 from .errors import NoRelay, NotAnswered, Refused
 from .lines import Value
-from .shapes import HEAR, RELAY, SPIN_SECONDS, BaseMethod, BaseProxy, calls_of, name_of, no_relay, types_of
+from .shapes import HEAR, RELAY, BaseMethod, BaseProxy, calls_of, name_of, no_relay, types_of
 
 if TYPE_CHECKING:
     from .aio import Session
@@ -163,7 +163,8 @@ class Method(BaseMethod[Proxy]):
         await self.owner.session.publish(self.owner.number, self.signature(), name)
 
     async def join(self, from_: str, name: str, types: Optional[Sequence[str]] = None) -> None:
-        """Has the method called with what another session publishes under a name, when this one spins.
+        """Has the method called with what another session publishes under a name: as it comes in a live session, otherwise
+        when this one spins.
 
         `types` are those of the published signal; without them those of the method.
         """
@@ -203,17 +204,11 @@ class SignalSpy(List[List[Value]]):
             self._heard = await self._signal.connect(lambda *args: self.append(list(args)), via=self._via)
         return self
 
-    async def wait(self, timeout: float = 5.0) -> bool:
-        """Spins until the signal is sent once more, so many seconds at most; says whether it was."""
-        loop = asyncio.get_running_loop()
-        before, until, pause = len(self), loop.time() + timeout, SPIN_SECONDS[0]
-        while True:
-            await self._signal.owner.session.spin()
-            left = until - loop.time()
-            if len(self) > before or left <= 0:
-                return len(self) > before
-            await asyncio.sleep(min(pause, left))
-            pause = min(2 * pause, SPIN_SECONDS[1])
+    async def wait(self, timeout: Optional[float] = 5.0) -> bool:
+        """Waits until the signal is sent once more, so many seconds at most; says whether it was. A session that is not live
+        spins meanwhile."""
+        before = len(self)
+        return await wait_until(self._signal.owner.session, lambda: len(self) > before, timeout)
 
     async def stop(self) -> None:
         """Hears no more of the signal."""
@@ -221,8 +216,11 @@ class SignalSpy(List[List[Value]]):
             await self._heard.disconnect()
 
 
-async def wait_for(signal: Method, timeout: float = 5.0, via: Optional[Method] = None) -> List[Value]:
-    """Spins until a signal is sent, and returns its arguments; `NotAnswered` where that is not so in time."""
+async def wait_for(signal: Method, timeout: Optional[float] = 5.0, via: Optional[Method] = None) -> List[Value]:
+    """Waits until a signal is sent, and returns its arguments; `NotAnswered` where that is not so in time.
+
+    In a live session it waits for the line that tells it; in any other one it spins.
+    """
     async with SignalSpy(signal, via) as spy:
         if not await spy.wait(timeout):
             raise NotAnswered(f"{signal.name} was not sent in {timeout} seconds")

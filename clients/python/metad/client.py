@@ -3,20 +3,24 @@
 from __future__ import annotations
 
 import threading
+from functools import partial
 from tempfile import TemporaryDirectory
 from types import TracebackType
-from typing import IO, TYPE_CHECKING, Any, Callable, Dict, Optional, Sequence, Set, Type, TypeVar, cast
+from typing import IO, TYPE_CHECKING, Any, Callable, Dict, List, Optional, Sequence, Set, Type, TypeVar, Union, cast, overload
 
 from . import commands
 from .commands import Asked, make_method
-from .connection import Answer, Connection, ProgramConnection, SocketConnection, Word
+from .connection import Answer, Connection, ProgramConnection, Word
 from .errors import NotAnswered, OtherSession, Refused
 from .hearing import Hearing, OnCall, OnWarning
 from .holding import START_SECONDS, Holder, class_words
 from .lines import Value, command_line, named
-from .proxies import Heard, Proxy, hear_post
+from .proxies import Heard, Method, Proxy, hear_post, wait_for
+from .reaching import SocketConnection
 from .shapes import Shape
+from .sockets import connected
 from .tools import explained
+from .waiting import Calls, Done, not_in_time, wait_until
 
 if TYPE_CHECKING:
     from typing_extensions import Concatenate, ParamSpec
@@ -89,6 +93,9 @@ class Session(Hearing):
     posted by then, is called before it returns. Commands of callbacks are followed by a spin when the callback has
     returned. It costs a line and no further wait. What other sessions post later waits for the next command, as the
     server tells nothing unasked. `send` spins nothing.
+
+    In a live session, which a front offers, events need no `spin`: what comes unasked is told at the next wait, and
+    `wait_for` and `calls` wait for it. It is told to each `Session` of the connection.
     """
 
     def __init__(self, server: Server, name: str) -> None:
@@ -173,9 +180,38 @@ class Session(Hearing):
         return shapes[class_]
 
     def listen(self, from_: str, name: str, types: Sequence[str], told: Callable[..., object]) -> Heard:
-        """Has a function called with what another session publishes under a name, with these types, when this one
-        spins. It needs a relay, see `with_relay`."""
+        """Has a function called with what another session publishes under a name, with these types: as it comes in a live
+        session, otherwise when this one spins. It needs a relay, see `with_relay`."""
         return hear_post(self, from_, name, types, told)
+
+    @overload
+    def wait_for(self, what: Method, timeout: Optional[float] = 5.0) -> List[Value]: ...
+
+    @overload
+    def wait_for(self, what: Callable[[], Done], timeout: Optional[float] = 5.0) -> Done: ...
+
+    def wait_for(self, what: Union[Method, Callable[[], Done]], timeout: Optional[float] = 5.0) -> Union[List[Value], Done]:
+        """Waits until a predicate returns something true, and returns that; or until a signal is sent, and returns its
+        arguments. `NotAnswered` where that is not so in time, and None waits without an end.
+
+        A predicate is called at first, and whenever the session may have been told something. In a live session this waits
+        for what comes; any other one spins meanwhile.
+        """
+        if isinstance(what, Method):
+            return wait_for(what, timeout)
+        done = wait_until(self, what, timeout)
+        if not done:
+            raise not_in_time(timeout)
+        return done
+
+    def calls(self, timeout: Optional[float] = None) -> Calls:
+        """The calls of the session's slots and functors from now on, to be iterated: each as soon as it comes, after
+        `on_call` was told of it. They end when none comes for so many seconds.
+
+        In a live session this waits for what comes; any other one spins meanwhile. `ConnectionClosed` where nothing more
+        can come.
+        """
+        return Calls(self, timeout)
 
     def _give(self, asked: Asked[Any]) -> Pending:
         line = command_line(self.name, asked.do, asked.keys)
@@ -218,8 +254,9 @@ class Server(Holder):
     when nobody holds it any more, and its input is ended then.
     """
 
-    def __init__(self, reader: IO[bytes], writer: IO[bytes]) -> None:
-        connection = Connection(reader, writer)
+    def __init__(self, reader: IO[bytes], writer: IO[bytes], live: bool = False) -> None:
+        """With `live` the streams are of a session that a front has made live: events come unasked."""
+        connection = Connection(reader, writer, live)
         connection.open()
         self._begin(connection)
 
@@ -249,7 +286,10 @@ class Server(Holder):
 
         A callback that is given takes the place of the one before.
         """
-        session = self._sessions.setdefault(name, Session(self, name))
+        new = Session(self, name)
+        session = self._sessions.setdefault(name, new)
+        if session is new:
+            self.connection.add(session)
         session.on_call = session.on_call if on_call is None else on_call
         session.on_warning = session.on_warning if on_warning is None else on_warning
         return session
@@ -294,14 +334,19 @@ def start(
     return Server.of(connection)
 
 
-def connect(path: Word, share: Optional[str] = None, group: Optional[str] = None) -> Server:
+def connect(
+    path: Word, share: Optional[str] = None, group: Optional[str] = None, *, live: Optional[bool] = None
+) -> Server:
     """Connects with the Unix-domain socket of a front. `OSError` where nobody listens there.
 
     A front gives each connection one session, whatever names are asked for: take one `Session` of it. Its `known_as` is
     the name by which other clients join it. With `share` that is the session of this name, which the front lets several
     clients speak for; `Refused` where it does not. What others cause there is told at the next wait. With `group`, which a
     front with workers asks for, that is a session of its own which those of the same group can join.
+
+    The session is live where the front has live sessions: events come unasked, and `wait_for` and `calls` wait for them.
+    `live=True` raises `NotLive` where the front has none, and `live=False` does not ask for it: events wait for `spin`.
     """
-    connection = SocketConnection(path, share, group)
+    connection = SocketConnection(partial(connected, path), share, group, live)
     connection.open()
     return Server.of(connection)

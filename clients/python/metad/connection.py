@@ -8,7 +8,6 @@ at any moment, and takes no line and no answer from anybody.
 from __future__ import annotations
 
 import queue
-import socket
 import subprocess
 import tempfile
 import threading
@@ -26,14 +25,12 @@ from .errors import (
     MetadError,
     NotAnswered,
     NotStarted,
-    Refused,
     ServerGone,
     SessionLost,
     StrangeLine,
 )
 from .hearing import Hearing, Listening
-from .lines import NO_COMMAND, NOBODY, Told, Value, is_answer, line_of, line_with, told_by
-from .sockets import connected
+from .lines import NO_COMMAND, NOBODY, Told, Value, is_answer, is_of_front, line_of, spun_by, told_by
 
 Word = Union[str, "PathLike[str]"]
 """A word of a command line, or a path."""
@@ -96,11 +93,12 @@ class Once:
 class Answer(Once):
     """What a command comes to. The thread that reads lets it come, with a line or with a fault."""
 
-    __slots__ = ("session", "line", "fault", "mark")
+    __slots__ = ("asking", "line", "fault", "mark")
 
     def __init__(self, session: Optional[Hearing] = None) -> None:
         super().__init__()
-        self.session = None if session is None else ref(session)
+        self.asking: Sequence[ref[Hearing]] = () if session is None else (ref(session),)
+        """The session that gave the command, if any."""
         self.line: Optional[Dict[str, Value]] = None
         self.fault: Fault = ConnectionClosed
         self.mark = 0
@@ -108,7 +106,7 @@ class Answer(Once):
 
     def reply(self, line: Dict[str, Value], mark: int) -> None:
         """Ends the command with a line."""
-        session = None if self.session is None else self.session()
+        session = self.asking[0]() if self.asking else None
         if session is not None and line["session"] != NOBODY:
             session.known_as = line["session"]
         self.line, self.mark = line, mark
@@ -122,11 +120,12 @@ class Answer(Once):
 
 @dataclass
 class Event:
-    """A call or a warning that a session is to be told of."""
+    """A call, a warning or what came of a `spin`, that sessions are to be told of."""
 
     number: int
     what: Told
-    session: Optional[ref[Hearing]]
+    sessions: Sequence[ref[Hearing]]
+    """Who is told: the session that gave a command, or all of a connection where nobody has asked."""
     listening: Optional[Sequence[Listening]] = None
     begun: int = 0
     """How many of those that listen were told."""
@@ -134,8 +133,8 @@ class Event:
     def is_told(self) -> bool:
         """Whether all that listen were told, or have begun to be; finds out first who they are."""
         if self.listening is None:
-            session = None if self.session is None else self.session()
-            self.listening = () if session is None else session.listening_to(self.what)
+            sessions = [it() for it in self.sessions]
+            self.listening = [told for it in sessions if it is not None for told in it.listening_to(self.what)]
         return self.begun == len(self.listening)
 
     def tell_next(self) -> None:
@@ -147,12 +146,22 @@ class Event:
 
 
 class Connection:
-    """Two streams, from a server and to it."""
+    """Two streams, from a server and to it.
+
+    Where they are of a live session, a front gives `spin` by itself, and what comes of it comes unasked: `news` says
+    when, and `tell` tells it.
+    """
 
     _ends_when_hung_up = False
     """Whether the server's output ends some time after its input was ended."""
 
-    def __init__(self, reader: IO[bytes], writer: IO[bytes]) -> None:
+    def __init__(self, reader: IO[bytes], writer: IO[bytes], is_live: bool = False) -> None:
+        self.is_live = is_live
+        """Whether events come unasked."""
+        self.live_fault: Optional[str] = None
+        """The code by which the front's own `spin` was refused; the session is not live any more then."""
+        self._news = Once()
+        self._sessions: List[ref[Hearing]] = []  # which are told what nobody has asked for
         self._reader = reader
         self._writer = writer
         self._given: queue.SimpleQueue[Optional[Tuple[Answer, bytes]]] = queue.SimpleQueue()
@@ -193,6 +202,33 @@ class Connection:
     def hang_up(self) -> None:
         """Ends the server's input behind all that was given. It does not wait for that."""
         self._given.put(None)
+
+    def add(self, session: Hearing) -> None:
+        """Has a session told what comes unasked."""
+        self._sessions.append(ref(session))
+        self._ring()
+
+    def news(self) -> Once:
+        """What comes with the next line of a live session that somebody is to be told of, and at its end."""
+        return self._news
+
+    def tell(self) -> None:
+        """Tells all that has come, as soon as there is a session."""
+        if self._sessions:
+            self._tell(self._count)
+
+    def has_untold(self) -> bool:
+        """Whether something has come that nobody was told of yet."""
+        return bool(self._heard)
+
+    def has_ended(self) -> bool:
+        """Whether nothing more will come."""
+        return self._fault is not None
+
+    def check(self) -> None:
+        """Raises why nothing more will come, where that is so."""
+        if self._fault is not None:
+            raise self._fault()
 
     def closed(self) -> Once:
         """What comes when the connection is closed, after it was hung up."""
@@ -275,8 +311,7 @@ class Connection:
 
     def _finish(self, strange: Optional[Fault]) -> None:
         """Ends all commands under way, and those to come, when nothing more can be read, or what is read is strange."""
-        if self._under_way:
-            self._keep(self._under_way[0])
+        self._keep(self._under_way[0].asking if self._under_way else self._sessions if self.is_live else ())
         if strange:
             self._fail_all(strange)
         self.hang_up()
@@ -285,6 +320,7 @@ class Connection:
                 pass  # nobody can tell what it means any more
         end = self._end()
         self._fail_all(strange or end)
+        self._ring()
         self._ended.come()
 
     def _take_lines(self) -> None:
@@ -292,12 +328,34 @@ class Connection:
         for text in self._reader:
             if not text.endswith(b"\n"):
                 return
-            line = line_of(text)
-            if is_answer(line):
+            line, before = line_of(text), self._count
+            if is_of_front(line):
+                self._take_spun(line, text)
+            elif is_answer(line):
                 self._take_answer(line, text)
             else:
                 told = told_by(line, text)
                 self._since += [] if told is None else [told]
+                if self.is_live and not self._under_way:
+                    self._keep(self._sessions)
+            if self.is_live and self._count > before:
+                self._ring()
+
+    def _take_spun(self, line: Dict[str, Value], text: bytes) -> None:
+        """Takes the answer to a `spin` that the front has given by itself, which is that of no command here. What came before
+        it is of that `spin`, or of others who speak for the session."""
+        if "error" in line:
+            self._keep(self._sessions)
+            self.is_live, self.live_fault = False, str(line["error"])
+            self._ring()
+        else:
+            self._since.append(spun_by(line, text))
+            self._keep(self._sessions)
+
+    def _ring(self) -> None:
+        """Lets those know who wait for news."""
+        news, self._news = self._news, Once()
+        news.come()
 
     def _take_answer(self, line: Dict[str, Value], text: bytes) -> None:
         """Pairs an answer with the oldest command, and what came before it with the session that gave that."""
@@ -306,13 +364,13 @@ class Connection:
         if not self._under_way:
             raise StrangeLine(text)
         answer = self._under_way.popleft()
-        self._keep(answer)
+        self._keep(answer.asking)
         answer.reply(line, self._count)
 
-    def _keep(self, answer: Answer) -> None:
-        """Keeps what came since the last answer, for the session that gave the command of this one."""
+    def _keep(self, sessions: Sequence[ref[Hearing]]) -> None:
+        """Keeps what came since the last answer, for these sessions."""
         for told in self._since:
-            self._heard.append(Event(self._count, told, answer.session))
+            self._heard.append(Event(self._count, told, sessions))
             self._count += 1
         self._since = []
 
@@ -384,46 +442,3 @@ def not_started(status: Optional[int], stderr: str) -> NotStarted:
     """What it means that a server has ended before it answered anything."""
     is_classes = status == 1 and "class file refused" in stderr
     return (ClassFileRefused if is_classes else NotStarted)(status, stderr)
-
-
-class SocketConnection(Connection):
-    """A connection through the Unix-domain socket of a front, which may speak for a session that is shared, or for one of a
-    group."""
-
-    _ends_when_hung_up = True
-
-    def __init__(self, path: Word, share: Optional[str], group: Optional[str]) -> None:
-        if share is not None and group is not None:
-            raise ValueError("a shared session has a group by its name")
-        self._socket = connected(path)
-        try:
-            super().__init__(self._socket.makefile("rb"), self._socket.makefile("wb"))
-            if share is not None:
-                self._ask("share", session=share)
-            if group is not None:
-                self._ask("hello", group=group)
-        except BaseException:
-            self._socket.close()
-            raise
-
-    def _ask(self, word: str, **keys: str) -> None:
-        """Asks the front for a session, before any command is given."""
-        self._socket.sendall(line_with({"front": word, **keys}))
-        text = self._reader.readline()
-        if not text.endswith(b"\n"):
-            raise ConnectionClosed
-        line = line_of(text)
-        if "error" in line:
-            raise Refused(word, line["error"], keys)
-
-    def _shut(self) -> None:
-        try:
-            super()._shut()
-        finally:
-            self._socket.shutdown(socket.SHUT_WR)
-
-    def _end(self) -> Fault:
-        self._hung_up.wait()
-        self._reader.close()
-        self._socket.close()
-        return super()._end()

@@ -136,6 +136,10 @@ class NoValue(MetadError, TypeError, ValueError):
     """A value that no command can take was given to one. Nothing was sent."""
 
 
+class NotLive(MetadError):
+    """A front that has no live sessions was asked for one by `live=True`."""
+
+
 class NoMonitors(MetadError):
     """A front that was started without monitors was asked for one."""
 

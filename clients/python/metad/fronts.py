@@ -8,7 +8,6 @@ from __future__ import annotations
 
 import os
 import subprocess
-import sys
 import tempfile
 import time
 from os import fspath
@@ -22,7 +21,7 @@ from .errors import NoMonitors, NotAnswered, NotStarted
 from .holding import START_SECONDS, class_words
 from .lines import Value
 from .monitors import Monitor
-from .tools import explained, tool_beside
+from .tools import explained
 
 PAUSE = 0.02  # seconds between two looks at whether a front listens
 LISTENS = b": listening at "
@@ -91,10 +90,12 @@ class Front:
     ) -> None:
         self.close()
 
-    def connect(self, share: Optional[str] = None, group: Optional[str] = None) -> Server:
+    def connect(
+        self, share: Optional[str] = None, group: Optional[str] = None, *, live: Optional[bool] = None
+    ) -> Server:
         """A new client, which has a session of its own, one of a group where that is named, or speaks for one that is
-        shared."""
-        return connect(self.path, share, group)
+        shared. The session is live, unless that is not wanted."""
+        return connect(self.path, share, group, live=live)
 
     def monitor(self, session: Optional[str] = None) -> Monitor:
         """A new monitor, of all sessions or of one. `NoMonitors` where the front was started without them."""
@@ -130,9 +131,10 @@ class Front:
 
 
 def front_words() -> List[Word]:
-    """The words that start a front: the one beside this package, or the one on the path."""
-    beside = tool_beside("front")
-    return ["metad-front"] if beside is None else [sys.executable, beside]
+    """The words that start a front: that which is built or installed beside this package, or that on the path."""
+    above = list(Path(__file__).resolve().parents)  # which Python 3.8 cannot cut by itself
+    beside = (folder / "bin" / "metad-front" for folder in above[3:5])
+    return [next((str(it) for it in beside if it.is_file()), "metad-front")]
 
 
 def monitor_words(monitor: Union[bool, Word], options: Sequence[str], folder: str) -> Tuple[Optional[str], List[str]]:

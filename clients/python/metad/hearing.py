@@ -2,10 +2,12 @@
 
 from __future__ import annotations
 
+from collections import deque
 from operator import index
-from typing import Callable, Dict, List, Optional, Sequence, Tuple
+from typing import Callable, Deque, Dict, List, Optional, Sequence, Tuple
+from weakref import ref
 
-from .lines import Call, Told, Warned
+from .lines import Call, Spun, Told, Warned
 
 OnCall = Callable[[Call], object]
 """Is told of calls."""
@@ -13,8 +15,11 @@ OnCall = Callable[[Call], object]
 OnWarning = Callable[[Warned], object]
 """Is told of warnings."""
 
+OnSpun = Callable[[Spun], object]
+"""Is told what came of the `spin` of a front."""
+
 Listening = Callable[..., object]
-"""Is told of calls, or of warnings."""
+"""Is told of calls, of warnings, or of what came of a `spin`."""
 
 
 class Listener:
@@ -38,6 +43,22 @@ Listeners = Dict[Tuple[int, str], List[Listener]]
 """Those that listen, by the slot that they listen to."""
 
 
+class Follower:
+    """The calls of a session from the moment when it was made, up to where they are taken."""
+
+    def __init__(self, session: Hearing) -> None:
+        self._came: Deque[Call] = deque()
+        session._follow(self)
+
+    def take(self, call: Call) -> None:
+        """Keeps a call."""
+        self._came.append(call)
+
+    def _has_come(self) -> bool:
+        """Whether there is a call that was not taken yet."""
+        return bool(self._came)
+
+
 class Hearing:
     """A session by its name, as far as it is told of something."""
 
@@ -51,7 +72,11 @@ class Hearing:
         """Told of the calls of the session's slots and functors; may be set at any time."""
         self.on_warning: Optional[OnWarning] = None
         """Told of the session's warnings; may be set at any time."""
+        self.on_spun: Optional[OnSpun] = None
+        """Told, in a live session, what came of each `spin` that the front gave by itself and that delivered events; may be
+        set at any time."""
         self._listeners: Listeners = {}
+        self._followers: Tuple[ref[Follower], ...] = ()
 
     def on(self, object: int, method: str, told: OnCall) -> Listener:
         """Has a function told of the calls of a slot of an object, or of a functor for it, until that is stopped.
@@ -68,8 +93,16 @@ class Hearing:
         """Who is to be told of a call or a warning, in this order."""
         if isinstance(what, Warned):
             return () if self.on_warning is None else (self.on_warning,)
+        if not isinstance(what, Call):
+            return () if self.on_spun is None else (self.on_spun,)
         first = () if self.on_call is None else (self.on_call,)
-        return (*first, *(it.told for it in self._listeners.get((what.object, what.method), [])))
+        followers = [it for it in (follower() for follower in self._followers) if it is not None]
+        listeners = self._listeners.get((what.object, what.method), [])
+        return (*first, *(it.take for it in followers), *(it.told for it in listeners))
+
+    def _follow(self, follower: Follower) -> None:
+        """Has one told of all calls, as long as somebody holds it."""
+        self._followers = (*(it for it in self._followers if it() is not None), ref(follower))
 
     def _forget_listeners(self) -> None:
         """Nobody listens to slots of single objects any more."""

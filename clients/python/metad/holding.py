@@ -33,6 +33,11 @@ class Holder:
             self._hang_up()
             warnings.warn(f"{self!r} was not closed", ResourceWarning, source=self)
 
+    @property
+    def is_live(self) -> bool:
+        """Whether events come unasked. A session that has failed is live no more, after its `reset` neither."""
+        return self.connection.is_live
+
     def _hang_up(self) -> None:
         """Ends the server's input behind all that was given."""
         self._is_closed = True

@@ -5,7 +5,7 @@ from __future__ import annotations
 import json
 from dataclasses import dataclass
 from operator import index
-from typing import Any, Dict, List, Optional, TypedDict, Union
+from typing import Any, Dict, List, Optional, TypedDict, Union, cast
 
 from .codes import meaning_of
 from .errors import StrangeLine
@@ -57,10 +57,6 @@ class Warned:
         return meaning_of(self.code)
 
 
-Told = Union[Call, Warned]
-"""What a session is told beside answers."""
-
-
 class Spun(TypedDict):
     """What came of `spin`."""
 
@@ -68,6 +64,10 @@ class Spun(TypedDict):
     left: int
     lost: int
     mismatched: int
+
+
+Told = Union[Call, Warned, Spun]
+"""What a session is told beside answers: `Spun` of each `spin` that a front has given by itself."""
 
 
 class Status(TypedDict):
@@ -132,6 +132,19 @@ def line_of(text: bytes) -> Dict[str, Value]:
 def is_answer(line: Dict[str, Value]) -> bool:
     """Whether a line answers a command."""
     return "reply" in line or "error" in line
+
+
+def is_of_front(line: Dict[str, Value]) -> bool:
+    """Whether a line is marked as a front's own: it answers no command of a client, whatever else it holds."""
+    return "front" in line
+
+
+def spun_by(line: Dict[str, Value], text: bytes) -> Spun:
+    """What came of a `spin` that the front has given by itself."""
+    spun = line.get("reply")
+    if line["front"] != "spin" or not isinstance(spun, dict):
+        raise StrangeLine(text)
+    return cast(Spun, spun)
 
 
 def told_by(line: Dict[str, Value], text: bytes) -> Optional[Told]:

@@ -9,18 +9,19 @@ A function of Python cannot be connected: the server calls slots, functors and s
 alone. So to have a function called for a signal the signal is connected to a slot whose calls are told, and which
 does nothing else. That is a slot of a class `Relay`, which `with_relay` adds to a class file, or another one that is
 named by `via`. Without either there is no way: no class that every server has comes with a slot that takes arguments
-and does nothing. And nothing is told unasked: a function is called while a command of the session is waited for, so for
-what other sessions do somebody has to `spin`, as `wait_for` and `SignalSpy.wait` do.
+and does nothing. A function is called by the thread that waits: for the answer to a command, or by `wait_for`,
+`SignalSpy.wait` or `calls` of a session for what comes later. Where the session is live, events come unasked; in any other
+one somebody has to `spin`, as these waits do.
 """
 
 from __future__ import annotations
 
-import time
 from typing import TYPE_CHECKING, Any, Callable, Dict, List, Optional, Sequence
 
 from .errors import MetadError, NoRelay, NotAnswered, Refused
 from .lines import Value
-from .shapes import HEAR, RELAY, SPIN_SECONDS, BaseMethod, BaseProxy, calls_of, name_of, no_relay, types_of
+from .shapes import HEAR, RELAY, BaseMethod, BaseProxy, calls_of, name_of, no_relay, types_of
+from .waiting import wait_until
 
 if TYPE_CHECKING:
     from .client import Session
@@ -172,7 +173,8 @@ class Method(BaseMethod[Proxy]):
         self.owner.session.publish(self.owner.number, self.signature(), name)
 
     def join(self, from_: str, name: str, types: Optional[Sequence[str]] = None) -> None:
-        """Has the method called with what another session publishes under a name, when this one spins.
+        """Has the method called with what another session publishes under a name: as it comes in a live session, otherwise
+        when this one spins.
 
         `types` are those of the published signal; without them those of the method.
         """
@@ -203,24 +205,22 @@ class SignalSpy(List[List[Value]]):
     def __exit__(self, *_error: object) -> None:
         self.stop()
 
-    def wait(self, timeout: float = 5.0) -> bool:
-        """Spins until the signal is sent once more, so many seconds at most; says whether it was."""
-        before, until, pause = len(self), time.monotonic() + timeout, SPIN_SECONDS[0]
-        while True:
-            self._session.spin()
-            left = until - time.monotonic()
-            if len(self) > before or left <= 0:
-                return len(self) > before
-            time.sleep(min(pause, left))
-            pause = min(2 * pause, SPIN_SECONDS[1])
+    def wait(self, timeout: Optional[float] = 5.0) -> bool:
+        """Waits until the signal is sent once more, so many seconds at most; says whether it was. A session that is not live
+        spins meanwhile."""
+        before = len(self)
+        return wait_until(self._session, lambda: len(self) > before, timeout)
 
     def stop(self) -> None:
         """Hears no more of the signal."""
         self._heard.disconnect()
 
 
-def wait_for(signal: Method, timeout: float = 5.0, via: Optional[Method] = None) -> List[Value]:
-    """Spins until a signal is sent, and returns its arguments; `NotAnswered` where that is not so in time."""
+def wait_for(signal: Method, timeout: Optional[float] = 5.0, via: Optional[Method] = None) -> List[Value]:
+    """Waits until a signal is sent, and returns its arguments; `NotAnswered` where that is not so in time.
+
+    In a live session it waits for the line that tells it; in any other one it spins.
+    """
     with SignalSpy(signal, via) as spy:
         if not spy.wait(timeout):
             raise NotAnswered(f"{signal.name} was not sent in {timeout} seconds")

@@ -21,7 +21,6 @@ HEAR = "hear"
 """The name of its slots, of which there is one for each list of parameters."""
 
 OF_QOBJECT = ["destroyed()", "objectNameChanged(QString)"]
-SPIN_SECONDS = (0.001, 0.05)  # between two spins of a wait: at first, and at most
 
 SessionKind = TypeVar("SessionKind", bound=Hearing)
 OwnerKind = TypeVar("OwnerKind", bound="BaseProxy[Any]")

@@ -1,0 +1,100 @@
+"""Waits for what a session is told, for asyncio: the same names as in `waiting`, and what waits there is awaited here."""
+
+from __future__ import annotations
+
+import asyncio
+from contextlib import suppress
+from typing import TYPE_CHECKING, Callable, Optional, TypeVar
+
+from .connection import Connection, Once
+from .errors import Refused
+from .hearing import Follower
+from .lines import Call
+from .waiting import Patience
+
+if TYPE_CHECKING:
+    from .aio import Session
+
+Done = TypeVar("Done")
+
+
+async def came(once: Once) -> None:
+    """Waits for what comes once. A wait that is cancelled disturbs nobody."""
+    loop = asyncio.get_running_loop()
+    future: asyncio.Future[None] = loop.create_future()
+
+    def wake() -> None:
+        if not future.done():
+            future.set_result(None)
+
+    def bell() -> None:
+        with suppress(RuntimeError):  # the loop was closed, and nobody waits any more
+            loop.call_soon_threadsafe(wake)
+
+    once.ring(bell)
+    try:
+        await future
+    finally:
+        once.silence(bell)
+
+
+async def tell_on(connection: Connection) -> None:
+    """Tells what comes unasked in a live session, as it comes, up to its end.
+
+    What a callback raises is given to the loop's exception handler, and so is the refusal by which a session stops being
+    live: nobody waits who could be told of it.
+    """
+    loop = asyncio.get_running_loop()
+    while True:
+        news = connection.news()
+        try:
+            connection.tell()
+        except Exception as error:
+            loop.call_exception_handler({"message": "a callback of a metad session has failed", "exception": error})
+            continue
+        if connection.live_fault is not None:
+            refused = Refused("spin", connection.live_fault)
+            loop.call_exception_handler({"message": "a metad session is not live any more", "exception": refused})
+        if connection.has_ended() or not connection.is_live:
+            return
+        await came(news)
+
+
+async def wait_until(session: Session, is_done: Callable[[], Done], timeout: Optional[float]) -> Done:
+    """Waits until a function returns something true, and returns that; what it returned last where the time is over.
+
+    It is called whenever the session may have been told something. `ConnectionClosed` where nothing more can come.
+    """
+    connection, patience = session.server.connection, Patience(timeout)
+    while True:
+        news = connection.news()
+        if connection.is_live:
+            connection.tell()
+        else:
+            await session.spin()
+        done = is_done()
+        if done or patience.is_over():
+            return done
+        if connection.is_live:
+            connection.check()
+            with suppress(asyncio.TimeoutError):
+                await asyncio.wait_for(came(news), patience.left())
+        else:
+            await asyncio.sleep(patience.pause())
+
+
+class Calls(Follower):
+    """The calls of a session as they come. It is made by `Session.calls`, and iterated by `async for`."""
+
+    def __init__(self, session: Session, timeout: Optional[float]) -> None:
+        super().__init__(session)
+        self._session = session
+        self._timeout = timeout
+
+    def __aiter__(self) -> Calls:
+        return self
+
+    async def __anext__(self) -> Call:
+        if not await wait_until(self._session, self._has_come, self._timeout):
+            raise StopAsyncIteration
+        return self._came.popleft()
