@@ -11,6 +11,7 @@ from typing import IO, Any, Callable, Dict, Iterator, List, Optional, Sequence, 
 
 import metad
 from metad.lines import NO_COMMAND
+from metad.reaching import reach
 from metad.sockets import connected as socket_at
 
 NUMBER = "line"  # the key at which a command has the number of the line that it stands for
@@ -79,13 +80,15 @@ class Bounded:
 class Link:
     """A server, as a shell uses it. `name` is the program, or the socket."""
 
-    def __init__(self, name: str, reader: IO[bytes], tap: Tap, process: Optional[subprocess.Popen[bytes]]) -> None:
+    def __init__(
+        self, name: str, reader: IO[bytes], tap: Tap, process: Optional[subprocess.Popen[bytes]], is_live: bool = False
+    ) -> None:
         self.name = name
         self.tap = tap
         self.process = process
         self.count = 0  # lines so far
         self.has_answered = False
-        self.server = metad.Server(cast("IO[bytes]", Bounded(reader)), cast("IO[bytes]", tap))
+        self.server = metad.Server(cast("IO[bytes]", Bounded(reader)), cast("IO[bytes]", tap), is_live)
 
     @property
     def is_fronted(self) -> bool:
@@ -167,10 +170,10 @@ def started(words: Sequence[str]) -> Link:
     return Link(words[0], process.stdout, Tap(process.stdin), process)
 
 
-def connected(path: str) -> Link:
-    """Connects with the socket of a front."""
+def connected(path: str, live: Optional[bool] = None) -> Link:
+    """Connects with the socket of a front, and asks it for a live session unless `live` is False."""
     try:
-        link = socket_at(path)
+        link, reader, is_live = reach(partial(socket_at, path), live=live, timeout=FIRST_OF_SOCKET)
     except (OSError, ValueError) as error:
         raise Unreachable(f"{path} cannot be reached: {reason(error)}") from None
 
@@ -180,7 +183,7 @@ def connected(path: str) -> Link:
         except OSError:
             pass  # the other side has gone
 
-    return Link(path, link.makefile("rb"), Tap(link.makefile("wb"), hang_up), None)
+    return Link(path, reader, Tap(link.makefile("wb"), hang_up), None, is_live)
 
 
 def reason(error: Exception) -> str:

@@ -11,21 +11,24 @@ from typing import IO, Optional
 import metad
 from explaining.faults import is_name
 
+from .arriving import Arrivals, TypedArrivals
 from .completing import keep_history, prepare
 from .link import Link, Unreachable, connected, ended, started
+from .prompting import Prompt
 from .saying import Speaker
 from .shell import Shell
 
 NAME = os.path.basename(sys.argv[0])
 USAGE = f"""{NAME} [--session NAME] [--strict] PROGRAM [ARGS..]
-       {NAME} [--session NAME] [--strict] --socket SOCKET"""
+       {NAME} [--session NAME] [--strict] [--no-live] --socket SOCKET"""
 
 HELP = f"""\
 Lines are short forms of commands, as `new Probe as p`, `p.ping()`, `p.x = 5`, `p.x` and
 `connect p.ping() -> c.note()`, of which `help` tells all. A line that begins with a brace is sent as it is.
 Where input and output are a terminal, lines are edited, completed by the tabulator and kept in
 $XDG_STATE_HOME/metad/history. An interrupt cancels a line, and the end of the input ends the shell.
-Nothing is coloured where NO_COLOR is set.
+Nothing is coloured where NO_COLOR is set. Behind a front that has live sessions, calls and warnings are shown as they
+come, also while you type.
 
 Exit status: 0 at the end of the input, 1 where the server has ended before or with another status than 0,
 where it cannot be reached or is no metad, and with --strict after a refusal, 2 after a mistake in the
@@ -51,6 +54,7 @@ def words() -> argparse.Namespace:
     parser.add_argument("--session", metavar="NAME", default="a", help="the session that is spoken for, a without it")
     parser.add_argument("--strict", action="store_true", help="end at the first refusal")
     parser.add_argument("--socket", metavar="SOCKET", help="where a front listens")
+    parser.add_argument("--no-live", action="store_true", help="show events when you write spin, not as they come")
     parser.add_argument("words", metavar="PROGRAM [ARGS..]", nargs=argparse.REMAINDER, help="the server, and its words")
     given = parser.parse_args()
     given.text = parser.format_help().rstrip("\n") if given.help else None
@@ -66,12 +70,14 @@ def check(parser: argparse.ArgumentParser, given: argparse.Namespace) -> None:
         parser.error(f"{given.session!r} cannot be the name of a session")
     if bool(given.words) == (given.socket is not None):
         parser.error("wanted is either a program or --socket")
+    if given.no_live and given.socket is None:
+        parser.error("--no-live is for --socket")
 
 
 def linked(given: argparse.Namespace) -> Link:
     """The server that the words ask for."""
     try:
-        return started(given.words) if given.socket is None else connected(given.socket)
+        return started(given.words) if given.socket is None else connected(given.socket, False if given.no_live else None)
     except Unreachable as unreachable:
         raise Stop(str(unreachable)) from None
 
@@ -81,15 +87,18 @@ def is_coloured(stream: IO[str]) -> bool:
     return stream.isatty() and not os.environ.get("NO_COLOR") and os.environ.get("TERM") != "dumb"
 
 
-def converse(shell: Shell) -> None:
+def converse(shell: Shell, prompt: Prompt) -> None:
     """Does the lines that are typed, in which an interrupt cancels one."""
     prepare(shell)
+    arrivals = TypedArrivals(shell, prompt)
+    arrivals.begin()
     if isinstance(sys.stdin, io.TextIOWrapper):
         sys.stdin.reconfigure(errors="surrogateescape")
     try:
         while not shell.is_over:
             try:
-                line = input(f"{shell.name}> ")
+                arrivals.tell()
+                line = prompt.ask(f"{shell.name}> ")
                 shell.do(line.encode(sys.stdin.encoding, "surrogateescape"))
             except KeyboardInterrupt:
                 end_line()
@@ -108,24 +117,33 @@ def end_line() -> None:
 
 def read_through(shell: Shell) -> None:
     """Does the lines of an input that is no terminal."""
+    arrivals = Arrivals(shell)
+    arrivals.begin()
     while not shell.is_over:
-        try:
-            line = sys.stdin.buffer.readline()
-        except OSError as error:
-            raise Stop(f"standard input cannot be read: {error.strerror}") from None
+        with arrivals.waiting():
+            line = line_of_input()
         if not line:
             return
         shell.do(line[:-1] if line.endswith(b"\n") else line)
 
 
+def line_of_input() -> bytes:
+    """The next line of an input that is no terminal; nothing at its end."""
+    try:
+        return sys.stdin.buffer.readline()
+    except OSError as error:
+        raise Stop(f"standard input cannot be read: {error.strerror}") from None
+
+
 def run(given: argparse.Namespace) -> int:
     """Does all lines; answers the exit status."""
-    speaker = Speaker(sys.stdout.buffer, is_coloured(sys.stdout))
+    prompt = Prompt() if sys.stdin.isatty() and sys.stdout.isatty() else None
+    speaker = Speaker(sys.stdout.buffer, is_coloured(sys.stdout), prompt)
     link = linked(given)
     status: Optional[int] = 0
     try:
         shell = Shell(link, speaker, given.session, given.strict)
-        (converse if sys.stdin.isatty() and sys.stdout.isatty() else read_through)(shell)
+        read_through(shell) if prompt is None else converse(shell, prompt)
         link.try_out(shell.session(given.session))
     except metad.ServerGone:
         status = link.end()

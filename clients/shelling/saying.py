@@ -3,7 +3,8 @@
 from __future__ import annotations
 
 import json
-from typing import IO, Any, Dict, List, Mapping
+from contextlib import nullcontext
+from typing import IO, Any, Dict, List, Mapping, Optional
 
 import metad
 from explaining.commands import FORMS
@@ -11,6 +12,7 @@ from explaining.refusing import further
 from explaining.words import CODES, ERRORS, Misfit, plain, shown
 
 from .known import OBJECT_KEYS, Known
+from .prompting import Prompt
 
 COLOURS = {"reply": "32", "call": "36", "warning": "33", "refusal": "31", "note": "2"}
 
@@ -18,16 +20,18 @@ COLOURS = {"reply": "32", "call": "36", "warning": "33", "refusal": "31", "note"
 class Speaker:
     """Writes lines for people, in colours where these are wanted."""
 
-    def __init__(self, stream: IO[bytes], is_coloured: bool) -> None:
+    def __init__(self, stream: IO[bytes], is_coloured: bool, prompt: Optional[Prompt] = None) -> None:
         self.stream = stream
         self.is_coloured = is_coloured
+        self.prompt = prompt
 
     def say(self, kind: str, text: str) -> None:
         """Says something, of which nothing moves the cursor but the end of its line."""
         seen = "".join(it if it.isprintable() else ascii(it)[1:-1] for it in text)
         said = f"\x1b[{COLOURS[kind]}m{seen}\x1b[0m" if self.is_coloured else seen
-        self.stream.write(said.encode("utf-8", "backslashreplace") + b"\n")
-        self.stream.flush()
+        with nullcontext() if self.prompt is None else self.prompt.hidden():
+            self.stream.write(said.encode("utf-8", "backslashreplace") + b"\n")
+            self.stream.flush()
 
 
 def compact(value: Any) -> str:
