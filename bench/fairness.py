@@ -66,7 +66,7 @@ def keep_asking(path: str, ahead: int) -> None:
 
 def keep_ringing(path: str) -> None:
     """A client that asks for 8 MB of calls with each command, and reads them as they come."""
-    with metad.connect(path) as server:
+    with metad.connect(path, live=False) as server:
         session = server.session("a")
         bell = session.new("Bell")
         for _ in range(CALLS):

@@ -195,7 +195,7 @@ def measure_edge(program: str, room: Path) -> None:
 def measure_replay(program: str, room: Path) -> None:
     """How quickly a group is brought to another worker by its record."""
     try:
-        from fronting.groups import Ring
+        from ring import Ring
     except ImportError:
         return
     path, control = str(room / "workers.sock"), str(room / "workers.control")
@@ -272,7 +272,7 @@ def tell_moves(what: str, one: Sequence[object], more: Sequence[object], newest:
 def measure_moves(room: Path) -> None:
     """How many groups move where there is one worker more, or one machine more."""
     try:
-        from fronting.groups import Ring
+        from ring import Ring
     except ImportError:
         print("this front has no workers")
     else:

@@ -26,7 +26,7 @@ from typing import Callable, Dict, List, Sequence, Tuple
 CLIENTS = Path(__file__).resolve().parent.parent / "clients"
 sys.path += [str(CLIENTS), str(CLIENTS / "python")]
 
-from fronting.groups import Ring  # noqa: E402
+from ring import Ring  # noqa: E402
 
 import metad  # noqa: E402
 
