@@ -79,7 +79,7 @@ def sources_of_commands() -> Iterator[Tuple[Path, Set[str]]]:
     """The sources around the program, each with the commands whose words it has in quotes."""
     words = [word for word, *_ in protocol.commands()]
     clients = ("clients/*/*.py", "clients/python/metad/*.py", "clients/inspecting/page/*.js")
-    for pattern in (*clients, "tests/generators/*.py", "tests/plain/*.py"):
+    for pattern in (*clients, "front/src/*.rs", "tests/generators/*.py", "tests/plain/*.py"):
         for path in ROOT.glob(pattern):
             text = path.read_text()
             yield path, {word for word in words if f'"{word}"' in text}
