@@ -3,8 +3,7 @@ ghost use Rattle.std.specs.Prelude.{◌≡◌, ◌≤◌, IfOk, length, map, opt
 ghost use Rattle.stored_slots.specs.declared.limit.TheConstants.{FUNCTORS};
 ghost use Rattle.std.specs.Result.{result_err};
 ghost use Rattle.class_table.specs.Lookup.{method_text, methods, names, properties};
-ghost use Rattle.thread_model.specs.Classes.{class_index};
-ghost use Rattle.thread_model.specs.Refusing.{class_refusal, named_class_refusal};
+ghost use Rattle.thread_model.specs.Classes.{class_index, class_refusal, named_class_refusal};
 
 use class_table::ClassTable;
 use plain_types::{Items, Text};

@@ -16,7 +16,8 @@ use Rattle.thread_model.specs.declared.line.Line.TheVariants.{Reply}
 use Rattle.thread_model.specs.declared.post.Post.{Post}
 use Rattle.thread_model.specs.declared.command.Command.{Command}
 use Rattle.thread_model.specs.declared.command.Command.TheVariants as c
-use Rattle.thread_model.specs.Asked.{Asked, Reset, asked}
+use Rattle.thread_model.specs.declared.query.Query.{Query}
+use Rattle.thread_model.specs.Asked.{Ask, Asked, Reset, asked}
 use Rattle.thread_model.specs.declared.deed.Deed.{Deed}
 use Rattle.thread_model.specs.Deeds.{behind, deed_answer, deed_refusal, found_refusal, with_deed}
 use Rattle.thread_model.specs.Signals.{does_found}
@@ -24,9 +25,11 @@ use Rattle.thread_model.specs.Doing as doing
 use Rattle.thread_model.specs.Effects.{ended, replies, unless}
 use Rattle.thread_model.specs.Fitting.{IsFittingAsked}
 use Rattle.thread_model.specs.Methods.{Found}
+use Rattle.thread_model.specs.Queries.{query_answer}
 use Rattle.thread_model.specs.Refusing.{refusal}
+use Rattle.thread_model.specs.Settings.{Settings}
 use Rattle.thread_model.specs.State.{State, empty}
-use Rattle.thread_model.proofs.ForCallers.{performs_reset, refusal_reset}
+use Rattle.thread_model.proofs.ForCallers.{performs_reset, query_passed, query_refused, query_replies, refusal_reset}
 use Rattle.thread_model.specs.Thread as thread
 use Rattle.thread_model.specs.Thread.{performs}
 use Rattle.session_tables.specs.declared.tables.Tables.{Tables}
@@ -165,15 +168,16 @@ pub on_refused : {P : Type 0} (fault : Fault) → P → OnRefused {T = ℕ} (Err
 on_refused (Refused code) h = h
 on_refused Memory h = tt
 
--- a command that changes nothing, where it is refused
-pub refused_reading : (caller : Caller) (asked : Asked) (tables : Tables) (code : Code) (result : Result Answer Fault) → IsErrAnd result (λ fault. fault ≡ Refused code) → its_refusal caller asked tables ≡ Some code → Reads caller asked tables result
-refused_reading caller asked tables code (Ok answer) h refused = absurd h
-refused_reading caller asked tables code (Err fault) h refused = subst (λ fault. Reads caller asked tables (Err fault)) (sym h) (record { returns = refused })
+-- a query that is refused
+pub refused_reading : (caller : Caller) (query : Query) (tables : Tables) (code : Code) (result : Result Answer Fault) → IsErrAnd result (λ fault. fault ≡ Refused code)
+    → query_answer caller.setup.now.classes (state_at tables caller.place) query ≡ Err code → Reads caller query tables result
+refused_reading caller query tables code (Ok answer) h refused = absurd h
+refused_reading caller query tables code (Err fault) h refused = subst (λ fault. Reads caller query tables (Err fault)) (sym h) (record { returns = refused })
 
--- and where memory was wanted
-pub starved_reading : (caller : Caller) (asked : Asked) (tables : Tables) (result : Result Answer Fault) → IsErrAnd result (λ fault. fault ≡ Memory) → Reads caller asked tables result
-starved_reading caller asked tables (Ok answer) h = absurd h
-starved_reading caller asked tables (Err fault) h = subst (λ fault. Reads caller asked tables (Err fault)) (sym h) (record { returns = tt })
+-- and one for which memory was wanted
+pub starved_reading : (caller : Caller) (query : Query) (tables : Tables) (result : Result Answer Fault) → IsErrAnd result (λ fault. fault ≡ Memory) → Reads caller query tables result
+starved_reading caller query tables (Ok answer) h = absurd h
+starved_reading caller query tables (Err fault) h = subst (λ fault. Reads caller query tables (Err fault)) (sym h) (record { returns = tt })
 
 -- where a deed is looked for, the first of two refusals, or what stands behind it
 pub behind_first : {A : Type 0} (a : Option Code) (found : Found A) (code : Code) → Some code ≡ a → behind a found ≡ Err code
@@ -200,22 +204,32 @@ pub silently : (caller : Caller) (asked : Asked) (old new : Tables) (telling : T
     → Performs caller asked old new false reply_lines result → Performs caller asked old new telling.failing (reply_after telling.lines) result
 silently caller asked old new telling result fresh performed = subst (λ (telling : Telling). Performs caller asked old new telling.failing (reply_after telling.lines) result) (sym fresh) performed
 
--- nor does one that changes nothing
-pub reads : (caller : Caller) (asked : Asked) (tables : Tables) (telling : Telling) (result : Result Answer Fault) → telling ≡ fresh_telling caller.setup.now.turns → Reads caller asked tables result → Performs caller asked tables tables telling.failing (reply_after telling.lines) result
-reads caller asked tables telling result fresh read = silently caller asked tables tables telling result fresh (by result read.returns)
+-- nor does a query
+pub reads : (caller : Caller) (query : Query) (tables : Tables) (telling : Telling) (result : Result Answer Fault) → telling ≡ fresh_telling caller.setup.now.turns → Reads caller query tables result
+    → Performs caller (Ask query) tables tables telling.failing (reply_after telling.lines) result
+reads caller query tables telling result fresh read = silently caller (Ask query) tables tables telling result fresh (by result read.returns)
   where
-    by : (result : Result Answer Fault) → Returns (its_refusal caller asked tables) (λ answer. its_effect caller asked tables ≡ replies (state_at tables caller.place) answer) result → Performs caller asked tables tables false reply_lines result
-    by (Ok answer) (passed, effect) = record {
-      returns = (passed, ap (λ effect. effect.lines) effect);
-      posts = [];
-      front = tt;
-      posted = sym (ap (λ effect. effect.posts) effect);
-      done = left_as caller asked tables tables (state_at tables caller.place) (ap (λ effect. effect.state) effect) refl refl;
-      refused = tt;
-      others = others_changed caller.setup.now.classes caller.name.now tables tables caller.place (changes_same tables tables caller.place refl);
-    }
-    by (Err (Refused code)) refused = stopped caller asked tables tables reply_lines code (Err (Refused code)) refl refused refl
-    by (Err Memory) none = starved caller asked tables tables reply_lines (Err Memory) refl (changes_same tables tables caller.place refl)
+    settings : Settings
+    settings = settings_of caller.setup.now
+
+    state : State
+    state = state_at tables caller.place
+
+    by : (result : Result Answer Fault) → Answers result (query_answer settings.classes state query) → Performs caller (Ask query) tables tables false reply_lines result
+    by (Ok answer) read =
+        let effect = query_replies settings caller.name.now state query answer read in
+        record {
+          returns = (query_passed settings caller.name.now state query answer read, ap (λ effect. effect.lines) effect);
+          posts = [];
+          front = tt;
+          posted = sym (ap (λ effect. effect.posts) effect);
+          done = left_as caller (Ask query) tables tables state (ap (λ effect. effect.state) effect) refl refl;
+          refused = tt;
+          others = others_changed caller.setup.now.classes caller.name.now tables tables caller.place (changes_same tables tables caller.place refl);
+        }
+    by (Err (Refused code)) read =
+        stopped caller (Ask query) tables tables reply_lines code (Err (Refused code)) refl (query_refused settings caller.name.now state query code read) refl
+    by (Err Memory) read = starved caller (Ask query) tables tables reply_lines (Err Memory) refl (changes_same tables tables caller.place refl)
 
 -- one that is refused before it posts anything
 pub quietly : (caller : Caller) (asked : Asked) (old new : Tables) (telling : Telling) (lines : Answer → List Line) (result : Result Answer Fault) → telling ≡ fresh_telling caller.setup.now.turns
@@ -226,12 +240,7 @@ quietly caller asked old new telling lines result fresh performed = subst (λ (t
 pub not_reset : (command : Command) → (command ≡ c.Reset → ⊥) → is_reset (asked command) ≡ false
 not_reset (c.New class parent) other = refl
 not_reset (c.Delete target) other = refl
-not_reset (c.Children target) other = refl
-not_reset (c.Find target title class) other = refl
 not_reset (c.Set target property value) other = refl
-not_reset (c.Get target property) other = refl
-not_reset (c.DynamicNames target) other = refl
-not_reset (c.Meta class) other = refl
 not_reset (c.Connect sender signal receiver method mode unique single) other = refl
 not_reset (c.ConnectFunctor sender signal context functor mode unique single) other = refl
 not_reset (c.DisconnectOne connection) other = refl
@@ -247,10 +256,9 @@ not_reset (c.Join from name types target method) other = refl
 not_reset (c.Leave from name target method) other = refl
 not_reset (c.Bind target property to) other = refl
 not_reset (c.Unbind target property) other = refl
-not_reset (c.BindingError target property) other = refl
 not_reset c.Begin other = refl
 not_reset c.End other = refl
-not_reset c.Status other = refl
+not_reset (c.Ask query) other = refl
 not_reset c.Reset other = absurd (other refl)
 
 -- a session that begins anew, whether it has failed or not

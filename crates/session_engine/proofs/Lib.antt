@@ -6,7 +6,7 @@ pub mod CommandsLemmas
 pub mod ToldLemmas
 pub mod BindingsLemmas
 pub mod PropertiesLemmas
-pub mod ClassesLemmas
+pub mod QueriesLemmas
 pub mod InvocationLemmas
 pub mod SparedLemmas
 pub mod ItemsLemmas

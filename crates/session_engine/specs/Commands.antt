@@ -3,15 +3,16 @@ use Rattle.std.specs.Prelude.{◌≡◌, ℕ, Bool, eqb, List, [], ◌∷◌, Op
 use Rattle.isolation.specs.Machine.{Effect}
 use Rattle.class_table.specs.declared.class.Class.{Class}
 use Rattle.refusals.specs.declared.code.Code.{Code}
-use Rattle.refusals.specs.Answers.{OnDone, OnMemory}
+use Rattle.refusals.specs.Answers.{Answers, OnDone, OnMemory}
 use Rattle.refusals.specs.declared.fault.Fault.{Fault}
 use Rattle.thread_model.specs.declared.line.Answer.{Answer}
 use Rattle.thread_model.specs.declared.line.Line.{Line}
 use Rattle.thread_model.specs.declared.line.Line.TheVariants.{Reply}
 use Rattle.thread_model.specs.declared.command.Command.{Command}
 use Rattle.thread_model.specs.declared.command.Command.TheVariants as c
+use Rattle.thread_model.specs.declared.query.Query.{Query}
 use Rattle.thread_model.specs.Asked.{Asked}
-use Rattle.thread_model.specs.Effects.{replies}
+use Rattle.thread_model.specs.Queries.{query_answer}
 use Rattle.thread_model.specs.Refusing.{refusal}
 use Rattle.thread_model.specs.State.{State}
 use Rattle.thread_model.specs.Thread.{does, performs}
@@ -42,19 +43,17 @@ its_refusal caller asked old = refusal (settings_of caller.setup.now) caller.nam
 abbrev pub its_effect : Caller → Asked → Tables → Effect State Line Post
 its_effect caller asked old = performs (settings_of caller.setup.now) caller.name.now (state_at old caller.place) asked
 
--- the families of commands, in the order in which they are asked for: 0 for objects, their classes and properties;
+-- the families of commands, in the order in which they are asked for: 0 for queries, and for objects and their properties;
 -- 1 for bindings, calls and events; 2 for connections; 3 for publications and joins
 abbrev pub family : Command → ℕ
 family (c.Bind target property to) = 1
 family (c.Unbind target property) = 1
-family (c.BindingError target property) = 1
 family c.Begin = 1
 family c.End = 1
 family (c.Invoke target method args mode priority) = 1
 family c.Spin = 1
 family (c.DeleteLater target) = 1
 family (c.Block target on) = 1
-family c.Status = 1
 family (c.Connect sender signal receiver method mode unique single) = 2
 family (c.ConnectFunctor sender signal context functor mode unique single) = 2
 family (c.DisconnectOne connection) = 2
@@ -78,9 +77,9 @@ pub record OthersHear (classes : List Class) (from : List ℕ) (place : ℕ) (po
   pub all : IsFalse failing → (at : ℕ) → IsFalse (eqb at place) → IsPlaced old at → session_at new at ≡ heard classes from posts (session_at old at)
   pub one : IsTrue failing → (at : ℕ) × IsFalse (eqb at place) × IsPlaced old at × IsFalse (failed_at old at) × IsTrue (failed_at new at)
 
--- a command that changes nothing: it is refused exactly by its refusal, and else answered as it replies, unless memory was wanted
-pub record Reads (caller : Caller) (asked : Asked) (tables : Tables) (result : Result Answer Fault) : Type 0 where
-  pub returns : Returns (its_refusal caller asked tables) (λ answer. its_effect caller asked tables ≡ replies (state_at tables caller.place) answer) result
+-- a query returns exactly its answer, or why it is refused, unless memory was wanted
+pub record Reads (caller : Caller) (query : Query) (tables : Tables) (result : Result Answer Fault) : Type 0 where
+  pub returns : Answers result (query_answer caller.setup.now.classes (state_at tables caller.place) query)
 
 -- a command of a session that has not failed; `failing` says whether another session has failed by its posts,
 -- and `lines` what is told by what the call returns

@@ -4,12 +4,11 @@ ghost use Rattle.std.specs.Result.{result_err};
 ghost use Rattle.refusals.specs.Answers.{Answers};
 ghost use Rattle.serde_json.specs.View.{view};
 ghost use Rattle.term_evaluation.specs.Reading.{reads_of};
-ghost use Rattle.thread_model.specs.Asked as model;
 ghost use Rattle.thread_model.specs.Asked.{Begin, Bind, End, Unbind};
 ghost use Rattle.thread_model.specs.Binding.{reads_refusal};
 ghost use Rattle.thread_model.specs.Deeds.{behind};
 ghost use Rattle.session_tables.specs.Tables.{IsPlaced, state_at};
-ghost use Rattle.session_engine.specs.Commands.{Performs, Reads, reply_after, reply_lines};
+ghost use Rattle.session_engine.specs.Commands.{Performs, reply_after, reply_lines};
 ghost use Rattle.nested_calls.specs.Telling.{fresh_telling};
 
 use nested_calls::{Actor, Answering, Telling, tell};
@@ -95,22 +94,6 @@ pub fn unbind<F: Answering>(
     let changes = tables.unbind(place, at)?;
     tell(actor, tables, telling, changes, 0)?;
     Ok(Answer::Truth(was_bound))
-}
-
-/// The error that a bound property stands for, where it does.
-#[tactic(auto, using(crate::proofs::CommandsLemmas::starved_reading))]
-pub fn binding_error(
-    caller: &Caller,
-    tables: &Tables,
-    object: u32,
-    property: &Text,
-) -> Result<Answer, Fault>
-    requires { IsPlaced tables.now caller.now.place }
-    ensures { Reads caller.now (model.BindingError object property.now) tables.now result }
-{
-    let at = tables.asked_property(caller.place, object, property.as_str())?;
-    let (_, error) = tables.stores.shown(caller.place, at)?;
-    Ok(Answer::BindingError(error))
 }
 
 /// Begins a group, within which changes are not told, and replies how many are open then.

@@ -7,15 +7,15 @@ ghost use Rattle.session_tables.specs.Tables.{IsPlaced, with_session};
 ghost use Rattle.session_engine.specs.Commands.{KnowsProperties, Obeys, Performs, family, reply_after, reply_lines};
 ghost use Rattle.nested_calls.specs.Telling.{fresh_telling};
 
-use crate::bindings::{begin, bind, binding_error, end, unbind};
-use crate::classes::describe;
+use crate::bindings::{begin, bind, end, unbind};
 use crate::connections::{connect, connect_functor, disconnect, disconnect_one};
 use crate::deeds::{block, delete_later, set_parent};
-use crate::events::{spin, status};
+use crate::events::spin;
 use crate::invocation::invoke;
-use crate::properties::{dynamic_names, get, set};
+use crate::properties::set;
+use crate::queries::answer;
 use crate::sharing::{join, leave, publish, renew, reset, unpublish};
-use crate::trees::{children, delete_object, find, new_object};
+use crate::trees::{delete_object, new_object};
 use connection_types::ConnectionType;
 use nested_calls::{Actor, Answering, Telling};
 use plain_types::Items;
@@ -73,8 +73,8 @@ pub fn give_up(tables: &mut Tables, place: usize, memory_refused: &mut bool) -> 
     Fault::Memory
 }
 
-/// Does a command, tells what it tells before its reply, and returns what is replied: one for objects, their
-/// classes and properties.
+/// Does a command, tells what it tells before its reply, and returns what is replied: a query, or a command for
+/// objects and their properties.
 #[tactic(auto, using(crate::proofs::CommandsLemmas::silently, crate::proofs::CommandsLemmas::reads))]
 fn perform<F: Answering>(
     actor: &Actor<F>,
@@ -93,20 +93,12 @@ fn perform<F: Answering>(
         Command::SetParent { object, parent } => {
             set_parent(&actor.caller, tables, *object, *parent)
         }
-        Command::Children { object } => children(&actor.caller, tables, *object),
-        Command::Find {
-            object,
-            name,
-            class,
-        } => find(&actor.caller, tables, *object, name, class),
-        Command::Meta { class } => describe(&actor.caller, tables, class),
+        Command::Ask(query) => answer(&actor.caller, tables, query),
         Command::Set {
             object,
             property,
             value,
         } => set(actor, tables, telling, *object, property, value),
-        Command::Get { object, property } => get(&actor.caller, tables, *object, property),
-        Command::DynamicNames { object } => dynamic_names(&actor.caller, tables, *object),
         _ => perform_bound(actor, tables, telling, command),
     }
 }
@@ -131,9 +123,6 @@ fn perform_bound<F: Answering>(
             to,
         } => bind(actor, tables, telling, *object, property, to),
         Command::Unbind { object, property } => unbind(actor, tables, telling, *object, property),
-        Command::BindingError { object, property } => {
-            binding_error(&actor.caller, tables, *object, property)
-        }
         Command::Begin => begin(&actor.caller, tables),
         Command::End => end(actor, tables, telling),
         Command::Invoke {
@@ -151,7 +140,6 @@ fn perform_bound<F: Answering>(
         Command::Spin => spin(actor, tables, telling),
         Command::DeleteLater { object } => delete_later(&actor.caller, tables, *object),
         Command::Block { object, on } => block(&actor.caller, tables, *object, *on),
-        Command::Status => status(&actor.caller, tables),
         _ => perform_connection(&actor.caller, tables, command),
     }
 }

@@ -1,19 +1,19 @@
-//! The commands that take what waits in the session, and tell how much there is.
+//! The command that takes what waits in the session.
 ghost use Rattle.std.specs.Prelude.{◌≡◌, ◌∷◌, [], OnOk};
 ghost use Rattle.thread_model.specs.Agenda.{call_items, event_items};
-ghost use Rattle.thread_model.specs.Asked.{Spin, Status};
+ghost use Rattle.thread_model.specs.Asked.{Spin};
 ghost use Rattle.thread_model.specs.Items as item;
 ghost use Rattle.session_tables.specs.Tables.{IsPlaced, state_at};
 ghost use Rattle.session_effects.specs.Setup.{settings_of};
 ghost use Rattle.nested_calls.specs.Agenda.{Does};
-ghost use Rattle.session_engine.specs.Commands.{Performs, Reads, reply_after};
+ghost use Rattle.session_engine.specs.Commands.{Performs, reply_after};
 ghost use Rattle.nested_calls.specs.Telling.{doing_at, fresh_telling};
 
 use connection_types::Callee;
 use event_queue::{Event, QueuedCall};
 use nested_calls::{Actor, Answering, Telling, delete, run_functor, run_method};
 use refusals::Fault;
-use session_effects::{Caller, Slot, method_at};
+use session_effects::{Slot, method_at};
 use session_tables::Tables;
 use std::alloc::AllocError;
 use thread_model::Answer;
@@ -100,12 +100,4 @@ fn deliver_call<F: Answering>(
         return Ok(());
     };
     run_method(actor, tables, telling, index, method, &slot, 0)
-}
-
-/// Replies how much there is in the session.
-pub fn status(caller: &Caller, tables: &Tables) -> Result<Answer, Fault>
-    requires { IsPlaced tables.now caller.now.place }
-    ensures { Reads caller.now Status tables.now result }
-{
-    Ok(Answer::Status(tables.status(caller.place)))
 }

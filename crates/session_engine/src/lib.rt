@@ -2,7 +2,6 @@
 #![tactic(auto)]
 
 mod bindings;
-mod classes;
 mod commands;
 mod connections;
 mod deeds;
@@ -11,6 +10,7 @@ mod events;
 mod invocation;
 mod item;
 mod properties;
+mod queries;
 mod sharing;
 mod trees;
 

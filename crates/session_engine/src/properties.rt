@@ -1,9 +1,9 @@
-//! The commands that write and read what an object holds under a name.
+//! The command that writes what an object holds under a name.
 ghost use Rattle.std.specs.Prelude.{◌≡◌};
 ghost use Rattle.serde_json.specs.View.{view};
-ghost use Rattle.thread_model.specs.Asked.{DynamicNames, Get, Set};
+ghost use Rattle.thread_model.specs.Asked.{Set};
 ghost use Rattle.session_tables.specs.Tables.{IsPlaced};
-ghost use Rattle.session_engine.specs.Commands.{Performs, Reads, reply_after};
+ghost use Rattle.session_engine.specs.Commands.{Performs, reply_after};
 ghost use Rattle.nested_calls.specs.Telling.{fresh_telling};
 
 use nested_calls::{Actor, Answering, Telling, notify};
@@ -42,26 +42,4 @@ pub fn set<F: Answering>(
     let news = write_declared(&actor.caller, tables, object, class, number, value)?;
     notify(actor, tables, telling, news, 0)?;
     Ok(Answer::Truth(true))
-}
-
-/// Reads a property of an object, which is invalid where there is none of this name.
-#[tactic(auto, using(crate::proofs::CommandsLemmas::starved_reading))]
-pub fn get(caller: &Caller, tables: &Tables, object: u32, property: &Text) -> Result<Answer, Fault>
-    requires { IsPlaced tables.now caller.now.place }
-    ensures { Reads caller.now (Get object property.now) tables.now result }
-{
-    tables.forests.check_object(caller.place, object)?;
-    let value = tables.property(caller.place, object, property.as_str())?;
-    Ok(Answer::Value(value))
-}
-
-/// The names of an object's dynamic properties, that first set first.
-#[tactic(auto, using(crate::proofs::CommandsLemmas::starved_reading))]
-pub fn dynamic_names(caller: &Caller, tables: &Tables, object: u32) -> Result<Answer, Fault>
-    requires { IsPlaced tables.now caller.now.place }
-    ensures { Reads caller.now (DynamicNames object) tables.now result }
-{
-    tables.forests.check_object(caller.place, object)?;
-    let names = tables.stores.dynamic_names(caller.place, object)?;
-    Ok(Answer::Names(names))
 }

@@ -1,12 +1,12 @@
 //! The commands for objects and their trees.
 ghost use Rattle.std.specs.Prelude.{◌≡◌, false};
-ghost use Rattle.thread_model.specs.Asked.{Children, Delete, Find, New};
+ghost use Rattle.thread_model.specs.Asked.{Delete, New};
 ghost use Rattle.session_tables.specs.Tables.{IsPlaced};
-ghost use Rattle.session_engine.specs.Commands.{KnowsProperties, Performs, Reads, reply_after, reply_lines};
+ghost use Rattle.session_engine.specs.Commands.{KnowsProperties, Performs, reply_after, reply_lines};
 ghost use Rattle.nested_calls.specs.Telling.{fresh_telling};
 
 use nested_calls::{Actor, Answering, Telling, delete};
-use plain_types::{Items, Text};
+use plain_types::Text;
 use refusals::Fault;
 use session_effects::Caller;
 use session_tables::Tables;
@@ -42,33 +42,4 @@ pub fn delete_object<F: Answering>(
     tables.forests.check_object(actor.caller.place, object)?;
     delete(actor, tables, telling, object, 0)?;
     Ok(Answer::Truth(true))
-}
-
-/// The children of an object, or the roots.
-#[tactic(auto, using(crate::proofs::CommandsLemmas::starved_reading))]
-pub fn children(caller: &Caller, tables: &Tables, object: Option<u32>) -> Result<Answer, Fault>
-    requires { IsPlaced tables.now caller.now.place }
-    ensures { Reads caller.now (Children object) tables.now result }
-{
-    tables.forests.check_named(caller.place, object)?;
-    let found = tables.forests.children(caller.place, object)?;
-    Ok(Answer::Numbers(Items::from_vec(found)))
-}
-
-/// The nearest object below another one, of a title and of a class where they are given.
-#[tactic(auto, using(crate::proofs::CommandsLemmas::starved_reading))]
-pub fn find(
-    caller: &Caller,
-    tables: &Tables,
-    object: u32,
-    title: &Option<Text>,
-    class: &Option<Text>,
-) -> Result<Answer, Fault>
-    requires { IsPlaced tables.now caller.now.place }
-    ensures { Reads caller.now (Find object title.now class.now) tables.now result }
-{
-    tables.forests.check_object(caller.place, object)?;
-    let base = caller.setup.named_index(class)?;
-    let found = tables.find(&caller.setup.classes, caller.place, object, title, base)?;
-    Ok(Answer::Found(found))
 }

@@ -1,26 +1,12 @@
--- The rule of each command for classes: why it is refused, what it does where it is not, and both
--- together; and what is said of a class that is there.
-use Rattle.std.proofs.Common.{◌≡◌, ℕ, List, [], ◌∷◌, length, map, get_or, Option, Some, slice_get, bytes_eq, refl, ap}
+-- What is said of a class that is there.
+use Rattle.std.proofs.Common.{◌≡◌, ℕ, List, [], ◌∷◌, length, map, get_or, Option, Some, slice_get, bytes_eq, ap}
 use Rattle.std.specs.Option.{option_and_then, option_map, unwrap_or}
 use Rattle.std.proofs.lemmas.List.Quantifiers.{position-Some}
 use Rattle.std.proofs.lemmas.Option.{slice_get-get_or}
 use Rattle.class_table.specs.declared.class.Class.{Class}
 use Rattle.class_table.specs.Lookup.{inherited, method_text, methods, names, index_of, properties}
 use Rattle.thread_model.specs.declared.meta.MetaObject.{MetaObject}
-use Rattle.thread_model.specs.Asked.{Meta}
-use Rattle.thread_model.specs.Classes.{class_name, described, describes}
-use Rattle.thread_model.specs.Refusing.{class_refusal, refusal}
-use Rattle.thread_model.specs.State.{State}
-use Rattle.thread_model.specs.Thread.{Settings, performs}
-
-module _ (settings : Settings) (self : List ℕ) (state : State) where
-  pub refusal_meta : (class : List ℕ) → refusal settings self state (Meta class) ≡ class_refusal settings.classes class
-  unfolding refusal
-  refusal_meta class = refl
-
-  pub performs_meta : (class : List ℕ) → performs settings self state (Meta class) ≡ describes settings.classes state class
-  unfolding performs
-  performs_meta class = refl
+use Rattle.thread_model.specs.Classes.{class_name, described}
 
 -- what is told of a class, by its row
 unfoldable pub described_by : List Class → ℕ → Class → MetaObject

@@ -1,60 +1,39 @@
 -- Each object keeps the properties that its class declares.
-use Rattle.std.proofs.Common.{◌≡◌, ◌+◌, ◌≤◌, ◌==◌, ℕ, Bool, true, false, not, cond, List, [], ◌∷◌, ◌++◌, Option, Some, None, Ok, Err, filter, get_or, refl, ap, ◌∙◌, arith}
-use Rattle.std.specs.List.{All}
-use Rattle.std.specs.Option.{option_map, option_map_or}
+use Rattle.binding_graph.specs.Graph.{is_bound, unbound, value_in}
+use Rattle.class_table.specs.declared.class.Class.{Class}
+use Rattle.connection_list.specs.Rows.{has_number as has_connection_number}
+use Rattle.connection_list.specs.declared.connection.Connection.{Connection}
+use Rattle.event_queue.specs.declared.event.Event.{Event}
+use Rattle.object_tree.specs.Changes.{added, changed, marked, moved, orphaned, removed, reparented, with_blocked}
+use Rattle.object_tree.specs.Forest.{Forest}
+use Rattle.object_tree.specs.Refusing.{keeps_parent}
+use Rattle.object_tree.specs.Rows.{has_number, has_parent}
+use Rattle.object_tree.specs.declared.row.Row.{Row}
+use Rattle.property_store.proofs.ForCallers.{added_found, added_others, changed_fields, without_others}
+use Rattle.property_store.specs.Store.{Properties, fitting, properties_of, with_value}
+use Rattle.property_store.specs.declared.property.Property.{Property as At}
+use Rattle.std.proofs.Common.{Bool, List, None, Option, Some, ap, arith, cond, false, filter, get_or, not, refl, true, ℕ, ◌+◌, ◌==◌, ◌∙◌, ◌≡◌, ◌≤◌}
 use Rattle.std.proofs.lemmas.Bool.{cond_both, not-true}
 use Rattle.std.proofs.lemmas.Bool.Decides.{nat_tests}
 use Rattle.std.proofs.lemmas.List.Elements.{All-filter, All-map, All-push, All-weaker, filter_passes}
-use Rattle.isolation.specs.Machine.{Effect}
-use Rattle.refusals.specs.declared.code.Code.{Code}
-use Rattle.serde_json.specs.Data.{Data}
-use Rattle.variant_value.specs.declared.value.Value.{Value}
-use Rattle.class_table.specs.declared.class.Class.{Class}
-use Rattle.connection_types.specs.declared.connection_type.ConnectionType.{ConnectionType}
-use Rattle.connection_list.specs.declared.connection.Connection.{Connection}
-use Rattle.connection_list.specs.Rows.{has_number as has_connection_number}
-use Rattle.event_queue.specs.declared.event.Priority.{Priority}
-use Rattle.event_queue.specs.declared.event.Event.{Event}
-use Rattle.object_tree.specs.declared.row.Row.{Row}
-use Rattle.object_tree.specs.Forest.{Forest}
-use Rattle.object_tree.specs.Rows.{has_number, has_parent}
-use Rattle.object_tree.specs.Refusing.{keeps_parent}
-use Rattle.object_tree.specs.Changes.{added, changed, marked, moved, orphaned, removed, reparented, with_blocked}
-use Rattle.property_store.specs.Store as stored
-use Rattle.property_store.specs.Store.{Properties, fitting, properties_of, with_value}
-use Rattle.property_store.specs.declared.property.Property.{Property as At}
-use Rattle.binding_graph.specs.Graph.{is_bound, unbound, value_in}
-use Rattle.property_store.proofs.ForCallers.{added_found, added_others, changed_fields, without_others}
-use Rattle.publish_board.specs.declared.join.Join.{Join}
-use Rattle.publish_board.specs.declared.publication.Publication.{Publication}
-use Rattle.thread_model.specs.declared.line.Answer.{Answer}
-use Rattle.thread_model.specs.declared.line.Answer.TheVariants as a
+use Rattle.std.specs.List.{All}
+use Rattle.std.specs.Option.{option_map, option_map_or}
+use Rattle.thread_model.proofs.RunLemmas.{run_keeps}
+use Rattle.thread_model.proofs.StepLemmas.{Holds, step_holds}
+use Rattle.thread_model.specs.Agenda.{step}
+use Rattle.thread_model.specs.Deeds.{deed_done, with_deed}
+use Rattle.thread_model.specs.Doing.{Doing, dying, first_taken, in_state, line_told, lost, posted, posting, severed, shot, stepped, turn_taken, used_up}
+use Rattle.thread_model.specs.Items.{Item}
+use Rattle.thread_model.specs.Run.{run}
+use Rattle.thread_model.specs.State.{IsDeclared, State, fields_of, with_binding_taken, with_object, with_properties, without_connections, without_object}
+use Rattle.thread_model.specs.Thread.{Settings, arrives}
+use Rattle.thread_model.specs.Writing.{Declared, Dynamic, Nothing, Removed, Writing, with_writing}
+use Rattle.thread_model.specs.declared.deed.Deed.{Deed}
 use Rattle.thread_model.specs.declared.line.Line.{Line}
 use Rattle.thread_model.specs.declared.post.Post.{Post}
-use Rattle.thread_model.specs.Binding.{Bound, asked_binding, asked_property, binding_error_found, binds_found, ends, unbinds_found}
-use Rattle.thread_model.specs.Showing.{comes_to}
-use Rattle.thread_model.specs.Agenda.{step, with_turn}
-use Rattle.thread_model.specs.Asked.{Asked, New, Delete, Children, Find, Set, Get, DynamicNames, Meta, Connect, ConnectFunctor, DisconnectOne, Disconnect, Invoke, Spin as TakeEvents, Do, Status, Publish, Unpublish, Join as AsksJoin, Leave, Reset, Bind, Unbind, BindingError, Begin, End}
-use Rattle.thread_model.specs.declared.deed.Deed.{Deed}
+use Rattle.variant_value.specs.declared.value.Value.{Value}
 use Rattle.thread_model.specs.declared.deed.Deed.TheVariants as d
-use Rattle.thread_model.specs.Deeds.{deed_done, with_deed}
-use Rattle.thread_model.specs.Doing.{Doing, begun, dying, first_taken, in_state, lost, posted, posting, shot, line_told, turn_taken, used_up, severed, stepped}
-use Rattle.thread_model.specs.Effects.{does_next, unless}
-use Rattle.thread_model.specs.Items.{Delete as ToDelete, Emit, Item, Next, Reply, ReplySpun, Run, Spin, puts}
-use Rattle.thread_model.specs.Laws.{KeepsDeclared}
-use Rattle.thread_model.specs.Methods.{Found, is_signal_at, methods_of}
-use Rattle.thread_model.specs.Posting.{is_queued}
-use Rattle.thread_model.specs.Properties.{is_declared, sets}
-use Rattle.thread_model.specs.Refusing.{refusal}
-use Rattle.thread_model.specs.Run.{run}
-use Rattle.thread_model.specs.Sharing.{asked_join, asked_listener, asked_publication, joins_found, leaves, publishes_found}
-use Rattle.thread_model.specs.Signals.{asked_connect, asked_connect_functor, asked_disconnect, asked_method, does_found, invoked, invoked_later, invokes}
-use Rattle.thread_model.specs.State.{IsDeclared, IsSound, State, fields_of, with_binding, with_binding_taken, with_object, with_properties, without_connections, without_group, without_object}
-use Rattle.thread_model.specs.Thread.{Settings, arrives, does, performs}
-use Rattle.thread_model.specs.Writing.{Declared, Dynamic, Nothing, Removed, Writing, asked_writing, with_writing, written}
-use Rattle.thread_model.proofs.RunLemmas.{run_keeps}
-use Rattle.thread_model.proofs.ShowingLemmas.{ending}
-use Rattle.thread_model.proofs.StepLemmas.{Holds, step_holds}
+use Rattle.property_store.specs.Store as stored
 
 -- something that is said of an object by its number and its class
 module _ (G : ℕ → ℕ → Type 0) where
@@ -132,7 +111,7 @@ module _ (classes : List Class) (state : State) (declared : IsDeclared classes s
       by (Some fit) = declared_with_properties at.object (with_value at.number fit) (λ of. refl) (λ of. refl)
 
   -- a new object has those of its class, and its number is new
-  declared_with_object : (parent : Option ℕ) (class : ℕ) → All (λ row. row.number ≤ state.forest.last_number) state.forest.rows → IsDeclared classes (with_object classes state parent class)
+  pub declared_with_object : (parent : Option ℕ) (class : ℕ) → All (λ row. row.number ≤ state.forest.last_number) state.forest.rows → IsDeclared classes (with_object classes state parent class)
   unfolding added
   declared_with_object parent class known = All-push (λ (row : Row). Has classes (with_object classes state parent class) row.number row.class) state.forest.rows _
       (λ index default within. old (get_or state.forest.rows index default) (known index default within) (declared index default within))
@@ -180,7 +159,7 @@ module _ (classes : List Class) (doing : Doing) (declared : IsDeclared classes d
   unfolding first_taken
   first_declared = declared
 
-  deed_declared : (deed : Deed) → IsDeclared classes (with_deed doing.state deed)
+  pub deed_declared : (deed : Deed) → IsDeclared classes (with_deed doing.state deed)
   deed_declared (d.Connect new unique) = declared
   deed_declared (d.Disconnect pattern) = declared
   deed_declared (d.SetParent target parent) = each_reparented (Has classes doing.state) doing.state.forest target parent declared
@@ -202,10 +181,6 @@ module _ (classes : List Class) (doing : Doing) (declared : IsDeclared classes d
   gone_declared : (target : ℕ) → IsDeclared classes (without_object doing.state target)
   gone_declared target = each_removed (Has classes doing.state) (Has classes (without_object doing.state target)) doing.state.forest target
       (λ number class apart has. ap (option_map (λ of. of.fields)) (without_others doing.state.store target number apart) ∙ has) declared
-
--- so it is in what an item comes to
-abbrev LeavesDeclared : List Class → Next → Type 0
-LeavesDeclared classes next = IsDeclared classes next.doing.state
 
 -- with each change
 holds : (classes : List Class) → Holds (λ old new. IsDeclared classes old.state → IsDeclared classes new.state)
@@ -232,110 +207,10 @@ pub item_declared : (settings : Settings) (item : Item) (doing : Doing) → IsDe
 item_declared settings item doing = step_holds settings (λ old new. IsDeclared settings.classes old.state → IsDeclared settings.classes new.state) (holds settings.classes) item doing
 
 -- and after an agenda is done
-run_declared : (settings : Settings) (agenda : List Item) (doing : Doing) → IsDeclared settings.classes doing.state → IsDeclared settings.classes (run settings agenda doing).state
+pub run_declared : (settings : Settings) (agenda : List Item) (doing : Doing) → IsDeclared settings.classes doing.state → IsDeclared settings.classes (run settings agenda doing).state
 run_declared settings agenda doing declared = run_keeps settings (λ items doing. IsDeclared settings.classes doing.state) (λ item agenda doing. item_declared settings item doing) agenda doing declared
 
-module _ (settings : Settings) (state : State) (declared : IsDeclared settings.classes state) where
-  done_declared : (next : Next) (answer : Answer) → LeavesDeclared settings.classes next → IsDeclared settings.classes (does_next settings next answer).state
-  done_declared next answer kept = run_declared settings (next.items ++ Reply answer ∷ []) next.doing kept
-
-  set_declared : (target : ℕ) (found : Found Writing) → IsDeclared settings.classes (sets settings state target found).state
-  set_declared target (Err code) = declared
-  set_declared target (Ok writing) = done_declared (written settings (begun settings state) target 0 writing) (a.Truth (is_declared writing)) (declared_with_writing settings.classes state declared target writing)
-
-  found_declared' : (found : Found Deed) → IsDeclared settings.classes (does_found state found).state
-  found_declared' (Ok deed) = deed_declared settings.classes (begun settings state) declared deed
-  found_declared' (Err code) = declared
-
-  invoked_declared : (target index : ℕ) (values : List Value) → LeavesDeclared settings.classes (invoked settings state target index values)
-  invoked_declared target index values =
-      let doing = begun settings state in
-      cond_both (is_signal_at (methods_of settings state target) index) (puts (Emit target index values 0 ∷ []) doing) (with_turn doing (puts (Run target index 0 values 0 ∷ []))) (LeavesDeclared settings.classes)
-      (λ signal. declared)
-      (λ slot. cond_both (doing.turns == 0) (puts [] (used_up doing)) (puts (Run target index 0 values 0 ∷ []) (turn_taken doing)) (LeavesDeclared settings.classes)
-      (λ none. used_up_declared settings.classes doing declared) (λ some. turn_declared settings.classes doing declared))
-
-  invokes_declared : (target : ℕ) (args : List Data) (mode : ConnectionType) (priority : Priority) (index : Option ℕ) → IsDeclared settings.classes (invokes settings state target args mode priority index).state
-  invokes_declared target args mode priority None = declared
-  invokes_declared target args mode priority (Some index) =
-      cond_both (is_queued mode) (invoked_later state target index _ priority) (does_next settings (invoked settings state target index _) (a.Truth true)) (λ (effect : Effect State Line Post). IsDeclared settings.classes effect.state)
-      (λ later. declared)
-      (λ now. done_declared (invoked settings state target index _) (a.Truth true) (invoked_declared target index _))
-
-  published_declared : (found : Found Publication) → IsDeclared settings.classes (publishes_found state found).state
-  published_declared (Ok row) = declared
-  published_declared (Err code) = declared
-
-  joined_declared : (found : Found Join) → IsDeclared settings.classes (joins_found state found).state
-  joined_declared (Ok join) = declared
-  joined_declared (Err code) = declared
-
-  left_declared : (from name : List ℕ) (target : ℕ) (found : Found ℕ) → IsDeclared settings.classes (leaves state from name target found).state
-  left_declared from name target (Ok method) = declared
-  left_declared from name target (Err code) = declared
-
-  bound_declared : (found : Found Bound) → IsDeclared settings.classes (binds_found settings state found).state
-  bound_declared (Ok bound) = done_declared (comes_to settings (begun settings state) 0 (with_binding state bound.at bound.term) (Some bound.at)) (a.Truth true) declared
-  bound_declared (Err code) = declared
-
-  unbound_declared : (found : Found At) → IsDeclared settings.classes (unbinds_found settings state found).state
-  unbound_declared (Ok at) = done_declared (comes_to settings (begun settings state) 0 (with_binding_taken state at) (Some at)) (a.Truth (is_bound state.graph.bindings at)) (declared_with_binding_taken settings.classes state declared at)
-  unbound_declared (Err code) = declared
-
-  faulty_declared : (found : Found At) → IsDeclared settings.classes (binding_error_found state found).state
-  faulty_declared (Ok at) = declared
-  faulty_declared (Err code) = declared
-
-  ended_declared : IsDeclared settings.classes (ends settings state).state
-  ended_declared = done_declared (ending settings state) (a.Number (without_group state).graph.depth) declared
-
-  performed_declared : (self : List ℕ) (asked : Asked) → IsSound state → IsDeclared settings.classes (performs settings self state asked).state
-  unfolding performs
-  performed_declared self (New class parent) sound = declared_with_object settings.classes state declared parent _ sound.whole.forest.numbers_given
-  performed_declared self (Delete target) sound = done_declared (puts (ToDelete target 0 ∷ []) (begun settings state)) (a.Truth true) declared
-  performed_declared self (Children target) sound = declared
-  performed_declared self (Find target title class) sound = declared
-  performed_declared self (Set target property value) sound = set_declared target (asked_writing state target property value)
-  performed_declared self (Get target property) sound = declared
-  performed_declared self (DynamicNames target) sound = declared
-  performed_declared self (Meta class) sound = declared
-  performed_declared self (Connect sender signal receiver method mode unique single) sound = found_declared' (asked_connect settings state sender signal receiver method mode unique single)
-  performed_declared self (ConnectFunctor sender signal context functor mode unique single) sound = found_declared' (asked_connect_functor settings state sender signal context functor mode unique single)
-  performed_declared self (DisconnectOne connection) sound = declared
-  performed_declared self (Disconnect sender signal receiver method) sound = found_declared' (asked_disconnect settings state sender signal receiver method)
-  performed_declared self (Invoke target method args mode priority) sound = invokes_declared target args mode priority (asked_method settings state target method)
-  performed_declared self TakeEvents sound = run_declared settings (Spin ∷ ReplySpun ∷ []) (begun settings state) declared
-  performed_declared self (Do deed) sound = found_declared' (Ok deed)
-  performed_declared self Status sound = declared
-  performed_declared self (Publish target signal name) sound = published_declared (asked_publication settings state target signal name)
-  performed_declared self (Unpublish name) sound = declared
-  performed_declared self (AsksJoin from name types target method) sound = joined_declared (asked_join settings state from name types target method)
-  performed_declared self (Leave from name target method) sound = left_declared from name target (asked_listener settings state target method)
-  performed_declared self (Bind target property to) sound = bound_declared (asked_binding state target property to)
-  performed_declared self (Unbind target property) sound = unbound_declared (asked_property state target property)
-  performed_declared self (BindingError target property) sound = faulty_declared (asked_property state target property)
-  performed_declared self Begin sound = declared
-  performed_declared self End sound = ended_declared
-  performed_declared self Reset sound = λ index default within. absurd (omega arith)
-
-  -- a refused command leaves the state
-  unless_declared : (refusal : Option Code) (outcome : Effect State Line Post) → IsDeclared settings.classes outcome.state → IsDeclared settings.classes (unless refusal state outcome).state
-  unless_declared None outcome done = done
-  unless_declared (Some code) outcome done = declared
-
-command_declared : (settings : Settings) (self : List ℕ) (state : State) (asked : Asked) → IsSound state → IsDeclared settings.classes state → IsDeclared settings.classes (does settings self state asked).state
-unfolding does
-command_declared settings self state asked sound declared =
-    unless_declared settings state declared (refusal settings self state asked) (performs settings self state asked) (performed_declared settings state declared self asked sound)
-
-post_declared : (classes : List Class) (state : State) (from : List ℕ) (post : Post) → IsDeclared classes state → IsDeclared classes (arrives classes state from post)
+-- and after a post
+pub post_declared : (classes : List Class) (state : State) (from : List ℕ) (post : Post) → IsDeclared classes state → IsDeclared classes (arrives classes state from post)
 unfolding arrives
 post_declared classes state from post declared = declared
-
-pub keeps_declared : KeepsDeclared
-keeps_declared = record {
-  at_first = λ classes index default within. absurd (omega arith);
-  by_item = item_declared;
-  by_command = command_declared;
-  by_post = post_declared;
-}

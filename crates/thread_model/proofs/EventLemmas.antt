@@ -1,26 +1,26 @@
 -- The rules by which events are taken, one for each way that it goes; and the rule of each command for
--- events: why it is refused, what it does where it is not, and both together.
-use Rattle.std.proofs.Common.{◌≡◌, ◌<◌, ◌==◌, ℕ, true, false, List, [], ◌∷◌, ◌++◌, Option, None, refl, ap, ◌∙◌, arith}
-use Rattle.std.specs.Option.{option_map_or}
+-- events: why it is refused, what it does where it is not, and what it keeps of a session.
+use Rattle.event_queue.specs.declared.event.Event.{Event}
+use Rattle.std.proofs.Common.{List, None, Ok, [], ap, arith, false, refl, subst, true, ℕ, ◌++◌, ◌<◌, ◌==◌, ◌∙◌, ◌∷◌, ◌≡◌}
 use Rattle.std.proofs.lemmas.Bool.{cond-false, cond-true}
 use Rattle.std.proofs.lemmas.Bool.Decides.{nat_tests}
-use Rattle.class_table.specs.declared.class.Method.{Method}
-use Rattle.connection_types.specs.declared.callee.Callee.TheVariants as callee
-use Rattle.event_queue.specs.declared.event.Event.{Event}
-use Rattle.event_queue.specs.declared.event.Event.TheVariants as event
-use Rattle.event_queue.specs.declared.event.QueuedCall.{QueuedCall}
-use Rattle.thread_model.specs.Agenda.{call_items, event_items, method_items, spun, step}
-use Rattle.thread_model.specs.Asked.{Do, Spin as spin, Status}
-use Rattle.thread_model.specs.declared.deed.Deed.{Deed}
+use Rattle.std.proofs.lemmas.List.Elements.{All-cons, All-nil}
+use Rattle.thread_model.proofs.KeepingLemmas.{Keeps, found_keeps, ran, stays}
+use Rattle.thread_model.specs.Agenda.{event_items, spun, step}
+use Rattle.thread_model.specs.Asked.{Do, Spin as spin}
 use Rattle.thread_model.specs.Deeds.{deed_answer, deed_refusal, with_deed}
-use Rattle.thread_model.specs.Doing.{Doing, first_taken, turn_taken, used_up}
+use Rattle.thread_model.specs.Doing.{Doing, begun, first_taken, turn_taken, used_up}
 use Rattle.thread_model.specs.Effects.{replies}
-use Rattle.thread_model.specs.Events.{counts, spins}
+use Rattle.thread_model.specs.Events.{spins}
+use Rattle.thread_model.specs.Fitting.{IsFittingDeed, IsFittingItem, IsRightPost}
 use Rattle.thread_model.specs.Items.{Item, Spin, puts}
-use Rattle.thread_model.specs.Methods.{method_at}
+use Rattle.thread_model.specs.Named.{IsNamedItem}
 use Rattle.thread_model.specs.Refusing.{refusal}
+use Rattle.thread_model.specs.Signals.{does_found}
 use Rattle.thread_model.specs.State.{State}
 use Rattle.thread_model.specs.Thread.{Settings, performs}
+use Rattle.thread_model.specs.declared.deed.Deed.{Deed}
+use Rattle.thread_model.specs.Items as to_do
 
 module _ (settings : Settings) (doing : Doing) where
   -- where there is no event, nothing is taken
@@ -42,16 +42,6 @@ module _ (settings : Settings) (doing : Doing) where
         let is : (doing.turns == 0) ≡ false = grind (arith, nat_tests, some) in
         ap (spun settings doing) has ∙ cond-false (doing.turns == 0) _ _ is
 
-  -- an event that calls a method
-  module _ (call : QueuedCall) (later : List Event) (first : doing.state.queue.events ≡ event.Call call ∷ later) (some : 0 < doing.turns) where
-    by_items : (items : List Item) → call_items settings doing.state call call.callee ≡ items → step settings Spin doing ≡ puts (items ++ Spin ∷ []) (first_taken (turn_taken doing))
-    by_items items are = spin_taken (event.Call call) later first some ∙ ap (λ items. puts (items ++ Spin ∷ []) (first_taken (turn_taken doing))) are
-
-    module _ (index : ℕ) (is : call.callee ≡ callee.Method index) where
-      by_method : (found : Option Method) → method_at settings doing.state call.object index ≡ found
-          → step settings Spin doing ≡ puts (option_map_or (method_items call.object index call.sender call.args 0 0) found [] ++ Spin ∷ []) (first_taken (turn_taken doing))
-      by_method found has = by_items _ (ap (call_items settings doing.state call) is ∙ ap (λ found. option_map_or (method_items call.object index call.sender call.args 0 0) found []) has)
-
 module _ (settings : Settings) (self : List ℕ) (state : State) where
   pub refusal_spin : refusal settings self state spin ≡ None
   unfolding refusal
@@ -69,10 +59,15 @@ module _ (settings : Settings) (self : List ℕ) (state : State) where
   unfolding performs
   performs_do deed = refl
 
-  pub refusal_status : refusal settings self state Status ≡ None
-  unfolding refusal
-  refusal_status = refl
+module _ (settings : Settings) (state : State) where
+  pub spin_keeps : Keeps settings state spin (spins settings state)
+  spin_keeps = ran settings state spin (Spin ∷ to_do.ReplySpun ∷ []) (begun settings state) (record {
+    none = refl;
+    leaves = stays settings state spin;
+    items = λ fits. All-cons (IsFittingItem settings state) Spin (to_do.ReplySpun ∷ []) tt (All-cons (IsFittingItem settings state) to_do.ReplySpun [] tt (All-nil (IsFittingItem settings state)));
+    posts = All-nil IsRightPost;
+    names = λ are is named. All-cons IsNamedItem Spin (to_do.ReplySpun ∷ []) tt (All-cons IsNamedItem to_do.ReplySpun [] tt (All-nil IsNamedItem));
+  })
 
-  pub performs_status : performs settings self state Status ≡ counts state
-  unfolding performs
-  performs_status = refl
+  pub do_keeps : (deed : Deed) → deed_refusal state deed ≡ None → Keeps settings state (Do deed) (does_found state (Ok deed))
+  do_keeps deed passed = found_keeps settings state (Do deed) (Ok deed) passed (λ other is may. let same : deed ≡ other = cc in subst (IsFittingDeed settings state.forest.rows) same may)

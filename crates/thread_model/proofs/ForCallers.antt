@@ -3,32 +3,28 @@ pub use Rattle.thread_model.proofs.ActionLemmas.{deed_is_done, set_done, set_fau
 pub use Rattle.thread_model.proofs.ActionLemmas.{when_held}
 pub use Rattle.thread_model.proofs.AloneLemmas.{going_told, its_cell, write_told}
 pub use Rattle.thread_model.proofs.ArrivingLemmas.{arrive_all-append, arrive_all-is}
-pub use Rattle.thread_model.proofs.BindLemmas.{bind_done, bind_found, binding_error_done, performs_begin, performs_end}
-pub use Rattle.thread_model.proofs.BindLemmas.{refusal_begin, refusal_bind, refusal_binding_error, refusal_end}
+pub use Rattle.thread_model.proofs.BindLemmas.{bind_done, bind_found, performs_begin, performs_end}
+pub use Rattle.thread_model.proofs.BindLemmas.{refusal_begin, refusal_bind, refusal_end}
 pub use Rattle.thread_model.proofs.BindLemmas.{refusal_unbind, unbind_done}
 pub use Rattle.thread_model.proofs.BindableLemmas.{may_be_bound}
-pub use Rattle.thread_model.proofs.ClassLemmas.{class_there, described_at, described_by, performs_meta, refusal_meta}
-pub use Rattle.thread_model.proofs.DeclaredLemmas.{keeps_declared}
+pub use Rattle.thread_model.proofs.ClassLemmas.{class_there, described_at, described_by}
+pub use Rattle.thread_model.proofs.CommandLemmas.{keeps_declared, keeps_fitting, keeps_named, keeps_sound}
 pub use Rattle.thread_model.proofs.DeletionLemmas.{cut_kins, delete_none, delete_some, gone_now, kin_none, kin_some}
 pub use Rattle.thread_model.proofs.EmissionLemmas.{call_spent, call_taken, emit_absent, emit_calls, emit_deep}
 pub use Rattle.thread_model.proofs.EmissionLemmas.{emit_held_back, run_functor, run_functor_absent, run_slot}
 pub use Rattle.thread_model.proofs.EmissionLemmas.{warn_of_told, warn_told}
-pub use Rattle.thread_model.proofs.EventLemmas.{performs_do, performs_spin, performs_status, refusal_do, refusal_spin}
-pub use Rattle.thread_model.proofs.EventLemmas.{refusal_status, spin_empty, spin_spent, spin_taken}
+pub use Rattle.thread_model.proofs.EventLemmas.{performs_do, performs_spin, refusal_do, refusal_spin}
+pub use Rattle.thread_model.proofs.EventLemmas.{spin_empty, spin_spent, spin_taken}
 pub use Rattle.thread_model.proofs.FallLemmas.{falls}
 pub use Rattle.thread_model.proofs.FilterLemmas.{find-passes}
 pub use Rattle.thread_model.proofs.FittingAskedLemmas.{asked_fits}
-pub use Rattle.thread_model.proofs.FittingCommandLemmas.{keeps_fitting}
 pub use Rattle.thread_model.proofs.InPlaceLemmas.{acts-put_in}
 pub use Rattle.thread_model.proofs.JoinLemmas.{post_stranger}
 pub use Rattle.thread_model.proofs.LaterLemmas.{run_later}
-pub use Rattle.thread_model.proofs.LawLemmas.{keeps_sound}
 pub use Rattle.thread_model.proofs.Lawful.{lawful}
 pub use Rattle.thread_model.proofs.LivingLemmas.{living_rows}
-pub use Rattle.thread_model.proofs.NamedLemmas.{keeps_named}
 pub use Rattle.thread_model.proofs.NextCallLemmas.{calls_to, emission_end, emission_first, emission_next}
-pub use Rattle.thread_model.proofs.PropertyLemmas.{performs_dynamic_names, performs_get, refusal_dynamic_names}
-pub use Rattle.thread_model.proofs.PropertyLemmas.{refusal_get, refusal_set, set_written}
+pub use Rattle.thread_model.proofs.PropertyLemmas.{refusal_set, set_written}
 pub use Rattle.thread_model.proofs.QuietLemmas.{showing_same}
 pub use Rattle.thread_model.proofs.RemainingLemmas.{remaining}
 pub use Rattle.thread_model.proofs.RunLemmas.{after_first, at_end, by_change, by_step, in_parts, run_keeps}
@@ -43,8 +39,7 @@ pub use Rattle.thread_model.proofs.SignalLemmas.{performs_disconnect, performs_d
 pub use Rattle.thread_model.proofs.SignalLemmas.{refusal_connect, refusal_connect_functor, refusal_disconnect}
 pub use Rattle.thread_model.proofs.SignalLemmas.{refusal_disconnect_one, refusal_invoke}
 pub use Rattle.thread_model.proofs.StepLemmas.{Holds, step_holds}
-pub use Rattle.thread_model.proofs.ThreadLemmas.{replies_last, spun_last}
-pub use Rattle.thread_model.proofs.TreeLemmas.{performs_children, performs_delete, performs_find, performs_new}
-pub use Rattle.thread_model.proofs.TreeLemmas.{refusal_children, refusal_delete, refusal_find, refusal_new}
+pub use Rattle.thread_model.proofs.ThreadLemmas.{query_passed, query_refused, query_replies, replies_last, spun_last}
+pub use Rattle.thread_model.proofs.TreeLemmas.{performs_delete, performs_new, refusal_delete, refusal_new}
 pub use Rattle.thread_model.proofs.WeightLemmas.{functor-size}
 pub use Rattle.thread_model.proofs.WritingLemmas.{dynamic_removed, dynamic_set, nothing_written}

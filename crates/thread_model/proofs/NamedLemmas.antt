@@ -1,101 +1,88 @@
 -- What a session holds stays called by names, and what is still to be done sets only what has a name.
-use Rattle.std.proofs.Common.{◌≡◌, ◌+◌, ◌==◌, ℕ, Bool, true, false, not, cond, List, [], ◌∷◌, ◌++◌, Option, Some, None, Ok, Err, IsTrue, bytes_eq, filter, length, nat_le, nat_lt, set, slice_get, take, refl, sym, subst, if◌then◌else◌}
-use Rattle.std.specs.Prelude.{IfOk}
-use Rattle.std.specs.List.{All, cons_option}
-use Rattle.std.specs.Option.{ok_or, option_and_then, option_map, option_map_or, unwrap_or}
-use Rattle.std.proofs.lemmas.Bool.{and_parts, cond_both}
-use Rattle.std.proofs.lemmas.List.Elements.{All-append, All-cons, All-filter, All-head, All-map, All-nil, All-push, All-set, All-tail, All-weaker}
-use Rattle.isolation.specs.Machine.{Effect}
-use Rattle.plain_types.specs.Names.{is_name}
-use Rattle.refusals.specs.declared.code.Code.{Code}
-use Rattle.refusals.specs.declared.code.Code.TheVariants.{BadValue, Limit, NoSuchObject}
-use Rattle.serde_json.specs.Data.{Data}
-use Rattle.serde_json.specs.Data as json
-use Rattle.variant_value.specs.declared.value.Value.{Value}
-use Rattle.variant_value.specs.declared.value.Value.TheVariants as v
-use Rattle.variant_value.specs.Values.{converted, inferred, value_of}
-use Rattle.term_core.specs.declared.action.SingleAction.{SingleAction as Plain}
-use Rattle.term_core.specs.declared.action.SingleAction.TheVariants as e
-use Rattle.term_core.specs.Act as act
-use Rattle.term_core.specs.Act.{Acts, acts_of, are_named, single_action, is_effect_named, is_named, nothing, when}
-use Rattle.term_evaluation.specs.Stating.{after, with_state}
+use Rattle.binding_graph.specs.Graph.{is_bound, value_in}
+use Rattle.binding_graph.specs.declared.change.Change.{Change}
+use Rattle.binding_graph.specs.declared.change.Message.{Message}
+use Rattle.class_table.specs.Lookup.{methods}
 use Rattle.class_table.specs.declared.class.Class.{Class}
 use Rattle.class_table.specs.declared.class.Method.{Method}
 use Rattle.class_table.specs.declared.class.Property.{Property}
-use Rattle.class_table.specs.Lookup.{methods}
-use Rattle.connection_types.specs.declared.callee.Callee.{Callee}
-use Rattle.connection_types.specs.declared.callee.Callee.TheVariants as callee
-use Rattle.connection_types.specs.declared.connection_type.ConnectionType.{ConnectionType}
-use Rattle.connection_list.specs.declared.connection.Connection.{Connection}
 use Rattle.connection_list.specs.Ends.{calls, matches}
 use Rattle.connection_list.specs.Rows.{has_number as has_connection_number}
-use Rattle.event_queue.specs.declared.event.Event.{Event}
-use Rattle.event_queue.specs.declared.event.Event.TheVariants as event
-use Rattle.event_queue.specs.declared.event.Priority.{Priority}
-use Rattle.event_queue.specs.declared.event.QueuedCall.{QueuedCall}
+use Rattle.connection_list.specs.declared.connection.Connection.{Connection}
+use Rattle.connection_types.specs.declared.callee.Callee.{Callee}
 use Rattle.event_queue.specs.Queue.{has_room}
-use Rattle.object_tree.specs.declared.row.Row.{Row}
+use Rattle.event_queue.specs.declared.event.Event.{Event}
+use Rattle.event_queue.specs.declared.event.QueuedCall.{QueuedCall}
 use Rattle.object_tree.specs.Rows.{children, row_of}
+use Rattle.object_tree.specs.declared.row.Row.{Row}
+use Rattle.plain_types.specs.Names.{is_name}
+use Rattle.property_store.specs.Store.{Properties, dynamic_number, dynamic_refusal, fitting, fresh, with_dynamic, with_name, with_value, without_dynamic}
 use Rattle.property_store.specs.declared.dynamic.Named.{Named}
 use Rattle.property_store.specs.declared.property.Property.{Property as At}
-use Rattle.property_store.specs.Store as stored
-use Rattle.property_store.specs.Store.{Properties, dynamic_number, dynamic_refusal, fitting, fresh, with_dynamic, with_name, with_value, without_dynamic}
-use Rattle.binding_graph.specs.declared.change.Change.{Change}
-use Rattle.binding_graph.specs.declared.change.Message.{Message}
-use Rattle.binding_graph.specs.declared.change.Message.TheVariants as message
-use Rattle.binding_graph.specs.Graph as graph
-use Rattle.binding_graph.specs.Graph.{is_bound, is_open, unbound, value_in}
+use Rattle.publish_board.specs.Desk.{Desk}
 use Rattle.publish_board.specs.declared.join.Join.{Join}
 use Rattle.publish_board.specs.declared.publication.Publication.{Publication}
-use Rattle.publish_board.specs.Desk.{Desk}
-use Rattle.publish_board.specs.Rows.{has_name, is_join}
+use Rattle.refusals.specs.declared.code.Code.{Code}
+use Rattle.refusals.specs.declared.code.Code.TheVariants.{BadValue, Limit, NoSuchObject}
+use Rattle.serde_json.specs.Data.{Data}
+use Rattle.std.proofs.Common.{if◌then◌else◌, Bool, Err, IsTrue, List, None, Ok, Option, Some, [], bytes_eq, cond, false, filter, length, nat_le, nat_lt, not, refl, set, slice_get, subst, sym, take, true, ℕ, ◌++◌, ◌+◌, ◌==◌, ◌∷◌, ◌≡◌}
+use Rattle.std.proofs.lemmas.Bool.{and_parts, cond_both}
+use Rattle.std.proofs.lemmas.List.Elements.{All-append, All-cons, All-filter, All-head, All-map, All-nil, All-push, All-set, All-tail, All-weaker}
+use Rattle.std.specs.List.{All, cons_option}
+use Rattle.std.specs.Option.{ok_or, option_and_then, option_map, option_map_or, unwrap_or}
+use Rattle.std.specs.Prelude.{IfOk}
 use Rattle.stored_slots.specs.declared.functor.Functor.{Functor}
-use Rattle.thread_model.specs.declared.call.TheConstants.{DESTROYED, NESTED_SIGNALS}
-use Rattle.thread_model.specs.declared.deed.Deed.{Deed}
-use Rattle.thread_model.specs.declared.deed.Deed.TheVariants as d
-use Rattle.thread_model.specs.declared.line.Answer.{Answer}
-use Rattle.thread_model.specs.declared.line.Answer.TheVariants as a
-use Rattle.thread_model.specs.declared.line.Line.{Line}
-use Rattle.thread_model.specs.declared.line.Line.TheVariants as line
-use Rattle.thread_model.specs.declared.post.Post.{Post}
-use Rattle.thread_model.specs.Acts.{act_deed, act_refusal, acted, acts, chosen, emission, warns_or, with_found, writing}
-use Rattle.thread_model.specs.Agenda.{binding_line, call_line, call_items, callee_called, called, calls_of, connection_of, emitted, event_items, functor_called, functor_line, functor_ran, is_held_back, kins, lives, lives_below, method_called, method_items, queued, ran, spun, step, with_turn}
-use Rattle.thread_model.specs.Arriving.{posts_of}
-use Rattle.thread_model.specs.Asked.{Asked, New, Delete, Children, Find, Set, Get, DynamicNames, Meta, Connect, ConnectFunctor, DisconnectOne, Disconnect, Invoke, Spin, Do, Status, Publish, Unpublish, Join as AsksJoin, Leave, Reset, Bind, Unbind, BindingError, Begin, End}
-use Rattle.thread_model.specs.Binding.{Bound, asked_binding, asked_property, binding_error_found, binds_found, ends, unbinds_found}
-use Rattle.thread_model.specs.Absence.{absence}
-use Rattle.thread_model.specs.Deeds.{behind, deed_done, with_deed}
-use Rattle.thread_model.specs.Doing.{Doing, begun, dying, first_taken, in_state, lost, posted, posting, shot, stepped, line_told as one_told, turn_taken, used_up, severed}
-use Rattle.thread_model.specs.Effects.{does_next, unless}
-use Rattle.thread_model.specs.Fitting.{AreSettings}
-use Rattle.thread_model.specs.Functors.{functor_at}
-use Rattle.thread_model.specs.Items as to_do
-use Rattle.thread_model.specs.Items.{Act, Call, Cut, Emit, Gone, Item, Kin, Next, Reply, ReplySpun, Run, RunFunctor, Warn, WarnOf, puts}
-use Rattle.thread_model.specs.Laws.{KeepsNamed}
-use Rattle.thread_model.specs.Methods.{Found, ◌>>=◌, is_signal_at, method_at, method_named as method_named_by, methods_of, signal_named}
-use Rattle.thread_model.specs.Named.{AreNamed, HasNames, IsNamedAsked, IsNamedItem, IsNamedJoin, IsNamedPublication}
-use Rattle.thread_model.specs.Posting.{is_queued, spin_of}
-use Rattle.thread_model.specs.Properties.{is_declared, sets}
-use Rattle.thread_model.specs.Refusing.{refusal}
-use Rattle.thread_model.specs.Run.{run}
-use Rattle.thread_model.specs.Settings.{Settings}
-use Rattle.thread_model.specs.Sharing.{asked_join, asked_kinds, asked_listener, asked_publication, joins_found, leaves, publishes_found}
-use Rattle.thread_model.specs.Showing.{changes, comes_to, property_at, showing, told_as, told_value}
-use Rattle.thread_model.specs.Signals.{asked_connect, asked_connect_functor, asked_disconnect, asked_method, does_found, invoked, invoked_later, invokes}
-use Rattle.thread_model.specs.State.{State, empty, fields_of, functor_state, with_binding, with_binding_taken, with_blocking, with_connection, with_event, with_functor_state, with_group, with_lost, with_object, with_parent, with_properties, without_connections, without_first, without_group, without_object}
-use Rattle.thread_model.specs.Targets.{evaluated, object_of, truth_evaluated}
-use Rattle.thread_model.specs.Thread.{arrives, does, performs}
-use Rattle.thread_model.specs.Writing.{Declared, Dynamic, Nothing, DeclaredField, Removed, Writing, acted_writing, asked_place, asked_writing, declared, dynamic_writing, short, with_writing, written, written_property}
+use Rattle.term_core.specs.Act.{Acts, acts_of, are_named, is_effect_named, nothing, single_action, when}
+use Rattle.term_core.specs.declared.action.SingleAction.{SingleAction as Plain}
+use Rattle.term_evaluation.specs.Stating.{after, with_state}
 use Rattle.thread_model.proofs.FittingTableLemmas.{functor_named, method_named}
 use Rattle.thread_model.proofs.RunLemmas.{run_keeps}
-use Rattle.thread_model.proofs.ShowingLemmas.{ending, tells}
+use Rattle.thread_model.proofs.ShowingLemmas.{tells}
+use Rattle.thread_model.specs.Absence.{absence}
+use Rattle.thread_model.specs.Acts.{act_deed, act_refusal, acted, acts, chosen, emission, warns_or, with_found, writing}
+use Rattle.thread_model.specs.Agenda.{binding_line, call_items, call_line, called, callee_called, calls_of, connection_of, emitted, event_items, functor_called, functor_line, functor_ran, is_held_back, kins, lives, lives_below, method_called, method_items, queued, ran, spun, step, with_turn}
+use Rattle.thread_model.specs.Arriving.{posts_of}
+use Rattle.thread_model.specs.Deeds.{behind, deed_done, with_deed}
+use Rattle.thread_model.specs.Doing.{Doing, dying, first_taken, in_state, line_told as one_told, lost, posted, posting, severed, shot, stepped, turn_taken, used_up}
+use Rattle.thread_model.specs.Fitting.{AreSettings}
+use Rattle.thread_model.specs.Functors.{functor_at}
+use Rattle.thread_model.specs.Items.{Act, Call, Cut, Emit, Gone, Item, Kin, Next, Reply, ReplySpun, Run, RunFunctor, Warn, WarnOf, puts}
+use Rattle.thread_model.specs.Methods.{Found, method_at, method_named as method_named_by, methods_of, signal_named, ◌>>=◌}
+use Rattle.thread_model.specs.Named.{AreNamed, HasNames, IsNamedItem, IsNamedJoin, IsNamedPublication}
+use Rattle.thread_model.specs.Posting.{is_queued, spin_of}
+use Rattle.thread_model.specs.Run.{run}
+use Rattle.thread_model.specs.Settings.{Settings}
+use Rattle.thread_model.specs.Sharing.{asked_join, asked_kinds, asked_publication}
+use Rattle.thread_model.specs.Showing.{changes, comes_to, property_at, told_as, told_value}
+use Rattle.thread_model.specs.State.{State, empty, fields_of, functor_state, with_binding_taken, with_blocking, with_connection, with_event, with_functor_state, with_lost, with_object, with_parent, with_properties, without_connections, without_first, without_object}
+use Rattle.thread_model.specs.Targets.{evaluated, object_of, truth_evaluated}
+use Rattle.thread_model.specs.Thread.{arrives}
+use Rattle.thread_model.specs.Writing.{Declared, DeclaredField, Dynamic, Nothing, Removed, Writing, acted_writing, asked_place, asked_writing, declared, dynamic_writing, short, with_writing, written, written_property}
+use Rattle.thread_model.specs.declared.call.TheConstants.{DESTROYED, NESTED_SIGNALS}
+use Rattle.thread_model.specs.declared.deed.Deed.{Deed}
+use Rattle.thread_model.specs.declared.line.Line.{Line}
+use Rattle.thread_model.specs.declared.post.Post.{Post}
+use Rattle.variant_value.specs.Values.{converted, inferred, value_of}
+use Rattle.variant_value.specs.declared.value.Value.{Value}
+use Rattle.thread_model.specs.declared.line.Answer.TheVariants as a
+use Rattle.term_core.specs.Act as act
+use Rattle.connection_types.specs.declared.callee.Callee.TheVariants as callee
+use Rattle.thread_model.specs.declared.deed.Deed.TheVariants as d
+use Rattle.term_core.specs.declared.action.SingleAction.TheVariants as e
+use Rattle.event_queue.specs.declared.event.Event.TheVariants as event
+use Rattle.serde_json.specs.Data as json
+use Rattle.thread_model.specs.declared.line.Line.TheVariants as line
+use Rattle.binding_graph.specs.declared.change.Message.TheVariants as message
+use Rattle.property_store.specs.Store as stored
+use Rattle.thread_model.specs.Items as to_do
+use Rattle.variant_value.specs.declared.value.Value.TheVariants as v
 
 -- what is written where a name is given
 
 abbrev HasName : Named → Type 0
 HasName named = IsTrue (is_name named.name)
 
-abbrev IsNamedWriting : Writing → Type 0
+abbrev pub IsNamedWriting : Writing → Type 0
 IsNamedWriting (Dynamic name value) = IsTrue (is_name name)
 IsNamedWriting _ = Unit {0}
 
@@ -125,7 +112,7 @@ module _ (state : State) (object : ℕ) (name : List ℕ) (is : IsTrue (is_name 
       by None = found_always IsNamedWriting (short value) (dynamic_writing state object name) dynamic_named
       by (Some place) = found_always IsNamedWriting (ok_or (converted place.kind value) BadValue >>= short) (λ value. Ok (Declared place.number value)) (λ value. tt)
 
-  asked_named : (given : Data) → IfOk (asked_writing state object name given) IsNamedWriting
+  pub asked_named : (given : Data) → IfOk (asked_writing state object name given) IsNamedWriting
   asked_named given = by (declared state object name)
     where
       placed : (place : DeclaredField) (value : Found Value) → IfOk (value >>= λ value. Ok (Declared place.number value)) IsNamedWriting
@@ -157,7 +144,7 @@ with_name_named name value dynamic is all = by (dynamic_number name dynamic)
 
 module _ (state : State) (named : AreNamed state) where
   -- a session with the same properties and the same desk
-  named_beside : (new : State) → new.store ≡ state.store → new.desk ≡ state.desk → AreNamed new
+  pub named_beside : (new : State) → new.store ≡ state.store → new.desk ≡ state.desk → AreNamed new
   named_beside new store desk = record {
     store = subst (All HasNames) (sym store) named.store;
     publications = subst (λ (desk : Desk). All IsNamedPublication desk.publications) (sym desk) named.publications;
@@ -178,14 +165,14 @@ module _ (state : State) (named : AreNamed state) where
       (All-weaker HasNames (λ (of : Properties). HasNames (cond (of.object == number) (change of) of)) (λ of has. cond_both (of.object == number) (change of) of HasNames (λ same. keeps of has) (λ other. has)) state.store named.store))
       refl
 
-  named_with_writing : (object : ℕ) (writing : Writing) → IsNamedWriting writing → AreNamed (with_writing state object writing)
+  pub named_with_writing : (object : ℕ) (writing : Writing) → IsNamedWriting writing → AreNamed (with_writing state object writing)
   named_with_writing object (Declared number value) is = named_with_store (with_writing state object (Declared number value)) (named_with_properties object (with_value number value) (λ of has. has)).store refl
   named_with_writing object (Dynamic name value) is = named_with_properties object (with_dynamic name value) (λ of has. with_name_named name value of.dynamic is has)
   named_with_writing object (Removed name) is = named_with_properties object (without_dynamic name) (λ of has. All-filter (λ (named : Named). not (bytes_eq named.name name)) HasName of.dynamic has)
   named_with_writing object Nothing is = named
 
   -- what a bound property shows is stored
-  named_with_binding_taken : (at : At) → AreNamed (with_binding_taken state at)
+  pub named_with_binding_taken : (at : At) → AreNamed (with_binding_taken state at)
   named_with_binding_taken at = named_with_store (with_binding_taken state at)
       (cond_both (is_bound state.graph.bindings at) (stored.written state.store at.object at.number shows) state.store (All HasNames)
       (λ bound. by (fitting state.store at.object at.number shows))
@@ -200,7 +187,7 @@ module _ (state : State) (named : AreNamed state) where
       by (Some fit) = (named_with_properties at.object (with_value at.number fit) (λ of has. has)).store
 
   -- a new object has no dynamic properties
-  named_with_object : (classes : List Class) (parent : Option ℕ) (class : ℕ) → AreNamed (with_object classes state parent class)
+  pub named_with_object : (classes : List Class) (parent : Option ℕ) (class : ℕ) → AreNamed (with_object classes state parent class)
   named_with_object classes parent class = named_with_store (with_object classes state parent class)
       (All-append HasNames (filter (λ (of : Properties). nat_lt of.object number) state.store) (fresh number (fields_of classes class) ∷ filter (λ (of : Properties). nat_lt number of.object) state.store)
       (All-filter (λ (of : Properties). nat_lt of.object number) HasNames state.store named.store)
@@ -264,7 +251,7 @@ module _ (doing : Doing) (named : AreNamed doing.state) where
   unfolding dying
   dying_named target = beside (dying doing target).state refl refl
 
-  deed_named : (deed : Deed) → AreNamed (with_deed doing.state deed)
+  pub deed_named : (deed : Deed) → AreNamed (with_deed doing.state deed)
   deed_named (d.Connect new unique) = beside (with_connection doing.state new) refl refl
   deed_named (d.Disconnect pattern) = beside (without_connections doing.state (matches pattern)) refl refl
   deed_named (d.SetParent target parent) = beside (with_parent doing.state target parent) refl refl
@@ -284,7 +271,7 @@ acts_named (act.more action rest) args self sender depth is =
     All-cons IsNamedItem (Act action args self sender depth) (acts rest args self sender depth) (and_parts _ _ is).0 (acts_named rest args self sender depth (and_parts _ _ is).1)
 
 -- what is told of changes
-tells_named : (settings : Settings) (after : State) (depth : ℕ) (changes : List Change) → All IsNamedItem (tells settings after depth changes)
+pub tells_named : (settings : Settings) (after : State) (depth : ℕ) (changes : List Change) → All IsNamedItem (tells settings after depth changes)
 tells_named settings after depth [] = All-nil IsNamedItem
 tells_named settings after depth (change ∷ rest) = by change.told (tells_named settings after depth rest)
   where
@@ -297,14 +284,14 @@ tells_named settings after depth (change ∷ rest) = by change.told (tells_named
     by (message.Value value) later = sent (option_and_then (λ (property : Property). property.notify) (property_at settings after change.at.object change.at.number)) value later
 
 -- what is to be done first sets only what has a name, and what the session holds is called by names
-abbrev LeavesNamed : Next → Type 0
+abbrev pub LeavesNamed : Next → Type 0
 LeavesNamed next = All IsNamedItem next.items × AreNamed next.doing.state
 
 comes_to_named : (settings : Settings) (doing : Doing) (depth : ℕ) (after : State) (written : Option At) → AreNamed after → LeavesNamed (comes_to settings doing depth after written)
 comes_to_named settings doing depth after written named = (tells_named settings after depth (changes doing.state after written), named)
 
 -- a session that has had no command
-empty_named : AreNamed empty
+pub empty_named : AreNamed empty
 empty_named = record { store = All-nil HasNames; publications = All-nil IsNamedPublication; joins = All-nil IsNamedJoin }
 
 -- what is asked for under a name is published or joined under it
@@ -313,11 +300,11 @@ behind_always Q None found is = is
 behind_always Q (Some code) found is = tt
 
 module _ (settings : Settings) (state : State) where
-  publication_named : (target : ℕ) (signal name : List ℕ) → IsTrue (is_name name) → IfOk (asked_publication settings state target signal name) IsNamedPublication
+  pub publication_named : (target : ℕ) (signal name : List ℕ) → IsTrue (is_name name) → IfOk (asked_publication settings state target signal name) IsNamedPublication
   publication_named target signal name is = behind_always IsNamedPublication (absence state target) _
       (found_always IsNamedPublication (signal_named (methods_of settings state target) signal) _ (λ index. is))
 
-  join_named : (from name : List ℕ) (types : List (List ℕ)) (target : ℕ) (method : List ℕ) → IsTrue (is_name from) × IsTrue (is_name name) → IfOk (asked_join settings state from name types target method) IsNamedJoin
+  pub join_named : (from name : List ℕ) (types : List (List ℕ)) (target : ℕ) (method : List ℕ) → IsTrue (is_name from) × IsTrue (is_name name) → IfOk (asked_join settings state from name types target method) IsNamedJoin
   join_named from name types target method is = behind_always IsNamedJoin (absence state target) _
       (found_always IsNamedJoin (asked_kinds types) _ (λ kinds. found_always IsNamedJoin (method_named_by (methods_of settings state target) method) _ (λ index. is)))
 
@@ -472,129 +459,16 @@ module _ (settings : Settings) (are : AreSettings settings) where
   item_named (Reply answer) doing is named = (All-nil IsNamedItem, told_named doing named (line.Reply answer))
   item_named ReplySpun doing is named = (All-nil IsNamedItem, told_named doing named (line.Reply (a.Spun (spin_of doing))))
 
-  by_item : (item : Item) (agenda : List Item) (doing : Doing) → All IsNamedItem (item ∷ agenda) → AreNamed doing.state → All IsNamedItem ((step settings item doing).items ++ agenda) × AreNamed (step settings item doing).doing.state
+  pub by_item : (item : Item) (agenda : List Item) (doing : Doing) → All IsNamedItem (item ∷ agenda) → AreNamed doing.state → All IsNamedItem ((step settings item doing).items ++ agenda) × AreNamed (step settings item doing).doing.state
   by_item item agenda doing items named =
       let next = item_named item doing (All-head IsNamedItem item agenda items) named in
       (All-append IsNamedItem (step settings item doing).items agenda next.0 (All-tail IsNamedItem item agenda items), next.1)
 
   -- after an agenda is done
-  run_named : (agenda : List Item) (doing : Doing) → LeavesNamed (puts agenda doing) → AreNamed (run settings agenda doing).state
+  pub run_named : (agenda : List Item) (doing : Doing) → LeavesNamed (puts agenda doing) → AreNamed (run settings agenda doing).state
   run_named agenda doing kept = (run_keeps settings (λ agenda doing. LeavesNamed (puts agenda doing)) (λ item agenda doing its. by_item item agenda doing its.0 its.1) agenda doing kept).1
 
-  done_named : (next : Next) (answer : Answer) → LeavesNamed next → AreNamed (does_next settings next answer).state
-  done_named next answer kept = run_named (next.items ++ Reply answer ∷ []) next.doing (All-append IsNamedItem next.items (Reply answer ∷ []) kept.0 (All-cons IsNamedItem (Reply answer) [] tt (All-nil IsNamedItem)), kept.1)
-
-  -- what a command leaves of a session
-  module _ (state : State) (named : AreNamed state) where
-    sets_named : (target : ℕ) (found : Found Writing) → IfOk found IsNamedWriting → AreNamed (sets settings state target found).state
-    sets_named target (Err code) is = named
-    sets_named target (Ok writing) is =
-        done_named (written settings (begun settings state) target 0 writing) (a.Truth (is_declared writing))
-        (comes_to_named settings (begun settings state) 0 (with_writing state target writing) (written_property target writing) (named_with_writing state named target writing is))
-
-    does_found_named : (found : Found Deed) → AreNamed (does_found state found).state
-    does_found_named (Ok deed) = deed_named (begun settings state) named deed
-    does_found_named (Err code) = named
-
-    invoked_named : (target index : ℕ) (values : List Value) → LeavesNamed (invoked settings state target index values)
-    invoked_named target index values =
-        let doing = begun settings state in
-        cond_both (is_signal_at (methods_of settings state target) index) (puts (Emit target index values 0 ∷ []) doing) (with_turn doing (puts (Run target index 0 values 0 ∷ []))) LeavesNamed
-        (λ signal. one doing named (Emit target index values 0) tt)
-        (λ slot. turns doing named (puts (Run target index 0 values 0 ∷ [])) (one (turn_taken doing) (turn_named doing named) (Run target index 0 values 0) tt))
-
-    invokes_named : (target : ℕ) (args : List Data) (mode : ConnectionType) (priority : Priority) (index : Option ℕ) → AreNamed (invokes settings state target args mode priority index).state
-    invokes_named target args mode priority None = named
-    invokes_named target args mode priority (Some index) =
-        cond_both (is_queued mode) (invoked_later state target index _ priority) (does_next settings (invoked settings state target index _) (a.Truth true)) (λ (effect : Effect State Line Post). AreNamed effect.state)
-        (λ later. named_beside state named _ refl refl)
-        (λ now. done_named (invoked settings state target index _) (a.Truth true) (invoked_named target index _))
-
-    published_named : (found : Found Publication) → IfOk found IsNamedPublication → AreNamed (publishes_found state found).state
-    published_named (Ok row) is = record { store = named.store; publications = All-push IsNamedPublication state.desk.publications row named.publications is; joins = named.joins }
-    published_named (Err code) is = named
-
-    joined_named : (found : Found Join) → IfOk found IsNamedJoin → AreNamed (joins_found state found).state
-    joined_named (Ok join) is = record { store = named.store; publications = named.publications; joins = All-push IsNamedJoin state.desk.joins join named.joins is }
-    joined_named (Err code) is = named
-
-    left_named : (from name : List ℕ) (target : ℕ) (found : Found ℕ) → AreNamed (leaves state from name target found).state
-    left_named from name target (Ok method) = record {
-      store = named.store;
-      publications = named.publications;
-      joins = All-filter (λ join. not (is_join from name target method join)) IsNamedJoin state.desk.joins named.joins;
-    }
-    left_named from name target (Err code) = named
-
-    bound_named : (found : Found Bound) → AreNamed (binds_found settings state found).state
-    bound_named (Ok bound) = done_named (comes_to settings (begun settings state) 0 (with_binding state bound.at bound.term) (Some bound.at)) (a.Truth true) (comes_to_named settings (begun settings state) 0 (with_binding state bound.at bound.term) (Some bound.at) (named_beside state named (with_binding state bound.at bound.term) refl refl))
-    bound_named (Err code) = named
-
-    unbound_named : (found : Found At) → AreNamed (unbinds_found settings state found).state
-    unbound_named (Ok at) = done_named (comes_to settings (begun settings state) 0 (with_binding_taken state at) (Some at)) (a.Truth (is_bound state.graph.bindings at)) (comes_to_named settings (begun settings state) 0 (with_binding_taken state at) (Some at) (named_with_binding_taken state named at))
-    unbound_named (Err code) = named
-
-    faulty_named : (found : Found At) → AreNamed (binding_error_found state found).state
-    faulty_named (Ok at) = named
-    faulty_named (Err code) = named
-
-    ended_named : AreNamed (ends settings state).state
-    ended_named =
-        let after = without_group state in
-        let told = tells settings after 0 (graph.changes state.graph.last (showing after) None) in
-        done_named (ending settings state) (a.Number after.graph.depth) (cond_both (is_open after.graph) [] told (All IsNamedItem) (λ deep. All-nil IsNamedItem) (λ last. tells_named settings after 0 _), named_beside state named after refl refl)
-
-    performed_named : (self : List ℕ) (asked : Asked) → IsNamedAsked asked → AreNamed (performs settings self state asked).state
-    unfolding performs
-    performed_named self (New class parent) is = named_with_object state named settings.classes parent _
-    performed_named self (Delete target) is = done_named (puts (to_do.Delete target 0 ∷ []) (begun settings state)) (a.Truth true) (one (begun settings state) named (to_do.Delete target 0) tt)
-    performed_named self (Children target) is = named
-    performed_named self (Find target title class) is = named
-    performed_named self (Set target property value) is = sets_named target (asked_writing state target property value) (asked_named state target property is value)
-    performed_named self (Get target property) is = named
-    performed_named self (DynamicNames target) is = named
-    performed_named self (Meta class) is = named
-    performed_named self (Connect sender signal receiver method mode unique single) is = does_found_named (asked_connect settings state sender signal receiver method mode unique single)
-    performed_named self (ConnectFunctor sender signal context functor mode unique single) is = does_found_named (asked_connect_functor settings state sender signal context functor mode unique single)
-    performed_named self (DisconnectOne connection) is = named_beside state named (without_connections state (has_connection_number connection)) refl refl
-    performed_named self (Disconnect sender signal receiver method) is = does_found_named (asked_disconnect settings state sender signal receiver method)
-    performed_named self (Invoke target method args mode priority) is = invokes_named target args mode priority (asked_method settings state target method)
-    performed_named self Spin is = run_named (to_do.Spin ∷ ReplySpun ∷ []) (begun settings state) (All-cons IsNamedItem to_do.Spin (ReplySpun ∷ []) tt (All-cons IsNamedItem ReplySpun [] tt (All-nil IsNamedItem)), named)
-    performed_named self (Do deed) is = does_found_named (Ok deed)
-    performed_named self Status is = named
-    performed_named self (Publish target signal name) is = published_named (asked_publication settings state target signal name) (publication_named settings state target signal name is)
-    performed_named self (Unpublish name) is = record {
-      store = named.store;
-      publications = All-filter (λ row. not (has_name name row)) IsNamedPublication state.desk.publications named.publications;
-      joins = named.joins;
-    }
-    performed_named self (AsksJoin from name types target method) is = joined_named (asked_join settings state from name types target method) (join_named settings state from name types target method is)
-    performed_named self (Leave from name target method) is = left_named from name target (asked_listener settings state target method)
-    performed_named self (Bind target property to) is = bound_named (asked_binding state target property to)
-    performed_named self (Unbind target property) is = unbound_named (asked_property state target property)
-    performed_named self (BindingError target property) is = faulty_named (asked_property state target property)
-    performed_named self Begin is = named_beside state named (with_group state) refl refl
-    performed_named self End is = ended_named
-    performed_named self Reset is = empty_named
-
-    -- a refused command leaves the state
-    unless_named : (refusal : Option Code) (outcome : Effect State Line Post) → AreNamed outcome.state → AreNamed (unless refusal state outcome).state
-    unless_named None outcome done = done
-    unless_named (Some code) outcome done = named
-
-command_named : (settings : Settings) (self : List ℕ) (state : State) (asked : Asked) → AreSettings settings → IsNamedAsked asked → AreNamed state → AreNamed (does settings self state asked).state
-unfolding does
-command_named settings self state asked are is named =
-    unless_named settings are state named (refusal settings self state asked) (performs settings self state asked) (performed_named settings are state named self asked is)
-
-post_named : (classes : List Class) (state : State) (from : List ℕ) (post : Post) → AreNamed state → AreNamed (arrives classes state from post)
+-- nor does a post bring another name
+pub post_named : (classes : List Class) (state : State) (from : List ℕ) (post : Post) → AreNamed state → AreNamed (arrives classes state from post)
 unfolding arrives
 post_named classes state from post named = named_beside state named (arrives classes state from post) refl refl
-
-pub keeps_named : KeepsNamed
-keeps_named = record {
-  at_first = empty_named;
-  by_item = λ settings item agenda doing are items named. by_item settings are item agenda doing items named;
-  by_command = command_named;
-  by_post = post_named;
-}

@@ -1,19 +1,28 @@
--- The rule of each command for properties: why it is refused, what it does where it is not, and both
--- together; and each way that it goes.
-use Rattle.std.proofs.Common.{◌≡◌, ℕ, List, Ok, refl, ap, ◌∙◌}
-use Rattle.std.specs.Option.{option_or}
-use Rattle.std.specs.Result.{result_err}
+-- The rule of the command that writes a property: why it is refused, what it does where it is not, and what it
+-- keeps of a session.
 use Rattle.serde_json.specs.Data.{Data}
-use Rattle.thread_model.specs.declared.line.Answer.TheVariants as a
-use Rattle.thread_model.specs.Asked.{DynamicNames, Get, Set}
+use Rattle.std.proofs.Common.{Err, List, Ok, ap, refl, subst, ℕ, ◌∙◌, ◌≡◌}
+use Rattle.std.specs.Option.{option_or}
+use Rattle.std.specs.Prelude.{IfOk}
+use Rattle.std.specs.Result.{result_err}
+use Rattle.thread_model.proofs.DeclaredLemmas.{declared_with_writing}
+use Rattle.thread_model.proofs.FitLemmas.{asked_fit}
+use Rattle.thread_model.proofs.KeepingLemmas.{Keeps, refused, told}
+use Rattle.thread_model.proofs.LawLemmas.{writing_sound}
+use Rattle.thread_model.proofs.NamedLemmas.{IsNamedWriting, asked_named, named_with_writing}
+use Rattle.thread_model.proofs.ShrinkLemmas.{written_shrinks}
+use Rattle.thread_model.specs.Absence.{absence}
+use Rattle.thread_model.specs.Asked.{Set}
 use Rattle.thread_model.specs.Doing.{begun}
 use Rattle.thread_model.specs.Effects.{does_next}
-use Rattle.thread_model.specs.Properties.{gets, is_declared, names, sets}
+use Rattle.thread_model.specs.Fitting.{IsFitting}
+use Rattle.thread_model.specs.Methods.{Found}
+use Rattle.thread_model.specs.Properties.{is_declared, sets}
 use Rattle.thread_model.specs.Refusing.{refusal}
-use Rattle.thread_model.specs.Absence.{absence}
 use Rattle.thread_model.specs.State.{State}
 use Rattle.thread_model.specs.Thread.{Settings, performs}
-use Rattle.thread_model.specs.Writing.{Writing, asked_writing, written}
+use Rattle.thread_model.specs.Writing.{Declared, Dynamic, Nothing, Removed, Writing, asked_writing, with_writing, written, written_property}
+use Rattle.thread_model.specs.declared.line.Answer.TheVariants as a
 
 module _ (settings : Settings) (self : List ℕ) (state : State) where
   module _ (target : ℕ) (property : List ℕ) (value : Data) where
@@ -30,20 +39,23 @@ module _ (settings : Settings) (self : List ℕ) (state : State) where
         → performs settings self state (Set target property value) ≡ does_next settings (written settings (begun settings state) target 0 writing) (a.Truth (is_declared writing))
     set_written _ found = performs_set ∙ ap (sets settings state target) found
 
-  module _ (target : ℕ) (property : List ℕ) where
-    pub refusal_get : refusal settings self state (Get target property) ≡ absence state target
-    unfolding refusal
-    refusal_get = refl
+module _ (settings : Settings) (state : State) where
+  writing_fits : (object : ℕ) (writing : Writing) → IsFitting settings state → IsFitting settings (with_writing state object writing)
+  writing_fits object (Declared number value) fit = record { objects = fit.objects; events = fit.events; connections = fit.connections; publications = fit.publications; joins = fit.joins }
+  writing_fits object (Dynamic name value) fit = record { objects = fit.objects; events = fit.events; connections = fit.connections; publications = fit.publications; joins = fit.joins }
+  writing_fits object (Removed name) fit = record { objects = fit.objects; events = fit.events; connections = fit.connections; publications = fit.publications; joins = fit.joins }
+  writing_fits object Nothing fit = fit
 
-    pub performs_get : performs settings self state (Get target property) ≡ gets state target property
-    unfolding performs
-    performs_get = refl
-
-  module _ (target : ℕ) where
-    pub refusal_dynamic_names : refusal settings self state (DynamicNames target) ≡ absence state target
-    unfolding refusal
-    refusal_dynamic_names = refl
-
-    pub performs_dynamic_names : performs settings self state (DynamicNames target) ≡ names state target
-    unfolding performs
-    performs_dynamic_names = refl
+  -- what is written is told of
+  pub set_keeps : (target : ℕ) (property : List ℕ) (value : Data) → Keeps settings state (Set target property value) (sets settings state target (asked_writing state target property value))
+  set_keeps target property value = by (asked_writing state target property value) refl
+    where
+      by : (found : Found Writing) → asked_writing state target property value ≡ found → Keeps settings state (Set target property value) (sets settings state target found)
+      by (Err code) is = refused settings state (Set target property value) code
+      by (Ok writing) is = told settings state (Set target property value) (with_writing state target writing) (written_property target writing) (a.Truth (is_declared writing)) (record {
+        sound = λ sound. writing_sound (begun settings state) target writing (asked_fit state target property value writing is) sound;
+        declared = λ sound declared. declared_with_writing settings.classes state declared target writing;
+        fitting = λ fits. writing_fits target writing fits.fit;
+        named = λ are its named. named_with_writing state named target writing (subst (λ found. IfOk found IsNamedWriting) is (asked_named state target property its value));
+        joins = λ plain. (written_shrinks (begun settings state) target writing).joins;
+      })

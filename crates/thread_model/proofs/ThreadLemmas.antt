@@ -1,16 +1,22 @@
--- What a command comes to, where it is refused and where it is not.
-use Rattle.std.proofs.Common.{◌≡◌, ◌∙◌, [], ◌∷◌, refl, ap}
+-- What a command comes to; and the rule of queries.
+use Rattle.std.proofs.Common.{◌≡◌, ◌∙◌, ℕ, List, [], ◌∷◌, Some, None, Ok, Err, refl, ap}
+use Rattle.std.specs.Result.{result_err}
+use Rattle.refusals.specs.declared.code.Code.{Code}
 use Rattle.thread_model.specs.declared.line.Answer.{Answer}
 use Rattle.thread_model.specs.declared.line.Answer.TheVariants as a
 use Rattle.thread_model.specs.declared.line.Line.TheVariants as line
+use Rattle.thread_model.specs.declared.query.Query.{Query}
+use Rattle.thread_model.specs.Asked.{Ask}
 use Rattle.thread_model.specs.Doing.{begun, line_told}
-use Rattle.thread_model.specs.Effects.{does_next, ended}
+use Rattle.thread_model.specs.Effects.{answers, does_next, ended, replies}
 use Rattle.thread_model.specs.Events.{spins}
 use Rattle.thread_model.specs.Items.{Next, Reply, ReplySpun, Spin}
 use Rattle.thread_model.specs.Posting.{spin_of}
+use Rattle.thread_model.specs.Queries.{query_answer}
+use Rattle.thread_model.specs.Refusing.{refusal}
 use Rattle.thread_model.specs.Run.{run}
 use Rattle.thread_model.specs.State.{State}
-use Rattle.thread_model.specs.Thread.{Settings}
+use Rattle.thread_model.specs.Thread.{Settings, performs}
 use Rattle.thread_model.proofs.RunLemmas.{by_change, in_parts}
 
 -- a command that does an agenda tells its reply last
@@ -24,3 +30,17 @@ pub spun_last : (settings : Settings) (state : State) → let done = run setting
 spun_last settings state =
     let done = run settings (Spin ∷ []) (begun settings state) in
     ap ended (in_parts settings (Spin ∷ []) (ReplySpun ∷ []) (begun settings state) ∙ by_change settings ReplySpun done (line_told done (line.Reply (a.Spun (spin_of done)))) refl)
+
+-- a query is refused, or replies what it is answered
+module _ (settings : Settings) (self : List ℕ) (state : State) (query : Query) where
+  pub query_refused : (code : Code) → query_answer settings.classes state query ≡ Err code → refusal settings self state (Ask query) ≡ Some code
+  unfolding refusal
+  query_refused code is = ap result_err is
+
+  pub query_passed : (answer : Answer) → query_answer settings.classes state query ≡ Ok answer → refusal settings self state (Ask query) ≡ None
+  unfolding refusal
+  query_passed answer is = ap result_err is
+
+  pub query_replies : (answer : Answer) → query_answer settings.classes state query ≡ Ok answer → performs settings self state (Ask query) ≡ replies state answer
+  unfolding performs
+  query_replies answer is = ap (answers state) is

@@ -10,6 +10,7 @@ use Rattle.thread_model.specs.declared.command.Command.TheVariants as c
 use Rattle.thread_model.specs.declared.command.Tagged.{Tagged}
 use Rattle.thread_model.specs.declared.deed.Deed.{Deed}
 use Rattle.thread_model.specs.declared.deed.Deed.TheVariants.{Block, DeleteLater, SetParent}
+use Rattle.thread_model.specs.declared.query.Query.{Query}
 
 -- what is asked of a session
 pub data Asked : Type 0 where
@@ -17,18 +18,8 @@ pub data Asked : Type 0 where
   New : (class : List ℕ) (parent : Option ℕ) → Asked
   -- delete an object and all below it
   Delete : (target : ℕ) → Asked
-  -- the children of an object, or the roots
-  Children : (target : Option ℕ) → Asked
-  -- the nearest object below another one, of this title and class where they are given
-  Find : (target : ℕ) (title class : Option (List ℕ)) → Asked
   -- write a property of this object
   Set : (target : ℕ) (property : List ℕ) (value : Data) → Asked
-  -- read a property of this object
-  Get : (target : ℕ) (property : List ℕ) → Asked
-  -- the names of the dynamic properties of this object
-  DynamicNames : (target : ℕ) → Asked
-  -- describe this class
-  Meta : (class : List ℕ) → Asked
   -- connect a signal of the sender to a method of the receiver
   Connect : (sender : ℕ) (signal : List ℕ) (receiver : ℕ) (method : List ℕ) (mode : ConnectionType) (unique single : Bool) → Asked
   -- connect a signal of the sender to the functor of this name, for a context object
@@ -57,26 +48,19 @@ pub data Asked : Type 0 where
   Bind : (target : ℕ) (property : List ℕ) (to : Data) → Asked
   -- bind it no longer
   Unbind : (target : ℕ) (property : List ℕ) → Asked
-  -- the error that a property stands for
-  BindingError : (target : ℕ) (property : List ℕ) → Asked
   -- begin a group, in which changes of properties are not told
   Begin : Asked
   -- end a group
   End : Asked
-  -- how much there is
-  Status : Asked
+  -- answer a query
+  Ask : (query : Query) → Asked
 
 -- what a command asks
 abbrev pub asked : Command → Asked
 asked (c.New class parent) = New class parent
 asked (c.Delete target) = Delete target
 asked (c.SetParent target parent) = Do (SetParent target parent)
-asked (c.Children target) = Children target
-asked (c.Find target title class) = Find target title class
 asked (c.Set target property value) = Set target property (view value)
-asked (c.Get target property) = Get target property
-asked (c.DynamicNames target) = DynamicNames target
-asked (c.Meta class) = Meta class
 asked (c.Connect sender signal receiver method mode unique single) = Connect sender signal receiver method mode unique single
 asked (c.ConnectFunctor sender signal context functor mode unique single) = ConnectFunctor sender signal context functor mode unique single
 asked (c.DisconnectOne connection) = DisconnectOne connection
@@ -92,10 +76,9 @@ asked (c.Leave from name target method) = Leave from name target method
 asked c.Reset = Reset
 asked (c.Bind target property to) = Bind target property (view to)
 asked (c.Unbind target property) = Unbind target property
-asked (c.BindingError target property) = BindingError target property
 asked c.Begin = Begin
 asked c.End = End
-asked c.Status = Status
+asked (c.Ask query) = Ask query
 
 -- a command and the session that gives it
 abbrev pub tagged : List ℕ → Command → theory.Tagged (List ℕ) Asked

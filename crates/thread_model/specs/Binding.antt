@@ -25,7 +25,7 @@ use Rattle.thread_model.specs.Items.{puts}
 use Rattle.thread_model.specs.Methods.{Found, ◌>>=◌}
 use Rattle.thread_model.specs.Settings.{Settings}
 use Rattle.thread_model.specs.Showing.{comes_to, showing, tellings}
-use Rattle.thread_model.specs.State.{State, shown, with_binding, with_binding_taken, with_group, without_group}
+use Rattle.thread_model.specs.State.{State, with_binding, with_binding_taken, with_group, without_group}
 
 -- the property of this name that an object's class declares
 abbrev pub asked_property : State → ℕ → List ℕ → Found Property
@@ -78,11 +78,6 @@ abbrev pub unbinds_found : Settings → State → Found Property → Effect Stat
 unbinds_found settings state (Ok at) = does_next settings
     (comes_to settings (begun settings state) 0 (with_binding_taken state at) (Some at)) (a.Truth (is_bound state.graph.bindings at))
 unbinds_found settings state (Err code) = refuses state code
-
--- the error that a property stands for
-abbrev pub binding_error_found : State → Found Property → Effect State Line Post
-binding_error_found state (Ok at) = replies state (a.BindingError (shown state at.object at.number).1)
-binding_error_found state (Err code) = refuses state code
 
 -- it replies how many groups are open then
 abbrev pub begins : State → Effect State Line Post

@@ -1,15 +1,19 @@
--- What the commands for classes do, where they are not refused.
-use Rattle.std.specs.Prelude.{ℕ, List, [], Option, length, map, option_map, option_and_then, slice_get}
-use Rattle.std.specs.Option.{unwrap_or}
-use Rattle.isolation.specs.Machine.{Effect}
+-- The classes that commands name, and what is said of them.
+use Rattle.std.specs.Prelude.{ℕ, List, [], Option, Some, None, is_some, length, map, option_map, option_and_then, slice_get, if◌then◌else◌}
+use Rattle.std.specs.Option.{option_map_or, unwrap_or}
+use Rattle.refusals.specs.declared.code.Code.{Code}
+use Rattle.refusals.specs.declared.code.Code.TheVariants.{NoSuchClass}
 use Rattle.class_table.specs.declared.class.Class.{Class}
 use Rattle.class_table.specs.Lookup.{inherited, method_text, methods, names, index_of, properties}
-use Rattle.thread_model.specs.declared.line.Answer.TheVariants as a
-use Rattle.thread_model.specs.declared.line.Line.{Line}
 use Rattle.thread_model.specs.declared.meta.MetaObject.{MetaObject}
-use Rattle.thread_model.specs.declared.post.Post.{Post}
-use Rattle.thread_model.specs.Effects.{replies}
-use Rattle.thread_model.specs.State.{State}
+
+-- no class has this name
+abbrev pub class_refusal : List Class → List ℕ → Option Code
+class_refusal classes class = if is_some (index_of class classes) then None else Some NoSuchClass
+
+-- the same of a class that need not be named
+abbrev pub named_class_refusal : List Class → Option (List ℕ) → Option Code
+named_class_refusal classes class = option_map_or (class_refusal classes) class None
 
 -- the index of the class of this name; 0 where there is none, and then every command refuses it
 abbrev pub class_index : List Class → List ℕ → ℕ
@@ -33,7 +37,3 @@ described classes index = let base = superclass_of classes index in record {
   property_offset = length (inherited (properties classes) base);
   superclass = option_and_then (class_name classes) base;
 }
-
--- describing replies what there is in the class of this name
-abbrev pub describes : List Class → State → List ℕ → Effect State Line Post
-describes classes state name = replies state (a.Meta (described classes (class_index classes name)))

@@ -1,5 +1,5 @@
 -- How a command comes out.
-use Rattle.std.specs.Prelude.{[], ◌∷◌, ◌++◌, Option, Some, None}
+use Rattle.std.specs.Prelude.{[], ◌∷◌, ◌++◌, Option, Some, None, Ok, Err}
 use Rattle.isolation.specs.Machine.{Effect}
 use Rattle.refusals.specs.declared.code.Code.{Code}
 use Rattle.thread_model.specs.declared.line.Answer.{Answer}
@@ -8,6 +8,7 @@ use Rattle.thread_model.specs.declared.line.Line.TheVariants.{Reply, Error}
 use Rattle.thread_model.specs.declared.post.Post.{Post}
 use Rattle.thread_model.specs.Doing.{Doing}
 use Rattle.thread_model.specs.Items.{Next, Reply as to_reply}
+use Rattle.thread_model.specs.Methods.{Found}
 use Rattle.thread_model.specs.Run.{run}
 use Rattle.thread_model.specs.Settings.{Settings}
 use Rattle.thread_model.specs.State.{State}
@@ -27,6 +28,15 @@ does_next settings next answer = ended (run settings (next.items ++ to_reply ans
 -- a command that is refused prints its code alone and changes nothing
 abbrev pub refuses : State → Code → Effect State Line Post
 refuses state code = record { state = state; lines = Error code ∷ []; posts = [] }
+
+-- what was found is told, or why it was not
+abbrev pub answer_line : Found Answer → Line
+answer_line (Ok answer) = Reply answer
+answer_line (Err code) = Error code
+
+-- a command that changes nothing prints one line, and posts nothing
+abbrev pub answers : State → Found Answer → Effect State Line Post
+answers state found = record { state = state; lines = answer_line found ∷ []; posts = [] }
 
 -- the refusal, where there is one, and else the effect
 abbrev pub unless : Option Code → State → Effect State Line Post → Effect State Line Post

@@ -1,12 +1,11 @@
--- What the commands for events do, where they are not refused.
+-- What the command that takes events does; and how much there is in a session.
 use Rattle.std.specs.Prelude.{[], ◌∷◌, length}
 use Rattle.isolation.specs.Machine.{Effect}
-use Rattle.thread_model.specs.declared.line.Answer.TheVariants as a
 use Rattle.thread_model.specs.declared.line.Line.{Line}
 use Rattle.thread_model.specs.declared.line.Status.{Status}
 use Rattle.thread_model.specs.declared.post.Post.{Post}
 use Rattle.thread_model.specs.Doing.{begun}
-use Rattle.thread_model.specs.Effects.{ended, replies}
+use Rattle.thread_model.specs.Effects.{ended}
 use Rattle.thread_model.specs.Items.{ReplySpun, Spin}
 use Rattle.thread_model.specs.Run.{run}
 use Rattle.thread_model.specs.Settings.{Settings}
@@ -29,6 +28,3 @@ status state = record {
   publications = length state.desk.publications;
   queued = length state.queue.events;
 }
-
-abbrev pub counts : State → Effect State Line Post
-counts state = replies state (a.Status (status state))

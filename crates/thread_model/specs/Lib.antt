@@ -27,6 +27,7 @@ pub mod Signals
 pub mod Events
 pub mod Sharing
 pub mod Binding
+pub mod Queries
 pub mod Refusing
 pub mod Thread
 pub mod Machine

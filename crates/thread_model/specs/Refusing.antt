@@ -1,36 +1,27 @@
 -- Why a command is refused: the first of these, by command.
 use Rattle.binding_graph.specs.Graph.{begin_refusal, end_refusal}
 use Rattle.thread_model.specs.Binding.{asked_binding, asked_property, binding_refusal}
-use Rattle.std.specs.Prelude.{ℕ, ◌&&◌, List, Option, Some, None, is_some, if◌then◌else◌}
+use Rattle.std.specs.Prelude.{ℕ, ◌&&◌, List, Option, None, is_some, if◌then◌else◌}
 use Rattle.std.specs.Option.{option_map_or, option_or}
 use Rattle.std.specs.Result.{result_err}
 use Rattle.serde_json.specs.Data.{Data}
 use Rattle.refusals.specs.declared.code.Code.{Code}
-use Rattle.refusals.specs.declared.code.Code.TheVariants.{NoSuchClass}
-use Rattle.class_table.specs.declared.class.Class.{Class}
-use Rattle.class_table.specs.Lookup.{index_of}
 use Rattle.connection_types.specs.declared.connection_type.ConnectionType.{ConnectionType}
 use Rattle.object_tree.specs.Refusing.{add_refusal, parent_refusal}
-use Rattle.thread_model.specs.Absence.{absence, named_absence}
-use Rattle.thread_model.specs.Asked.{Asked, New, Delete, Children, Find, Set, Get, DynamicNames, Meta, Connect}
-use Rattle.thread_model.specs.Asked.{ConnectFunctor, DisconnectOne, Disconnect, Invoke, Spin, Do, Status, Publish}
-use Rattle.thread_model.specs.Asked.{Unpublish, Join, Leave, Reset, Bind, Unbind, BindingError, Begin, End}
+use Rattle.thread_model.specs.Absence.{absence}
+use Rattle.thread_model.specs.Asked.{Asked, New, Delete, Set, Ask, Connect}
+use Rattle.thread_model.specs.Asked.{ConnectFunctor, DisconnectOne, Disconnect, Invoke, Spin, Do, Publish}
+use Rattle.thread_model.specs.Asked.{Unpublish, Join, Leave, Reset, Bind, Unbind, Begin, End}
+use Rattle.thread_model.specs.Classes.{class_refusal}
 use Rattle.thread_model.specs.Deeds.{deed_refusal, found_refusal}
 use Rattle.thread_model.specs.Methods.{signature_in}
 use Rattle.thread_model.specs.Posting.{is_queued, post_refusal}
+use Rattle.thread_model.specs.Queries.{query_answer}
 use Rattle.thread_model.specs.Settings.{Settings}
 use Rattle.thread_model.specs.Sharing.{asked_join, asked_listener, asked_publication, joining_refusal, publication_refusal}
 use Rattle.thread_model.specs.Signals.{asked_connect, asked_connect_functor, asked_disconnect, asked_method, asked_values}
 use Rattle.thread_model.specs.State.{State}
 use Rattle.thread_model.specs.Writing.{asked_writing}
-
--- no class has this name
-abbrev pub class_refusal : List Class → List ℕ → Option Code
-class_refusal classes class = if is_some (index_of class classes) then None else Some NoSuchClass
-
--- the same of a class that need not be named
-abbrev pub named_class_refusal : List Class → Option (List ℕ) → Option Code
-named_class_refusal classes class = option_map_or (class_refusal classes) class None
 
 -- the arguments do not serve the method that is called, where there is one
 abbrev pub values_refusal : Settings → State → ℕ → List Data → Option ℕ → Option Code
@@ -47,16 +38,9 @@ refusal settings self state (New class parent) =
     option_or (class_refusal settings.classes class)
     (add_refusal state.forest parent))
 refusal settings self state (Delete target) = absence state target
-refusal settings self state (Children target) = named_absence state target
-refusal settings self state (Find target title class) =
-    option_or (absence state target)
-    (named_class_refusal settings.classes class)
 refusal settings self state (Set target property value) =
     option_or (absence state target)
     (result_err (asked_writing state target property value))
-refusal settings self state (Get target property) = absence state target
-refusal settings self state (DynamicNames target) = absence state target
-refusal settings self state (Meta class) = class_refusal settings.classes class
 refusal settings self state (Connect sender signal receiver method mode unique single) =
     found_refusal state (asked_connect settings state sender signal receiver method mode unique single)
 refusal settings self state (ConnectFunctor sender signal context functor mode unique single) =
@@ -70,7 +54,6 @@ refusal settings self state (Invoke target method args mode priority) =
     (later_refusal state mode (asked_method settings state target method))))
 refusal settings self state Spin = None
 refusal settings self state (Do deed) = deed_refusal state deed
-refusal settings self state Status = None
 refusal settings self state (Publish target signal name) = publication_refusal state (asked_publication settings state target signal name)
 refusal settings self state (Unpublish name) = None
 refusal settings self state (Join from name types target method) = joining_refusal settings self state (asked_join settings state from name types target method)
@@ -78,6 +61,6 @@ refusal settings self state (Leave from name target method) = result_err (asked_
 refusal settings self state Reset = None
 refusal settings self state (Bind target property to) = binding_refusal state (asked_binding state target property to)
 refusal settings self state (Unbind target property) = result_err (asked_property state target property)
-refusal settings self state (BindingError target property) = result_err (asked_property state target property)
 refusal settings self state Begin = begin_refusal state.graph
 refusal settings self state End = end_refusal state.graph
+refusal settings self state (Ask query) = result_err (query_answer settings.classes state query)

@@ -1,6 +1,6 @@
 -- What a session does. The rules are those of Qt's object model in this server's profile; codes and
 -- limits are its own.
-use Rattle.thread_model.specs.Binding.{asked_binding, asked_property, begins, binding_error_found, binds_found, ends, unbinds_found}
+use Rattle.thread_model.specs.Binding.{asked_binding, asked_property, begins, binds_found, ends, unbinds_found}
 use Rattle.std.specs.Prelude.{ℕ, Bool, true, false, ◌&&◌, List, Ok, [], ◌∷◌, bytes_eq, is_none}
 use Rattle.isolation.specs.Machine.{Effect}
 use Rattle.class_table.specs.declared.class.Class.{Class}
@@ -8,19 +8,19 @@ use Rattle.publish_board.specs.Desk.{names_session}
 use Rattle.thread_model.specs.declared.line.Answer.TheVariants.{Truth}
 use Rattle.thread_model.specs.declared.line.Line.{Line}
 use Rattle.thread_model.specs.declared.post.Post.{Post}
-use Rattle.thread_model.specs.Asked.{Asked, New, Delete, Children, Find, Set, Get, DynamicNames, Meta, Connect}
-use Rattle.thread_model.specs.Asked.{ConnectFunctor, DisconnectOne, Disconnect, Invoke, Spin, Do, Status, Publish}
-use Rattle.thread_model.specs.Asked.{Unpublish, Join, Leave, Reset, Bind, Unbind, BindingError, Begin, End}
+use Rattle.thread_model.specs.Asked.{Asked, New, Delete, Set, Ask, Connect}
+use Rattle.thread_model.specs.Asked.{ConnectFunctor, DisconnectOne, Disconnect, Invoke, Spin, Do, Publish}
+use Rattle.thread_model.specs.Asked.{Unpublish, Join, Leave, Reset, Bind, Unbind, Begin, End}
 use Rattle.thread_model.specs.Arriving.{reached_by}
-use Rattle.thread_model.specs.Classes.{describes}
-use Rattle.thread_model.specs.Effects.{replies, unless}
-use Rattle.thread_model.specs.Events.{counts, spins}
-use Rattle.thread_model.specs.Properties.{gets, names, sets}
+use Rattle.thread_model.specs.Effects.{answers, replies, unless}
+use Rattle.thread_model.specs.Events.{spins}
+use Rattle.thread_model.specs.Properties.{sets}
+use Rattle.thread_model.specs.Queries.{query_answer}
 use Rattle.thread_model.specs.Refusing.{refusal}
 use Rattle.thread_model.specs.Signals.{asked_connect, asked_connect_functor, asked_disconnect, asked_method, disconnects_one, does_found, invokes}
 use Rattle.thread_model.specs.Sharing.{asked_join, asked_listener, asked_publication, joins_found, leaves, publishes_found, unpublishes}
 use Rattle.thread_model.specs.State.{State, empty}
-use Rattle.thread_model.specs.Trees.{deletes, finds, lists, makes}
+use Rattle.thread_model.specs.Trees.{deletes, makes}
 use Rattle.thread_model.specs.Writing.{asked_writing}
 pub use Rattle.thread_model.specs.Settings.{Settings}
 
@@ -28,12 +28,7 @@ pub use Rattle.thread_model.specs.Settings.{Settings}
 unfoldable pub performs : Settings → List ℕ → State → Asked → Effect State Line Post
 performs settings self state (New class parent) = makes settings.classes state class parent
 performs settings self state (Delete target) = deletes settings state target
-performs settings self state (Children target) = lists state target
-performs settings self state (Find target title class) = finds settings.classes state target title class
 performs settings self state (Set target property value) = sets settings state target (asked_writing state target property value)
-performs settings self state (Get target property) = gets state target property
-performs settings self state (DynamicNames target) = names state target
-performs settings self state (Meta class) = describes settings.classes state class
 performs settings self state (Connect sender signal receiver method mode unique single) =
     does_found state (asked_connect settings state sender signal receiver method mode unique single)
 performs settings self state (ConnectFunctor sender signal context functor mode unique single) =
@@ -44,7 +39,6 @@ performs settings self state (Invoke target method args mode priority) =
     invokes settings state target args mode priority (asked_method settings state target method)
 performs settings self state Spin = spins settings state
 performs settings self state (Do deed) = does_found state (Ok deed)
-performs settings self state Status = counts state
 performs settings self state (Publish target signal name) = publishes_found state (asked_publication settings state target signal name)
 performs settings self state (Unpublish name) = unpublishes state name
 performs settings self state (Join from name types target method) = joins_found state (asked_join settings state from name types target method)
@@ -52,9 +46,9 @@ performs settings self state (Leave from name target method) = leaves state from
 performs settings self state Reset = replies empty (Truth true)
 performs settings self state (Bind target property to) = binds_found settings state (asked_binding state target property to)
 performs settings self state (Unbind target property) = unbinds_found settings state (asked_property state target property)
-performs settings self state (BindingError target property) = binding_error_found state (asked_property state target property)
 performs settings self state Begin = begins state
 performs settings self state End = ends settings state
+performs settings self state (Ask query) = answers state (query_answer settings.classes state query)
 
 -- what a command does
 unfoldable pub does : Settings → List ℕ → State → Asked → Effect State Line Post

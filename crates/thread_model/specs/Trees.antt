@@ -1,12 +1,12 @@
--- What the commands for objects and their trees do, where they are not refused.
+-- What the commands that make and delete objects do, where they are not refused; and the object that is looked for.
 use Rattle.std.specs.Prelude.{◌+◌, ◌&&◌, ℕ, Bool, true, false, List, [], ◌∷◌, Option, Some, None, option_map}
 use Rattle.std.specs.Option.{option_map_or}
 use Rattle.isolation.specs.Machine.{Effect}
 use Rattle.class_table.specs.declared.class.Class.{Class}
 use Rattle.class_table.specs.Lookup.{inherits}
-use Rattle.object_tree.specs.Rows.{children, row_of}
+use Rattle.object_tree.specs.Rows.{row_of}
 use Rattle.object_tree.specs.Finding.{found_below}
-use Rattle.thread_model.specs.declared.line.Answer.TheVariants.{Number, Found, Numbers, Truth}
+use Rattle.thread_model.specs.declared.line.Answer.TheVariants.{Number, Truth}
 use Rattle.thread_model.specs.declared.line.Line.{Line}
 use Rattle.thread_model.specs.declared.post.Post.{Post}
 use Rattle.thread_model.specs.Classes.{class_index}
@@ -24,10 +24,6 @@ makes classes state class parent = replies (with_object classes state parent (cl
 abbrev pub deletes : Settings → State → ℕ → Effect State Line Post
 deletes settings state target = does_next settings (puts (Delete target 0 ∷ []) (begun settings state)) (Truth true)
 
--- the children of an object, or the roots, by age
-abbrev pub lists : State → Option ℕ → Effect State Line Post
-lists state target = replies state (Numbers (children state.forest.rows target))
-
 -- has an object this title, where one is wanted
 abbrev pub has_title : State → Option (List ℕ) → ℕ → Bool
 has_title state None number = true
@@ -38,8 +34,8 @@ abbrev pub is_of_class : List Class → State → Option ℕ → ℕ → Bool
 is_of_class classes state None number = true
 is_of_class classes state (Some base) number = option_map_or (λ row. inherits classes row.class base) (row_of state.forest.rows number) false
 
--- looking for the nearest object below another one, of this title and of this class
-abbrev pub finds : List Class → State → ℕ → Option (List ℕ) → Option (List ℕ) → Effect State Line Post
-finds classes state target title class =
+-- the nearest object below another one, of this title and of this class
+abbrev pub found_in : List Class → State → ℕ → Option (List ℕ) → Option (List ℕ) → Option ℕ
+found_in classes state target title class =
     let base = option_map (class_index classes) class in
-    replies state (Found (found_below state.forest.rows target (λ number. has_title state title number && is_of_class classes state base number)))
+    found_below state.forest.rows target (λ number. has_title state title number && is_of_class classes state base number)

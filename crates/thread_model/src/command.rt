@@ -1,4 +1,5 @@
 //! What clients ask.
+use crate::query::Query;
 use connection_types::ConnectionType;
 use event_queue::Priority;
 use plain_types::{Items, Text};
@@ -20,17 +21,6 @@ pub enum Command {
         object: u32,
         parent: Option<u32>,
     },
-    /// Lists the children of an object, or the roots.
-    Children {
-        object: Option<u32>,
-    },
-    /// Finds the nearest object below another one, with this title and of this class or one below it,
-    /// where these are given.
-    Find {
-        object: u32,
-        name: Option<Text>,
-        class: Option<Text>,
-    },
     /// Writes a property of an object, and replies whether its class declares one of this name; another
     /// name is that of a dynamic property, which null takes away (`QObject::setProperty`). The value is any
     /// JSON.
@@ -38,20 +28,6 @@ pub enum Command {
         object: u32,
         property: Text,
         value: serde_json::Value,
-    },
-    /// Reads a property of an object (`QObject::property`).
-    Get {
-        object: u32,
-        property: Text,
-    },
-    /// Lists the names of an object's dynamic properties, that first set first
-    /// (`QObject::dynamicPropertyNames`).
-    DynamicNames {
-        object: u32,
-    },
-    /// Describes a class.
-    Meta {
-        class: Text,
     },
     /// Connects a signal of an object to a method of another, which may be the same, and replies the
     /// connection's number.
@@ -154,18 +130,13 @@ pub enum Command {
         object: u32,
         property: Text,
     },
-    /// Replies the error that a bound property stands for, where it does.
-    BindingError {
-        object: u32,
-        property: Text,
-    },
     /// Begins a group, in which changes of properties are not told, and replies how many are open.
     Begin,
     /// Ends a group, and replies how many are left. With the outermost all that has changed since it began
     /// is told.
     End,
-    /// Replies how much there is in the session.
-    Status,
+    /// Replies what it asks for. The session stays unchanged.
+    Ask(Query),
 }
 
 /// A command with the name of the session that gives it.

@@ -14,6 +14,7 @@ mod deed;
 mod line;
 mod meta;
 mod post;
+mod query;
 
 pub use boxed::Boxed;
 pub use call::{Call, DESTROYED, NESTED_SIGNALS, OBJECT_NAME};
@@ -22,6 +23,7 @@ pub use deed::Deed;
 pub use line::{Answer, Line, Spin, Status};
 pub use meta::MetaObject;
 pub use post::Post;
+pub use query::Query;
 
 /// The machine of metad's sessions keeps the laws under which the theory of isolated sessions holds:
 /// names are told apart, a post that no join names is passed over, and only an accepted join adds a

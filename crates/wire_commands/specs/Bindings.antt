@@ -1,7 +1,8 @@
 -- The commands of bindings and groups.
 use Rattle.std.specs.Prelude.{List, [], ◌∷◌, Option, Some, None, codes}
 use Rattle.json_reading.specs.Fields.{◌>>=◌}
-use Rattle.thread_model.specs.Asked.{Asked, Begin, Bind, BindingError, End, Unbind}
+use Rattle.thread_model.specs.Asked.{Ask, Asked, Begin, Bind, End, Unbind}
+use Rattle.thread_model.specs.declared.query.Query.TheVariants.{BindingError}
 use Rattle.wire_commands.specs.declared.keys.Holds.TheVariants.{Name, Number, Any}
 use Rattle.wire_commands.specs.Form.{Form}
 use Rattle.wire_commands.specs.Held.{Held, json_of, number_of, text_of}
@@ -35,7 +36,7 @@ abbrev pub binding_error_of : List Held → Option Asked
 binding_error_of (target ∷ property ∷ []) = do
   number ← number_of target
   name ← text_of property
-  Some (BindingError number name)
+  Some (Ask (BindingError number name))
 binding_error_of held = None
 
 abbrev pub binding_error : Form

@@ -1,7 +1,8 @@
 -- The commands of the event loop.
 use Rattle.std.specs.Prelude.{List, [], ◌∷◌, Option, Some, None, codes, option_map}
-use Rattle.thread_model.specs.Asked.{Asked, Do, Spin, Status}
+use Rattle.thread_model.specs.Asked.{Ask, Asked, Do, Spin}
 use Rattle.thread_model.specs.declared.deed.Deed.TheVariants.{Block, DeleteLater}
+use Rattle.thread_model.specs.declared.query.Query.TheVariants.{Status}
 use Rattle.wire_commands.specs.declared.keys.Holds.TheVariants.{Number, Truth}
 use Rattle.wire_commands.specs.Form.{Form}
 use Rattle.wire_commands.specs.Held.{Held, number_of, truth_of}
@@ -33,7 +34,7 @@ block = record { word = codes "block"; keys = needed (codes "object") Number ∷
 
 -- `status` tells how much there is in the session
 abbrev pub status_of : List Held → Option Asked
-status_of [] = Some Status
+status_of [] = Some (Ask Status)
 status_of held = None
 
 abbrev pub status : Form

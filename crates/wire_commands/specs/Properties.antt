@@ -1,7 +1,8 @@
 -- The commands of properties.
 use Rattle.std.specs.Prelude.{List, [], ◌∷◌, Option, Some, None, codes, option_map}
 use Rattle.json_reading.specs.Fields.{◌>>=◌}
-use Rattle.thread_model.specs.Asked.{Asked, Set, Get, DynamicNames}
+use Rattle.thread_model.specs.Asked.{Asked, Ask, Set}
+use Rattle.thread_model.specs.declared.query.Query.TheVariants.{Get, DynamicNames}
 use Rattle.wire_commands.specs.declared.keys.Holds.TheVariants.{Name, Number, Any}
 use Rattle.wire_commands.specs.Form.{Form}
 use Rattle.wire_commands.specs.Held.{Held, json_of, number_of, text_of}
@@ -24,7 +25,7 @@ abbrev pub get_of : List Held → Option Asked
 get_of (target ∷ property ∷ []) = do
   number ← number_of target
   name ← text_of property
-  Some (Get number name)
+  Some (Ask (Get number name))
 get_of held = None
 
 abbrev pub get : Form
@@ -32,7 +33,7 @@ get = record { word = codes "get"; keys = needed (codes "object") Number ∷ nee
 
 -- `dynamicNames` tells the names of the dynamic properties of an object
 abbrev pub dynamic_names_of : List Held → Option Asked
-dynamic_names_of (target ∷ []) = option_map DynamicNames (number_of target)
+dynamic_names_of (target ∷ []) = option_map (λ number. Ask (DynamicNames number)) (number_of target)
 dynamic_names_of held = None
 
 abbrev pub dynamic_names : Form

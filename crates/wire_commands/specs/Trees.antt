@@ -1,7 +1,8 @@
 -- The commands of trees of objects.
 use Rattle.std.specs.Prelude.{List, [], ◌∷◌, Option, Some, None, codes, option_map}
-use Rattle.thread_model.specs.Asked.{Asked, New, Delete, Do, Children, Find}
+use Rattle.thread_model.specs.Asked.{Asked, New, Delete, Do, Ask}
 use Rattle.thread_model.specs.declared.deed.Deed.TheVariants.{SetParent}
+use Rattle.thread_model.specs.declared.query.Query.TheVariants.{Children, Find}
 use Rattle.wire_commands.specs.declared.keys.Holds.TheVariants.{Name, Text, Number, NumberOrNull}
 use Rattle.wire_commands.specs.Form.{Form}
 use Rattle.wire_commands.specs.Held.{Held, number_of, text_of}
@@ -33,7 +34,7 @@ set_parent = record { word = codes "setParent"; keys = needed (codes "object") N
 
 -- `children` tells the children of an object, or the roots
 abbrev pub children_of : List Held → Option Asked
-children_of (target ∷ []) = Some (Children (number_of target))
+children_of (target ∷ []) = Some (Ask (Children (number_of target)))
 children_of held = None
 
 abbrev pub children : Form
@@ -41,7 +42,7 @@ children = record { word = codes "children"; keys = optional (codes "object") Nu
 
 -- `find` looks for an object below another one
 abbrev pub find_of : List Held → Option Asked
-find_of (target ∷ name ∷ class ∷ []) = option_map (λ number. Find number (text_of name) (text_of class)) (number_of target)
+find_of (target ∷ name ∷ class ∷ []) = option_map (λ number. Ask (Find number (text_of name) (text_of class))) (number_of target)
 find_of held = None
 
 abbrev pub find : Form

@@ -7,7 +7,7 @@ ghost use Rattle.wire_commands.specs.Bindings.{begin_of, bind_of, binding_error_
 use crate::held::Held;
 use crate::keys::{Holds, Key};
 use std::alloc::{AllocError, Global};
-use thread_model::Command;
+use thread_model::{Command, Query};
 
 pub(crate) const BIND: [Key; 3] = [
     Key::Needed("object", Holds::Number),
@@ -69,7 +69,9 @@ pub(crate) fn binding_error_of(
         return Ok(None);
     };
     match (object.number(), property.text(alloc)?) {
-        (Some(object), Some(property)) => Ok(Some(Command::BindingError { object, property })),
+        (Some(object), Some(property)) => {
+            Ok(Some(Command::Ask(Query::BindingError { object, property })))
+        }
         _ => Ok(None),
     }
 }

@@ -7,7 +7,7 @@ ghost use Rattle.wire_commands.specs.Classes.{meta_of};
 use crate::held::Held;
 use crate::keys::{Holds, Key};
 use std::alloc::{AllocError, Global};
-use thread_model::Command;
+use thread_model::{Command, Query};
 
 pub(crate) const META: [Key; 1] = [Key::Needed("class", Holds::Name)];
 
@@ -19,7 +19,7 @@ pub(crate) fn meta_of(alloc: Global, held: &[Held<'_, '_>]) -> Result<Option<Com
         return Ok(None);
     };
     match class.text(alloc)? {
-        Some(class) => Ok(Some(Command::Meta { class })),
+        Some(class) => Ok(Some(Command::Ask(Query::Meta { class }))),
         None => Ok(None),
     }
 }

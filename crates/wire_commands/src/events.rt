@@ -6,7 +6,7 @@ ghost use Rattle.wire_commands.specs.Events.{block_of, delete_later_of, spin_of,
 
 use crate::held::Held;
 use crate::keys::{Holds, Key};
-use thread_model::Command;
+use thread_model::{Command, Query};
 
 pub(crate) const SPIN: [Key; 0] = [];
 
@@ -59,5 +59,5 @@ pub(crate) fn status_of(held: &[Held<'_, '_>]) -> Option<Command>
     let [] = held else {
         return None;
     };
-    Some(Command::Status)
+    Some(Command::Ask(Query::Status))
 }

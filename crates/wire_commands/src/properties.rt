@@ -7,7 +7,7 @@ ghost use Rattle.wire_commands.specs.Properties.{set_of, get_of, dynamic_names_o
 use crate::held::Held;
 use crate::keys::{Holds, Key};
 use std::alloc::{AllocError, Global};
-use thread_model::Command;
+use thread_model::{Command, Query};
 
 pub(crate) const SET: [Key; 3] = [
     Key::Needed("object", Holds::Number),
@@ -48,7 +48,7 @@ pub(crate) fn get_of(alloc: Global, held: &[Held<'_, '_>]) -> Result<Option<Comm
         return Ok(None);
     };
     match (object.number(), property.text(alloc)?) {
-        (Some(object), Some(property)) => Ok(Some(Command::Get { object, property })),
+        (Some(object), Some(property)) => Ok(Some(Command::Ask(Query::Get { object, property }))),
         _ => Ok(None),
     }
 }
@@ -63,5 +63,5 @@ pub(crate) fn dynamic_names_of(held: &[Held<'_, '_>]) -> Option<Command>
         return None;
     };
     let object = object.number()?;
-    Some(Command::DynamicNames { object })
+    Some(Command::Ask(Query::DynamicNames { object }))
 }

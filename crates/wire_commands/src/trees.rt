@@ -7,7 +7,7 @@ ghost use Rattle.wire_commands.specs.Trees.{new_of, delete_of, set_parent_of, ch
 use crate::held::Held;
 use crate::keys::{Holds, Key};
 use std::alloc::{AllocError, Global};
-use thread_model::Command;
+use thread_model::{Command, Query};
 
 pub(crate) const NEW: [Key; 2] = [
     Key::Needed("class", Holds::Name),
@@ -68,7 +68,7 @@ pub(crate) fn children_of(held: &[Held<'_, '_>]) -> Option<Command>
         return None;
     };
     let object = object.number();
-    Some(Command::Children { object })
+    Some(Command::Ask(Query::Children { object }))
 }
 
 pub(crate) const FIND: [Key; 3] = [
@@ -89,9 +89,9 @@ pub(crate) fn find_of(alloc: Global, held: &[Held<'_, '_>]) -> Result<Option<Com
     };
     let name = name.text(alloc)?;
     let class = class.text(alloc)?;
-    Ok(Some(Command::Find {
+    Ok(Some(Command::Ask(Query::Find {
         object,
         name,
         class,
-    }))
+    })))
 }

@@ -1,7 +1,5 @@
-use Rattle.thread_model.proofs.FittingCommandLemmas.{keeps_fitting}
-use Rattle.thread_model.proofs.DeclaredLemmas.{keeps_declared}
-use Rattle.thread_model.proofs.NamedLemmas.{keeps_named}
-use Rattle.thread_model.proofs.LawLemmas.{keeps_sound, keeps_under_way}
+use Rattle.thread_model.proofs.CommandLemmas.{keeps_declared, keeps_fitting, keeps_named, keeps_sound}
+use Rattle.thread_model.proofs.LawLemmas.{keeps_under_way}
 use Rattle.thread_model.proofs.commands_keep_sessions_sound.Goals as goal
 
 pub returns-clause-commands : goal.returns-clause-commands

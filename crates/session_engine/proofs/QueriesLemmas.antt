@@ -6,8 +6,7 @@ use Rattle.refusals.specs.declared.code.Code.TheVariants.{NoSuchClass}
 use Rattle.class_table.specs.declared.class.Class.{Class}
 use Rattle.class_table.specs.Lookup.{inherited, method_text, methods, names, index_of, properties}
 use Rattle.thread_model.specs.declared.meta.MetaObject.{MetaObject}
-use Rattle.thread_model.specs.Classes.{class_name, class_index}
-use Rattle.thread_model.specs.Refusing.{class_refusal}
+use Rattle.thread_model.specs.Classes.{class_index, class_name, class_refusal}
 use Rattle.thread_model.proofs.ClassLemmas.{described_by}
 use Rattle.thread_model.proofs.ForCallers.{class_there}
 
