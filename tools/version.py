@@ -14,7 +14,7 @@ UNRELEASED = "## Unreleased\n"
 PLACES = [
     SAID,
     Path("README.md"),
-    Path("crates/program_start/src/options.rt"),
+    Path("crates/command_line/src/options.rt"),
     Path("man/metad.1"),
     Path("examples/kubernetes/README.md"),
     Path("examples/kubernetes/statefulset.yaml"),

@@ -6,7 +6,7 @@ use Rattle.property_store.specs.declared.written.Written.TheVariants as told
 use Rattle.property_store.specs.Marks.{IsTaken, Marks, is_marked}
 use Rattle.property_store.specs.Property.{among, is_property}
 use Rattle.binding_values.proofs.ForCallers.{property_eq}
-use Rattle.kept_values.specs.Right.{AreMore, both}
+use Rattle.binding_values.specs.Right.{AreMore, both}
 use Rattle.binding_graph.proofs.StepLemmas.{both_marked}
 
 -- how many marks are left

@@ -11,8 +11,8 @@ use Rattle.binding_values.specs.Kept.{IsKept, IsUnbound, Keeping, at_hand}
 use Rattle.binding_values.specs.Scene.{Cell, Outcome}
 use Rattle.binding_values.specs.Stored.{cell_in, outcome_in, scene_of}
 use Rattle.binding_values.proofs.ForCallers.{property_eq}
-use Rattle.kept_values.specs.Right.{IsComplete}
-use Rattle.kept_values.proofs.ForCallers.{complete_is_known}
+use Rattle.binding_values.specs.Right.{IsComplete}
+use Rattle.binding_values.proofs.ForCallers.{complete_is_known}
 use Rattle.binding_graph.specs.declared.shown.Shown.{Shown}
 use Rattle.binding_graph.specs.Rows.{IsPut}
 use Rattle.binding_graph.specs.Graph.{shown_as, shown_at, shown_now}

@@ -2,8 +2,8 @@
 use Rattle.std.proofs.Common.{◌≡◌, ◌≢◌, ◌∙◌, ◌==◌, ℕ, zero, suc, Bool, true, false, not, List, [], ◌∷◌, Some, Result, Ok, Err, OnErr, OnOk, filter, is_some, cond, find, get_or, length, map, option_map, refl, set, sym, ap, subst, ⊎_elim, arith}
 use Rattle.std.proofs.lemmas.Bool.{both_ways, cases_Bool, eq-eqb, eqb-true}
 use Rattle.std.proofs.lemmas.List.{get_or-set_other, get_or-set_same, get_or_past, length-map}
-use Rattle.places.specs.Table.{IsPlace, Table, opened, with_place}
-use Rattle.places.proofs.ForCallers.{default_pushed, with_same}
+use Rattle.shared_rows.specs.Table.{IsPlace, Table, opened, with_place}
+use Rattle.shared_rows.proofs.ForCallers.{default_pushed, with_same}
 use Rattle.property_store.specs.declared.property.Property.{Property}
 use Rattle.property_store.specs.Marks.{marks_at}
 use Rattle.property_store.specs.Property.{is_property}

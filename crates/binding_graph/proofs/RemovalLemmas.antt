@@ -3,8 +3,8 @@ use Rattle.std.proofs.Common.{◌≡◌, ◌∙◌, ◌≤◌, ◌==◌, ◌++�
 use Rattle.std.specs.List.{cons_option}
 use Rattle.std.proofs.lemmas.Bool.{both_ways, cases_Bool, or_right}
 use Rattle.std.proofs.lemmas.List.Elements.{All-append, All-filter}
-use Rattle.places.specs.Table.{IsPlace}
-use Rattle.places.proofs.ForCallers.{with_there}
+use Rattle.shared_rows.specs.Table.{IsPlace}
+use Rattle.shared_rows.proofs.ForCallers.{with_there}
 use Rattle.property_store.specs.declared.property.Property.{Property}
 use Rattle.property_store.specs.Marks.{Marks, has_marks, is_marked, marks_at}
 use Rattle.property_store.specs.Store.{Store, without}
@@ -14,8 +14,8 @@ use Rattle.binding_values.specs.Kept.{kept_of, known}
 use Rattle.binding_values.specs.Scene.{Cell}
 use Rattle.binding_values.specs.Stored.{fields_at, outcome_in, properties_in, scene_of}
 use Rattle.binding_values.proofs.ForCallers.{all_given}
-use Rattle.kept_values.specs.Right.{both}
-use Rattle.kept_values.proofs.ForCallers.{AreAlikeBut, stays_right, stays_whole, cell_gone, cell_stays, kept_objects, removal_is_alike}
+use Rattle.binding_values.specs.Right.{both}
+use Rattle.binding_values.proofs.ForCallers.{AreAlikeBut, stays_right, stays_whole, cell_gone, cell_stays, kept_objects, removal_is_alike}
 use Rattle.binding_graph.specs.declared.change.Change.{Change}
 use Rattle.binding_graph.specs.declared.shown.Shown.{Shown}
 use Rattle.binding_graph.specs.Cache.{Cache, IsInStep, shown_by}

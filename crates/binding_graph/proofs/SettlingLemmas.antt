@@ -16,8 +16,8 @@ use Rattle.binding_values.specs.Kept.{at_hand, kept_of}
 use Rattle.binding_values.specs.Scene.{Cell}
 use Rattle.binding_values.specs.Sorted.{IsRising}
 use Rattle.binding_values.specs.Stored.{cell_in, outcome_in, scene_of}
-use Rattle.kept_values.specs.Right.{AreMore, IsComplete, IsRightBut, IsWhole, both, only}
-use Rattle.kept_values.proofs.ForCallers.{complete_is_known}
+use Rattle.binding_values.specs.Right.{AreMore, IsComplete, IsRightBut, IsWhole, both, only}
+use Rattle.binding_values.proofs.ForCallers.{complete_is_known}
 use Rattle.binding_graph.specs.declared.shown.Shown.{Shown}
 use Rattle.binding_graph.specs.Cache.{Cache, IsInStep}
 use Rattle.binding_graph.specs.Rows.{AreMerged}

@@ -5,8 +5,8 @@ use Rattle.std.proofs.lemmas.Bool.{both_ways, cases_Bool, eq-eqb, eqb-true, fals
 use Rattle.std.proofs.lemmas.Bool.Decides.{nat_tests}
 use Rattle.std.proofs.lemmas.List.{get_or-set_other}
 use Rattle.std.proofs.lemmas.List.Folds.{list_any-append}
-use Rattle.places.specs.Table.{IsPlace}
-use Rattle.places.proofs.ForCallers.{default_pushed, with_there}
+use Rattle.shared_rows.specs.Table.{IsPlace}
+use Rattle.shared_rows.proofs.ForCallers.{default_pushed, with_there}
 use Rattle.signature_core.specs.declared.kind.Kind.{Kind}
 use Rattle.term_core.specs.Term.{Term}
 use Rattle.property_store.specs.declared.property.Property.{Property}
@@ -22,8 +22,8 @@ use Rattle.binding_values.specs.declared.property.BindingError.TheVariants.{Bind
 use Rattle.binding_values.specs.Kept.{Keeping, kept_of}
 use Rattle.binding_values.specs.Scene.{Cell, Outcome, Scene}
 use Rattle.binding_values.specs.Stored.{cell_in, outcome_in, scene_of}
-use Rattle.kept_values.specs.Right.{AreMore, DiffersAt, IsComplete, both}
-use Rattle.kept_values.proofs.ForCallers.{complete_is_known, complete_is_right, unmarked_is_complete, AreAlikeBut, alike, stays_right, stays_whole, addition_is_marked, all_may_change, dynamic_is_nothing, no_dynamic_is_nothing, write_is_marked}
+use Rattle.binding_values.specs.Right.{AreMore, DiffersAt, IsComplete, both}
+use Rattle.binding_values.proofs.ForCallers.{complete_is_known, complete_is_right, unmarked_is_complete, AreAlikeBut, alike, stays_right, stays_whole, addition_is_marked, all_may_change, dynamic_is_nothing, no_dynamic_is_nothing, write_is_marked}
 use Rattle.binding_graph.specs.declared.shown.Shown.{Shown}
 use Rattle.binding_graph.specs.Cache.{Cache, IsInStep, cache_at, shown_by}
 use Rattle.binding_graph.specs.Graph.{Graph, all_shown, shown_as, shown_at, shown_now}

@@ -15,8 +15,8 @@ use Rattle.binding_values.specs.Kept.{at_hand}
 use Rattle.std.specs.Option.{option_map_or}
 use Rattle.binding_values.specs.Stored.{cell_in, scene_of}
 use Rattle.binding_values.proofs.ForCallers.{property_eq}
-use Rattle.kept_values.specs.Right.{AreMore, both}
-use Rattle.kept_values.proofs.ForCallers.{binding_is_marked, unbinding_is_marked}
+use Rattle.binding_values.specs.Right.{AreMore, both}
+use Rattle.binding_values.proofs.ForCallers.{binding_is_marked, unbinding_is_marked}
 use Rattle.binding_graph.specs.declared.shown.Shown.{Shown}
 use Rattle.binding_graph.specs.Cache.{Cache, IsInStep}
 use Rattle.binding_graph.specs.Graph.{Graph, bound, shown_as, unbound}

@@ -7,7 +7,7 @@ use Rattle.binding_values.specs.declared.binding.Binding.{Binding}
 use Rattle.binding_values.specs.declared.kept.Done.{Done}
 use Rattle.binding_values.specs.Kept.{Keeping, kept_of, known}
 use Rattle.binding_values.specs.Stored.{cell_in, scene_of}
-use Rattle.kept_values.specs.Right.{IsRightBut, IsWhole, both}
+use Rattle.binding_values.specs.Right.{IsRightBut, IsWhole, both}
 use Rattle.binding_graph.specs.declared.shown.Shown.{Shown}
 use Rattle.binding_graph.specs.Graph.{Graph, shown_as, shown_at}
 

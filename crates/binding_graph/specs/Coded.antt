@@ -1,7 +1,7 @@
 -- How the logic stores graphs.
 use Rattle.std.specs.Prelude.{ℕ, Bool, List, refl}
 use Rattle.std.specs.Coded.{Coded, code_by, coded×, coded_bool, coded_list, coded_ℕ}
-use Rattle.places.specs.Table.{Table, table_code}
+use Rattle.shared_rows.specs.Table.{Table, table_code}
 use Rattle.property_store.specs.contracts.property.Property as property
 use Rattle.property_store.specs.declared.property.Property.{Property}
 use Rattle.property_store.specs.Marks.{Marks}

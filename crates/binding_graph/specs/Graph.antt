@@ -2,8 +2,8 @@
 use Rattle.std.specs.Prelude.{ℕ, suc, ◌-◌, ◌≤◌, ◌==◌, ◌&&◌, ◌++◌, Bool, true, false, not, nat_le, nat_lt, if◌then◌else◌, List, [], All}
 use Rattle.std.specs.Prelude.{filter, filter_map, find, length, Option, Some, None, Ok, Err, option_and_then, option_map}
 use Rattle.std.specs.Option.{is_some, option_map_or}
-use Rattle.refusals.specs.declared.code.Code.{Code}
-use Rattle.refusals.specs.declared.code.Code.TheVariants.{Limit, NoGroup}
+use Rattle.plain_types.specs.declared.code.Code.{Code}
+use Rattle.plain_types.specs.declared.code.Code.TheVariants.{Limit, NoGroup}
 use Rattle.signature_core.specs.declared.kind.Kind.{Kind}
 use Rattle.variant_value.specs.declared.value.Value.{Value}
 use Rattle.variant_value.specs.declared.value.Value.TheVariants.{Invalid}

@@ -1,6 +1,6 @@
 -- When stores and bindings are in step.
 use Rattle.std.specs.Prelude.{◌≡◌, ◌++◌, ℕ, List, [], ◌∷◌, None, if◌then◌else◌, is_some}
-use Rattle.places.specs.Table.{IsPlace, opened}
+use Rattle.shared_rows.specs.Table.{IsPlace, opened}
 use Rattle.variant_value.specs.declared.value.Value.{Value}
 use Rattle.property_store.specs.Marks.{AreMarked, HasMarks, all_marks, is_new, is_written, is_written_named, marks_at, no_marks}
 use Rattle.property_store.specs.Named.{written_named}

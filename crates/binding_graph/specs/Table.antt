@@ -1,6 +1,6 @@
 -- What contracts see of the bindings of all places.
 use Rattle.std.specs.Prelude.{◌≡◌, ◌≢◌, ℕ, List, slice_index_or}
-use Rattle.places.specs.Table.{Table, with_place}
+use Rattle.shared_rows.specs.Table.{Table, with_place}
 use Rattle.binding_graph.specs.Cache.{Cache, cache_at}
 use Rattle.binding_graph.specs.Graph.{Graph, no_graph}
 

@@ -1,6 +1,6 @@
 -- The bindings of a place, and what is kept of them.
 use Rattle.std.specs.Prelude.{◌==◌, ℕ, List, filter, map, not}
-use Rattle.places.specs.Table.{Table}
+use Rattle.shared_rows.specs.Table.{Table}
 use Rattle.property_store.specs.Marks.{Marks, marks_at}
 use Rattle.property_store.specs.Store.{Store}
 use Rattle.property_store.specs.Table.{Stock, store_at}

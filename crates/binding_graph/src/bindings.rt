@@ -3,8 +3,8 @@
 
 ghost use Rattle.std.specs.Prelude.{◌≡◌, ◌+◌, ◌≤◌, [], IfOk, IsTrue, None, OnErr, OnOk, length};
 ghost use Rattle.std.specs.Result.{result_err};
-ghost use Rattle.places.specs.Table.{ChangesAt, IsPlace, MakesRoom, Opens};
-ghost use Rattle.refusals.specs.Answers.{RefusedBy};
+ghost use Rattle.shared_rows.specs.Table.{ChangesAt, IsPlace, MakesRoom, Opens};
+ghost use Rattle.plain_types.specs.Answers.{RefusedBy};
 ghost use Rattle.term_core.specs.Forms.{is_within_limits};
 ghost use Rattle.property_store.specs.Store.{without};
 ghost use Rattle.property_store.specs.Table.{Stock, store_at};
@@ -20,10 +20,10 @@ ghost use Rattle.binding_graph.specs.Table.{OthersKept, graph_at, with_graph};
 use crate::change::Change;
 use crate::lazy_graph::LazyGraph;
 use binding_values::BindingError;
-use places::Places;
+use shared_rows::Places;
 use plain_types::Items;
 use property_store::{Property, Stores};
-use refusals::{Code, Fault};
+use plain_types::{Code, Fault};
 use std::alloc::{AllocError, Global};
 use std::marker::Model;
 use term_core::Expr;

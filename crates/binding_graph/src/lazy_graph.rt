@@ -1,8 +1,8 @@
 //! The graph of one place, made when it is needed.
 ghost use Rattle.std.specs.Prelude.{◌≡◌, ◌+◌, IfOk, IsSome, IsTrue, None, OnErr, OnOk, length};
 ghost use Rattle.std.specs.Result.{result_err};
-ghost use Rattle.places.specs.Table.{IsPlace};
-ghost use Rattle.refusals.specs.Answers.{RefusedBy};
+ghost use Rattle.shared_rows.specs.Table.{IsPlace};
+ghost use Rattle.plain_types.specs.Answers.{RefusedBy};
 ghost use Rattle.term_core.specs.Forms.{is_within_limits};
 ghost use Rattle.property_store.specs.Store.{without};
 ghost use Rattle.property_store.specs.Table.{store_at};
@@ -17,7 +17,7 @@ use crate::graph::Web;
 use binding_values::BindingError;
 use plain_types::Items;
 use property_store::{Property, Stores};
-use refusals::{Code, Fault};
+use plain_types::{Code, Fault};
 use std::alloc::{AllocError, Global};
 use std::marker::Model;
 use term_core::Expr;

@@ -1,9 +1,9 @@
 //! What has changed of the bindings of a place since it was settled.
 ghost use Rattle.std.specs.Prelude.{◌≡◌, false, not, true};
-ghost use Rattle.places.specs.Table.{IsPlace};
+ghost use Rattle.shared_rows.specs.Table.{IsPlace};
 ghost use Rattle.property_store.specs.Marks.{all_marks, has_marks, is_marked, marks_at, no_marks};
 ghost use Rattle.property_store.specs.Property.{among};
-ghost use Rattle.kept_values.specs.Right.{AreMore, both};
+ghost use Rattle.binding_values.specs.Right.{AreMore, both};
 ghost use Rattle.binding_graph.specs.Drained.{IsDrained};
 
 use property_store::{Property, Stores, Written, is_property};

@@ -1,11 +1,11 @@
 //! Objects that go, with their bindings.
 ghost use Rattle.std.specs.Prelude.{◌≡◌, ◌≤◌, ◌==◌, ℕ, IfOk, None, OnErr, OnOk, filter, length, not, true};
-ghost use Rattle.places.specs.Table.{IsPlace};
+ghost use Rattle.shared_rows.specs.Table.{IsPlace};
 ghost use Rattle.property_store.specs.Marks.{Marks, is_marked};
 ghost use Rattle.property_store.specs.Store.{Store, without};
 ghost use Rattle.property_store.specs.Table.{store_at};
 ghost use Rattle.binding_values.specs.Stored.{fields_at};
-ghost use Rattle.kept_values.specs.Right.{AreMore};
+ghost use Rattle.binding_values.specs.Right.{AreMore};
 ghost use Rattle.binding_graph.specs.Cache.{IsInStep};
 ghost use Rattle.binding_graph.specs.Graph.{settled_changes, settled_graph, without_object};
 ghost use Rattle.binding_graph.specs.Drained.{IsStored};
@@ -14,7 +14,7 @@ ghost use Rattle.binding_graph.specs.Woven.{IsAt, StaysKept, without_shown};
 use crate::change::Change;
 use crate::graph::Web;
 use crate::pending::{Pending, drain};
-use kept_values::KeptValues;
+use binding_values::KeptValues;
 use plain_types::Items;
 use property_store::{Property, Stores};
 use std::alloc::{AllocError, Global};

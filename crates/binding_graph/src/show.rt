@@ -1,7 +1,7 @@
 //! What properties show by the values and the bindings of now.
 ghost use Rattle.std.specs.Prelude.{◌≡◌, ◌<◌, ◌++◌, [], ◌∷◌, if◌then◌else◌, IfOk, None, Ok, OnOk, filter_map, length, slice_index_or};
 ghost use Rattle.std.specs.Option.{option_map_or};
-ghost use Rattle.places.specs.Table.{IsPlace};
+ghost use Rattle.shared_rows.specs.Table.{IsPlace};
 ghost use Rattle.property_store.specs.declared.property.Property.{Property};
 ghost use Rattle.property_store.specs.Property.{among, is_property};
 ghost use Rattle.property_store.specs.Store.{Properties};
@@ -9,12 +9,12 @@ ghost use Rattle.property_store.specs.Table.{store_at};
 ghost use Rattle.binding_graph.specs.Graph.{AreShown, all_shown, shown_as, shown_at, shown_now};
 ghost use Rattle.binding_values.specs.Kept.{IsClosed, IsRight, kept_of};
 ghost use Rattle.binding_values.specs.Stored.{properties_of_object, scene_of};
-ghost use Rattle.kept_values.specs.Right.{IsComplete};
+ghost use Rattle.binding_values.specs.Right.{IsComplete};
 
 use crate::showing::Showing;
 use crate::shown::Shown;
 use binding_values::{BindingError, Bound, Memory, cell_at, outcome};
-use kept_values::KeptValues;
+use binding_values::KeptValues;
 use property_store::{Property, Stores, default_of};
 use signature_core::Kind;
 use std::alloc::{AllocError, Global};

@@ -10,3 +10,8 @@ pub use Rattle.binding_values.proofs.SortedLemmas.{before_trans, inserted, is_be
 pub use Rattle.binding_values.proofs.SortedLemmas.{never_before, not_behind, replaced, stands_so, stands_within}
 pub use Rattle.binding_values.proofs.SortedLemmas.{with_rising}
 pub use Rattle.binding_values.proofs.StoredLemmas.{term_there}
+pub use Rattle.binding_values.proofs.CompletenessLemmas.{complete_is_known, complete_is_right, unmarked_is_complete}
+pub use Rattle.binding_values.proofs.StepLemmas.{AreAlikeBut, alike, stays_right, stays_whole}
+pub use Rattle.binding_values.proofs.StoreLemmas.{addition_is_marked, all_may_change, binding_is_marked, cell_gone}
+pub use Rattle.binding_values.proofs.StoreLemmas.{cell_stays, dynamic_is_nothing, kept_objects, no_dynamic_is_nothing}
+pub use Rattle.binding_values.proofs.StoreLemmas.{removal_is_alike, unbinding_is_marked, write_is_marked}

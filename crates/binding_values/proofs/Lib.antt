@@ -14,3 +14,7 @@ pub mod KeepingLemmas
 pub mod ReaderLemmas
 pub mod ReachedLemmas
 pub mod ForCallers
+pub mod CompletenessLemmas
+pub mod StepLemmas
+pub mod StoreLemmas
+pub mod SettlingLemmas

@@ -12,3 +12,5 @@ pub mod Order
 pub mod Listed
 pub mod Binds
 pub mod Coded
+pub mod Right
+pub mod KeptLaws

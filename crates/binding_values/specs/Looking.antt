@@ -1,6 +1,6 @@
 -- What an evaluation knows.
 use Rattle.std.specs.Prelude.{Result, Ok, Err}
-use Rattle.places.specs.Table.{IsPlace}
+use Rattle.shared_rows.specs.Table.{IsPlace}
 use Rattle.property_store.specs.Table.{store_at}
 use Rattle.variant_value.specs.declared.value.Value.{Value}
 use Rattle.term_evaluation.specs.declared.halt.Halt.{Halt}

@@ -1,7 +1,7 @@
 -- The value of a property.
 use Rattle.std.specs.Prelude.{ℕ, zero, suc, Bool, true, false, cond, List, [], ◌∷◌, length, Option, Some, None, Result, Ok, Err, find, filter_map, option_map}
 use Rattle.std.specs.Option.{ok_or, option_map_or}
-use Rattle.refusals.specs.declared.code.Code.TheVariants.{NoSuchProperty}
+use Rattle.plain_types.specs.declared.code.Code.TheVariants.{NoSuchProperty}
 use Rattle.signature_core.specs.declared.kind.Kind.{Kind}
 use Rattle.variant_value.specs.declared.value.Value.{Value}
 use Rattle.variant_value.specs.Values.{converted}

@@ -1,7 +1,7 @@
 //! What an evaluation knows.
 ghost use Rattle.std.specs.Prelude.{◌≡◌, ◌&&◌, bytes_eq, position};
 ghost use Rattle.std.specs.Option.{option_map};
-ghost use Rattle.places.specs.Table.{IsPlace};
+ghost use Rattle.shared_rows.specs.Table.{IsPlace};
 ghost use Rattle.property_store.specs.Table.{store_at};
 ghost use Rattle.term_evaluation.specs.Outcomes.{Ends};
 ghost use Rattle.binding_values.specs.Looking.{IsReady, scene_in, values_in};

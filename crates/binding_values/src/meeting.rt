@@ -10,7 +10,7 @@ use crate::known::{Known, named};
 use crate::property::BindingError;
 use plain_types::Items;
 use property_store::Property;
-use refusals::Code;
+use plain_types::Code;
 use signature_core::Kind;
 use std::alloc::{AllocError, Global};
 use term_core::{Expr, Node};

@@ -1,7 +1,7 @@
 //! Values of bound properties, found over a stack.
 ghost use Rattle.std.specs.Prelude.{◌≡◌, ◌++◌, ◌∷◌, [], All, Err, IfNone, IfOk, IfSome, IsSome, None, Ok, OnOk, Some, length, reverse};
 ghost use Rattle.std.specs.Option.{option_map_or};
-ghost use Rattle.places.specs.Table.{IsPlace};
+ghost use Rattle.shared_rows.specs.Table.{IsPlace};
 ghost use Rattle.property_store.specs.Table.{store_at};
 ghost use Rattle.term_evaluation.specs.Met.{EachButLast};
 ghost use Rattle.binding_values.specs.declared.property.BindingError.TheVariants.{EvaluationError};

@@ -3,11 +3,11 @@ use Rattle.std.proofs.Common.{◌≡◌, ◌∙◌, ◌==◌, ◌&&◌, ℕ, zer
 use Rattle.std.proofs.lemmas.Bool.{and_parts, eqb-true}
 use Rattle.std.specs.List.{slice_get}
 use Rattle.std.specs.Result.{result_err, result_unwrap_or}
-use Rattle.refusals.specs.declared.code.Code.{Code}
-use Rattle.refusals.specs.declared.code.Code.TheVariants.{BadValue}
+use Rattle.plain_types.specs.declared.code.Code.{Code}
+use Rattle.plain_types.specs.declared.code.Code.TheVariants.{BadValue}
 use Rattle.std.specs.Option.{option_and_then, option_map_or}
-use Rattle.places.specs.Table.{IsPlace}
-use Rattle.places.proofs.ForCallers as column
+use Rattle.shared_rows.specs.Table.{IsPlace}
+use Rattle.shared_rows.proofs.ForCallers as column
 use Rattle.variant_value.specs.declared.value.Value.{Value}
 use Rattle.variant_value.specs.declared.value.Value.TheVariants.{Invalid}
 use Rattle.variant_value.specs.Values.{IsOfKind, IsShort, converted, is_same}
@@ -25,8 +25,8 @@ use Rattle.binding_values.specs.Scene.{Cell}
 use Rattle.property_store.specs.Property.{is_property}
 use Rattle.binding_values.specs.Stored.{cell_in, cell_of}
 use Rattle.binding_graph.specs.Table.{Graphs, graph_at}
-use Rattle.thread_model.specs.State.{closed}
-use Rattle.thread_model.proofs.ForCallers.{going_told, its_cell, write_told}
+use Rattle.session_model.specs.State.{closed}
+use Rattle.session_model.proofs.ForCallers.{going_told, its_cell, write_told}
 use Rattle.bound_stores.specs.Bound.{all_closed, bound_at, seen_of, with_bound}
 use Rattle.bound_stores.specs.Changed.{alone, changes_in, told_at, told_of}
 use Rattle.bound_stores.specs.Named.{TellsWritten, with_written}

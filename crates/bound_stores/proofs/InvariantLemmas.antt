@@ -3,8 +3,8 @@ use Rattle.std.proofs.Common.{◌≡◌, ◌≢◌, ◌∙◌, ℕ, zero, suc, B
 use Rattle.std.proofs.lemmas.Bool.{cases_Bool}
 use Rattle.std.proofs.lemmas.Bool.Decides.{nat_tests}
 use Rattle.std.proofs.lemmas.List.{get_or-set_other}
-use Rattle.places.specs.Table.{IsPlace, Table}
-use Rattle.places.proofs.ForCallers as column
+use Rattle.shared_rows.specs.Table.{IsPlace, Table}
+use Rattle.shared_rows.proofs.ForCallers as column
 use Rattle.property_store.specs.Store.{Properties, Store, changed}
 use Rattle.property_store.specs.Table.{Shelves, Stock, store_at, with_store}
 use Rattle.binding_values.specs.declared.binding.Binding.{Binding}
@@ -12,8 +12,8 @@ use Rattle.binding_graph.specs.declared.shown.Shown.{Shown}
 use Rattle.binding_graph.specs.Graph.{Graph, all_shown, begun, ended, is_open}
 use Rattle.binding_graph.specs.Step.{InStep}
 use Rattle.binding_graph.specs.Table.{Graphs, graph_at, with_graph}
-use Rattle.thread_model.specs.State.{closed}
-use Rattle.thread_model.proofs.ForCallers.{showing_same}
+use Rattle.session_model.specs.State.{closed}
+use Rattle.session_model.proofs.ForCallers.{showing_same}
 use Rattle.bound_stores.specs.Bound.{all_closed}
 use Rattle.bound_stores.specs.Settled.{AllSettled, IsSettled, kept_of, settled_in}
 

@@ -1,8 +1,8 @@
 -- A write to the property of a name.
 use Rattle.std.proofs.Common.{◌≡◌, ◌∙◌, ℕ, ℤ, pos, negsuc, Bool, true, false, cond, is_some, List, Option, Some, None, Result, Ok, Err, option_and_then, option_map, slice_get, refl, sym, ap, subst}
 use Rattle.std.specs.Option.{option_map_or}
-use Rattle.places.specs.Table.{IsPlace}
-use Rattle.refusals.specs.declared.code.Code.TheVariants.{BadValue}
+use Rattle.shared_rows.specs.Table.{IsPlace}
+use Rattle.plain_types.specs.declared.code.Code.TheVariants.{BadValue}
 use Rattle.signature_core.specs.declared.kind.Kind.{Kind}
 use Rattle.signature_core.specs.declared.kind.Kind.TheVariants as k
 use Rattle.variant_value.specs.declared.value.Value.{Value}

@@ -1,8 +1,8 @@
 -- Graphs of places that are settled.
 use Rattle.std.proofs.Common.{◌≡◌, ◌∙◌, ℕ, zero, suc, Bool, true, false, cond, List, [], ◌∷◌, length, nat_lt, Result, Ok, Err, IfOk, OnOk, OnErr, Option, refl, sym, ap, arith}
 use Rattle.std.proofs.lemmas.Bool.Decides.{nat_tests}
-use Rattle.places.specs.Table.{ChangesAt, IsPlace, Table}
-use Rattle.places.proofs.ForCallers as column
+use Rattle.shared_rows.specs.Table.{ChangesAt, IsPlace, Table}
+use Rattle.shared_rows.proofs.ForCallers as column
 use Rattle.property_store.specs.Store.{Store}
 use Rattle.binding_graph.specs.Table.{graph_at, with_graph}
 use Rattle.binding_values.specs.declared.binding.Binding.{Binding}

@@ -1,7 +1,7 @@
 -- What contracts see of a place after a change.
 use Rattle.std.proofs.Common.{◌≡◌, ◌∙◌, ℕ, Bool, true, false, cond, List, [], Option, refl, sym, ap}
-use Rattle.places.specs.Table.{ChangesAt, IsPlace, Table}
-use Rattle.places.proofs.ForCallers as column
+use Rattle.shared_rows.specs.Table.{ChangesAt, IsPlace, Table}
+use Rattle.shared_rows.proofs.ForCallers as column
 use Rattle.property_store.specs.Store.{Store}
 use Rattle.property_store.specs.Table.{Shelves, store_at, with_store}
 use Rattle.binding_values.specs.declared.binding.Binding.{Binding}
@@ -9,7 +9,7 @@ use Rattle.binding_graph.specs.declared.change.Change.{Change}
 use Rattle.property_store.specs.declared.property.Property.{Property}
 use Rattle.binding_graph.specs.Graph.{Graph, all_shown, changes, is_open, no_graph}
 use Rattle.binding_graph.specs.Table.{Graphs, graph_at, with_graph}
-use Rattle.thread_model.specs.State.{closed}
+use Rattle.session_model.specs.State.{closed}
 use Rattle.bound_stores.specs.Bound.{BoundShelves, ChangesBound, all_closed, bound_at, seen_of, with_bound}
 use Rattle.bound_stores.specs.Changed.{told_at, told_of}
 use Rattle.bound_stores.specs.Settled.{kept_of, settled_in}

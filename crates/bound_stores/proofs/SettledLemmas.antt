@@ -1,9 +1,9 @@
 -- Graphs as contracts see them.
 use Rattle.std.proofs.Common.{◌≡◌, ◌∙◌, ℕ, zero, suc, Bool, true, false, cond, List, [], ◌∷◌, Result, Ok, Err, OnOk, get_or, map, refl, sym, ap}
-use Rattle.places.specs.Table.{Table}
+use Rattle.shared_rows.specs.Table.{Table}
 use Rattle.binding_graph.specs.Graph.{Graph, is_open, no_graph}
 use Rattle.binding_graph.specs.Table.{graph_at}
-use Rattle.thread_model.specs.State.{closed}
+use Rattle.session_model.specs.State.{closed}
 use Rattle.bound_stores.specs.Bound.{all_closed}
 
 -- what contracts see of the graph of a place

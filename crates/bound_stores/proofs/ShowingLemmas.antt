@@ -3,7 +3,7 @@ use Rattle.std.proofs.Common.{◌≡◌, ◌∙◌, ◌&&◌, ℕ, Bool, true, f
 use Rattle.std.specs.Option.{option_map_or}
 use Rattle.variant_value.specs.declared.value.Value.{Value}
 use Rattle.variant_value.specs.declared.value.Value.TheVariants.{Invalid}
-use Rattle.places.specs.Table.{Table}
+use Rattle.shared_rows.specs.Table.{Table}
 use Rattle.property_store.specs.Store.{Store, written}
 use Rattle.term_core.specs.Term.{Term}
 use Rattle.binding_values.specs.declared.property.BindingError.{BindingError}
@@ -15,7 +15,7 @@ use Rattle.binding_values.specs.Scene.{Cell, Outcome, term_at}
 use Rattle.binding_values.specs.Stored.{cell_in, outcome_in, scene_of}
 use Rattle.binding_graph.specs.Table.{graph_at}
 use Rattle.binding_values.proofs.ForCallers.{fresh_unbound, term_there}
-use Rattle.thread_model.specs.State.{closed}
+use Rattle.session_model.specs.State.{closed}
 use Rattle.bound_stores.specs.Bound.{all_closed}
 use Rattle.bound_stores.proofs.SettledLemmas.{closed_at, closed_bindings}
 

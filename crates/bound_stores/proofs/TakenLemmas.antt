@@ -1,7 +1,7 @@
 -- A place that is noted, where a property is then bound no longer.
 use Rattle.std.proofs.Common.{◌≡◌, ◌∙◌, ℕ, [], Some, ap}
-use Rattle.places.specs.Table.{IsPlace, Table}
-use Rattle.places.proofs.ForCallers as column
+use Rattle.shared_rows.specs.Table.{IsPlace, Table}
+use Rattle.shared_rows.proofs.ForCallers as column
 use Rattle.variant_value.specs.declared.value.Value.{Value}
 use Rattle.property_store.specs.declared.property.Property.{Property}
 use Rattle.property_store.specs.Store.{Store, fitting, written}

@@ -1,11 +1,11 @@
 -- What contracts see of the properties of all places.
 use Rattle.std.specs.Prelude.{◌≡◌, ℕ, [], map}
-use Rattle.places.specs.Table.{ChangesAt, Table}
+use Rattle.shared_rows.specs.Table.{ChangesAt, Table}
 use Rattle.property_store.specs.Store.{Store}
 use Rattle.property_store.specs.Table.{Shelves, Stock, store_at, with_store}
 use Rattle.binding_graph.specs.Graph.{Graph, no_graph}
 use Rattle.binding_graph.specs.Table.{Graphs, graph_at, with_graph}
-use Rattle.thread_model.specs.State.{closed}
+use Rattle.session_model.specs.State.{closed}
 
 pub record BoundShelves : Type 0 where
   -- what is stored

@@ -1,7 +1,7 @@
 -- How the logic stores what properties store and their bindings.
 use Rattle.std.specs.Prelude.{[], refl}
 use Rattle.std.specs.Coded.{Coded, code_by, coded×}
-use Rattle.places.specs.Table.{Table, table_code}
+use Rattle.shared_rows.specs.Table.{Table, table_code}
 use Rattle.property_store.specs.contracts.stores.Stores as stores
 use Rattle.property_store.specs.Table.{Stock}
 use Rattle.binding_graph.specs.Coded.{coded_graph}

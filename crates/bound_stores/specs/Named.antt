@@ -1,6 +1,6 @@
 -- What a write to the property of a name comes to.
 use Rattle.std.specs.Prelude.{◌≡◌, ℕ, List, Some, None, Result, Ok, Err}
-use Rattle.refusals.specs.declared.code.Code.TheVariants.{BadValue}
+use Rattle.plain_types.specs.declared.code.Code.TheVariants.{BadValue}
 use Rattle.signature_core.specs.declared.kind.Kind.{Kind}
 use Rattle.variant_value.specs.declared.value.Value.{Value}
 use Rattle.variant_value.specs.Values.{converted}

@@ -1,6 +1,6 @@
 -- What stores and bindings have to do with each other.
 use Rattle.std.specs.Prelude.{◌≡◌, ◌==◌, ◌&&◌, ℕ, Bool, List, [], ◌∷◌, length, IsFalse, if◌then◌else◌}
-use Rattle.places.specs.Table.{ChangesAt, IsPlace}
+use Rattle.shared_rows.specs.Table.{ChangesAt, IsPlace}
 use Rattle.property_store.specs.Store.{Store}
 use Rattle.property_store.specs.Table.{Stock, store_at}
 use Rattle.binding_values.specs.declared.binding.Binding.{Binding}

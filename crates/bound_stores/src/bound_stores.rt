@@ -1,7 +1,7 @@
 //! What the properties of all places store, and their bindings.
 ghost use Rattle.std.specs.Prelude.{◌≡◌, ◌≤◌, [], IfOk, IfSome, IsFalse, IsTrue, None, OnErr, OnOk, Some, if◌then◌else◌};
-ghost use Rattle.places.specs.Table.{IsPlace, Opens, opened};
-ghost use Rattle.refusals.specs.Answers.{RefusedBy};
+ghost use Rattle.shared_rows.specs.Table.{IsPlace, Opens, opened};
+ghost use Rattle.plain_types.specs.Answers.{RefusedBy};
 ghost use Rattle.term_core.specs.Forms.{is_within_limits};
 ghost use Rattle.variant_value.specs.Values.{IsShort};
 ghost use Rattle.property_store.specs.Store.{added, changed, dynamic_refusal, fitting, properties_of, with_dynamic, without, without_dynamic};
@@ -9,7 +9,7 @@ ghost use Rattle.property_store.specs.Table.{fields_of};
 ghost use Rattle.binding_graph.specs.Graph.{all_shown, begin_refusal, begun, bind_refusal, bound, changes, end_refusal};
 ghost use Rattle.binding_graph.specs.Graph.{ended, is_open, no_graph, taken, unbound, without_object};
 ghost use Rattle.binding_values.specs.Stored.{is_bindable};
-ghost use Rattle.thread_model.specs.State.{closed};
+ghost use Rattle.session_model.specs.State.{closed};
 ghost use Rattle.bound_stores.specs.Bound.{ChangesBound, bound_at, stored_at, with_bound};
 ghost use Rattle.bound_stores.specs.Changed.{told_at};
 ghost use Rattle.bound_stores.specs.Named.{TellsWritten, WritesNamed, with_written};
@@ -20,7 +20,7 @@ use crate::changing;
 use binding_graph::{Bindings, Change};
 use plain_types::{Items, Text};
 use property_store::{Field, Property, Stores, Unwritten};
-use refusals::Fault;
+use plain_types::Fault;
 use std::alloc::{AllocError, Global};
 use std::marker::Model;
 use term_core::Expr;

@@ -1,7 +1,7 @@
 //! Changes of one place, which leave every place settled, whatever memory was found.
 ghost use Rattle.std.specs.Prelude.{◌≡◌, [], IfOk, IfSome, IsFalse, IsTrue, OnErr, OnOk, None, Some, if◌then◌else◌};
-ghost use Rattle.places.specs.Table.{IsPlace};
-ghost use Rattle.refusals.specs.Answers.{RefusedBy};
+ghost use Rattle.shared_rows.specs.Table.{IsPlace};
+ghost use Rattle.plain_types.specs.Answers.{RefusedBy};
 ghost use Rattle.term_core.specs.Forms.{is_within_limits};
 ghost use Rattle.variant_value.specs.Values.{IsShort};
 ghost use Rattle.property_store.specs.Store.{IsSound, added, fitting, properties_of, without};
@@ -10,7 +10,7 @@ ghost use Rattle.binding_graph.specs.Graph.{all_shown, begin_refusal, begun, bin
 ghost use Rattle.binding_graph.specs.Graph.{ended, is_open, no_graph, taken, unbound, without_object};
 ghost use Rattle.binding_values.specs.Stored.{is_bindable};
 ghost use Rattle.binding_graph.specs.Table.{graph_at};
-ghost use Rattle.thread_model.specs.State.{closed};
+ghost use Rattle.session_model.specs.State.{closed};
 ghost use Rattle.bound_stores.specs.Bound.{bound_at, without_marks, with_bound};
 ghost use Rattle.bound_stores.specs.Changed.{alone, told_at};
 ghost use Rattle.bound_stores.specs.Named.{TellsWritten, WritesNamed, with_written};
@@ -21,7 +21,7 @@ use crate::settling;
 use binding_graph::{Bindings, Change, steps};
 use plain_types::Items;
 use property_store::{Property, Stores, Unwritten};
-use refusals::{Code, Fault};
+use plain_types::{Code, Fault};
 use std::alloc::{AllocError, Global};
 use term_core::Expr;
 use variant_value::Value;

@@ -1,13 +1,13 @@
 //! What is stored at a place, shown there and bound.
 ghost use Rattle.std.specs.Prelude.{◌≡◌, ◌≤◌, IfOk, IfSome, IsFalse, length, option_and_then};
 ghost use Rattle.std.specs.Option.{option_map, option_map_or};
-ghost use Rattle.places.specs.Table.{IsPlace};
+ghost use Rattle.shared_rows.specs.Table.{IsPlace};
 ghost use Rattle.variant_value.specs.declared.value.Value.TheVariants.{Invalid};
 ghost use Rattle.variant_value.specs.Values.{IsShort};
 ghost use Rattle.property_store.specs.Store.{declared_in, dynamic_names, properties_of};
 ghost use Rattle.binding_graph.specs.Graph.{is_bound, value_in};
 ghost use Rattle.binding_values.specs.Stored.{cell_in, is_bindable};
-ghost use Rattle.thread_model.specs.State.{is_text};
+ghost use Rattle.session_model.specs.State.{is_text};
 ghost use Rattle.bound_stores.specs.Bound.{bound_at, stored_at};
 ghost use Rattle.bound_stores.specs.Reading.{bound_named, named_in};
 

@@ -1,8 +1,8 @@
 //! How a place is changed, and what is told of that.
 ghost use Rattle.std.specs.Prelude.{◌≡◌, IfOk, IfSome, IsTrue, Some, None, OnErr, OnOk};
 ghost use Rattle.std.specs.Result.{result_err};
-ghost use Rattle.places.specs.Table.{IsPlace};
-ghost use Rattle.refusals.specs.Answers.{RefusedBy};
+ghost use Rattle.shared_rows.specs.Table.{IsPlace};
+ghost use Rattle.plain_types.specs.Answers.{RefusedBy};
 ghost use Rattle.term_core.specs.Forms.{is_within_limits};
 ghost use Rattle.property_store.specs.Store.{Store, fitting, without, written};
 ghost use Rattle.variant_value.specs.Values.{IsShort};
@@ -18,7 +18,7 @@ ghost use Rattle.bound_stores.specs.Settled.{ChangesInStep, IsInStepAt, IsSettle
 use binding_graph::{BINDINGS, Bindings, Change, steps};
 use plain_types::Items;
 use property_store::{Property, Stores};
-use refusals::{Code, Fault};
+use plain_types::{Code, Fault};
 use std::alloc::AllocError;
 use term_core::Expr;
 use variant_value::Value;

@@ -3,8 +3,8 @@ use Rattle.std.specs.Prelude.{◌&&◌, ◌+◌, ℕ, Bool, true, false, List, [
 use Rattle.std.specs.Prelude.{Ok, Err, codes, length, map, position, slice_get, nat_le, is_none}
 use Rattle.std.specs.Option.{ok_or, option_map_or}
 use Rattle.serde_json.specs.Data.{Data}
-use Rattle.refusals.specs.declared.code.Code.{Code}
-use Rattle.refusals.specs.declared.code.Code.TheVariants as code
+use Rattle.plain_types.specs.declared.code.Code.{Code}
+use Rattle.plain_types.specs.declared.code.Code.TheVariants as code
 use Rattle.signature_core.specs.declared.kind.Kind.{Kind}
 use Rattle.signature_core.specs.declared.kind.Kind.TheVariants as kind
 use Rattle.signature_core.specs.declared.signature.Signature.{Signature}

@@ -20,7 +20,7 @@ use crate::fault::{ClassFaultKind, Stop};
 use crate::form::{ClassForm, MethodForm, PropertyForm};
 use crate::table::ClassTable;
 use plain_types::{Items, Text};
-use refusals::{Code, Fault};
+use plain_types::{Code, Fault};
 use serde_json::Value;
 use signature_core::{Kind, Signature};
 use std::alloc::Global;

@@ -5,10 +5,10 @@ use Rattle.std.proofs.lemmas.Bool.Decides.{nat_tests}
 use Rattle.std.proofs.lemmas.List.{length_push, map-append}
 use Rattle.std.proofs.lemmas.List.Elements.{All-push, Contains-get_or}
 use Rattle.std.proofs.lemmas.List.Quantifiers.{all_pairs_push}
-use Rattle.places.specs.Paired.{paired_tables}
-use Rattle.places.specs.Table.{Table, with_place}
-use Rattle.places.proofs.ForCallers.{with_same}
-use Rattle.refusals.specs.declared.code.Code.TheVariants.{ConnectedAlready, Limit, NumbersUsedUp}
+use Rattle.shared_rows.specs.Paired.{paired_tables}
+use Rattle.shared_rows.specs.Table.{Table, with_place}
+use Rattle.shared_rows.proofs.ForCallers.{with_same}
+use Rattle.plain_types.specs.declared.code.Code.TheVariants.{ConnectedAlready, Limit, NumbersUsedUp}
 use Rattle.shared_rows.specs.Rows.{Keyed, added, row_under}
 use Rattle.shared_rows.specs.Rows as shared
 use Rattle.connection_list.specs.declared.connection.Connection.{Connection}

@@ -6,8 +6,8 @@ use Rattle.std.proofs.lemmas.List.{get_or-map, length-map}
 use Rattle.std.proofs.lemmas.List.Elements.{All-filter, All-map}
 use Rattle.std.proofs.lemmas.List.Kept.{AllPairs-filter}
 use Rattle.std.proofs.lemmas.List.Sums.{length-filter, count_by-le-length}
-use Rattle.places.specs.Table.{ChangesAt, IsPlace, Table, with_place}
-use Rattle.places.proofs.ForCallers.{changes_open, changes_same, changes_twice, changes_with, with_there}
+use Rattle.shared_rows.specs.Table.{ChangesAt, IsPlace, Table, with_place}
+use Rattle.shared_rows.proofs.ForCallers.{changes_open, changes_same, changes_twice, changes_with, with_there}
 use Rattle.shared_rows.specs.Links.{AreLinked, without_link}
 use Rattle.shared_rows.specs.Rows.{Keyed, row_under, rows_at, without}
 use Rattle.shared_rows.proofs.LinkedLemmas.{all_from, linked_filter}

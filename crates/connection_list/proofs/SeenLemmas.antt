@@ -6,9 +6,9 @@ use Rattle.std.proofs.lemmas.Bool.{cases_eq, cases_lt, eq-eqb}
 use Rattle.std.proofs.lemmas.Bool.Decides.{nat_tests}
 use Rattle.std.proofs.lemmas.List.{get_or-set_same, get_or-set_other, get_or_append_left, get_or_default, get_or_push, length-map, length-set, length_push}
 use Rattle.std.proofs.lemmas.List.Sums.{length-filter, count_by-le-length}
-use Rattle.places.specs.Paired.{paired, paired_tables}
-use Rattle.places.specs.Table.{IsPlace, Table, with_place, opened}
-use Rattle.places.proofs.ForCallers.{changes_open, paired_at, paired_push, paired_set, length-paired}
+use Rattle.shared_rows.specs.Paired.{paired, paired_tables}
+use Rattle.shared_rows.specs.Table.{IsPlace, Table, with_place, opened}
+use Rattle.shared_rows.proofs.ForCallers.{changes_open, paired_at, paired_push, paired_set, length-paired}
 use Rattle.shared_rows.proofs.LinkedLemmas.{all_from}
 use Rattle.shared_rows.specs.Rows.{Keyed, row_under}
 use Rattle.shared_rows.specs.Rows as shared

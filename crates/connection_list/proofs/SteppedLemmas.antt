@@ -6,9 +6,9 @@ use Rattle.std.specs.Prelude.{option_and_then, if◌then◌else◌}
 use Rattle.std.proofs.lemmas.Bool.{eqb-true}
 use Rattle.std.proofs.lemmas.List.{get_or-map, length-map}
 use Rattle.std.proofs.lemmas.List.Elements.{All-cons, All-map, Contains-get_or}
-use Rattle.places.specs.Paired.{paired_tables}
-use Rattle.places.specs.Table.{Table, with_place}
-use Rattle.places.proofs.ForCallers.{with_same}
+use Rattle.shared_rows.specs.Paired.{paired_tables}
+use Rattle.shared_rows.specs.Table.{Table, with_place}
+use Rattle.shared_rows.proofs.ForCallers.{with_same}
 use Rattle.shared_rows.specs.Rows.{Keyed, row_under, with_row}
 use Rattle.shared_rows.specs.Rows as shared
 use Rattle.shared_rows.proofs.LinkedLemmas.{linked_same}

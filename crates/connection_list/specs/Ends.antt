@@ -1,8 +1,8 @@
 -- What is asked of a connection's two ends.
 use Rattle.std.specs.Prelude.{ℕ, Bool, true, false, ◌==◌, ◌&&◌, ◌||◌, Option, Some, None}
-use Rattle.connection_types.specs.declared.callee.Callee.{Callee}
-use Rattle.connection_types.specs.declared.callee.Callee.TheVariants.{Method, Functor}
-use Rattle.connection_types.specs.Callees.{same_callee}
+use Rattle.plain_types.specs.declared.callee.Callee.{Callee}
+use Rattle.plain_types.specs.declared.callee.Callee.TheVariants.{Method, Functor}
+use Rattle.plain_types.specs.Callees.{same_callee}
 use Rattle.connection_list.specs.declared.connection.Connection.{Connection}
 use Rattle.connection_list.specs.declared.connection.NewConnection.{NewConnection}
 use Rattle.connection_list.specs.declared.pattern.Pattern.{Pattern}

@@ -6,7 +6,7 @@ use Rattle.std.specs.Ordering.{nat_cmp, ordering_then}
 use Rattle.std.specs.declared.alloc.Global.{Global}
 use Rattle.std.specs.declared.boxed.Box.{Box}
 use Rattle.std.specs.declared.cmp.Ordering.{Ordering}
-use Rattle.places.specs.Table.{Table, ChangesAt}
+use Rattle.shared_rows.specs.Table.{Table, ChangesAt}
 use Rattle.shared_rows.specs.Links.{AreLinked, HasRoom}
 use Rattle.shared_rows.specs.Rows.{Keyed, rows_at}
 use Rattle.connection_list.specs.Rows.{IsSound, Rows}

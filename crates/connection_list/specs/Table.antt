@@ -1,6 +1,6 @@
 -- What contracts see of the connections of all places.
 use Rattle.std.specs.Prelude.{ℕ, slice_index_or}
-use Rattle.places.specs.Table.{Table, with_place}
+use Rattle.shared_rows.specs.Table.{Table, with_place}
 use Rattle.connection_list.specs.Rows.{Rows, no_rows}
 
 -- the connections of a place

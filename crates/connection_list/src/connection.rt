@@ -1,6 +1,6 @@
 //! A connection.
 
-use connection_types::{Callee, ConnectionType};
+use plain_types::{Callee, ConnectionType};
 use shared_rows::Numbered;
 
 /// A connection, as `connect` is asked for it.

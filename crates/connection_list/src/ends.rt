@@ -4,7 +4,7 @@ ghost use Rattle.connection_list.specs.Ends.{allows, allows_method, allows_recei
 
 use crate::connection::{Connection, NewConnection};
 use crate::pattern::{Pattern, Receiver};
-use connection_types::Callee;
+use plain_types::Callee;
 
 /// Whether a new connection would join what another joins already.
 pub fn same_ends(new: &NewConnection, row: &Connection) -> bool

@@ -1,8 +1,8 @@
 //! The connections of all places.
 ghost use Rattle.std.specs.Prelude.{◌≡◌, ◌+◌, ◌≤◌, [], false, IfOk, OnOk, OnErr, count_by, find, is_some, length};
 ghost use Rattle.std.specs.List.{list_any};
-ghost use Rattle.places.specs.Table.{IsPlace, MakesRoom, Opens};
-ghost use Rattle.refusals.specs.Answers.{RefusedBy};
+ghost use Rattle.shared_rows.specs.Table.{IsPlace, MakesRoom, Opens};
+ghost use Rattle.plain_types.specs.Answers.{RefusedBy};
 ghost use Rattle.connection_list.specs.Ends.{matches, same_ends, touches};
 ghost use Rattle.connection_list.specs.Rows.{IsSound, no_rows, connect_refusal, connected, numbered, without, has_number, is_next, state_of, with_state};
 ghost use Rattle.connection_list.specs.Table.{rows_at, with_rows};
@@ -12,8 +12,8 @@ use crate::ends::calls_functor;
 use crate::limit::CONNECTIONS;
 use crate::pattern::Pattern;
 use crate::routes::LazyRoutes;
-use places::Places;
-use refusals::{Code, Fault};
+use shared_rows::Places;
+use plain_types::{Code, Fault};
 use shared_rows::SharedRows;
 use std::alloc::{AllocError, Global};
 use std::marker::Model;
@@ -27,12 +27,12 @@ pub struct Connections {
 }
 
 impl Model for Connections {
-    ghost use Rattle.places.specs.Table.{Table};
+    ghost use Rattle.shared_rows.specs.Table.{Table};
     ghost use Rattle.connection_list.specs.Rows.{Rows};
 
     ghost Value = { Table Rows };
 
-    ghost use Rattle.places.specs.Paired.{paired_tables};
+    ghost use Rattle.shared_rows.specs.Paired.{paired_tables};
     ghost use Rattle.connection_list.specs.Routes.{AreKept, place_of};
 
     ghost view = { λ c. paired_tables place_of c.rows c.routes };

@@ -7,8 +7,8 @@ use Rattle.std.proofs.lemmas.Bool.{eq-eqb, ne_eqb}
 use Rattle.std.proofs.lemmas.List.{get_or-map, length-map}
 use Rattle.std.proofs.lemmas.List.Kept.{AllPairs-filter}
 use Rattle.std.proofs.lemmas.List.Sums.{count_by-le-length, length-filter}
-use Rattle.places.specs.Table.{ChangesAt, IsPlace, Table, with_place}
-use Rattle.places.proofs.ForCallers.{changes_open, changes_twice, with_there}
+use Rattle.shared_rows.specs.Table.{ChangesAt, IsPlace, Table, with_place}
+use Rattle.shared_rows.proofs.ForCallers.{changes_open, changes_twice, with_there}
 use Rattle.shared_rows.specs.Rows.{IsAtPosition, Keyed, row_under, rows_at, without}
 use Rattle.event_queue.specs.declared.event.Event.{Event}
 use Rattle.event_queue.specs.declared.event.Posted.{Posted}

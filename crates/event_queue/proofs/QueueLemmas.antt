@@ -5,9 +5,9 @@ use Rattle.std.specs.List.{slice_get}
 use Rattle.std.proofs.lemmas.Bool.{cases_eq, cases_lt}
 use Rattle.std.proofs.lemmas.Bool.Decides.{nat_tests}
 use Rattle.std.proofs.lemmas.List.{get_or-set_same, get_or-set_other, get_or_append_left, get_or_push, length-drop, length-map, length-set, length_push}
-use Rattle.places.specs.Paired.{paired, paired_tables}
-use Rattle.places.specs.Table.{ChangesAt, IsPlace, Table, opened, with_place}
-use Rattle.places.proofs.ForCallers.{paired_at, paired_push, paired_set, length-paired, changes_length, changes_same, changes_twice, with_same}
+use Rattle.shared_rows.specs.Paired.{paired, paired_tables}
+use Rattle.shared_rows.specs.Table.{ChangesAt, IsPlace, Table, opened, with_place}
+use Rattle.shared_rows.proofs.ForCallers.{paired_at, paired_push, paired_set, length-paired, changes_length, changes_same, changes_twice, with_same}
 use Rattle.shared_rows.specs.Rows.{Keyed, rows_at}
 use Rattle.event_queue.specs.declared.event.Event.{Event}
 use Rattle.event_queue.specs.declared.event.Posted.{Posted}

@@ -5,7 +5,7 @@ use Rattle.std.specs.List.{All, AllWithin}
 use Rattle.std.specs.Option.{unwrap_or}
 use Rattle.std.specs.Ordering.{nat_cmp}
 use Rattle.std.specs.BTreeMap.{get}
-use Rattle.places.specs.Table.{ChangesAt, Table}
+use Rattle.shared_rows.specs.Table.{ChangesAt, Table}
 use Rattle.shared_rows.specs.Rows.{Keyed, rows_at}
 use Rattle.event_queue.specs.declared.event.Event.{Event}
 use Rattle.event_queue.specs.declared.event.Posted.{Posted}

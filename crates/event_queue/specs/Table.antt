@@ -1,6 +1,6 @@
 -- What contracts see of the queues of all places.
 use Rattle.std.specs.Prelude.{ℕ, slice_index_or}
-use Rattle.places.specs.Table.{Table, with_place}
+use Rattle.shared_rows.specs.Table.{Table, with_place}
 use Rattle.event_queue.specs.Queue.{Queue, empty_queue}
 
 -- the queue of a place

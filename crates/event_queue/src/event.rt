@@ -3,7 +3,7 @@ ghost use Rattle.std.specs.Prelude.{◌≡◌, ◌≤◌};
 ghost use Rattle.event_queue.specs.Queue.{object_of, priority_of, rank_of};
 ghost use Rattle.event_queue.specs.Inside.{number_of};
 
-use connection_types::Callee;
+use plain_types::Callee;
 use shared_rows::Numbered;
 use variant_value::Args;
 

@@ -1,7 +1,7 @@
 //! The events of a place in their order.
 ghost use Rattle.std.specs.Prelude.{◌≡◌, ◌+◌, ◌*◌, ◌^◌, ◌<◌, ◌≤◌, IfOk, OnOk, OnErr, drop, false, length};
 ghost use Rattle.std.specs.List.{slice_get};
-ghost use Rattle.places.specs.Table.{IsPlace};
+ghost use Rattle.shared_rows.specs.Table.{IsPlace};
 ghost use Rattle.shared_rows.specs.Rows.{IsSound, rows_at};
 ghost use Rattle.event_queue.specs.Queue.{placed};
 ghost use Rattle.event_queue.specs.Inside.{AreCounted, HasEvents, HasWaiting, IsCountBelow, IsSeat, count_of, events_at, is_dropped, number_of, waiting};

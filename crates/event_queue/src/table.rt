@@ -1,7 +1,7 @@
 //! The queues of all places.
 ghost use Rattle.std.specs.Prelude.{◌≡◌, ◌≤◌, [], IfOk, OnOk, OnErr};
 ghost use Rattle.std.specs.List.{slice_get};
-ghost use Rattle.places.specs.Table.{IsPlace, MakesRoom, Opens};
+ghost use Rattle.shared_rows.specs.Table.{IsPlace, MakesRoom, Opens};
 ghost use Rattle.event_queue.specs.Queue.{IsSound, counts_of, dropped, empty_queue, has_room, posted, taken, with_lost, with_mismatched};
 ghost use Rattle.event_queue.specs.Table.{queue_at, with_queue};
 ghost use Rattle.event_queue.specs.Inside.{IsLogged};
@@ -9,7 +9,7 @@ ghost use Rattle.event_queue.specs.Inside.{IsLogged};
 use crate::event::{Event, Posted};
 use crate::object_counts::ObjectCounts;
 use crate::order::{make_way, place_event, sweep, take_first};
-use places::Places;
+use shared_rows::Places;
 use shared_rows::SharedRows;
 use std::alloc::{AllocError, Global};
 use std::marker::Model;
@@ -64,8 +64,8 @@ pub struct Queues {
 }
 
 impl Model for Queues {
-    ghost use Rattle.places.specs.Table.{Table};
-    ghost use Rattle.places.specs.Paired.{paired_tables};
+    ghost use Rattle.shared_rows.specs.Table.{Table};
+    ghost use Rattle.shared_rows.specs.Paired.{paired_tables};
     ghost use Rattle.event_queue.specs.Queue.{Queue};
     ghost use Rattle.event_queue.specs.Inside.{AreLogged, queue_of};
 

@@ -9,10 +9,10 @@ ghost use Rattle.stored_slots.specs.Functors.{AreArguments};
 ghost use Rattle.term_core.specs.Term.{state};
 ghost use Rattle.term_evaluation.specs.Stating.{after, with_state};
 ghost use Rattle.term_evaluation.specs.Unfolding.{unfolded_body};
-ghost use Rattle.program_start.specs.Clamp.{clamp_body};
-ghost use Rattle.program_start.specs.Count.{count_body, one_more};
+ghost use Rattle.command_line.specs.Clamp.{clamp_body};
+ghost use Rattle.command_line.specs.Count.{count_body, one_more};
 
-use program_start::{
+use command_line::{
     Beginning, add_count, clamp_answer, count_answer, reserve_stack, start, with_clamp,
 };
 use server_world::Server;

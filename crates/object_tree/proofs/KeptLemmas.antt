@@ -4,9 +4,9 @@ use Rattle.std.specs.List.{All}
 use Rattle.std.specs.Option.{option_map}
 use Rattle.std.proofs.lemmas.Bool.{cases_eq, cond_both}
 use Rattle.std.proofs.lemmas.List.{length-set, length_push, map_push, get_or-set_same, get_or-set_other, get_or_append_left, get_or_push, get_or-map, length-map}
-use Rattle.places.specs.Table.{ChangesAt, IsPlace, Table, opened, with_place}
-use Rattle.places.specs.Paired.{paired_tables}
-use Rattle.places.proofs.ForCallers.{paired_at, paired_push, paired_set, length-paired, changes_twice, changes_with, default_pushed, with_same, with_there}
+use Rattle.shared_rows.specs.Table.{ChangesAt, IsPlace, Table, opened, with_place}
+use Rattle.shared_rows.specs.Paired.{paired_tables}
+use Rattle.shared_rows.proofs.ForCallers.{paired_at, paired_push, paired_set, length-paired, changes_twice, changes_with, default_pushed, with_same, with_there}
 use Rattle.shared_rows.specs.Links.{AreLinked, IsInOrder, Linked, with_link, without_link}
 use Rattle.shared_rows.proofs.LinkedLemmas.{linked_push, linked_same}
 use Rattle.shared_rows.specs.Rows as shared

@@ -2,7 +2,7 @@
 use Rattle.std.proofs.Common.{◌≡◌, ℕ, ◌+◌, ◌-◌, ◌<◌, ◌≤◌, ◌^◌, Bool, true, false, cond, List, Option, Some, None, length, refl, sym, ap, ◌∙◌, nat_le}
 use Rattle.std.specs.Option.{option_map_or, option_or, is_some}
 use Rattle.std.proofs.lemmas.Bool.{leb-false, ltb-false, or_parts}
-use Rattle.refusals.specs.declared.code.Code.TheVariants.{Dying, NoSuchObject}
+use Rattle.plain_types.specs.declared.code.Code.TheVariants.{Dying, NoSuchObject}
 use Rattle.object_tree.specs.declared.row.Row.{Row}
 use Rattle.object_tree.specs.declared.row.TheConstants.{OBJECTS, DEPTH}
 use Rattle.object_tree.specs.Rows.{is_there, row_of}

@@ -3,7 +3,7 @@ use Rattle.std.specs.Prelude.{ℕ, ◌≡◌, ◌<◌, ◌≤◌, List, Option, 
 use Rattle.std.specs.List.{slice_range}
 use Rattle.std.specs.Ordering.{flip_args, nat_cmp, on, then_cmp}
 use Rattle.std.specs.declared.cmp.Ordering.{Ordering}
-use Rattle.places.specs.Table.{Table}
+use Rattle.shared_rows.specs.Table.{Table}
 use Rattle.shared_rows.specs.Rows.{Keyed, rows_at}
 use Rattle.shared_rows.specs.Links.{AreLinked}
 use Rattle.object_tree.specs.declared.row.Row.{Row}

@@ -1,8 +1,8 @@
 -- Why a new object, or a new parent, is refused: the first of these.
 use Rattle.std.specs.Prelude.{ℕ, ◌+◌, ◌-◌, ◌^◌, ◌||◌, Bool, Option, Some, None, List, length, nat_le, nat_lt, if◌then◌else◌}
 use Rattle.std.specs.Option.{option_map_or, option_or}
-use Rattle.refusals.specs.declared.code.Code.{Code}
-use Rattle.refusals.specs.declared.code.Code.TheVariants.{NoSuchObject, Dying, Cycle, Limit, NumbersUsedUp}
+use Rattle.plain_types.specs.declared.code.Code.{Code}
+use Rattle.plain_types.specs.declared.code.Code.TheVariants.{NoSuchObject, Dying, Cycle, Limit, NumbersUsedUp}
 use Rattle.object_tree.specs.declared.row.Row.{Row}
 use Rattle.object_tree.specs.declared.row.TheConstants.{OBJECTS, DEPTH}
 use Rattle.object_tree.specs.Rows.{row_of, parent_of, is_same}

@@ -1,7 +1,7 @@
 -- A forest for each place.
 use Rattle.std.specs.Prelude.{ℕ, slice_index_or}
-use Rattle.places.specs.Table as places
-use Rattle.places.specs.Table.{Table}
+use Rattle.shared_rows.specs.Table as places
+use Rattle.shared_rows.specs.Table.{Table}
 use Rattle.object_tree.specs.Forest.{Forest, empty_forest}
 
 -- the forest at a place

@@ -1,8 +1,8 @@
 //! New objects.
 ghost use Rattle.std.specs.Prelude.{◌≡◌, ◌+◌, IfOk, OnOk, OnErr};
 ghost use Rattle.std.specs.Result.{result_err};
-ghost use Rattle.places.specs.Table.{IsPlace};
-ghost use Rattle.refusals.specs.Answers.{RefusedBy};
+ghost use Rattle.shared_rows.specs.Table.{IsPlace};
+ghost use Rattle.plain_types.specs.Answers.{RefusedBy};
 ghost use Rattle.object_tree.specs.Refusing.{add_refusal};
 ghost use Rattle.object_tree.specs.Changes.{added};
 ghost use Rattle.object_tree.specs.Table.{forest_at, with_forest};
@@ -10,7 +10,7 @@ ghost use Rattle.object_tree.specs.Table.{forest_at, with_forest};
 use crate::child::child_of;
 use crate::forests::Forests;
 use crate::row::{DEPTH, OBJECTS, Row};
-use refusals::{Code, Fault};
+use plain_types::{Code, Fault};
 
 impl Forests {
     /// Adds an object, and returns its number.

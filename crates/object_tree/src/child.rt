@@ -9,7 +9,7 @@ ghost use Rattle.shared_rows.specs.Links.{IsInOrder};
 ghost use Rattle.object_tree.specs.Children.{AreWithin, IsCountFrom, child_cmp, child_of, kids_of, order_of};
 
 use crate::row::Row;
-use gap_buffer::GapBuffer;
+use shared_rows::GapBuffer;
 use std::cmp::Ordering;
 
 /// A child, with its parent and its age. The fields stand in this order so that they fill 16 bytes,

@@ -1,6 +1,6 @@
 //! The children of objects, the search among them, and how many levels hang at them.
 ghost use Rattle.std.specs.Prelude.{◌≡◌, ◌++◌, ◌≤◌, IfOk, OnOk, ℕ, Bool, find, length, map};
-ghost use Rattle.places.specs.Table.{IsPlace};
+ghost use Rattle.shared_rows.specs.Table.{IsPlace};
 ghost use Rattle.object_tree.specs.Children.{AreWithin, kids_of};
 ghost use Rattle.object_tree.specs.Rows.{children};
 ghost use Rattle.object_tree.specs.Lines.{height, levels_within};

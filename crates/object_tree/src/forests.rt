@@ -1,14 +1,14 @@
 //! A forest for each place.
 ghost use Rattle.std.specs.Prelude.{◌≡◌, ◌≤◌, ◌&&◌, [], Some, false, length, not};
 ghost use Rattle.std.specs.Option.{option_map_or};
-ghost use Rattle.places.specs.Table.{IsPlace, MakesRoom, Opens};
+ghost use Rattle.shared_rows.specs.Table.{IsPlace, MakesRoom, Opens};
 ghost use Rattle.object_tree.specs.Rows.{is_same, row_of};
 ghost use Rattle.object_tree.specs.Forest.{IsSound, empty_forest};
 ghost use Rattle.object_tree.specs.Table.{forest_at, with_forest};
 
 use crate::child::Child;
 use crate::row::Row;
-use places::Places;
+use shared_rows::Places;
 use shared_rows::{Links, SharedRows};
 use std::alloc::{AllocError, Global};
 use std::marker::Model;
@@ -30,12 +30,12 @@ pub struct Forests {
 }
 
 impl Model for Forests {
-    ghost use Rattle.places.specs.Table.{Table};
+    ghost use Rattle.shared_rows.specs.Table.{Table};
     ghost use Rattle.object_tree.specs.Forest.{Forest};
 
     ghost Value = { Table Forest };
 
-    ghost use Rattle.places.specs.Paired.{paired_tables};
+    ghost use Rattle.shared_rows.specs.Paired.{paired_tables};
     ghost use Rattle.object_tree.specs.Children.{IsKept, forest_of};
 
     ghost view = { λ forests. paired_tables forest_of forests.rows forests.kinships };

@@ -1,6 +1,6 @@
 //! The lines that objects stand in.
 ghost use Rattle.std.specs.Prelude.{◌≡◌, ◌≤◌, length};
-ghost use Rattle.places.specs.Table.{IsPlace};
+ghost use Rattle.shared_rows.specs.Table.{IsPlace};
 ghost use Rattle.object_tree.specs.Rows.{parent_of};
 ghost use Rattle.object_tree.specs.Lines.{depth, depth_at, is_below};
 ghost use Rattle.object_tree.specs.Table.{forest_at};

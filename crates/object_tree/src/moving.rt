@@ -1,7 +1,7 @@
 //! Objects that get another parent.
 ghost use Rattle.std.specs.Prelude.{◌≡◌, [], OnOk, OnErr};
 ghost use Rattle.std.specs.Result.{result_err};
-ghost use Rattle.places.specs.Table.{ChangesAt, IsPlace};
+ghost use Rattle.shared_rows.specs.Table.{ChangesAt, IsPlace};
 ghost use Rattle.shared_rows.specs.Links.{AreLinked};
 ghost use Rattle.shared_rows.specs.Rows.{IsSound, rows_at};
 ghost use Rattle.object_tree.specs.Rows.{is_same};
@@ -13,7 +13,7 @@ ghost use Rattle.object_tree.specs.Table.{forest_at, with_forest};
 use crate::child::{Child, child_of};
 use crate::forests::Forests;
 use crate::row::{DEPTH, Row};
-use refusals::Code;
+use plain_types::Code;
 use shared_rows::{Links, SharedRows};
 
 impl Forests {

@@ -2,14 +2,14 @@
 ghost use Rattle.std.specs.Prelude.{◌≡◌, None, Some, if◌then◌else◌};
 ghost use Rattle.std.specs.Option.{option_map_or};
 ghost use Rattle.std.specs.Result.{result_err};
-ghost use Rattle.refusals.specs.declared.code.Code.TheVariants.{NoSuchObject};
-ghost use Rattle.places.specs.Table.{IsPlace};
+ghost use Rattle.plain_types.specs.declared.code.Code.TheVariants.{NoSuchObject};
+ghost use Rattle.shared_rows.specs.Table.{IsPlace};
 ghost use Rattle.object_tree.specs.Refusing.{object_refusal, parent_refusal};
 ghost use Rattle.object_tree.specs.Rows.{is_there};
 ghost use Rattle.object_tree.specs.Table.{forest_at};
 
 use crate::forests::Forests;
-use refusals::Code;
+use plain_types::Code;
 
 impl Forests {
     /// Refuses an object that is not there.

@@ -1,7 +1,7 @@
 //! Objects that go, and what else is marked at them.
 ghost use Rattle.std.specs.Prelude.{◌≡◌, ◌≤◌, [], false, map};
 ghost use Rattle.std.specs.Option.{option_map_or};
-ghost use Rattle.places.specs.Table.{ChangesAt, IsPlace};
+ghost use Rattle.shared_rows.specs.Table.{ChangesAt, IsPlace};
 ghost use Rattle.shared_rows.specs.Links.{AreLinked};
 ghost use Rattle.shared_rows.specs.Rows.{rows_at};
 ghost use Rattle.object_tree.specs.Rows.{row_of};

@@ -1,2 +1,6 @@
 pub mod Names
 pub mod Texts
+pub mod Codes
+pub mod Answers
+pub mod Callees
+pub mod Modes

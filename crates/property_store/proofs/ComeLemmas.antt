@@ -6,9 +6,9 @@ use Rattle.std.specs.List.{All, slice_get}
 use Rattle.std.proofs.lemmas.Bool.{and_right, cases_Bool, cases_eq, eq-eqb, le-ltb, lt-ltb, ne_eqb, or_left, or_right}
 use Rattle.std.proofs.lemmas.List.Elements.{All-append, All-filter}
 use Rattle.std.proofs.lemmas.List.{length_push}
-use Rattle.places.specs.Paired.{paired}
-use Rattle.places.specs.Table.{IsPlace, Table, opened, with_place}
-use Rattle.places.proofs.ForCallers.{paired_push, default_pushed, with_same}
+use Rattle.shared_rows.specs.Paired.{paired}
+use Rattle.shared_rows.specs.Table.{IsPlace, Table, opened, with_place}
+use Rattle.shared_rows.proofs.ForCallers.{paired_push, default_pushed, with_same}
 use Rattle.shared_rows.specs.Rows.{Keyed, inserted, key_of, rows_at, without}
 use Rattle.property_store.specs.declared.field.Field.{Field}
 use Rattle.property_store.specs.declared.link.Head.{Head}

@@ -6,9 +6,9 @@ use Rattle.std.specs.List.{All}
 use Rattle.std.proofs.lemmas.Bool.{cases_Bool, or_left, or_right}
 use Rattle.std.proofs.lemmas.List.{set-get_or}
 use Rattle.std.proofs.lemmas.List.Elements.{All-map}
-use Rattle.places.specs.Paired.{paired}
-use Rattle.places.specs.Table.{IsPlace, Table, with_place}
-use Rattle.places.proofs.ForCallers.{paired_set}
+use Rattle.shared_rows.specs.Paired.{paired}
+use Rattle.shared_rows.specs.Table.{IsPlace, Table, with_place}
+use Rattle.shared_rows.proofs.ForCallers.{paired_set}
 use Rattle.shared_rows.specs.Rows.{Keyed, key_of, row_under, rows_at, with_row}
 use Rattle.shared_rows.specs.Rows as table
 use Rattle.property_store.specs.declared.field.Field.{Field}

@@ -6,8 +6,8 @@ use Rattle.std.specs.List.{All, AllPairs}
 use Rattle.std.specs.Option.{option_map}
 use Rattle.std.proofs.lemmas.List.{get_or-map, length-map, map-set}
 use Rattle.std.proofs.lemmas.List.Elements.{All-append, All-filter, All-map, All-set}
-use Rattle.places.specs.Table.{IsPlace, Table, with_place}
-use Rattle.places.proofs.ForCallers.{with_same}
+use Rattle.shared_rows.specs.Table.{IsPlace, Table, with_place}
+use Rattle.shared_rows.proofs.ForCallers.{with_same}
 use Rattle.shared_rows.specs.Rows.{Keyed, inserted, key_of, row_under, rows_at, with_row, without}
 use Rattle.shared_rows.specs.Rows as table
 use Rattle.property_store.specs.declared.field.Field.{Field}

@@ -5,9 +5,9 @@ use Rattle.std.proofs.lemmas.Bool.Decides.{nat_tests}
 use Rattle.std.specs.Option.{IsSome}
 use Rattle.std.proofs.lemmas.List.{length-set}
 use Rattle.std.proofs.lemmas.List.Elements.{All-map}
-use Rattle.places.specs.Paired.{paired}
-use Rattle.places.specs.Table.{IsPlace, Table, with_place}
-use Rattle.places.proofs.ForCallers.{with_same}
+use Rattle.shared_rows.specs.Paired.{paired}
+use Rattle.shared_rows.specs.Table.{IsPlace, Table, with_place}
+use Rattle.shared_rows.proofs.ForCallers.{with_same}
 use Rattle.shared_rows.specs.Rows.{Keyed, rows_at}
 use Rattle.property_store.specs.declared.field.Field.{Field}
 use Rattle.property_store.specs.declared.link.Head.{Head}

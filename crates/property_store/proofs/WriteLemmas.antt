@@ -6,12 +6,12 @@ use Rattle.std.specs.Option.{option_map, option_map_or}
 use Rattle.std.specs.Prelude.{option_and_then}
 use Rattle.std.specs.Result.{result_err}
 use Rattle.std.proofs.lemmas.Result.{on_err_weaker, on_ok_weaker}
-use Rattle.places.specs.Table.{Table}
+use Rattle.shared_rows.specs.Table.{Table}
 use Rattle.shared_rows.specs.Rows.{Keyed}
-use Rattle.refusals.specs.Answers.{RefusedBy}
-use Rattle.refusals.specs.declared.code.Code.{Code}
-use Rattle.refusals.specs.declared.code.Code.TheVariants.{BadValue}
-use Rattle.refusals.specs.declared.fault.Fault.{Fault}
+use Rattle.plain_types.specs.Answers.{RefusedBy}
+use Rattle.plain_types.specs.declared.code.Code.{Code}
+use Rattle.plain_types.specs.declared.code.Code.TheVariants.{BadValue}
+use Rattle.plain_types.specs.declared.fault.Fault.{Fault}
 use Rattle.variant_value.specs.declared.value.Value.{Value}
 use Rattle.variant_value.specs.Values.{IsShort, converted}
 use Rattle.property_store.specs.declared.dynamic.Named.{Named}

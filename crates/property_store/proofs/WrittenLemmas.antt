@@ -4,10 +4,10 @@ use Rattle.std.specs.Option.{option_map, option_map_or}
 use Rattle.std.specs.Prelude.{option_and_then}
 use Rattle.std.specs.List.{slice_get}
 use Rattle.std.proofs.lemmas.List.{length-set}
-use Rattle.places.specs.Paired.{paired}
-use Rattle.places.specs.Table.{Table}
+use Rattle.shared_rows.specs.Paired.{paired}
+use Rattle.shared_rows.specs.Table.{Table}
 use Rattle.shared_rows.specs.Rows.{Keyed, rows_at, with_row}
-use Rattle.refusals.specs.declared.code.Code.{Code}
+use Rattle.plain_types.specs.declared.code.Code.{Code}
 use Rattle.variant_value.specs.declared.value.Value.{Value}
 use Rattle.variant_value.specs.Values.{IsShort}
 use Rattle.signature_core.specs.declared.kind.Kind.{Kind}

@@ -2,8 +2,8 @@
 use Rattle.std.specs.Prelude.{ℕ, ◌≡◌, ◌==◌, ◌<◌, ◌≤◌, if◌then◌else◌, List, length, All, Option, filter, find, map, min}
 use Rattle.std.specs.Prelude.{nat_lt, option_and_then, option_map, slice_get, slice_index_or, slice_set}
 use Rattle.std.specs.List.{AllWithin, flat_map, range_with_len}
-use Rattle.places.specs.Paired.{paired}
-use Rattle.places.specs.Table.{Table}
+use Rattle.shared_rows.specs.Paired.{paired}
+use Rattle.shared_rows.specs.Table.{Table}
 use Rattle.shared_rows.specs.Rows.{Keyed, rows_at}
 use Rattle.property_store.specs.declared.field.Field.{Field}
 use Rattle.property_store.specs.declared.link.Head.{Head}

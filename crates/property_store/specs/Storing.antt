@@ -4,12 +4,12 @@ use Rattle.std.specs.Prelude.{Option, Some, None, Result, Ok, Err, option_and_th
 use Rattle.std.specs.Option.{option_map_or}
 use Rattle.std.specs.Result.{result_err}
 use Rattle.signature_core.specs.declared.kind.Kind.{Kind}
-use Rattle.places.specs.Table.{Table, with_place}
+use Rattle.shared_rows.specs.Table.{Table, with_place}
 use Rattle.shared_rows.specs.Rows.{Keyed, row_under, rows_at, with_row}
-use Rattle.refusals.specs.Answers.{RefusedBy}
-use Rattle.refusals.specs.declared.code.Code.{Code}
-use Rattle.refusals.specs.declared.code.Code.TheVariants.{BadValue}
-use Rattle.refusals.specs.declared.fault.Fault.{Fault}
+use Rattle.plain_types.specs.Answers.{RefusedBy}
+use Rattle.plain_types.specs.declared.code.Code.{Code}
+use Rattle.plain_types.specs.declared.code.Code.TheVariants.{BadValue}
+use Rattle.plain_types.specs.declared.fault.Fault.{Fault}
 use Rattle.variant_value.specs.declared.value.Value.{Value}
 use Rattle.variant_value.specs.Values.{converted, is_same}
 use Rattle.property_store.specs.declared.field.Field.{Field}

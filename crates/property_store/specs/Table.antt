@@ -1,6 +1,6 @@
 -- What contracts see of the stores of all places.
 use Rattle.std.specs.Prelude.{ℕ, List, [], slice_index_or}
-use Rattle.places.specs.Table.{Table, with_place}
+use Rattle.shared_rows.specs.Table.{Table, with_place}
 use Rattle.property_store.specs.declared.field.Field.{Field}
 use Rattle.property_store.specs.Marks.{Marks}
 use Rattle.property_store.specs.Store.{Store, fields_in}

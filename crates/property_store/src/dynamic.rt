@@ -1,11 +1,11 @@
 //! Dynamic properties, those that an object was given besides the ones that its class declares.
 ghost use Rattle.std.specs.Prelude.{◌≡◌, ◌<◌, IfOk, IfSome, OnOk, OnErr, length, map};
 ghost use Rattle.std.specs.Option.{option_map};
-ghost use Rattle.refusals.specs.Answers.{RefusedBy};
+ghost use Rattle.plain_types.specs.Answers.{RefusedBy};
 ghost use Rattle.property_store.specs.Store.{AreDistinct, dynamic_number, dynamic_value, refusal_of_name, with_name, without_name};
 
 use plain_types::{Items, Text};
-use refusals::{Code, Fault};
+use plain_types::{Code, Fault};
 use std::alloc::{AllocError, Global};
 use variant_value::Value;
 

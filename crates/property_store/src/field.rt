@@ -7,7 +7,7 @@ ghost use Rattle.property_store.specs.Store.{declared_in, default_of, field_numb
 ghost use Rattle.property_store.specs.Storing.{fit_in, is_other, refusal_as, refusal_in, with_fit};
 
 use plain_types::{Items, Text};
-use refusals::Code;
+use plain_types::Code;
 use signature_core::Kind;
 use std::alloc::{AllocError, Global};
 use variant_value::{Args, Value};

@@ -1,7 +1,7 @@
 //! The properties of one object.
 ghost use Rattle.std.specs.Prelude.{◌≡◌, ◌<◌, All, IsSome, Some, length};
 ghost use Rattle.std.specs.Option.{option_map};
-ghost use Rattle.places.specs.Table.{IsPlace, with_place};
+ghost use Rattle.shared_rows.specs.Table.{IsPlace, with_place};
 ghost use Rattle.shared_rows.specs.Rows.{row_under, rows_at};
 ghost use Rattle.property_store.specs.Store.{fields_in};
 ghost use Rattle.property_store.specs.Inside.{IsCountUpTo, link_at, next_number, row_of, without_link};
@@ -14,7 +14,7 @@ use crate::links::Links;
 use crate::property::Property;
 use crate::unwritten::Unwritten;
 use plain_types::Items;
-use refusals::Code;
+use plain_types::Code;
 use shared_rows::{Numbered, SharedRows};
 use variant_value::{Args, Value};
 

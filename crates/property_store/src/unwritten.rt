@@ -1,5 +1,5 @@
 //! Why nothing is written to a property.
-use refusals::Code;
+use plain_types::Code;
 use variant_value::Value;
 
 /// Why a value is not written to the declared property of a name.

@@ -3,8 +3,8 @@ use Rattle.std.proofs.Common.{◌≡◌, ◌∙◌, ℕ, zero, suc, ◌<◌, ◌
 use Rattle.std.specs.List.{list_any}
 use Rattle.std.proofs.lemmas.Bool.{or_parts}
 use Rattle.std.proofs.lemmas.List.Edits.{length-remove}
-use Rattle.places.specs.Table.{ChangesAt, IsPlace, Table}
-use Rattle.places.proofs.ForCallers.{changes_open, changes_same, changes_twice, changes_with, with_there, with_twice}
+use Rattle.shared_rows.specs.Table.{ChangesAt, IsPlace, Table}
+use Rattle.shared_rows.proofs.ForCallers.{changes_open, changes_same, changes_twice, changes_with, with_there, with_twice}
 use Rattle.publish_board.specs.declared.join.Going.{Going}
 use Rattle.publish_board.specs.declared.join.Going.TheVariants.{All, Object}
 use Rattle.publish_board.specs.declared.join.Join.{Join}

@@ -5,8 +5,8 @@ use Rattle.std.specs.List.{list_any}
 use Rattle.std.proofs.lemmas.Bool.{cases_eq, cases_lt, eq-eqb, false≢true, ne_eqb}
 use Rattle.std.proofs.lemmas.List.{get_or_past, get_or-set_other, get_or-set_same}
 use Rattle.std.proofs.lemmas.Slice.Eq.{bytes_eq-Decides}
-use Rattle.places.specs.Table.{IsPlace, Table, with_place}
-use Rattle.places.proofs.ForCallers.{with_same}
+use Rattle.shared_rows.specs.Table.{IsPlace, Table, with_place}
+use Rattle.shared_rows.proofs.ForCallers.{with_same}
 use Rattle.publish_board.specs.declared.join.Join.{Join}
 use Rattle.publish_board.specs.declared.joiners.Joiners.{Joiners}
 use Rattle.publish_board.specs.Rows.{is_from}

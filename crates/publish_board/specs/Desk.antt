@@ -1,8 +1,8 @@
 -- What contracts see of the desk of a session.
 use Rattle.std.specs.Prelude.{◌≡◌, ℕ, ◌≤◌, ◌==◌, Bool, not, false, nat_le, if◌then◌else◌, List, [], ◌∷◌, ◌++◌, length, filter, Option, Some, None, bytes_eq}
 use Rattle.std.specs.List.{AllPairs, list_any}
-use Rattle.refusals.specs.declared.code.Code.{Code}
-use Rattle.refusals.specs.declared.code.Code.TheVariants.{DoesNotFit, Limit, NameTaken, OwnSession}
+use Rattle.plain_types.specs.declared.code.Code.{Code}
+use Rattle.plain_types.specs.declared.code.Code.TheVariants.{DoesNotFit, Limit, NameTaken, OwnSession}
 use Rattle.signature_core.specs.declared.kind.Kind.{Kind}
 use Rattle.signature_core.specs.Kinds.{fits}
 use Rattle.publish_board.specs.declared.join.Join.{Join}

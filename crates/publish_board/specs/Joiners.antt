@@ -3,7 +3,7 @@ use Rattle.std.specs.Prelude.{◌≡◌, ℕ, ◌<◌, ◌≤◌, ◌==◌, ◌&
 use Rattle.std.specs.List.{list_any}
 use Rattle.std.specs.Option.{option_map_or}
 use Rattle.indexmap.specs.IndexMap.{get}
-use Rattle.places.specs.Table.{Table}
+use Rattle.shared_rows.specs.Table.{Table}
 use Rattle.publish_board.specs.declared.joiners.Joiners.{Joiners}
 use Rattle.publish_board.specs.Desk.{Desk, names_session}
 use Rattle.publish_board.specs.Table.{desk_at}

@@ -1,6 +1,6 @@
 -- What contracts see of the desks of all places.
 use Rattle.std.specs.Prelude.{ℕ, ◌<◌, ◌≤◌, Option, Some, None, IsFalse, IsTrue, List, slice_index_or}
-use Rattle.places.specs.Table.{IsPlace, Table, with_place}
+use Rattle.shared_rows.specs.Table.{IsPlace, Table, with_place}
 use Rattle.publish_board.specs.Desk.{Desk, names_session, no_desk}
 
 -- the desk of a place

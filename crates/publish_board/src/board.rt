@@ -1,8 +1,8 @@
 //! The desks of all places.
 ghost use Rattle.std.specs.Prelude.{◌≡◌, ◌<◌, ◌≤◌, [], IfOk, OnOk, OnErr, filter, length};
 ghost use Rattle.std.specs.List.{list_any};
-ghost use Rattle.places.specs.Table.{IsPlace, MakesRoom, Opens};
-ghost use Rattle.refusals.specs.Answers.{RefusedBy};
+ghost use Rattle.shared_rows.specs.Table.{IsPlace, MakesRoom, Opens};
+ghost use Rattle.plain_types.specs.Answers.{RefusedBy};
 ghost use Rattle.publish_board.specs.Rows.{has_name, is_join, listens, names_of, publishes};
 ghost use Rattle.publish_board.specs.Desk.{IsSound, counts_of, join_refusal, with_join, left, names_session, no_desk};
 ghost use Rattle.publish_board.specs.Desk.{publish_refusal, published, unpublished, without_object};
@@ -14,9 +14,9 @@ use crate::join::{Going, Join, listening};
 use crate::joiners::Joiners;
 use crate::lazy_desk::{Counts, LazyDesk};
 use crate::publication::{Publication, names_of};
-use places::Places;
+use shared_rows::Places;
 use plain_types::{Items, Text};
-use refusals::Fault;
+use plain_types::Fault;
 use signature_core::Kind;
 use std::alloc::{AllocError, Global};
 use std::hash::RandomState;
@@ -32,7 +32,7 @@ pub struct Board {
 }
 
 impl Model for Board {
-    ghost use Rattle.places.specs.Table.{Table};
+    ghost use Rattle.shared_rows.specs.Table.{Table};
     ghost use Rattle.publish_board.specs.Desk.{Desk};
 
     ghost Value = { Table Desk };

@@ -2,7 +2,7 @@
 ghost use Rattle.std.specs.Prelude.{◌≡◌, ◌<◌, IsSome, OnOk, OnErr, length, slice_index_or};
 ghost use Rattle.std.specs.List.{list_any};
 ghost use Rattle.std.specs.Result.{result_err};
-ghost use Rattle.refusals.specs.Answers.{RefusedBy};
+ghost use Rattle.plain_types.specs.Answers.{RefusedBy};
 ghost use Rattle.publish_board.specs.Rows.{has_name};
 ghost use Rattle.publish_board.specs.Desk.{IsSound, counts_of, join_refusal, with_join, names_session, no_desk, publish_refusal, published, unpublished};
 ghost use Rattle.publish_board.specs.Inside.{desk_of, without_join, without_publications};
@@ -11,7 +11,7 @@ use crate::join::Join;
 use crate::publication::{Publication, is_taken};
 use crate::rows::Rows;
 use plain_types::Text;
-use refusals::{Code, Fault};
+use plain_types::{Code, Fault};
 use signature_core::{Kind, fits};
 use std::alloc::{AllocError, Global};
 use std::marker::Model;

@@ -13,12 +13,12 @@ use Rattle.isolation.specs.Machine.{Tagged}
 use Rattle.isolation.specs.Slice.{AreNotes, IsNote, Note, Slice, back, with_mark}
 use Rattle.isolation.specs.World.{is_in, world_after}
 use Rattle.isolation.proofs.ForCallers.{AreNotes-push, notes_give_slice}
-use Rattle.thread_model.specs.declared.command.Tagged.{Tagged as Given}
-use Rattle.thread_model.specs.Asked.{Asked, tag}
-use Rattle.thread_model.specs.State.{State}
-use Rattle.thread_model.specs.Machine.{machine}
-use Rattle.thread_model.specs.Thread.{Settings}
-use Rattle.thread_model.proofs.ForCallers.{lawful}
+use Rattle.session_model.specs.declared.command.Tagged.{Tagged as Given}
+use Rattle.session_model.specs.Asked.{Asked, tag}
+use Rattle.session_model.specs.State.{State}
+use Rattle.session_model.specs.Machine.{machine}
+use Rattle.session_model.specs.Thread.{Settings}
+use Rattle.session_model.proofs.ForCallers.{lawful}
 use Rattle.session_engine.specs.Core.{AreJoinersOf, place}
 use Rattle.session_engine.proofs.EngineLemmas.{position-None}
 use Rattle.server_world.specs.Server.{Server, names, settings, states, was_refused}

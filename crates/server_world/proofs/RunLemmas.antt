@@ -10,12 +10,12 @@ use Rattle.isolation.specs.World.{entries_of, only, world_after, world_lines, at
 use Rattle.isolation.specs.Influence.{IsClosed}
 use Rattle.isolation.specs.Laws.{SameFor}
 use Rattle.isolation.proofs.ForCallers.{between_law, first_half, leaving_out, second_half, slice_law}
-use Rattle.thread_model.specs.declared.command.Tagged.{Tagged as Given}
-use Rattle.thread_model.specs.declared.line.Line.{Line}
-use Rattle.thread_model.specs.State.{State}
-use Rattle.thread_model.specs.Asked.{Asked, tag}
-use Rattle.thread_model.specs.Machine.{machine}
-use Rattle.thread_model.proofs.ForCallers.{lawful}
+use Rattle.session_model.specs.declared.command.Tagged.{Tagged as Given}
+use Rattle.session_model.specs.declared.line.Line.{Line}
+use Rattle.session_model.specs.State.{State}
+use Rattle.session_model.specs.Asked.{Asked, tag}
+use Rattle.session_model.specs.Machine.{machine}
+use Rattle.session_model.proofs.ForCallers.{lawful}
 use Rattle.server_world.specs.declared.report.Entry.{Entry}
 use Rattle.server_world.specs.declared.report.Entry.TheVariants.{Lines, OutOfMemory}
 use Rattle.server_world.specs.Names.{with_name, with_names}

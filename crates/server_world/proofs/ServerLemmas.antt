@@ -8,12 +8,12 @@ use Rattle.std.proofs.lemmas.Bool.{and_from, cases_Bool, cond-true, cond-false, 
 use Rattle.std.proofs.lemmas.List.Folds.{list_any-append}
 use Rattle.std.proofs.lemmas.Slice.Eq.{bytes_eq-Decides}
 use Rattle.isolation.specs.Influence.{KnowsAll}
-use Rattle.thread_model.specs.declared.line.Line.{Line}
-use Rattle.thread_model.specs.Asked.{Asked}
-use Rattle.thread_model.specs.Machine.{machine}
-use Rattle.thread_model.specs.Named.{AreNamed}
-use Rattle.thread_model.specs.State.{empty}
-use Rattle.thread_model.specs.Thread.{Settings, joins_name}
+use Rattle.session_model.specs.declared.line.Line.{Line}
+use Rattle.session_model.specs.Asked.{Asked}
+use Rattle.session_model.specs.Machine.{machine}
+use Rattle.session_model.specs.Named.{AreNamed}
+use Rattle.session_model.specs.State.{empty}
+use Rattle.session_model.specs.Thread.{Settings, joins_name}
 use Rattle.session_tables.specs.Session.{Session, fresh}
 use Rattle.session_tables.proofs.ForCallers.{heard-none, stays_failed}
 use Rattle.session_tables.specs.Tables.{session_at}

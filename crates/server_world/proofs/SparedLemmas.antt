@@ -10,17 +10,17 @@ use Rattle.isolation.specs.Spared.{AreDone, AreLossy, AreSpared, BeginsAnew, End
 use Rattle.isolation.proofs.Worlds.{length-world_lines}
 use Rattle.isolation.proofs.LeftOut.{entries_of-only}
 use Rattle.isolation.proofs.ForCallers.{IsClosed-influences, influences-self, spared_law}
-use Rattle.refusals.specs.declared.code.Code.TheVariants.{SessionFailed}
-use Rattle.thread_model.specs.declared.line.Line.{Line}
-use Rattle.thread_model.specs.declared.line.Line.TheVariants.{Error}
-use Rattle.thread_model.specs.declared.post.Post.{Post}
-use Rattle.thread_model.specs.Asked.{Asked, Reset}
-use Rattle.thread_model.specs.Effects.{unless}
-use Rattle.thread_model.specs.Machine.{machine}
-use Rattle.thread_model.specs.Refusing.{refusal}
-use Rattle.thread_model.specs.State.{State}
-use Rattle.thread_model.specs.Thread.{Settings, does, performs}
-use Rattle.thread_model.proofs.ForCallers.{arrive_all-is, lawful}
+use Rattle.plain_types.specs.declared.code.Code.TheVariants.{SessionFailed}
+use Rattle.session_model.specs.declared.line.Line.{Line}
+use Rattle.session_model.specs.declared.line.Line.TheVariants.{Error}
+use Rattle.session_model.specs.declared.post.Post.{Post}
+use Rattle.session_model.specs.Asked.{Asked, Reset}
+use Rattle.session_model.specs.Effects.{unless}
+use Rattle.session_model.specs.Machine.{machine}
+use Rattle.session_model.specs.Refusing.{refusal}
+use Rattle.session_model.specs.State.{State}
+use Rattle.session_model.specs.Thread.{Settings, does, performs}
+use Rattle.session_model.proofs.ForCallers.{arrive_all-is, lawful}
 use Rattle.session_tables.specs.Reaching.{Hears, heard}
 use Rattle.session_tables.specs.Session.{Session}
 use Rattle.session_engine.specs.Sessions.{is_reset, is_shut, session_does}

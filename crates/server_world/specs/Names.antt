@@ -2,7 +2,7 @@
 use Rattle.std.specs.Prelude.{ℕ, List, [], ◌∷◌, ◌++◌, if◌then◌else◌, bytes_eq}
 use Rattle.std.specs.List.{list_any}
 use Rattle.isolation.specs.Machine.{Tagged}
-use Rattle.thread_model.specs.Asked.{Asked}
+use Rattle.session_model.specs.Asked.{Asked}
 
 -- the names with this one, which goes last where it is new
 abbrev pub with_name : List (List ℕ) → List ℕ → List (List ℕ)

@@ -1,7 +1,7 @@
 -- Runs whose commands are noted.
 use Rattle.std.specs.Prelude.{◌≡◌, ℕ, Bool, List, [], take, IsTrue, IsFalse}
 use Rattle.isolation.specs.Machine.{Tagged}
-use Rattle.thread_model.specs.Asked.{Asked}
+use Rattle.session_model.specs.Asked.{Asked}
 use Rattle.server_world.specs.declared.report.Entry.{Entry}
 use Rattle.server_world.specs.declared.report.Report.{Report}
 use Rattle.server_world.specs.Noting.{kept_places}

@@ -2,10 +2,10 @@
 use Rattle.std.specs.Prelude.{◌+◌, ◌<◌, ℕ, Bool, List, [], ◌∷◌, All, length, map, take, slice_index_or, if◌then◌else◌}
 use Rattle.isolation.specs.Machine.{Tagged}
 use Rattle.isolation.specs.Slice.{Note, slice, IsNote, AreNotes}
-use Rattle.thread_model.specs.Asked.{Asked}
-use Rattle.thread_model.specs.Machine.{machine}
-use Rattle.thread_model.specs.State.{State}
-use Rattle.thread_model.specs.Thread.{Settings}
+use Rattle.session_model.specs.Asked.{Asked}
+use Rattle.session_model.specs.Machine.{machine}
+use Rattle.session_model.specs.State.{State}
+use Rattle.session_model.specs.Thread.{Settings}
 use Rattle.server_world.specs.declared.report.Entry.{Entry}
 use Rattle.server_world.specs.Names.{with_name}
 use Rattle.server_world.specs.Runs.{AreSteps}

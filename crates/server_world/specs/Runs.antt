@@ -6,12 +6,12 @@ use Rattle.isolation.specs.World.{only, world_after, world_lines, at_session}
 use Rattle.isolation.specs.Influence.{IsClosed, influences}
 use Rattle.isolation.specs.Slice.{KeepsAtLeast, kept, slice}
 use Rattle.isolation.specs.Alone.{items, alone_after, alone_lines}
-use Rattle.thread_model.specs.declared.command.Tagged.{Tagged as Given}
-use Rattle.thread_model.specs.State.{State}
-use Rattle.thread_model.specs.Asked.{Asked, tag}
-use Rattle.thread_model.specs.Thread.{Settings}
-use Rattle.thread_model.specs.Machine.{machine}
-use Rattle.thread_model.specs.declared.line.Line.{Line}
+use Rattle.session_model.specs.declared.command.Tagged.{Tagged as Given}
+use Rattle.session_model.specs.State.{State}
+use Rattle.session_model.specs.Asked.{Asked, tag}
+use Rattle.session_model.specs.Thread.{Settings}
+use Rattle.session_model.specs.Machine.{machine}
+use Rattle.session_model.specs.declared.line.Line.{Line}
 use Rattle.session_engine.specs.Sessions.{AreSound, IsStep, is_reset}
 use Rattle.server_world.specs.declared.report.Entry.{Entry}
 use Rattle.server_world.specs.Names.{with_name, with_names}

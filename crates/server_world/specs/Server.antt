@@ -1,9 +1,9 @@
 -- What contracts see of a server: a state for each name, and whether memory was refused.
 use Rattle.std.specs.Prelude.{◌≡◌, ◌⊎◌, ◌||◌, ℕ, Bool, List, [], None, IsTrue, IsFalse}
 use Rattle.isolation.specs.Influence.{KnowsAll}
-use Rattle.thread_model.specs.State.{State}
-use Rattle.thread_model.specs.Thread.{Settings}
-use Rattle.thread_model.specs.Machine.{machine}
+use Rattle.session_model.specs.State.{State}
+use Rattle.session_model.specs.Thread.{Settings}
+use Rattle.session_model.specs.Machine.{machine}
 use Rattle.session_tables.specs.Session.{Session, gone}
 use Rattle.server_world.specs.declared.server.Server as code
 use Rattle.session_engine.specs.Core as engine

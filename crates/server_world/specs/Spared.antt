@@ -3,11 +3,11 @@ use Rattle.std.specs.Prelude.{◌≡◌, ◌≢◌, ◌⊎◌, ℕ, Bool, true, 
 use Rattle.isolation.specs.Machine.{Tagged}
 use Rattle.isolation.specs.Influence.{influences}
 use Rattle.isolation.specs.Spared.{Mortal}
-use Rattle.refusals.specs.declared.code.Code.TheVariants.{SessionFailed}
-use Rattle.thread_model.specs.declared.line.Line.TheVariants.{Error}
-use Rattle.thread_model.specs.Asked.{Asked}
-use Rattle.thread_model.specs.Machine.{machine}
-use Rattle.thread_model.specs.State.{State}
+use Rattle.plain_types.specs.declared.code.Code.TheVariants.{SessionFailed}
+use Rattle.session_model.specs.declared.line.Line.TheVariants.{Error}
+use Rattle.session_model.specs.Asked.{Asked}
+use Rattle.session_model.specs.Machine.{machine}
+use Rattle.session_model.specs.State.{State}
 use Rattle.server_world.specs.declared.report.Entry.{Entry}
 use Rattle.server_world.specs.declared.report.Entry.TheVariants.{Lines, OutOfMemory}
 use Rattle.server_world.specs.Runs.{IsApart}

@@ -1,7 +1,7 @@
 //! What holds of the sessions of every server, whatever the commands.
 ghost use Rattle.isolation.specs.Laws.{LeavingOut, FinalStates, InfluencedStates, InfluenceIsLeast, SliceLaw, SliceFromMembers, SliceWithinInfluence};
-ghost use Rattle.thread_model.specs.Machine.{machine};
-ghost use Rattle.thread_model.specs.Thread.{Settings};
+ghost use Rattle.session_model.specs.Machine.{machine};
+ghost use Rattle.session_model.specs.Thread.{Settings};
 
 /// Leaving out commands of sessions that no kept session joins is not seen by a kept session: it is
 /// told the same, and has the same state at the end. So it is with the sessions that influence one

@@ -10,4 +10,4 @@ pub use laws::{influence_is_least, leaving_out_keeps_sessions, slicing_keeps_a_s
 pub use notes::Notes;
 pub use report::{Entry, Report};
 pub use server::Server;
-pub use thread_model::{Answer, Command, Line, Tagged};
+pub use session_model::{Answer, Command, Line, Tagged};

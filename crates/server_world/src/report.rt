@@ -1,5 +1,5 @@
 use plain_types::Items;
-use thread_model::Line;
+use session_model::Line;
 
 /// What a run tells of one of its commands.
 #[derive(Drop)]

@@ -2,9 +2,9 @@
 ghost use Rattle.std.specs.Prelude.{◌≡◌, ◌⊎◌, ◌≤◌, ◌<◌, ◌++◌, ◌∷◌, [], All, List, ℕ, Some, length, map, IsTrue, IsFalse, IfOk, OnOk, OnErr};
 ghost use Rattle.std.specs.Result.{result_ok};
 ghost use Rattle.isolation.specs.Slice.{Note, back};
-ghost use Rattle.thread_model.specs.Asked.{asked, tag};
-ghost use Rattle.thread_model.specs.Machine.{machine};
-ghost use Rattle.thread_model.specs.State.{empty};
+ghost use Rattle.session_model.specs.Asked.{asked, tag};
+ghost use Rattle.session_model.specs.Machine.{machine};
+ghost use Rattle.session_model.specs.State.{empty};
 ghost use Rattle.stored_slots.specs.Table.{functors_of};
 ghost use Rattle.session_engine.specs.Core as engine;
 ghost use Rattle.session_engine.specs.Core.{place};
@@ -27,7 +27,7 @@ use session_engine::Engine;
 use std::alloc::{AllocError, Global};
 use std::hash::RandomState;
 use stored_slots::Functors;
-use thread_model::{Line, Tagged};
+use session_model::{Line, Tagged};
 
 /// A server of sessions, each with a name. A session is there from its first command on.
 pub struct Server {

@@ -1,9 +1,9 @@
 -- What actions come to, and what becomes of the tables by them.
 use Rattle.std.proofs.Common.{◌≡◌, ℕ, Bool, true, false, Some, None, [], ◌∙◌, sym, ap, refl, if◌then◌else◌}
-use Rattle.refusals.specs.declared.code.Code.TheVariants.{NoSuchObject}
-use Rattle.thread_model.specs.Doing.{Doing, in_state}
-use Rattle.thread_model.specs.Items.{puts}
-use Rattle.thread_model.specs.State.{State}
+use Rattle.plain_types.specs.declared.code.Code.TheVariants.{NoSuchObject}
+use Rattle.session_model.specs.Doing.{Doing, in_state}
+use Rattle.session_model.specs.Items.{puts}
+use Rattle.session_model.specs.State.{State}
 use Rattle.session_tables.specs.declared.tables.Tables.{Tables}
 use Rattle.session_tables.specs.Tables.{IsPlaced, state_at, with_state}
 use Rattle.session_tables.proofs.ForCallers.{changes_same, changes_twice, changes_with, placed_after, state_with}

@@ -3,22 +3,22 @@ use Rattle.std.proofs.Common.{◌≡◌, ◌+◌, ◌<◌, ◌≤◌, ℕ, Bor, 
 use Rattle.std.proofs.lemmas.List.{append-nil, drop_all, drop_more}
 use Rattle.std.specs.List.{HoldsAt}
 use Rattle.std.specs.Option.{MatchOption, ok_or, option_copied, option_map_or}
-use Rattle.refusals.specs.declared.code.Code.{Code}
-use Rattle.refusals.specs.declared.code.Code.TheVariants.{BadValue, DoesNotFit}
-use Rattle.refusals.specs.Answers.{Answers}
-use Rattle.refusals.specs.declared.fault.Fault.{Fault}
-use Rattle.refusals.specs.declared.fault.Fault.TheVariants.{Refused}
+use Rattle.plain_types.specs.declared.code.Code.{Code}
+use Rattle.plain_types.specs.declared.code.Code.TheVariants.{BadValue, DoesNotFit}
+use Rattle.plain_types.specs.Answers.{Answers}
+use Rattle.plain_types.specs.declared.fault.Fault.{Fault}
+use Rattle.plain_types.specs.declared.fault.Fault.TheVariants.{Refused}
 use Rattle.signature_core.specs.declared.kind.Kind.{Kind}
 use Rattle.variant_value.specs.declared.value.Value.{Value}
 use Rattle.variant_value.specs.Values.{converted}
 use Rattle.connection_list.specs.declared.connection.NewConnection.{NewConnection}
-use Rattle.connection_types.specs.declared.callee.Callee.TheVariants.{Method}
-use Rattle.connection_types.specs.declared.connection_type.ConnectionType.{ConnectionType}
-use Rattle.thread_model.specs.Connecting.{fits_at, new_connection}
-use Rattle.thread_model.specs.Methods.{Found, ◌>>=◌}
-use Rattle.thread_model.specs.Settings.{Settings}
-use Rattle.thread_model.specs.State.{State}
-use Rattle.thread_model.specs.Targets.{all_converted}
+use Rattle.plain_types.specs.declared.callee.Callee.TheVariants.{Method}
+use Rattle.plain_types.specs.declared.connection_type.ConnectionType.{ConnectionType}
+use Rattle.session_model.specs.Connecting.{fits_at, new_connection}
+use Rattle.session_model.specs.Methods.{Found, ◌>>=◌}
+use Rattle.session_model.specs.Settings.{Settings}
+use Rattle.session_model.specs.State.{State}
+use Rattle.session_model.specs.Targets.{all_converted}
 
 -- what was found before, and then the rest
 abbrev pub behind : {A : Type 0} → List A → Found (List A) → Found (List A)

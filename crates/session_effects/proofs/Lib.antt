@@ -4,3 +4,4 @@ pub mod MethodLemmas
 pub mod WritingLemmas
 pub mod FunctorLemmas
 pub mod ForCallers
+pub mod ValuesLemmas

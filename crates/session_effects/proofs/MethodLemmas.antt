@@ -5,9 +5,9 @@ use Rattle.std.specs.Option.{option_map_or}
 use Rattle.class_table.specs.Lookup.{methods}
 use Rattle.object_tree.specs.declared.row.Row.{Row}
 use Rattle.object_tree.specs.Rows.{row_of}
-use Rattle.thread_model.specs.Methods.{methods_of}
-use Rattle.thread_model.specs.Settings.{Settings}
-use Rattle.thread_model.specs.State.{State}
+use Rattle.session_model.specs.Methods.{methods_of}
+use Rattle.session_model.specs.Settings.{Settings}
+use Rattle.session_model.specs.State.{State}
 use Rattle.session_tables.specs.Classes.{HasClass}
 
 -- the methods of an object are those of its class

@@ -4,10 +4,10 @@ use Rattle.std.specs.List.{cons_option}
 use Rattle.std.specs.Prelude.{option_map, option_and_then}
 use Rattle.std.specs.Option.{ok_or, option_map_or}
 use Rattle.std.proofs.lemmas.Bool.{le-leb}
-use Rattle.refusals.specs.Answers.{RefusedBy}
-use Rattle.refusals.specs.declared.code.Code.TheVariants.{BadValue, Limit}
-use Rattle.refusals.specs.declared.fault.Fault.{Fault}
-use Rattle.refusals.specs.declared.fault.Fault.TheVariants.{Refused, Memory}
+use Rattle.plain_types.specs.Answers.{RefusedBy}
+use Rattle.plain_types.specs.declared.code.Code.TheVariants.{BadValue, Limit}
+use Rattle.plain_types.specs.declared.fault.Fault.{Fault}
+use Rattle.plain_types.specs.declared.fault.Fault.TheVariants.{Refused, Memory}
 use Rattle.variant_value.specs.declared.value.Value.{Value}
 use Rattle.variant_value.specs.declared.value.Value.TheVariants as v
 use Rattle.variant_value.specs.declared.value.TheConstants.{TEXT_BYTES}
@@ -25,15 +25,15 @@ use Rattle.property_store.specs.declared.property.Property.{Property as At}
 use Rattle.bound_stores.specs.declared.changed.Changed.{Changed}
 use Rattle.bound_stores.specs.declared.changed.Changed.TheVariants.{Written}
 use Rattle.bound_stores.specs.Changed.{changes_in}
-use Rattle.thread_model.specs.Doing.{Doing, in_state}
-use Rattle.thread_model.specs.Items.{Emit, Item, puts}
-use Rattle.thread_model.specs.Methods.{Found, ◌>>=◌}
-use Rattle.thread_model.specs.Settings.{Settings}
-use Rattle.thread_model.specs.Showing.{changes, property_at, told_value}
-use Rattle.thread_model.specs.State.{State, shown}
-use Rattle.thread_model.specs.Targets.{evaluated, object_of}
-use Rattle.thread_model.specs.Writing.{Declared, Dynamic, DeclaredField, Removed, Writing, acted_writing, declared, dynamic_writing, short, with_writing, written}
-use Rattle.thread_model.proofs.ForCallers.{set_done, set_faulty, dynamic_removed, dynamic_set}
+use Rattle.session_model.specs.Doing.{Doing, in_state}
+use Rattle.session_model.specs.Items.{Emit, Item, puts}
+use Rattle.session_model.specs.Methods.{Found, ◌>>=◌}
+use Rattle.session_model.specs.Settings.{Settings}
+use Rattle.session_model.specs.Showing.{changes, property_at, told_value}
+use Rattle.session_model.specs.State.{State, shown}
+use Rattle.session_model.specs.Targets.{evaluated, object_of}
+use Rattle.session_model.specs.Writing.{Declared, Dynamic, DeclaredField, Removed, Writing, acted_writing, declared, dynamic_writing, short, with_writing, written}
+use Rattle.session_model.proofs.ForCallers.{set_done, set_faulty, dynamic_removed, dynamic_set}
 use Rattle.session_tables.specs.declared.tables.Tables.{Tables}
 use Rattle.session_tables.specs.Classes.{HasClass}
 use Rattle.session_tables.specs.Named.{Tells, WritesDeclared}

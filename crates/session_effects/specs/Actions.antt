@@ -1,19 +1,19 @@
 -- What actions come to.
 use Rattle.std.specs.Prelude.{◌≡◌, ℕ, Bool, true, false, List, [], ◌∷◌, Some, Result, Ok, Err}
-use Rattle.refusals.specs.declared.fault.Fault.{Fault}
-use Rattle.refusals.specs.declared.fault.Fault.TheVariants.{Refused, Memory}
+use Rattle.plain_types.specs.declared.fault.Fault.{Fault}
+use Rattle.plain_types.specs.declared.fault.Fault.TheVariants.{Refused, Memory}
 use Rattle.variant_value.specs.declared.value.Value.{Value}
 use Rattle.term_core.specs.declared.action.SingleAction.{SingleAction}
 use Rattle.term_core.specs.declared.action.SingleAction.TheVariants as e
 use Rattle.term_core.specs.Act as term
 use Rattle.term_core.specs.Act.{single_action}
-use Rattle.thread_model.specs.declared.deed.Deed.{Deed}
-use Rattle.thread_model.specs.Acts.{act_deed}
-use Rattle.thread_model.specs.Agenda.{step}
-use Rattle.thread_model.specs.Deeds.{HasEnds}
-use Rattle.thread_model.specs.Doing.{Doing, in_state}
-use Rattle.thread_model.specs.Items.{Act, Item, Warn, puts}
-use Rattle.thread_model.specs.Methods.{Found}
+use Rattle.session_model.specs.declared.deed.Deed.{Deed}
+use Rattle.session_model.specs.Acts.{act_deed}
+use Rattle.session_model.specs.Agenda.{step}
+use Rattle.session_model.specs.Deeds.{HasEnds}
+use Rattle.session_model.specs.Doing.{Doing, in_state}
+use Rattle.session_model.specs.Items.{Act, Item, Warn, puts}
+use Rattle.session_model.specs.Methods.{Found}
 use Rattle.session_tables.specs.declared.tables.Tables.{Tables}
 use Rattle.session_tables.specs.Tables.{ChangesOnly, state_at}
 use Rattle.session_effects.specs.declared.caller.Caller.{Caller}

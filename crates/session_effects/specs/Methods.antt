@@ -2,7 +2,7 @@
 use Rattle.std.specs.Prelude.{ℕ, List, Option, Ok}
 use Rattle.class_table.specs.declared.class.Method.{Method}
 use Rattle.class_table.specs.Lookup.{method_number}
-use Rattle.thread_model.specs.Methods.{Found, ◌>>=◌, methods_of, signature_in}
+use Rattle.session_model.specs.Methods.{Found, ◌>>=◌, methods_of, signature_in}
 use Rattle.session_tables.specs.declared.tables.Tables.{Tables}
 use Rattle.session_tables.specs.Tables.{state_at}
 use Rattle.session_effects.specs.declared.caller.Caller.{Caller}

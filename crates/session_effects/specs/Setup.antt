@@ -1,5 +1,5 @@
 -- What is fixed for the whole life of an engine, as definitions see it.
-use Rattle.thread_model.specs.Thread.{Settings}
+use Rattle.session_model.specs.Thread.{Settings}
 use Rattle.session_effects.specs.declared.setup.Setup.{Setup}
 
 abbrev pub settings_of : Setup → Settings

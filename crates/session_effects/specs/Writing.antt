@@ -2,18 +2,18 @@
 use Rattle.std.specs.Prelude.{◌≡◌, ℕ, List, [], ◌∷◌, Result, Ok, Err}
 use Rattle.std.specs.List.{filter_map}
 use Rattle.std.specs.Option.{option_map_or}
-use Rattle.refusals.specs.declared.fault.Fault.{Fault}
-use Rattle.refusals.specs.declared.fault.Fault.TheVariants.{Refused, Memory}
+use Rattle.plain_types.specs.declared.fault.Fault.{Fault}
+use Rattle.plain_types.specs.declared.fault.Fault.TheVariants.{Refused, Memory}
 use Rattle.variant_value.specs.declared.value.Value.{Value}
 use Rattle.binding_graph.specs.declared.change.Change.{Change}
 use Rattle.property_store.specs.declared.property.Property.{Property}
-use Rattle.thread_model.specs.Doing.{Doing, in_state}
-use Rattle.thread_model.specs.Items.{Emit, Item, WarnOf, puts}
-use Rattle.thread_model.specs.Methods.{Found}
-use Rattle.thread_model.specs.Settings.{Settings}
-use Rattle.thread_model.specs.Showing.{property_at, told_as, told_value}
-use Rattle.thread_model.specs.State.{State, shown}
-use Rattle.thread_model.specs.Writing.{Writing, written}
+use Rattle.session_model.specs.Doing.{Doing, in_state}
+use Rattle.session_model.specs.Items.{Emit, Item, WarnOf, puts}
+use Rattle.session_model.specs.Methods.{Found}
+use Rattle.session_model.specs.Settings.{Settings}
+use Rattle.session_model.specs.Showing.{property_at, told_as, told_value}
+use Rattle.session_model.specs.State.{State, shown}
+use Rattle.session_model.specs.Writing.{Writing, written}
 use Rattle.session_tables.specs.declared.tables.Tables.{Tables}
 use Rattle.session_tables.specs.Tables.{state_at}
 use Rattle.session_effects.specs.declared.announcing.Announcement.{Announcement}

@@ -3,8 +3,8 @@ ghost use Rattle.std.specs.Prelude.{◌≡◌, IfOk, map, option_and_then, optio
 ghost use Rattle.std.specs.Option.{option_copied};
 ghost use Rattle.class_table.specs.Lookup.{properties};
 ghost use Rattle.binding_graph.specs.declared.change.Message.TheVariants as t;
-ghost use Rattle.thread_model.specs.Showing.{property_at, told_as};
-ghost use Rattle.thread_model.specs.State.{State, shown};
+ghost use Rattle.session_model.specs.Showing.{property_at, told_as};
+ghost use Rattle.session_model.specs.State.{State, shown};
 ghost use Rattle.bound_stores.specs.Changed.{changes_in};
 ghost use Rattle.session_tables.specs.Classes.{HasClass};
 ghost use Rattle.session_tables.specs.Tables.{IsPlaced, state_at};

@@ -1,13 +1,13 @@
 //! Deeds: what commands and actions do to a session, once each object that it concerns is known.
 ghost use Rattle.std.specs.Prelude.{◌≡◌, IfOk, OnErr, OnOk};
-ghost use Rattle.refusals.specs.Answers.{RefusedBy};
-ghost use Rattle.thread_model.specs.Deeds.{HasEnds, deed_answer, deed_refusal, with_deed};
+ghost use Rattle.plain_types.specs.Answers.{RefusedBy};
+ghost use Rattle.session_model.specs.Deeds.{HasEnds, deed_answer, deed_refusal, with_deed};
 ghost use Rattle.session_tables.specs.Tables.{IsPlaced, state_at, with_state};
 
 use event_queue::Event;
-use refusals::Fault;
+use plain_types::Fault;
 use session_tables::Tables;
-use thread_model::{Answer, Deed};
+use session_model::{Answer, Deed};
 
 /// Does a deed, and returns what a command replies for it.
 pub fn do_deed(tables: &mut Tables, place: usize, deed: Deed) -> Result<Answer, Fault>

@@ -1,10 +1,10 @@
 //! What actions do that neither send signals nor delete objects, and what those that do come to.
 ghost use Rattle.std.specs.Prelude.{◌≡◌, ◌∷◌, [], IfOk, OnErr, IsFalse, IsTrue, Some};
-ghost use Rattle.refusals.specs.Answers.{Answers};
+ghost use Rattle.plain_types.specs.Answers.{Answers};
 ghost use Rattle.term_core.specs.declared.action.SingleAction.TheVariants as e;
-ghost use Rattle.thread_model.specs.Acts.{emission};
-ghost use Rattle.thread_model.specs.Items.{Delete, Emit};
-ghost use Rattle.thread_model.specs.Targets.{truth_evaluated};
+ghost use Rattle.session_model.specs.Acts.{emission};
+ghost use Rattle.session_model.specs.Items.{Delete, Emit};
+ghost use Rattle.session_model.specs.Targets.{truth_evaluated};
 ghost use Rattle.session_tables.specs.Tables.{IsPlaced, state_at};
 ghost use Rattle.session_effects.specs.Actions.{FindsDeed, IsSent, KeepsOthers, Tries, is_nested};
 ghost use Rattle.session_effects.specs.Setup.{settings_of};
@@ -18,11 +18,11 @@ use crate::evaluation::{
 use crate::methods::{kinds_at, signal_with};
 use crate::slot::Slot;
 use plain_types::Items;
-use refusals::Fault;
+use plain_types::Fault;
 use session_tables::Tables;
 use signature_core::Signature;
 use term_core::{Expr, SingleAction, Target};
-use thread_model::Deed;
+use session_model::Deed;
 use variant_value::Value;
 
 /// A signal that an action sends.

@@ -1,14 +1,14 @@
 //! The objects that actions name, and the values of their expressions.
 ghost use Rattle.std.specs.Prelude.{◌≡◌, Err, IfOk};
 ghost use Rattle.std.specs.Option.{ok_or, option_copied, option_map_or};
-ghost use Rattle.refusals.specs.Answers.{Answers};
-ghost use Rattle.refusals.specs.declared.code.Code.TheVariants.{BadValue};
-ghost use Rattle.thread_model.specs.Targets.{all_converted, all_evaluated, evaluated, named_object_of, object_of, truth_evaluated};
+ghost use Rattle.plain_types.specs.Answers.{Answers};
+ghost use Rattle.plain_types.specs.declared.code.Code.TheVariants.{BadValue};
+ghost use Rattle.session_model.specs.Targets.{all_converted, all_evaluated, evaluated, named_object_of, object_of, truth_evaluated};
 ghost use Rattle.session_tables.specs.Tables.{IsPlaced, state_at};
 ghost use Rattle.variant_value.specs.Values.{converted};
 
 use plain_types::{Items, Text};
-use refusals::{Code, Fault};
+use plain_types::{Code, Fault};
 use session_tables::Tables;
 use signature_core::Kind;
 use std::alloc::{AllocError, Global};
@@ -28,7 +28,7 @@ pub struct Reader<'a> {
 }
 
 impl Reads for Reader<'_> {
-    ghost use Rattle.thread_model.specs.Targets.{reads};
+    ghost use Rattle.session_model.specs.Targets.{reads};
     ghost use Rattle.session_tables.specs.Tables.{state_at};
 
     type Own = ();

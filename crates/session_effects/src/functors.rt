@@ -3,12 +3,12 @@ ghost use Rattle.std.specs.Prelude.{◌≡◌, ◌↔◌, IsTrue, bytes_eq};
 ghost use Rattle.std.specs.Option.{option_copied};
 ghost use Rattle.variant_value.specs.Values.{IsOfKind, IsShort};
 ghost use Rattle.stored_slots.specs.Functors.{AreArguments, index_of};
-ghost use Rattle.thread_model.specs.Functors.{functor_at, functor_named, params_at};
+ghost use Rattle.session_model.specs.Functors.{functor_at, functor_named, params_at};
 ghost use Rattle.session_effects.specs.Setup.{settings_of};
 
 use crate::caller::Caller;
 use plain_types::Text;
-use refusals::Code;
+use plain_types::Code;
 use signature_core::Kind;
 use stored_slots::Functor;
 use variant_value::{TEXT_BYTES, Value};

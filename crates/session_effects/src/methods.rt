@@ -1,11 +1,11 @@
 //! The methods of objects, by index, by signature and by text.
 ghost use Rattle.std.specs.Prelude.{◌≡◌, Err, IfSome, Ok, if◌then◌else◌};
 ghost use Rattle.std.specs.Option.{option_copied};
-ghost use Rattle.refusals.specs.Answers.{Answers};
-ghost use Rattle.refusals.specs.declared.code.Code.TheVariants.{NoSuchMethod};
+ghost use Rattle.plain_types.specs.Answers.{Answers};
+ghost use Rattle.plain_types.specs.declared.code.Code.TheVariants.{NoSuchMethod};
 ghost use Rattle.class_table.specs.Lookup.{methods};
 ghost use Rattle.class_table.specs.Sound.{IsMethod};
-ghost use Rattle.thread_model.specs.Methods.{kinds_at, is_signal_at, method_at, method_named, method_with, signal_named, signal_with};
+ghost use Rattle.session_model.specs.Methods.{kinds_at, is_signal_at, method_at, method_named, method_with, signal_named, signal_with};
 ghost use Rattle.session_tables.specs.Tables.{IsPlaced, state_at};
 ghost use Rattle.session_effects.specs.Methods.{its_methods, number_named};
 ghost use Rattle.session_effects.specs.Setup.{settings_of};
@@ -13,7 +13,7 @@ ghost use Rattle.session_effects.specs.Setup.{settings_of};
 use crate::caller::Caller;
 use class_table::Method;
 use plain_types::Text;
-use refusals::{Code, Fault};
+use plain_types::{Code, Fault};
 use session_tables::Tables;
 use signature_core::{Kind, Signature};
 

@@ -3,11 +3,11 @@ ghost use Rattle.std.specs.Prelude.{◌≡◌, ◌≤◌, IfOk, length, map, opt
 ghost use Rattle.stored_slots.specs.declared.limit.TheConstants.{FUNCTORS};
 ghost use Rattle.std.specs.Result.{result_err};
 ghost use Rattle.class_table.specs.Lookup.{method_text, methods, names, properties};
-ghost use Rattle.thread_model.specs.Classes.{class_index, class_refusal, named_class_refusal};
+ghost use Rattle.session_model.specs.Classes.{class_index, class_refusal, named_class_refusal};
 
 use class_table::ClassTable;
 use plain_types::{Items, Text};
-use refusals::Code;
+use plain_types::Code;
 use std::alloc::{AllocError, Global};
 use stored_slots::Functor;
 

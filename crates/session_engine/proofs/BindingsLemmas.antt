@@ -1,11 +1,11 @@
 -- What the commands for bindings and groups come to.
 use Rattle.std.proofs.Common.{◌≡◌, ℕ, Bool, true, false, cond, List, [], ◌∷◌, Option, Some, None, Result, Ok, Err, IsErrAnd, refl, sym, ap, subst, ◌∙◌}
 use Rattle.std.specs.Option.{option_map_or, option_or}
-use Rattle.refusals.specs.declared.code.Code.{Code}
-use Rattle.refusals.specs.declared.code.Code.TheVariants.{NoSuchObject}
-use Rattle.refusals.specs.declared.fault.Fault.{Fault}
-use Rattle.refusals.specs.declared.fault.Fault.TheVariants.{Refused}
-use Rattle.refusals.specs.Answers.{Answers}
+use Rattle.plain_types.specs.declared.code.Code.{Code}
+use Rattle.plain_types.specs.declared.code.Code.TheVariants.{NoSuchObject}
+use Rattle.plain_types.specs.declared.fault.Fault.{Fault}
+use Rattle.plain_types.specs.declared.fault.Fault.TheVariants.{Refused}
+use Rattle.plain_types.specs.Answers.{Answers}
 use Rattle.serde_json.specs.Data.{Data}
 use Rattle.term_core.specs.Forms.{binding_term_of}
 use Rattle.term_core.specs.Term.{Term}
@@ -16,15 +16,15 @@ use Rattle.property_store.specs.declared.property.Property.{Property}
 use Rattle.binding_graph.specs.Graph as graph
 use Rattle.binding_graph.specs.Graph.{is_open}
 use Rattle.binding_values.specs.Stored.{meant}
-use Rattle.thread_model.specs.Binding.{Bound, asked_binding, bindable_property, reads_refusal, refusal_of}
-use Rattle.thread_model.specs.Deeds.{behind}
-use Rattle.thread_model.specs.Doing.{begun, in_state}
-use Rattle.thread_model.specs.Items.{Next, puts}
-use Rattle.thread_model.specs.Methods.{Found, ◌>>=◌}
-use Rattle.thread_model.specs.Settings.{Settings}
-use Rattle.thread_model.specs.Showing.{changes, comes_to, showing}
-use Rattle.thread_model.specs.State.{State}
-use Rattle.thread_model.proofs.ForCallers.{tells}
+use Rattle.session_model.specs.Binding.{Bound, asked_binding, bindable_property, reads_refusal, refusal_of}
+use Rattle.session_model.specs.Deeds.{behind}
+use Rattle.session_model.specs.Doing.{begun, in_state}
+use Rattle.session_model.specs.Items.{Next, puts}
+use Rattle.session_model.specs.Methods.{Found, ◌>>=◌}
+use Rattle.session_model.specs.Settings.{Settings}
+use Rattle.session_model.specs.Showing.{changes, comes_to, showing}
+use Rattle.session_model.specs.State.{State}
+use Rattle.session_model.proofs.ForCallers.{tells}
 use Rattle.session_tables.specs.declared.tables.Tables.{Tables}
 use Rattle.session_tables.specs.Tables.{state_at}
 use Rattle.session_effects.specs.declared.caller.Caller.{Caller}

@@ -8,8 +8,8 @@ use Rattle.std.proofs.lemmas.List.Elements.{All-cons, All-nil}
 use Rattle.std.proofs.lemmas.Bool.Decides.{nat_tests}
 use Rattle.std.proofs.lemmas.Slice.Eq.{bytes_eq-Decides}
 use Rattle.property_store.specs.Store.{fields_in}
-use Rattle.thread_model.specs.declared.post.Post.{Post}
-use Rattle.thread_model.specs.Fitting.{IsRightPost}
+use Rattle.session_model.specs.declared.post.Post.{Post}
+use Rattle.session_model.specs.Fitting.{IsRightPost}
 use Rattle.session_tables.specs.declared.tables.Tables.{Tables}
 use Rattle.session_tables.specs.Reaching.{AreShaped, FailsBy, heard, takes_some}
 use Rattle.session_tables.specs.Session.{Session, fresh, gone}

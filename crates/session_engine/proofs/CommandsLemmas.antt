@@ -4,34 +4,34 @@ use Rattle.std.specs.Option.{option_or}
 use Rattle.class_table.specs.declared.class.Class.{Class}
 use Rattle.isolation.specs.Machine.{Effect}
 use Rattle.std.specs.Prelude.{if◌then◌else◌}
-use Rattle.refusals.specs.declared.code.Code.{Code}
-use Rattle.refusals.specs.declared.code.Code.TheVariants.{SessionFailed}
-use Rattle.refusals.specs.declared.fault.Fault.{Fault}
-use Rattle.refusals.specs.declared.fault.Fault.TheVariants.{Refused, Memory}
-use Rattle.refusals.specs.Answers.{Answers, OnMemory, RefusedBy}
-use Rattle.thread_model.specs.declared.line.Answer.{Answer}
-use Rattle.thread_model.specs.declared.line.Answer.TheVariants.{Truth}
-use Rattle.thread_model.specs.declared.line.Line.{Line}
-use Rattle.thread_model.specs.declared.line.Line.TheVariants.{Reply}
-use Rattle.thread_model.specs.declared.post.Post.{Post}
-use Rattle.thread_model.specs.declared.command.Command.{Command}
-use Rattle.thread_model.specs.declared.command.Command.TheVariants as c
-use Rattle.thread_model.specs.declared.query.Query.{Query}
-use Rattle.thread_model.specs.Asked.{Ask, Asked, Reset, asked}
-use Rattle.thread_model.specs.declared.deed.Deed.{Deed}
-use Rattle.thread_model.specs.Deeds.{behind, deed_answer, deed_refusal, found_refusal, with_deed}
-use Rattle.thread_model.specs.Signals.{does_found}
-use Rattle.thread_model.specs.Doing as doing
-use Rattle.thread_model.specs.Effects.{ended, replies, unless}
-use Rattle.thread_model.specs.Fitting.{IsFittingAsked}
-use Rattle.thread_model.specs.Methods.{Found}
-use Rattle.thread_model.specs.Queries.{query_answer}
-use Rattle.thread_model.specs.Refusing.{refusal}
-use Rattle.thread_model.specs.Settings.{Settings}
-use Rattle.thread_model.specs.State.{State, empty}
-use Rattle.thread_model.proofs.ForCallers.{performs_reset, query_passed, query_refused, query_replies, refusal_reset}
-use Rattle.thread_model.specs.Thread as thread
-use Rattle.thread_model.specs.Thread.{performs}
+use Rattle.plain_types.specs.declared.code.Code.{Code}
+use Rattle.plain_types.specs.declared.code.Code.TheVariants.{SessionFailed}
+use Rattle.plain_types.specs.declared.fault.Fault.{Fault}
+use Rattle.plain_types.specs.declared.fault.Fault.TheVariants.{Refused, Memory}
+use Rattle.plain_types.specs.Answers.{Answers, OnMemory, RefusedBy}
+use Rattle.session_model.specs.declared.line.Answer.{Answer}
+use Rattle.session_model.specs.declared.line.Answer.TheVariants.{Truth}
+use Rattle.session_model.specs.declared.line.Line.{Line}
+use Rattle.session_model.specs.declared.line.Line.TheVariants.{Reply}
+use Rattle.session_model.specs.declared.post.Post.{Post}
+use Rattle.session_model.specs.declared.command.Command.{Command}
+use Rattle.session_model.specs.declared.command.Command.TheVariants as c
+use Rattle.session_model.specs.declared.query.Query.{Query}
+use Rattle.session_model.specs.Asked.{Ask, Asked, Reset, asked}
+use Rattle.session_model.specs.declared.deed.Deed.{Deed}
+use Rattle.session_model.specs.Deeds.{behind, deed_answer, deed_refusal, found_refusal, with_deed}
+use Rattle.session_model.specs.Signals.{does_found}
+use Rattle.session_model.specs.Doing as doing
+use Rattle.session_model.specs.Effects.{ended, replies, unless}
+use Rattle.session_model.specs.Fitting.{IsFittingAsked}
+use Rattle.session_model.specs.Methods.{Found}
+use Rattle.session_model.specs.Queries.{query_answer}
+use Rattle.session_model.specs.Refusing.{refusal}
+use Rattle.session_model.specs.Settings.{Settings}
+use Rattle.session_model.specs.State.{State, empty}
+use Rattle.session_model.proofs.ForCallers.{performs_reset, query_passed, query_refused, query_replies, refusal_reset}
+use Rattle.session_model.specs.Thread as thread
+use Rattle.session_model.specs.Thread.{performs}
 use Rattle.session_tables.specs.declared.tables.Tables.{Tables}
 use Rattle.session_tables.specs.Refused.{OnRefused}
 use Rattle.session_tables.specs.Session.{Session, fresh, gone}
@@ -39,11 +39,11 @@ use Rattle.session_tables.specs.Tables.{ChangesOnly, IsPlaced, failed_at, sessio
 use Rattle.session_tables.specs.Reaching.{Hears, Reaches, heard}
 use Rattle.session_tables.proofs.ForCallers.{changes_same, changes_twice, changes_with, session_there, state_with, changes_session, heard-none, placed_shaped, session_unchanged, shaped_changed, shaped_twice}
 use Rattle.session_effects.specs.declared.caller.Caller.{Caller}
-use Rattle.nested_calls.specs.declared.telling.Telling.{Telling}
+use Rattle.dispatch.specs.declared.telling.Telling.{Telling}
 use Rattle.session_engine.specs.Commands.{Obeys, OthersHear, Performs, Reads, its_effect, its_refusal, reply_after, reply_lines}
-use Rattle.nested_calls.specs.Front.{IsFront}
-use Rattle.nested_calls.specs.Telling.{doing_at, fresh_telling}
-use Rattle.nested_calls.proofs.ForCallers.{front_none, front_same}
+use Rattle.dispatch.specs.Front.{IsFront}
+use Rattle.dispatch.specs.Telling.{doing_at, fresh_telling}
+use Rattle.dispatch.proofs.ForCallers.{front_none, front_same}
 use Rattle.session_engine.specs.Core.{EngineState, IsWhole, engine_state, place, seen_by_name, sessions, states}
 use Rattle.session_engine.specs.Returning.{IsAnswered, Returns, answer_lines, wants_memory}
 use Rattle.session_engine.specs.Sessions.{IsStep, is_reset, is_shut, session_after, session_does, session_refusal}

@@ -17,9 +17,9 @@ use Rattle.std.proofs.lemmas.Slice.Eq.{bytes_eq-Decides}
 use Rattle.indexmap.specs.IndexSet.{insert_key}
 use Rattle.property_store.specs.declared.field.Field.{Field}
 use Rattle.property_store.specs.Store.{fields_in}
-use Rattle.thread_model.specs.Fitting.{AreSettings}
-use Rattle.thread_model.specs.State.{fields_of}
-use Rattle.thread_model.specs.Thread.{Settings}
+use Rattle.session_model.specs.Fitting.{AreSettings}
+use Rattle.session_model.specs.State.{fields_of}
+use Rattle.session_model.specs.Thread.{Settings}
 use Rattle.session_tables.specs.declared.tables.Tables.{Tables}
 use Rattle.session_tables.specs.Session.{Session, fresh}
 use Rattle.session_tables.specs.Tables as tables

@@ -2,43 +2,43 @@
 use Rattle.std.proofs.Common.{◌≡◌, ◌<◌, ◌≤◌, ◌+◌, ◌-◌, ℕ, List, [], ◌∷◌, ◌++◌, Option, Some, None, Ok, drop, length, refl, sym, subst, ap, ◌∙◌, arith}
 use Rattle.std.specs.List.{slice_get}
 use Rattle.std.specs.Option.{option_map_or}
-use Rattle.connection_types.specs.declared.callee.Callee.{Callee}
-use Rattle.connection_types.specs.declared.callee.Callee.TheVariants as callee
+use Rattle.plain_types.specs.declared.callee.Callee.{Callee}
+use Rattle.plain_types.specs.declared.callee.Callee.TheVariants as callee
 use Rattle.event_queue.specs.declared.event.Event.{Event}
 use Rattle.event_queue.specs.declared.event.Event.TheVariants as event
 use Rattle.event_queue.specs.declared.event.QueuedCall.{QueuedCall}
 use Rattle.class_table.specs.declared.class.Method.{Method}
-use Rattle.thread_model.specs.declared.line.Answer.TheVariants as a
-use Rattle.thread_model.specs.declared.line.Line.TheVariants as line
-use Rattle.thread_model.specs.declared.line.Spin.{Spin as Came}
-use Rattle.thread_model.specs.Asked as asked
-use Rattle.thread_model.specs.Effects.{ended}
-use Rattle.thread_model.specs.Posting.{spin_of}
-use Rattle.thread_model.specs.Agenda.{call_items, event_items, method_items}
-use Rattle.thread_model.specs.Doing.{Doing, first_taken, line_told, turn_taken}
-use Rattle.thread_model.specs.Items.{Item, Spin}
-use Rattle.thread_model.specs.Methods.{method_at}
-use Rattle.thread_model.specs.Run.{run}
-use Rattle.thread_model.specs.Settings.{Settings}
-use Rattle.thread_model.specs.State.{State, without_first}
-use Rattle.thread_model.proofs.ForCallers as rule
-use Rattle.thread_model.proofs.ForCallers.{at_end, by_change, by_step, in_parts, run_shrinks, spun_last}
+use Rattle.session_model.specs.declared.line.Answer.TheVariants as a
+use Rattle.session_model.specs.declared.line.Line.TheVariants as line
+use Rattle.session_model.specs.declared.line.Spin.{Spin as Came}
+use Rattle.session_model.specs.Asked as asked
+use Rattle.session_model.specs.Effects.{ended}
+use Rattle.session_model.specs.Posting.{spin_of}
+use Rattle.session_model.specs.Agenda.{call_items, event_items, method_items}
+use Rattle.session_model.specs.Doing.{Doing, first_taken, line_told, turn_taken}
+use Rattle.session_model.specs.Items.{Item, Spin}
+use Rattle.session_model.specs.Methods.{method_at}
+use Rattle.session_model.specs.Run.{run}
+use Rattle.session_model.specs.Settings.{Settings}
+use Rattle.session_model.specs.State.{State, without_first}
+use Rattle.session_model.proofs.ForCallers as rule
+use Rattle.session_model.proofs.ForCallers.{at_end, by_change, by_step, in_parts, run_shrinks, spun_last}
 use Rattle.session_tables.specs.declared.tables.Tables.{Tables}
 use Rattle.session_tables.specs.Tables.{IsPlaced, state_at, with_state}
 use Rattle.session_tables.proofs.ForCallers.{state_with, reaches_twice}
 use Rattle.session_effects.specs.declared.caller.Caller.{Caller}
 use Rattle.session_effects.specs.Setup.{settings_of}
 use Rattle.session_engine.specs.Commands.{Performs, its_effect, reply_after}
-use Rattle.nested_calls.specs.declared.telling.Telling.{Telling}
-use Rattle.nested_calls.specs.Telling.{doing_at, fresh_telling, spent}
-use Rattle.nested_calls.proofs.ForCallers.{spent_is, SoFar, here, reaches_none}
+use Rattle.dispatch.specs.declared.telling.Telling.{Telling}
+use Rattle.dispatch.specs.Telling.{doing_at, fresh_telling, spent}
+use Rattle.dispatch.proofs.ForCallers.{spent_is, SoFar, here, reaches_none}
 use Rattle.session_engine.proofs.CommandsLemmas.{at_first_reaches, replied_last}
-use Rattle.nested_calls.specs.Agenda.{Does}
+use Rattle.dispatch.specs.Agenda.{Does}
 use Rattle.session_tables.specs.Reaching.{Reaches}
 use Rattle.session_effects.proofs.ForCallers.{keeps_with}
 use Rattle.std.proofs.lemmas.List.{append-nil}
-use Rattle.thread_model.specs.declared.post.Post.{Post}
-use Rattle.thread_model.specs.Posting.{spin_after}
+use Rattle.session_model.specs.declared.post.Post.{Post}
+use Rattle.session_model.specs.Posting.{spin_after}
 
 -- the first of some events
 pub first_is : (events : List Event) (first : Event) → slice_get events 0 ≡ Some first → events ≡ first ∷ drop 1 events

@@ -6,11 +6,11 @@ use Rattle.std.proofs.lemmas.List.Quantifiers.{position-Some}
 use Rattle.std.proofs.lemmas.Option.{slice_get-get_or}
 use Rattle.std.specs.Option.{ok_or, option_and_then, option_map_or, option_or}
 use Rattle.std.specs.Result.{result_err, result_unwrap_or}
-use Rattle.refusals.specs.declared.code.Code.{Code}
-use Rattle.refusals.specs.declared.code.Code.TheVariants.{BadSignature}
-use Rattle.refusals.specs.declared.fault.Fault.{Fault}
-use Rattle.refusals.specs.declared.fault.Fault.TheVariants.{Memory, Refused}
-use Rattle.refusals.specs.Answers.{Answers}
+use Rattle.plain_types.specs.declared.code.Code.{Code}
+use Rattle.plain_types.specs.declared.code.Code.TheVariants.{BadSignature}
+use Rattle.plain_types.specs.declared.fault.Fault.{Fault}
+use Rattle.plain_types.specs.declared.fault.Fault.TheVariants.{Memory, Refused}
+use Rattle.plain_types.specs.Answers.{Answers}
 use Rattle.serde_json.specs.Data.{Data}
 use Rattle.signature_core.specs.declared.signature.Signature.{Signature}
 use Rattle.signature_core.specs.Reading.{signature_of}
@@ -18,38 +18,38 @@ use Rattle.variant_value.specs.declared.value.Value.{Value}
 use Rattle.class_table.specs.declared.class.Method.{Method}
 use Rattle.class_table.specs.Lookup.{is_same, method_number, methods}
 use Rattle.event_queue.specs.declared.event.Priority.{Priority}
-use Rattle.thread_model.specs.declared.line.Answer.TheVariants as a
-use Rattle.thread_model.specs.declared.line.Line.TheVariants as line
-use Rattle.thread_model.specs.Absence.{absence}
-use Rattle.thread_model.specs.Agenda.{method_items, with_turn}
-use Rattle.thread_model.specs.Asked.{Invoke}
-use Rattle.thread_model.specs.Doing.{Doing, line_told, turn_taken, used_up}
-use Rattle.thread_model.specs.Effects.{does_next, ended}
-use Rattle.thread_model.specs.Items.{Emit, Item, Next, Run, puts}
-use Rattle.thread_model.specs.Methods.{Found, ◌>>=◌, is_signal_at, kinds_at, method_at, methods_of, signature_in}
-use Rattle.thread_model.specs.Run.{run}
-use Rattle.thread_model.specs.Settings.{Settings}
-use Rattle.connection_types.specs.declared.connection_type.ConnectionType.{ConnectionType}
-use Rattle.thread_model.specs.Posting.{is_queued, post_refusal}
-use Rattle.thread_model.specs.Refusing.{later_refusal, values_refusal}
-use Rattle.thread_model.specs.Signals.{asked_method, asked_values, invoked, invoked_later, invokes}
-use Rattle.thread_model.specs.Thread.{performs}
-use Rattle.thread_model.specs.State.{State}
-use Rattle.thread_model.proofs.ForCallers.{at_end, performs_invoke, refusal_invoke, replies_last}
+use Rattle.session_model.specs.declared.line.Answer.TheVariants as a
+use Rattle.session_model.specs.declared.line.Line.TheVariants as line
+use Rattle.session_model.specs.Absence.{absence}
+use Rattle.session_model.specs.Agenda.{method_items, with_turn}
+use Rattle.session_model.specs.Asked.{Invoke}
+use Rattle.session_model.specs.Doing.{Doing, line_told, turn_taken, used_up}
+use Rattle.session_model.specs.Effects.{does_next, ended}
+use Rattle.session_model.specs.Items.{Emit, Item, Next, Run, puts}
+use Rattle.session_model.specs.Methods.{Found, ◌>>=◌, is_signal_at, kinds_at, method_at, methods_of, signature_in}
+use Rattle.session_model.specs.Run.{run}
+use Rattle.session_model.specs.Settings.{Settings}
+use Rattle.plain_types.specs.declared.connection_type.ConnectionType.{ConnectionType}
+use Rattle.session_model.specs.Posting.{is_queued, post_refusal}
+use Rattle.session_model.specs.Refusing.{later_refusal, values_refusal}
+use Rattle.session_model.specs.Signals.{asked_method, asked_values, invoked, invoked_later, invokes}
+use Rattle.session_model.specs.Thread.{performs}
+use Rattle.session_model.specs.State.{State}
+use Rattle.session_model.proofs.ForCallers.{at_end, performs_invoke, refusal_invoke, replies_last}
 use Rattle.session_tables.specs.declared.tables.Tables.{Tables}
 use Rattle.session_tables.specs.Classes.{HasClass}
 use Rattle.session_tables.specs.Tables.{state_at}
 use Rattle.session_effects.specs.Methods.{number_named}
 use Rattle.session_effects.proofs.ForCallers.{methods_by_class}
 use Rattle.session_effects.specs.declared.caller.Caller.{Caller}
-use Rattle.nested_calls.specs.declared.telling.Telling.{Telling}
+use Rattle.dispatch.specs.declared.telling.Telling.{Telling}
 use Rattle.session_engine.specs.Commands.{Performs, its_effect, its_refusal, reply_after}
 use Rattle.session_effects.specs.Setup.{settings_of}
-use Rattle.nested_calls.specs.Telling.{doing_at, fresh_telling}
+use Rattle.dispatch.specs.Telling.{doing_at, fresh_telling}
 use Rattle.session_engine.proofs.CommandsLemmas.{at_first_reaches, or_second, replied_last}
-use Rattle.nested_calls.specs.Agenda.{DoesNext}
-use Rattle.nested_calls.specs.Front.{IsFront}
-use Rattle.nested_calls.proofs.ForCallers.{front_same}
+use Rattle.dispatch.specs.Agenda.{DoesNext}
+use Rattle.dispatch.specs.Front.{IsFront}
+use Rattle.dispatch.proofs.ForCallers.{front_same}
 
 -- what a text names among the methods of an object's class
 pub record IsAsked (settings : Settings) (state : State) (target : ℕ) (text : List ℕ) (number : Option ℕ) : Type 0 where

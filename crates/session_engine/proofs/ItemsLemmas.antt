@@ -12,13 +12,13 @@ use Rattle.isolation.specs.Alone.{alone_after, alone_lines, alone_posts}
 use Rattle.isolation.specs.World.{all_arrive}
 use Rattle.isolation.proofs.ForCallers.{alone_after-append, alone_lines-append, alone_posts-append, after-other, after-own, all_arrive-append}
 use Rattle.class_table.specs.declared.class.Class.{Class}
-use Rattle.thread_model.specs.declared.line.Line.{Line}
-use Rattle.thread_model.specs.declared.post.Post.{Post}
-use Rattle.thread_model.specs.Asked.{Asked}
-use Rattle.thread_model.specs.Machine.{machine}
-use Rattle.thread_model.specs.State.{State}
-use Rattle.thread_model.specs.Thread.{Settings, arrive_all}
-use Rattle.thread_model.proofs.ForCallers.{lawful}
+use Rattle.session_model.specs.declared.line.Line.{Line}
+use Rattle.session_model.specs.declared.post.Post.{Post}
+use Rattle.session_model.specs.Asked.{Asked}
+use Rattle.session_model.specs.Machine.{machine}
+use Rattle.session_model.specs.State.{State}
+use Rattle.session_model.specs.Thread.{Settings, arrive_all}
+use Rattle.session_model.proofs.ForCallers.{lawful}
 use Rattle.session_tables.specs.Reaching.{Hears, heard}
 use Rattle.session_tables.specs.Session.{Session}
 use Rattle.session_engine.specs.declared.item.Item.{Item}

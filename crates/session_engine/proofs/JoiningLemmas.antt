@@ -8,8 +8,8 @@ use Rattle.std.proofs.lemmas.List.Folds.{list_any_at, list_any_none}
 use Rattle.std.proofs.lemmas.List.Quantifiers.{position-Some}
 use Rattle.std.proofs.lemmas.Slice.Eq.{bytes_eq-Decides}
 use Rattle.std.specs.Option.{option_map_or}
-use Rattle.thread_model.specs.State.{empty}
-use Rattle.thread_model.specs.Thread.{joins_name}
+use Rattle.session_model.specs.State.{empty}
+use Rattle.session_model.specs.Thread.{joins_name}
 use Rattle.session_tables.specs.Joining.{AreJoiners}
 use Rattle.session_tables.specs.Session.{Session, fresh}
 use Rattle.session_tables.specs.Tables.{session_at, state_at}

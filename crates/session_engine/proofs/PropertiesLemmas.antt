@@ -6,26 +6,26 @@ use Rattle.std.specs.Result.{result_err}
 use Rattle.serde_json.specs.Data as d
 use Rattle.serde_json.specs.Data.{Data}
 use Rattle.serde_json.specs.Find.{as_null}
-use Rattle.refusals.specs.declared.code.Code.{Code}
-use Rattle.refusals.specs.declared.fault.Fault.{Fault}
-use Rattle.refusals.specs.declared.fault.Fault.TheVariants.{Refused, Memory}
+use Rattle.plain_types.specs.declared.code.Code.{Code}
+use Rattle.plain_types.specs.declared.fault.Fault.{Fault}
+use Rattle.plain_types.specs.declared.fault.Fault.TheVariants.{Refused, Memory}
 use Rattle.signature_core.specs.declared.kind.Kind.{Kind}
 use Rattle.variant_value.specs.declared.value.Value.{Value}
 use Rattle.variant_value.specs.declared.value.Value.TheVariants as v
 use Rattle.variant_value.specs.Values.{inferred, value_of}
 use Rattle.property_store.specs.Store.{dynamic_refusal}
-use Rattle.thread_model.specs.declared.line.Answer.TheVariants as a
-use Rattle.thread_model.specs.declared.line.Line.{Line}
-use Rattle.thread_model.specs.Absence.{absence}
-use Rattle.thread_model.specs.Asked.{Asked, Set}
-use Rattle.thread_model.specs.Doing.{begun}
-use Rattle.thread_model.specs.Effects.{does_next}
-use Rattle.thread_model.specs.Items.{Item}
-use Rattle.thread_model.specs.Methods.{Found, ◌>>=◌}
-use Rattle.thread_model.specs.Properties.{is_declared}
-use Rattle.thread_model.specs.State.{State}
-use Rattle.thread_model.specs.Writing.{Declared, Dynamic, Nothing, DeclaredField, Removed, Writing, asked_place, asked_writing, declared, dynamic_writing, written}
-use Rattle.thread_model.proofs.ForCallers.{refusal_set, set_written, at_end}
+use Rattle.session_model.specs.declared.line.Answer.TheVariants as a
+use Rattle.session_model.specs.declared.line.Line.{Line}
+use Rattle.session_model.specs.Absence.{absence}
+use Rattle.session_model.specs.Asked.{Asked, Set}
+use Rattle.session_model.specs.Doing.{begun}
+use Rattle.session_model.specs.Effects.{does_next}
+use Rattle.session_model.specs.Items.{Item}
+use Rattle.session_model.specs.Methods.{Found, ◌>>=◌}
+use Rattle.session_model.specs.Properties.{is_declared}
+use Rattle.session_model.specs.State.{State}
+use Rattle.session_model.specs.Writing.{Declared, Dynamic, Nothing, DeclaredField, Removed, Writing, asked_place, asked_writing, declared, dynamic_writing, written}
+use Rattle.session_model.proofs.ForCallers.{refusal_set, set_written, at_end}
 use Rattle.session_tables.specs.declared.tables.Tables.{Tables}
 use Rattle.session_tables.specs.Refused.{OnRefused}
 use Rattle.session_tables.specs.Tables.{ChangesOnly, IsPlaced, state_at}
@@ -34,13 +34,13 @@ use Rattle.session_effects.specs.declared.caller.Caller.{Caller}
 use Rattle.session_effects.specs.declared.announcing.News.{News}
 use Rattle.session_effects.specs.Setup.{settings_of}
 use Rattle.session_effects.specs.Writing.{TriesToWrite, Writes, items_of}
-use Rattle.nested_calls.specs.declared.telling.Telling.{Telling}
+use Rattle.dispatch.specs.declared.telling.Telling.{Telling}
 use Rattle.session_engine.specs.Commands.{Performs, its_effect, its_refusal, reply_after}
-use Rattle.nested_calls.specs.Telling.{doing_at, fresh_telling}
+use Rattle.dispatch.specs.Telling.{doing_at, fresh_telling}
 use Rattle.session_engine.proofs.CommandsLemmas.{or_second, starved, stopped}
 use Rattle.session_engine.proofs.ToldLemmas.{performs_told, starved_told}
-use Rattle.nested_calls.specs.Agenda.{Does}
-use Rattle.nested_calls.proofs.ForCallers.{does_none}
+use Rattle.dispatch.specs.Agenda.{Does}
+use Rattle.dispatch.proofs.ForCallers.{does_none}
 use Rattle.session_effects.proofs.ForCallers.{keeps_same}
 use Rattle.std.specs.declared.alloc.AllocError.{AllocError}
 

@@ -1,14 +1,14 @@
 -- What is told of a class that is there.
 use Rattle.std.proofs.Common.{◌≡◌, ℕ, List, length, map, Option, Some, None, slice_get, is_some, if◌then◌else◌, refl, ap, ◌∙◌}
 use Rattle.std.specs.Option.{option_and_then, unwrap_or}
-use Rattle.refusals.specs.declared.code.Code.{Code}
-use Rattle.refusals.specs.declared.code.Code.TheVariants.{NoSuchClass}
+use Rattle.plain_types.specs.declared.code.Code.{Code}
+use Rattle.plain_types.specs.declared.code.Code.TheVariants.{NoSuchClass}
 use Rattle.class_table.specs.declared.class.Class.{Class}
 use Rattle.class_table.specs.Lookup.{inherited, method_text, methods, names, index_of, properties}
-use Rattle.thread_model.specs.declared.meta.MetaObject.{MetaObject}
-use Rattle.thread_model.specs.Classes.{class_index, class_name, class_refusal}
-use Rattle.thread_model.proofs.ClassLemmas.{described_by}
-use Rattle.thread_model.proofs.ForCallers.{class_there}
+use Rattle.session_model.specs.declared.meta.MetaObject.{MetaObject}
+use Rattle.session_model.specs.Classes.{class_index, class_name, class_refusal}
+use Rattle.session_model.proofs.ClassLemmas.{described_by}
+use Rattle.session_model.proofs.ForCallers.{class_there}
 
 -- whether a class is refused, by what was found
 abbrev refused : Option ℕ → Option Code

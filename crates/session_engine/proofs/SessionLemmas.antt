@@ -6,21 +6,21 @@ use Rattle.std.proofs.lemmas.List.{get_or_append_left}
 use Rattle.std.proofs.lemmas.List.Elements.{All-head, All-nil, All-tail}
 use Rattle.isolation.specs.World.{all_arrive}
 use Rattle.class_table.specs.declared.class.Class.{Class}
-use Rattle.refusals.specs.declared.code.Code.{Code}
-use Rattle.refusals.specs.declared.code.Code.TheVariants.{SessionFailed}
-use Rattle.thread_model.specs.declared.post.Post.{Post}
-use Rattle.thread_model.specs.Asked.{Asked, Reset}
-use Rattle.thread_model.specs.Effects.{unless}
-use Rattle.thread_model.specs.Fitting.{AreSettings, IsFitting, IsFittingAsked, IsRightPost}
-use Rattle.thread_model.specs.Machine.{machine}
-use Rattle.thread_model.specs.Named.{AreNamed, IsNamedAsked}
-use Rattle.thread_model.specs.Refusing.{refusal}
-use Rattle.thread_model.specs.State.{IsDeclared, IsSound, State}
-use Rattle.thread_model.specs.Thread.{Settings, arrive_all, arrives, does, performs}
-use Rattle.thread_model.proofs.ForCallers.{arrive_all-is, keeps_declared, keeps_fitting, keeps_sound, keeps_named}
+use Rattle.plain_types.specs.declared.code.Code.{Code}
+use Rattle.plain_types.specs.declared.code.Code.TheVariants.{SessionFailed}
+use Rattle.session_model.specs.declared.post.Post.{Post}
+use Rattle.session_model.specs.Asked.{Asked, Reset}
+use Rattle.session_model.specs.Effects.{unless}
+use Rattle.session_model.specs.Fitting.{AreSettings, IsFitting, IsFittingAsked, IsRightPost}
+use Rattle.session_model.specs.Machine.{machine}
+use Rattle.session_model.specs.Named.{AreNamed, IsNamedAsked}
+use Rattle.session_model.specs.Refusing.{refusal}
+use Rattle.session_model.specs.State.{IsDeclared, IsSound, State}
+use Rattle.session_model.specs.Thread.{Settings, arrive_all, arrives, does, performs}
+use Rattle.session_model.proofs.ForCallers.{arrive_all-is, keeps_declared, keeps_fitting, keeps_sound, keeps_named}
 use Rattle.session_tables.specs.Session.{Session, fresh, gone}
 use Rattle.session_tables.specs.Reaching.{Hears, heard}
-use Rattle.nested_calls.specs.Front.{IsFront}
+use Rattle.dispatch.specs.Front.{IsFront}
 use Rattle.session_engine.specs.Core.{IsKept}
 use Rattle.session_engine.specs.Sessions.{IsSoundSession, is_reset, is_shut, session_after, session_does, session_refusal}
 

@@ -6,15 +6,15 @@ use Rattle.isolation.specs.Alone as theory
 use Rattle.isolation.specs.Alone.{alone_after, alone_lines, alone_posts}
 use Rattle.isolation.specs.Machine.{Effect}
 use Rattle.class_table.specs.declared.class.Class.{Class}
-use Rattle.refusals.specs.declared.code.Code.TheVariants.{SessionFailed}
-use Rattle.thread_model.specs.declared.line.Line.{Line}
-use Rattle.thread_model.specs.declared.post.Post.{Post}
-use Rattle.thread_model.specs.Asked.{Asked}
-use Rattle.thread_model.specs.Effects.{unless}
-use Rattle.thread_model.specs.Machine.{machine}
-use Rattle.thread_model.specs.Refusing.{refusal}
-use Rattle.thread_model.specs.State.{State}
-use Rattle.thread_model.specs.Thread.{Settings, arrives, does, performs}
+use Rattle.plain_types.specs.declared.code.Code.TheVariants.{SessionFailed}
+use Rattle.session_model.specs.declared.line.Line.{Line}
+use Rattle.session_model.specs.declared.post.Post.{Post}
+use Rattle.session_model.specs.Asked.{Asked}
+use Rattle.session_model.specs.Effects.{unless}
+use Rattle.session_model.specs.Machine.{machine}
+use Rattle.session_model.specs.Refusing.{refusal}
+use Rattle.session_model.specs.State.{State}
+use Rattle.session_model.specs.Thread.{Settings, arrives, does, performs}
 use Rattle.session_tables.specs.Reaching.{Hears, heard}
 use Rattle.session_tables.specs.Session.{Session}
 use Rattle.session_tables.proofs.ForCallers.{heard-append, heard-none}

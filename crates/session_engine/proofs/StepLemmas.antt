@@ -10,21 +10,21 @@ use Rattle.property_store.specs.Store.{fields_in}
 use Rattle.std.proofs.lemmas.Slice.Eq.{bytes_eq-Decides}
 use Rattle.isolation.specs.World.{after, all_arrive}
 use Rattle.isolation.proofs.ForCallers.{after-other, after-own}
-use Rattle.thread_model.specs.declared.line.Line.{Line}
-use Rattle.thread_model.specs.Asked.{Asked}
-use Rattle.thread_model.specs.Fitting.{AreSettings, IsFittingAsked, IsRightPost}
-use Rattle.thread_model.specs.Machine.{machine}
-use Rattle.thread_model.specs.Named.{AreNamed, IsNamedAsked}
-use Rattle.thread_model.specs.declared.post.Post.{Post}
-use Rattle.thread_model.specs.State.{State, fields_of}
-use Rattle.thread_model.specs.Thread.{Settings}
-use Rattle.thread_model.proofs.ForCallers.{lawful, keeps_named}
+use Rattle.session_model.specs.declared.line.Line.{Line}
+use Rattle.session_model.specs.Asked.{Asked}
+use Rattle.session_model.specs.Fitting.{AreSettings, IsFittingAsked, IsRightPost}
+use Rattle.session_model.specs.Machine.{machine}
+use Rattle.session_model.specs.Named.{AreNamed, IsNamedAsked}
+use Rattle.session_model.specs.declared.post.Post.{Post}
+use Rattle.session_model.specs.State.{State, fields_of}
+use Rattle.session_model.specs.Thread.{Settings}
+use Rattle.session_model.proofs.ForCallers.{lawful, keeps_named}
 use Rattle.session_tables.specs.Session.{Session, fresh, gone}
 use Rattle.session_tables.specs.Reaching.{Hears, heard}
 use Rattle.session_tables.specs.Tables.{AreEven, IsPlaced, session_at}
 use Rattle.session_tables.proofs.ForCallers.{heard_stranger, placed_by, session_past}
-use Rattle.nested_calls.specs.Front.{IsFront}
-use Rattle.nested_calls.proofs.ForCallers.{front_same}
+use Rattle.dispatch.specs.Front.{IsFront}
+use Rattle.dispatch.proofs.ForCallers.{front_same}
 use Rattle.session_engine.specs.Commands.{OthersHear}
 use Rattle.session_engine.specs.Core.{EngineState, IsKept, IsWhole, place, seen_by_name, sessions, states}
 use Rattle.session_engine.specs.Sessions.{AllAreNamed, AnotherFails, Fails, IsStep, Sessions, given_by, session_after, session_does, session_refusal}

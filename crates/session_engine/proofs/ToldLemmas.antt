@@ -1,17 +1,17 @@
 -- A command that brings its session to another state, does what there is to do for it, and then replies.
 use Rattle.std.proofs.Common.{◌≡◌, false, List, [], None, Result, Ok, Err, IsErrAnd, refl, sym, ap, ◌∙◌}
-use Rattle.refusals.specs.declared.fault.Fault.{Fault}
-use Rattle.refusals.specs.declared.fault.Fault.TheVariants.{Memory}
-use Rattle.thread_model.specs.declared.line.Answer.{Answer}
-use Rattle.thread_model.specs.declared.line.Line.{Line}
-use Rattle.thread_model.specs.declared.line.Line.TheVariants as line
-use Rattle.thread_model.specs.declared.post.Post.{Post}
-use Rattle.thread_model.specs.Asked.{Asked}
-use Rattle.thread_model.specs.Doing.{begun, in_state, line_told}
-use Rattle.thread_model.specs.Effects.{does_next, ended}
-use Rattle.thread_model.specs.Items.{Item, Next, puts}
-use Rattle.thread_model.specs.Run.{run}
-use Rattle.thread_model.proofs.ForCallers.{replies_last}
+use Rattle.plain_types.specs.declared.fault.Fault.{Fault}
+use Rattle.plain_types.specs.declared.fault.Fault.TheVariants.{Memory}
+use Rattle.session_model.specs.declared.line.Answer.{Answer}
+use Rattle.session_model.specs.declared.line.Line.{Line}
+use Rattle.session_model.specs.declared.line.Line.TheVariants as line
+use Rattle.session_model.specs.declared.post.Post.{Post}
+use Rattle.session_model.specs.Asked.{Asked}
+use Rattle.session_model.specs.Doing.{begun, in_state, line_told}
+use Rattle.session_model.specs.Effects.{does_next, ended}
+use Rattle.session_model.specs.Items.{Item, Next, puts}
+use Rattle.session_model.specs.Run.{run}
+use Rattle.session_model.proofs.ForCallers.{replies_last}
 use Rattle.session_tables.specs.declared.tables.Tables.{Tables}
 use Rattle.session_tables.specs.Reaching.{Reaches}
 use Rattle.session_tables.specs.Tables.{IsPlaced, state_at}
@@ -19,10 +19,10 @@ use Rattle.session_tables.proofs.ForCallers.{reaches_twice}
 use Rattle.session_effects.specs.Actions.{KeepsOthers}
 use Rattle.session_effects.specs.declared.caller.Caller.{Caller}
 use Rattle.session_effects.specs.Setup.{settings_of}
-use Rattle.nested_calls.specs.declared.telling.Telling.{Telling}
-use Rattle.nested_calls.specs.Agenda.{Does}
-use Rattle.nested_calls.specs.Telling.{doing_at, fresh_telling}
-use Rattle.nested_calls.proofs.ForCallers.{reaches_none}
+use Rattle.dispatch.specs.declared.telling.Telling.{Telling}
+use Rattle.dispatch.specs.Agenda.{Does}
+use Rattle.dispatch.specs.Telling.{doing_at, fresh_telling}
+use Rattle.dispatch.proofs.ForCallers.{reaches_none}
 use Rattle.session_engine.specs.Commands.{Performs, its_effect, its_refusal, reply_after}
 use Rattle.session_engine.proofs.CommandsLemmas.{at_first_reaches, replied_last, starved_last}
 

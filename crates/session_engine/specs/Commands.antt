@@ -2,28 +2,28 @@
 use Rattle.std.specs.Prelude.{◌≡◌, ℕ, Bool, eqb, List, [], ◌∷◌, Option, ◌++◌, ◌||◌, Result, OnOk, IsFalse, IsTrue}
 use Rattle.isolation.specs.Machine.{Effect}
 use Rattle.class_table.specs.declared.class.Class.{Class}
-use Rattle.refusals.specs.declared.code.Code.{Code}
-use Rattle.refusals.specs.Answers.{Answers, OnDone, OnMemory}
-use Rattle.refusals.specs.declared.fault.Fault.{Fault}
-use Rattle.thread_model.specs.declared.line.Answer.{Answer}
-use Rattle.thread_model.specs.declared.line.Line.{Line}
-use Rattle.thread_model.specs.declared.line.Line.TheVariants.{Reply}
-use Rattle.thread_model.specs.declared.command.Command.{Command}
-use Rattle.thread_model.specs.declared.command.Command.TheVariants as c
-use Rattle.thread_model.specs.declared.query.Query.{Query}
-use Rattle.thread_model.specs.Asked.{Asked}
-use Rattle.thread_model.specs.Queries.{query_answer}
-use Rattle.thread_model.specs.Refusing.{refusal}
-use Rattle.thread_model.specs.State.{State}
-use Rattle.thread_model.specs.Thread.{does, performs}
+use Rattle.plain_types.specs.declared.code.Code.{Code}
+use Rattle.plain_types.specs.Answers.{Answers, OnDone, OnMemory}
+use Rattle.plain_types.specs.declared.fault.Fault.{Fault}
+use Rattle.session_model.specs.declared.line.Answer.{Answer}
+use Rattle.session_model.specs.declared.line.Line.{Line}
+use Rattle.session_model.specs.declared.line.Line.TheVariants.{Reply}
+use Rattle.session_model.specs.declared.command.Command.{Command}
+use Rattle.session_model.specs.declared.command.Command.TheVariants as c
+use Rattle.session_model.specs.declared.query.Query.{Query}
+use Rattle.session_model.specs.Asked.{Asked}
+use Rattle.session_model.specs.Queries.{query_answer}
+use Rattle.session_model.specs.Refusing.{refusal}
+use Rattle.session_model.specs.State.{State}
+use Rattle.session_model.specs.Thread.{does, performs}
 use Rattle.session_tables.specs.declared.tables.Tables.{Tables}
 use Rattle.session_tables.specs.Refused.{OnRefused}
 use Rattle.session_tables.specs.Session.{gone}
 use Rattle.session_tables.specs.Reaching.{AreShaped, Hears, heard}
 use Rattle.session_tables.specs.Tables.{AreLaid, AreStored, IsPlaced, failed_at, session_at, state_at}
-use Rattle.thread_model.specs.declared.post.Post.{Post}
+use Rattle.session_model.specs.declared.post.Post.{Post}
 use Rattle.session_effects.specs.declared.caller.Caller.{Caller}
-use Rattle.nested_calls.specs.Front.{IsFront}
+use Rattle.dispatch.specs.Front.{IsFront}
 use Rattle.session_engine.specs.Returning.{Returns, wants_memory}
 use Rattle.session_engine.specs.Sessions.{is_shut, session_after, session_does, session_refusal}
 use Rattle.session_effects.specs.Setup.{settings_of}

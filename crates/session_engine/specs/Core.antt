@@ -2,9 +2,9 @@
 use Rattle.std.specs.Prelude.{◌≡◌, ℕ, Bool, List, [], Option, Some, IsFalse, All, bytes_eq, length, map, position, ◌<◌, slice_index_or as get_or}
 use Rattle.std.specs.List.{list_any}
 use Rattle.std.specs.Option.{option_map_or}
-use Rattle.thread_model.specs.Fitting.{AreSettings}
-use Rattle.thread_model.specs.State.{State}
-use Rattle.thread_model.specs.Thread.{Settings, joins_name}
+use Rattle.session_model.specs.Fitting.{AreSettings}
+use Rattle.session_model.specs.State.{State}
+use Rattle.session_model.specs.Thread.{Settings, joins_name}
 use Rattle.session_tables.specs.declared.tables.Tables.{Tables}
 use Rattle.session_tables.specs.Joining.{AreJoiners}
 use Rattle.session_tables.specs.Session.{Session, fresh}

@@ -3,12 +3,12 @@ use Rattle.std.specs.Prelude.{◌≡◌, ◌⊎◌, ℕ, false, List, [], ◌∷
 use Rattle.isolation.specs.Alone as theory
 use Rattle.isolation.specs.Alone.{alone_after, alone_lines, alone_posts}
 use Rattle.isolation.specs.World.{all_arrive}
-use Rattle.thread_model.specs.declared.line.Line.{Line}
-use Rattle.thread_model.specs.declared.post.Post.{Post}
-use Rattle.thread_model.specs.Asked.{Asked, asked}
-use Rattle.thread_model.specs.Fitting.{IsRightPost}
-use Rattle.thread_model.specs.Machine.{machine}
-use Rattle.thread_model.specs.Thread.{arrives}
+use Rattle.session_model.specs.declared.line.Line.{Line}
+use Rattle.session_model.specs.declared.post.Post.{Post}
+use Rattle.session_model.specs.Asked.{Asked, asked}
+use Rattle.session_model.specs.Fitting.{IsRightPost}
+use Rattle.session_model.specs.Machine.{machine}
+use Rattle.session_model.specs.Thread.{arrives}
 use Rattle.session_tables.specs.Reaching.{FailsBy, heard}
 use Rattle.session_tables.specs.Session.{fresh}
 use Rattle.session_engine.specs.declared.item.Item.{Item}

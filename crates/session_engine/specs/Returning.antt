@@ -1,13 +1,13 @@
 -- What a call returns that does a command.
 use Rattle.std.specs.Prelude.{◌≡◌, ℕ, Bool, true, false, List, [], ◌∷◌, Option, Some, None, Result, Ok, Err, IsFalse}
-use Rattle.refusals.specs.Answers.{OnMemory}
-use Rattle.refusals.specs.declared.code.Code.{Code}
-use Rattle.refusals.specs.declared.fault.Fault.{Fault}
-use Rattle.refusals.specs.declared.fault.Fault.TheVariants.{Refused, Memory}
-use Rattle.thread_model.specs.Asked.{Asked}
-use Rattle.thread_model.specs.Thread.{performs}
-use Rattle.thread_model.specs.declared.line.Line.{Line}
-use Rattle.thread_model.specs.declared.line.Line.TheVariants.{Error}
+use Rattle.plain_types.specs.Answers.{OnMemory}
+use Rattle.plain_types.specs.declared.code.Code.{Code}
+use Rattle.plain_types.specs.declared.fault.Fault.{Fault}
+use Rattle.plain_types.specs.declared.fault.Fault.TheVariants.{Refused, Memory}
+use Rattle.session_model.specs.Asked.{Asked}
+use Rattle.session_model.specs.Thread.{performs}
+use Rattle.session_model.specs.declared.line.Line.{Line}
+use Rattle.session_model.specs.declared.line.Line.TheVariants.{Error}
 use Rattle.session_tables.specs.Refused.{OnRefused}
 use Rattle.session_tables.specs.Session.{gone}
 use Rattle.session_engine.specs.Core.{EngineState, sessions, settings, states}

@@ -3,21 +3,21 @@ use Rattle.std.specs.Prelude.{◌≡◌, ◌⊎◌, ◌&&◌, ℕ, Bool, true, f
 use Rattle.std.specs.Prelude.{IfSome, OnSome, IsSome, IsTrue, IsFalse, bytes_eq, if◌then◌else◌}
 use Rattle.isolation.specs.Machine.{Effect, Tagged}
 use Rattle.isolation.specs.World.{effect, after}
-use Rattle.refusals.specs.declared.code.Code.{Code}
-use Rattle.refusals.specs.declared.code.Code.TheVariants.{SessionFailed}
-use Rattle.thread_model.specs.declared.line.Line.{Line}
-use Rattle.thread_model.specs.declared.post.Post.{Post}
-use Rattle.thread_model.specs.Asked.{Asked, Reset}
-use Rattle.thread_model.specs.Effects.{unless}
-use Rattle.thread_model.specs.Fitting.{IsFitting}
-use Rattle.thread_model.specs.Machine.{machine}
-use Rattle.thread_model.specs.Named.{AreNamed, IsNamedAsked}
-use Rattle.thread_model.specs.Refusing.{refusal}
-use Rattle.thread_model.specs.State.{IsDeclared, IsSound, State}
-use Rattle.thread_model.specs.Thread.{Settings, performs}
+use Rattle.plain_types.specs.declared.code.Code.{Code}
+use Rattle.plain_types.specs.declared.code.Code.TheVariants.{SessionFailed}
+use Rattle.session_model.specs.declared.line.Line.{Line}
+use Rattle.session_model.specs.declared.post.Post.{Post}
+use Rattle.session_model.specs.Asked.{Asked, Reset}
+use Rattle.session_model.specs.Effects.{unless}
+use Rattle.session_model.specs.Fitting.{IsFitting}
+use Rattle.session_model.specs.Machine.{machine}
+use Rattle.session_model.specs.Named.{AreNamed, IsNamedAsked}
+use Rattle.session_model.specs.Refusing.{refusal}
+use Rattle.session_model.specs.State.{IsDeclared, IsSound, State}
+use Rattle.session_model.specs.Thread.{Settings, performs}
 use Rattle.session_tables.specs.Reaching.{Hears}
 use Rattle.session_tables.specs.Session.{Session, gone}
-use Rattle.nested_calls.specs.Front.{IsFront}
+use Rattle.dispatch.specs.Front.{IsFront}
 
 -- what is seen of all sessions
 pub record Sessions : Type 0 where

@@ -1,25 +1,25 @@
 //! The commands that bind properties to expressions, and that begin and end groups of changes.
 ghost use Rattle.std.specs.Prelude.{◌≡◌, ◌∷◌, [], Ok, false};
 ghost use Rattle.std.specs.Result.{result_err};
-ghost use Rattle.refusals.specs.Answers.{Answers};
+ghost use Rattle.plain_types.specs.Answers.{Answers};
 ghost use Rattle.serde_json.specs.View.{view};
 ghost use Rattle.term_evaluation.specs.Reading.{reads_of};
-ghost use Rattle.thread_model.specs.Asked.{Begin, Bind, End, Unbind};
-ghost use Rattle.thread_model.specs.Binding.{reads_refusal};
-ghost use Rattle.thread_model.specs.Deeds.{behind};
+ghost use Rattle.session_model.specs.Asked.{Begin, Bind, End, Unbind};
+ghost use Rattle.session_model.specs.Binding.{reads_refusal};
+ghost use Rattle.session_model.specs.Deeds.{behind};
 ghost use Rattle.session_tables.specs.Tables.{IsPlaced, state_at};
 ghost use Rattle.session_engine.specs.Commands.{Performs, reply_after, reply_lines};
-ghost use Rattle.nested_calls.specs.Telling.{fresh_telling};
+ghost use Rattle.dispatch.specs.Telling.{fresh_telling};
 
-use nested_calls::{Actor, Answering, Telling, tell};
+use dispatch::{Actor, Answering, Telling, tell};
 use plain_types::Text;
-use refusals::{Code, Fault};
+use plain_types::{Code, Fault};
 use session_effects::Caller;
 use session_tables::Tables;
 use std::alloc::Global;
 use term_core::{Expr, Target};
 use term_evaluation::{Read, reads_of};
-use thread_model::Answer;
+use session_model::Answer;
 
 /// Binds a property of an object to an expression, and tells of what has changed by it.
 pub fn bind<F: Answering>(

@@ -1,11 +1,11 @@
 //! What a command does to the session that gives it.
 ghost use Rattle.std.specs.Prelude.{◌≡◌, ◌≤◌, ◌∷◌, ◌++◌, [], IfOk, OnOk, false, true};
-ghost use Rattle.thread_model.specs.Asked.{asked};
-ghost use Rattle.refusals.specs.declared.fault.Fault.TheVariants.{Memory};
+ghost use Rattle.session_model.specs.Asked.{asked};
+ghost use Rattle.plain_types.specs.declared.fault.Fault.TheVariants.{Memory};
 ghost use Rattle.session_tables.specs.Session.{gone};
 ghost use Rattle.session_tables.specs.Tables.{IsPlaced, with_session};
 ghost use Rattle.session_engine.specs.Commands.{KnowsProperties, Obeys, Performs, family, reply_after, reply_lines};
-ghost use Rattle.nested_calls.specs.Telling.{fresh_telling};
+ghost use Rattle.dispatch.specs.Telling.{fresh_telling};
 
 use crate::bindings::{begin, bind, end, unbind};
 use crate::connections::{connect, connect_functor, disconnect, disconnect_one};
@@ -16,14 +16,14 @@ use crate::properties::set;
 use crate::queries::answer;
 use crate::sharing::{join, leave, publish, renew, reset, unpublish};
 use crate::trees::{delete_object, new_object};
-use connection_types::ConnectionType;
-use nested_calls::{Actor, Answering, Telling};
+use plain_types::ConnectionType;
+use dispatch::{Actor, Answering, Telling};
 use plain_types::Items;
-use refusals::{Code, Fault};
+use plain_types::{Code, Fault};
 use session_effects::{Caller, Options};
 use session_tables::Tables;
 use std::alloc::{AllocError, Global};
-use thread_model::{Answer, Command, Line};
+use session_model::{Answer, Command, Line};
 
 /// Lets a session do a command; one that has failed can only begin anew. Where memory is wanted and not
 /// found, it has failed. That is noted, as it is where another session has failed by what it posts.

@@ -1,16 +1,16 @@
 //! The commands that tie signals to what they call, and untie them.
 ghost use Rattle.std.specs.Prelude.{false};
-ghost use Rattle.thread_model.specs.Asked.{Connect, ConnectFunctor, Disconnect, DisconnectOne};
+ghost use Rattle.session_model.specs.Asked.{Connect, ConnectFunctor, Disconnect, DisconnectOne};
 ghost use Rattle.session_tables.specs.Tables.{IsPlaced};
 ghost use Rattle.session_engine.specs.Commands.{Performs, reply_lines};
 
 use plain_types::Text;
-use refusals::{Code, Fault};
+use plain_types::{Code, Fault};
 use session_effects::{
     Caller, Options, asked_connection, asked_functor_connection, asked_pattern, do_deed, do_found,
 };
 use session_tables::Tables;
-use thread_model::{Answer, Deed};
+use session_model::{Answer, Deed};
 
 /// Connects a signal to a method, and replies the connection's number.
 pub fn connect(

@@ -1,14 +1,14 @@
 //! The commands that name a deed outright, by the numbers of its objects.
 ghost use Rattle.std.specs.Prelude.{false};
-ghost use Rattle.thread_model.specs.declared.deed.Deed.TheVariants as deed;
-ghost use Rattle.thread_model.specs.Asked.{Do};
+ghost use Rattle.session_model.specs.declared.deed.Deed.TheVariants as deed;
+ghost use Rattle.session_model.specs.Asked.{Do};
 ghost use Rattle.session_tables.specs.Tables.{IsPlaced};
 ghost use Rattle.session_engine.specs.Commands.{Performs, reply_lines};
 
-use refusals::Fault;
+use plain_types::Fault;
 use session_effects::{Caller, do_deed};
 use session_tables::Tables;
-use thread_model::{Answer, Deed};
+use session_model::{Answer, Deed};
 
 /// Gives an object another parent, or makes it a root.
 pub fn set_parent(

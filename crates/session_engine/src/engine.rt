@@ -11,15 +11,15 @@ use crate::item::Item;
 use class_table::ClassTable;
 use indexmap::IndexSet;
 use plain_types::{Items, Text};
-use refusals::Fault;
+use plain_types::Fault;
 use session_effects::{Caller, Setup};
-use session_inputs::layouts;
+use session_effects::layouts;
 use session_tables::Tables;
 use std::alloc::{AllocError, Global};
 use std::hash::RandomState;
 use std::marker::Model;
 use stored_slots::{Functor, Functors};
-use thread_model::{Command, Line, Post};
+use session_model::{Command, Line, Post};
 
 /// All of an engine but what answers the calls of its functors: a type that holds closures has no view of
 /// its own.
@@ -69,8 +69,8 @@ impl Engine {
     ghost use Rattle.std.specs.Result.{result_ok};
     ghost use Rattle.stored_slots.specs.declared.limit.TheConstants.{FUNCTORS};
     ghost use Rattle.stored_slots.specs.Functors.{IsFunctor};
-    ghost use Rattle.thread_model.specs.Asked.{asked};
-    ghost use Rattle.thread_model.specs.Fitting.{IsRightPost};
+    ghost use Rattle.session_model.specs.Asked.{asked};
+    ghost use Rattle.session_model.specs.Fitting.{IsRightPost};
     ghost use Rattle.session_tables.specs.Session.{fresh, gone};
     ghost use Rattle.session_engine.specs.Items.{BeginsAnew, HasAdded, HasArrived, HasCome, IsRightItem, RunsAlone, item_of};
     ghost use Rattle.session_engine.specs.Returning.{IsAnswered, answer_lines};

@@ -1,22 +1,22 @@
 //! The command that takes what waits in the session.
 ghost use Rattle.std.specs.Prelude.{◌≡◌, ◌∷◌, [], OnOk};
-ghost use Rattle.thread_model.specs.Agenda.{call_items, event_items};
-ghost use Rattle.thread_model.specs.Asked.{Spin};
-ghost use Rattle.thread_model.specs.Items as item;
+ghost use Rattle.session_model.specs.Agenda.{call_items, event_items};
+ghost use Rattle.session_model.specs.Asked.{Spin};
+ghost use Rattle.session_model.specs.Items as item;
 ghost use Rattle.session_tables.specs.Tables.{IsPlaced, state_at};
 ghost use Rattle.session_effects.specs.Setup.{settings_of};
-ghost use Rattle.nested_calls.specs.Agenda.{Does};
+ghost use Rattle.dispatch.specs.Agenda.{Does};
 ghost use Rattle.session_engine.specs.Commands.{Performs, reply_after};
-ghost use Rattle.nested_calls.specs.Telling.{doing_at, fresh_telling};
+ghost use Rattle.dispatch.specs.Telling.{doing_at, fresh_telling};
 
-use connection_types::Callee;
+use plain_types::Callee;
 use event_queue::{Event, QueuedCall};
-use nested_calls::{Actor, Answering, Telling, delete, run_functor, run_method};
-use refusals::Fault;
+use dispatch::{Actor, Answering, Telling, delete, run_functor, run_method};
+use plain_types::Fault;
 use session_effects::{Slot, method_at};
 use session_tables::Tables;
 use std::alloc::AllocError;
-use thread_model::Answer;
+use session_model::Answer;
 
 /// Takes events until there is none or no turn is left, and replies how many.
 pub fn spin<F: Answering>(

@@ -1,34 +1,34 @@
 //! The command that calls a slot or sends a signal.
 ghost use Rattle.std.specs.Prelude.{◌≡◌, OnOk, OnErr, Some, if◌then◌else◌, map};
 ghost use Rattle.serde_json.specs.View.{view};
-ghost use Rattle.refusals.specs.Answers.{RefusedBy};
+ghost use Rattle.plain_types.specs.Answers.{RefusedBy};
 ghost use Rattle.class_table.specs.Sound.{IsMethod};
-ghost use Rattle.connection_types.specs.declared.callee.Callee.TheVariants as callee;
+ghost use Rattle.plain_types.specs.declared.callee.Callee.TheVariants as callee;
 ghost use Rattle.event_queue.specs.declared.event.Event.TheVariants.{Call};
-ghost use Rattle.thread_model.specs.Agenda.{method_items, with_turn};
-ghost use Rattle.thread_model.specs.Items.{puts};
-ghost use Rattle.thread_model.specs.Methods.{method_at};
-ghost use Rattle.thread_model.specs.Posting.{post_refusal};
-ghost use Rattle.thread_model.specs.State.{with_event};
-ghost use Rattle.thread_model.specs.Asked.{Invoke};
-ghost use Rattle.thread_model.specs.Signals.{values_of};
+ghost use Rattle.session_model.specs.Agenda.{method_items, with_turn};
+ghost use Rattle.session_model.specs.Items.{puts};
+ghost use Rattle.session_model.specs.Methods.{method_at};
+ghost use Rattle.session_model.specs.Posting.{post_refusal};
+ghost use Rattle.session_model.specs.State.{with_event};
+ghost use Rattle.session_model.specs.Asked.{Invoke};
+ghost use Rattle.session_model.specs.Signals.{values_of};
 ghost use Rattle.session_tables.specs.Tables.{IsPlaced, state_at, with_state};
 ghost use Rattle.session_effects.specs.Setup.{settings_of};
 ghost use Rattle.session_engine.specs.Commands.{Performs, reply_after};
-ghost use Rattle.nested_calls.specs.Agenda.{DoesNext};
-ghost use Rattle.nested_calls.specs.Telling.{doing_at, fresh_telling};
+ghost use Rattle.dispatch.specs.Agenda.{DoesNext};
+ghost use Rattle.dispatch.specs.Telling.{doing_at, fresh_telling};
 
 use class_table::Method;
-use connection_types::{Callee, ConnectionType};
+use plain_types::{Callee, ConnectionType};
 use event_queue::{Event, Priority, QueuedCall};
-use nested_calls::{Actor, Answering, Telling, is_queued, run_method};
+use dispatch::{Actor, Answering, Telling, is_queued, run_method};
 use plain_types::Text;
-use refusals::Fault;
+use plain_types::Fault;
 use session_effects::{Caller, Slot, method_in};
-use session_inputs::values_of;
+use session_effects::values_of;
 use session_tables::Tables;
 use std::alloc::AllocError;
-use thread_model::Answer;
+use session_model::Answer;
 use variant_value::{Args, Value};
 
 /// Calls a slot of an object or sends a signal of it, at once or by an event, and replies whether it has

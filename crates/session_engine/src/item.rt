@@ -1,5 +1,5 @@
 use plain_types::Text;
-use thread_model::{Command, Post};
+use session_model::{Command, Post};
 
 /// What comes to a session: a command of its own, or a post of another session.
 #[derive(Drop)]

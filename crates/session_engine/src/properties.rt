@@ -1,17 +1,17 @@
 //! The command that writes what an object holds under a name.
 ghost use Rattle.std.specs.Prelude.{◌≡◌};
 ghost use Rattle.serde_json.specs.View.{view};
-ghost use Rattle.thread_model.specs.Asked.{Set};
+ghost use Rattle.session_model.specs.Asked.{Set};
 ghost use Rattle.session_tables.specs.Tables.{IsPlaced};
 ghost use Rattle.session_engine.specs.Commands.{Performs, reply_after};
-ghost use Rattle.nested_calls.specs.Telling.{fresh_telling};
+ghost use Rattle.dispatch.specs.Telling.{fresh_telling};
 
-use nested_calls::{Actor, Answering, Telling, notify};
+use dispatch::{Actor, Answering, Telling, notify};
 use plain_types::Text;
-use refusals::Fault;
+use plain_types::Fault;
 use session_effects::{Caller, write_declared, write_dynamic};
 use session_tables::Tables;
-use thread_model::Answer;
+use session_model::Answer;
 use variant_value::Value;
 
 /// Writes a property, and replies whether it is one that the object's class declares and was written.

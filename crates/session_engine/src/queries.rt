@@ -1,17 +1,17 @@
 //! The commands that read of a session, and change nothing.
 ghost use Rattle.std.specs.Prelude.{◌≡◌, IfOk, option_and_then};
-ghost use Rattle.thread_model.specs.declared.query.Query.TheVariants.{BindingError, Children, DynamicNames, Find, Get, Meta, Status};
-ghost use Rattle.thread_model.specs.Classes.{class_name};
+ghost use Rattle.session_model.specs.declared.query.Query.TheVariants.{BindingError, Children, DynamicNames, Find, Get, Meta, Status};
+ghost use Rattle.session_model.specs.Classes.{class_name};
 ghost use Rattle.session_tables.specs.Tables.{IsPlaced};
 ghost use Rattle.session_engine.specs.Commands.{Reads};
 
 use class_table::Class;
 use plain_types::{Items, Text};
-use refusals::Fault;
+use plain_types::Fault;
 use session_effects::{Caller, Setup};
 use session_tables::Tables;
 use std::alloc::AllocError;
-use thread_model::{Answer, Boxed, MetaObject, Query};
+use session_model::{Answer, Boxed, MetaObject, Query};
 
 /// Answers a query.
 pub fn answer(caller: &Caller, tables: &Tables, query: &Query) -> Result<Answer, Fault>

@@ -1,21 +1,21 @@
 //! The commands by which sessions hear of each other, and the one that begins anew.
 ghost use Rattle.std.specs.Prelude.{◌≡◌, false};
-ghost use Rattle.refusals.specs.Answers.{Answers};
-ghost use Rattle.thread_model.specs.Asked as model;
-ghost use Rattle.thread_model.specs.Asked.{Leave, Publish, Reset, Unpublish};
-ghost use Rattle.thread_model.specs.Sharing.{asked_kinds, kinds_named};
+ghost use Rattle.plain_types.specs.Answers.{Answers};
+ghost use Rattle.session_model.specs.Asked as model;
+ghost use Rattle.session_model.specs.Asked.{Leave, Publish, Reset, Unpublish};
+ghost use Rattle.session_model.specs.Sharing.{asked_kinds, kinds_named};
 ghost use Rattle.session_tables.specs.Tables.{IsPlaced};
 ghost use Rattle.session_engine.specs.Commands.{Obeys, Performs, reply_lines};
 
 use crate::commands::{give_up, one_line};
 use plain_types::{Items, Text};
 use publish_board::{Join, Publication};
-use refusals::{Code, Fault};
+use plain_types::{Code, Fault};
 use session_effects::{Caller, kinds_at, method_named, signal_named};
 use session_tables::Tables;
 use signature_core::{Kind, PARAMS};
 use std::alloc::{AllocError, Global};
-use thread_model::{Answer, Line};
+use session_model::{Answer, Line};
 
 /// Publishes a signal of an object under a name.
 pub fn publish(

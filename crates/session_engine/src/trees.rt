@@ -1,16 +1,16 @@
 //! The commands for objects and their trees.
 ghost use Rattle.std.specs.Prelude.{◌≡◌, false};
-ghost use Rattle.thread_model.specs.Asked.{Delete, New};
+ghost use Rattle.session_model.specs.Asked.{Delete, New};
 ghost use Rattle.session_tables.specs.Tables.{IsPlaced};
 ghost use Rattle.session_engine.specs.Commands.{KnowsProperties, Performs, reply_after, reply_lines};
-ghost use Rattle.nested_calls.specs.Telling.{fresh_telling};
+ghost use Rattle.dispatch.specs.Telling.{fresh_telling};
 
-use nested_calls::{Actor, Answering, Telling, delete};
+use dispatch::{Actor, Answering, Telling, delete};
 use plain_types::Text;
-use refusals::Fault;
+use plain_types::Fault;
 use session_effects::Caller;
 use session_tables::Tables;
-use thread_model::Answer;
+use session_model::Answer;
 
 pub fn new_object(
     caller: &Caller,

@@ -6,10 +6,10 @@ use Rattle.std.proofs.lemmas.Bool.{cases_lt}
 use Rattle.std.proofs.lemmas.Bool.Decides.{nat_tests}
 use Rattle.std.proofs.lemmas.List.{get_or_append_left, get_or_past, get_or_push, length_push}
 use Rattle.std.proofs.lemmas.List.Folds.{list_any-append, list_any_at}
-use Rattle.places.specs.Table.{IsPlace}
+use Rattle.shared_rows.specs.Table.{IsPlace}
 use Rattle.publish_board.specs.Desk.{names_session, no_desk}
 use Rattle.publish_board.specs.Table.{desk_at}
-use Rattle.thread_model.specs.Thread.{joins_name}
+use Rattle.session_model.specs.Thread.{joins_name}
 use Rattle.session_tables.specs.declared.tables.Tables.{Tables}
 use Rattle.session_tables.specs.Joining.{AreJoiners}
 

@@ -1,6 +1,6 @@
 -- A write to the property of a name.
 use Rattle.std.proofs.Common.{◌≡◌, ◌∙◌, ℕ, List, Some, None, refl, sym, ap, subst}
-use Rattle.places.proofs.ForCallers as column
+use Rattle.shared_rows.proofs.ForCallers as column
 use Rattle.signature_core.specs.declared.kind.Kind.{Kind}
 use Rattle.variant_value.specs.declared.value.Value.{Value}
 use Rattle.variant_value.specs.Values.{converted}
@@ -16,7 +16,7 @@ use Rattle.binding_graph.specs.Graph.{Graph, unbound}
 use Rattle.bound_stores.specs.declared.changed.Changed.{Changed}
 use Rattle.bound_stores.specs.Bound.{BoundShelves, bound_at, stored_at, with_bound}
 use Rattle.bound_stores.specs.Named as bound
-use Rattle.thread_model.specs.Writing.{DeclaredField, declared}
+use Rattle.session_model.specs.Writing.{DeclaredField, declared}
 use Rattle.session_tables.specs.declared.tables.Tables.{Tables}
 use Rattle.session_tables.specs.Named.{DoesNotFit, Tells, WritesDeclared}
 use Rattle.session_tables.specs.Tables.{state_at, with_state}

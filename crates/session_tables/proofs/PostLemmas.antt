@@ -16,8 +16,8 @@ use Rattle.connection_list.specs.Rows.{no_rows}
 use Rattle.object_tree.specs.declared.row.Row.{Row}
 use Rattle.object_tree.specs.Forest.{empty_forest}
 use Rattle.object_tree.specs.Table.{forest_at}
-use Rattle.places.specs.Table.{ChangesAt, IsPlace, Table}
-use Rattle.places.proofs.ForCallers as column
+use Rattle.shared_rows.specs.Table.{ChangesAt, IsPlace, Table}
+use Rattle.shared_rows.proofs.ForCallers as column
 use Rattle.variant_value.specs.declared.value.Value.{Value}
 use Rattle.class_table.specs.declared.class.Class.{Class}
 use Rattle.signature_core.specs.declared.kind.Kind.{Kind}
@@ -26,9 +26,9 @@ use Rattle.publish_board.specs.declared.publication.Publication.{Publication}
 use Rattle.publish_board.specs.Desk.{names_session, no_desk}
 use Rattle.publish_board.specs.Rows.{publishes}
 use Rattle.publish_board.specs.Table.{desk_at}
-use Rattle.thread_model.specs.declared.post.Post.{Post}
-use Rattle.thread_model.specs.Arriving.{post_of, posts_by, reached, reached_by}
-use Rattle.thread_model.specs.Thread.{arrives}
+use Rattle.session_model.specs.declared.post.Post.{Post}
+use Rattle.session_model.specs.Arriving.{post_of, posts_by, reached, reached_by}
+use Rattle.session_model.specs.Thread.{arrives}
 use Rattle.session_tables.specs.declared.tables.Tables.{Tables}
 use Rattle.session_tables.specs.Session.{Session, gone}
 use Rattle.session_tables.specs.Tables.{ChangesOnly, IsPlaced, failed_at, session_at, state_at, with_session}

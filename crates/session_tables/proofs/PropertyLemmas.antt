@@ -6,8 +6,8 @@ use Rattle.std.specs.Prelude.{option_and_then}
 use Rattle.signature_core.specs.declared.kind.Kind.{Kind}
 use Rattle.property_store.specs.declared.field.Field.{Field}
 use Rattle.property_store.specs.Store.{Properties, declared_in, field_number, properties_of}
-use Rattle.thread_model.specs.State.{State}
-use Rattle.thread_model.specs.Writing.{DeclaredField, declared}
+use Rattle.session_model.specs.State.{State}
+use Rattle.session_model.specs.Writing.{DeclaredField, declared}
 
 abbrev pub pair_of : DeclaredField → ℕ × Kind
 pair_of place = (place.number, place.kind)

@@ -9,12 +9,12 @@ use Rattle.binding_graph.specs.Graph.{no_graph}
 use Rattle.connection_list.specs.Rows.{no_rows}
 use Rattle.event_queue.specs.Queue.{empty_queue}
 use Rattle.object_tree.specs.Forest.{empty_forest}
-use Rattle.places.proofs.ForCallers as column
-use Rattle.thread_model.specs.declared.post.Post.{Post}
+use Rattle.shared_rows.proofs.ForCallers as column
+use Rattle.session_model.specs.declared.post.Post.{Post}
 use Rattle.publish_board.specs.Desk.{Desk, names_session, no_desk}
-use Rattle.thread_model.specs.State.{State}
-use Rattle.thread_model.specs.Thread.{arrive_all, arrives, joins_name}
-use Rattle.thread_model.proofs.ForCallers.{arrive_all-append, post_stranger}
+use Rattle.session_model.specs.State.{State}
+use Rattle.session_model.specs.Thread.{arrive_all, arrives, joins_name}
+use Rattle.session_model.proofs.ForCallers.{arrive_all-append, post_stranger}
 use Rattle.session_tables.specs.declared.tables.Tables.{Tables}
 use Rattle.session_tables.specs.Session.{Session}
 use Rattle.session_tables.specs.Tables.{ChangesOnly, IsPlaced, failed_at, session_at}

@@ -7,7 +7,7 @@ use Rattle.object_tree.specs.Forest.{Forest, IsSound}
 use Rattle.object_tree.specs.Rows.{has_number, row_of}
 use Rattle.property_store.specs.Store.{Properties, properties_of}
 use Rattle.property_store.proofs.ForCallers.{find_over_map, found, unmapped}
-use Rattle.thread_model.specs.State.{State}
+use Rattle.session_model.specs.State.{State}
 use Rattle.session_tables.specs.Tables.{AreStored}
 
 -- a number that was not given is that of no object

@@ -3,8 +3,8 @@ use Rattle.std.proofs.Common.{◌≡◌, ◌≢◌, ◌<◌, ◌≤◌, ℕ, Boo
 use Rattle.std.proofs.lemmas.Bool.{cases_Bool}
 use Rattle.std.proofs.lemmas.Grind.{common_steps}
 use Rattle.std.proofs.lemmas.List.{get_or_past, get_or-set_other, length-set}
-use Rattle.places.specs.Table.{Table}
-use Rattle.places.proofs.ForCallers as column
+use Rattle.shared_rows.specs.Table.{Table}
+use Rattle.shared_rows.proofs.ForCallers as column
 use Rattle.connection_list.specs.Rows.{Rows, no_rows}
 use Rattle.event_queue.specs.Queue.{Queue, empty_queue}
 use Rattle.object_tree.specs.Forest.{Forest, empty_forest}
@@ -12,7 +12,7 @@ use Rattle.property_store.specs.Store.{Store}
 use Rattle.binding_graph.specs.Graph.{Graph, no_graph}
 use Rattle.bound_stores.specs.Bound.{BoundShelves}
 use Rattle.publish_board.specs.Desk.{Desk, no_desk}
-use Rattle.thread_model.specs.State.{State}
+use Rattle.session_model.specs.State.{State}
 use Rattle.session_tables.specs.declared.tables.Tables.{Tables}
 use Rattle.session_tables.specs.Session.{Session, fresh}
 use Rattle.session_tables.specs.Tables.{AreEven, AreSame, ChangesOnly, IsPlaced, opened, session_at, state_at, with_session, with_state}

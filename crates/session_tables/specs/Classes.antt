@@ -1,7 +1,7 @@
 -- The classes of objects.
 use Rattle.std.specs.Prelude.{◌≡◌, ℕ, Some, option_map}
 use Rattle.object_tree.specs.Rows.{row_of}
-use Rattle.thread_model.specs.State.{State}
+use Rattle.session_model.specs.State.{State}
 
 -- the object is there, and this is the index of its class
 abbrev pub HasClass : State → ℕ → ℕ → Type 0

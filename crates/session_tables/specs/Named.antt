@@ -1,17 +1,17 @@
 -- What a write to the property of a name comes to.
 use Rattle.std.specs.Prelude.{◌≡◌, ℕ, List, Some, None, Result, Ok, Err}
-use Rattle.refusals.specs.declared.code.Code.TheVariants.{BadValue}
-use Rattle.refusals.specs.declared.fault.Fault.{Fault}
-use Rattle.refusals.specs.declared.fault.Fault.TheVariants.{Refused, Memory}
+use Rattle.plain_types.specs.declared.code.Code.TheVariants.{BadValue}
+use Rattle.plain_types.specs.declared.fault.Fault.{Fault}
+use Rattle.plain_types.specs.declared.fault.Fault.TheVariants.{Refused, Memory}
 use Rattle.variant_value.specs.declared.value.Value.{Value}
 use Rattle.variant_value.specs.Values.{converted}
 use Rattle.property_store.specs.declared.property.Property.{Property as At}
 use Rattle.bound_stores.specs.declared.changed.Changed.{Changed}
 use Rattle.bound_stores.specs.Changed.{changes_in}
-use Rattle.thread_model.specs.Showing.{changes}
-use Rattle.thread_model.specs.State.{State, shown}
-use Rattle.thread_model.specs.Writing as writing
-use Rattle.thread_model.specs.Writing.{declared, with_writing}
+use Rattle.session_model.specs.Showing.{changes}
+use Rattle.session_model.specs.State.{State, shown}
+use Rattle.session_model.specs.Writing as writing
+use Rattle.session_model.specs.Writing.{declared, with_writing}
 use Rattle.session_tables.specs.declared.named.NamedWrite.{NamedWrite}
 use Rattle.session_tables.specs.declared.named.NamedWrite.TheVariants.{Declared, Undeclared}
 use Rattle.session_tables.specs.declared.tables.Tables.{Tables}

@@ -8,9 +8,9 @@ use Rattle.variant_value.specs.declared.value.Value.{Value}
 use Rattle.publish_board.specs.declared.join.Join.{Join}
 use Rattle.publish_board.specs.Desk.{Desk}
 use Rattle.publish_board.specs.Rows.{listens}
-use Rattle.thread_model.specs.declared.post.Post.{Post}
-use Rattle.thread_model.specs.Arriving.{is_matched, post_of, posts_by}
-use Rattle.thread_model.specs.Thread.{arrive_all}
+use Rattle.session_model.specs.declared.post.Post.{Post}
+use Rattle.session_model.specs.Arriving.{is_matched, post_of, posts_by}
+use Rattle.session_model.specs.Thread.{arrive_all}
 use Rattle.session_tables.specs.declared.posts.Posting.{Posting}
 use Rattle.session_tables.specs.declared.tables.Tables.{Tables}
 use Rattle.session_tables.specs.Session.{Session, gone}

@@ -1,7 +1,7 @@
 -- What holds where a call was refused.
 use Rattle.std.specs.Prelude.{Result, Ok, Err}
-use Rattle.refusals.specs.declared.fault.Fault.{Fault}
-use Rattle.refusals.specs.declared.fault.Fault.TheVariants.{Refused, Memory}
+use Rattle.plain_types.specs.declared.fault.Fault.{Fault}
+use Rattle.plain_types.specs.declared.fault.Fault.TheVariants.{Refused, Memory}
 
 -- a fact where the call was refused
 abbrev pub OnRefused : {T : Type 0} → Result T Fault → Type 0 → Type 0

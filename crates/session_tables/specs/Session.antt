@@ -1,6 +1,6 @@
 -- A session.
 use Rattle.std.specs.Prelude.{Bool, true, false}
-use Rattle.thread_model.specs.State.{State, empty}
+use Rattle.session_model.specs.State.{State, empty}
 
 pub record Session : Type 0 where
   pub state : State

@@ -1,7 +1,7 @@
 -- What contracts see of the tables: a session for each place.
 use Rattle.std.specs.Prelude.{◌≡◌, ◌≤◌, ℕ, Bool, false, List, [], length, map, slice_index_or}
-use Rattle.places.specs.Table as places
-use Rattle.places.specs.Table.{ChangesAt, IsPlace, with_place}
+use Rattle.shared_rows.specs.Table as places
+use Rattle.shared_rows.specs.Table.{ChangesAt, IsPlace, with_place}
 use Rattle.binding_graph.specs.Graph.{no_graph}
 use Rattle.binding_graph.specs.Table.{graph_at}
 use Rattle.bound_stores.specs.Bound.{with_bound}
@@ -17,7 +17,7 @@ use Rattle.publish_board.specs.Desk.{no_desk}
 use Rattle.publish_board.specs.Table.{desk_at, with_desk}
 use Rattle.property_store.specs.Table as shelves
 use Rattle.property_store.specs.Table.{store_at}
-use Rattle.thread_model.specs.State.{State, fields_of}
+use Rattle.session_model.specs.State.{State, fields_of}
 use Rattle.session_tables.specs.declared.tables.Tables.{Tables}
 use Rattle.session_tables.specs.Session.{Session}
 

@@ -1,13 +1,13 @@
 //! The bindings of properties, and groups.
 ghost use Rattle.std.specs.Prelude.{◌≡◌, [], IfOk, IsTrue, OnOk, Some, None, if◌then◌else◌};
-ghost use Rattle.refusals.specs.Answers.{RefusedBy};
+ghost use Rattle.plain_types.specs.Answers.{RefusedBy};
 ghost use Rattle.term_core.specs.Forms.{is_within_limits};
 ghost use Rattle.binding_graph.specs.Graph as graph;
 ghost use Rattle.binding_graph.specs.Graph.{begin_refusal, bind_refusal, end_refusal, is_open};
 ghost use Rattle.binding_values.specs.Stored.{is_bindable};
-ghost use Rattle.thread_model.specs.Binding.{asked_property, bindable_property};
-ghost use Rattle.thread_model.specs.Showing.{changes, showing};
-ghost use Rattle.thread_model.specs.State.{with_binding, with_binding_taken, with_group, without_group};
+ghost use Rattle.session_model.specs.Binding.{asked_property, bindable_property};
+ghost use Rattle.session_model.specs.Showing.{changes, showing};
+ghost use Rattle.session_model.specs.State.{with_binding, with_binding_taken, with_group, without_group};
 ghost use Rattle.session_tables.specs.Refused.{OnRefused};
 ghost use Rattle.session_tables.specs.Tables.{ChangesOnly, IsPlaced, state_at, with_state};
 
@@ -15,7 +15,7 @@ use crate::tables::Tables;
 use binding_graph::Change;
 use plain_types::Items;
 use property_store::Property;
-use refusals::{Code, Fault};
+use plain_types::{Code, Fault};
 use std::alloc::AllocError;
 use term_core::Expr;
 

@@ -1,17 +1,17 @@
 //! What sessions publish and join, and what ties an object to others.
 ghost use Rattle.std.specs.Prelude.{◌≡◌, IfOk, OnOk, OnErr};
 ghost use Rattle.std.specs.List.{list_any};
-ghost use Rattle.refusals.specs.Answers.{RefusedBy};
+ghost use Rattle.plain_types.specs.Answers.{RefusedBy};
 ghost use Rattle.publish_board.specs.Desk.{join_refusal, with_join, left, publish_refusal, published, unpublished};
 ghost use Rattle.publish_board.specs.Rows.{has_name, is_join};
-ghost use Rattle.thread_model.specs.State.{with_desk, without_ties};
+ghost use Rattle.session_model.specs.State.{with_desk, without_ties};
 ghost use Rattle.session_tables.specs.Joining.{AreJoiners};
 ghost use Rattle.session_tables.specs.Tables.{IsPlaced, state_at, with_state};
 
 use crate::tables::Tables;
 use plain_types::Text;
 use publish_board::{Join, Publication};
-use refusals::Fault;
+use plain_types::Fault;
 use signature_core::Kind;
 use std::alloc::{AllocError, Global};
 

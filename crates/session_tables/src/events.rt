@@ -3,17 +3,17 @@ ghost use Rattle.std.specs.Prelude.{◌≡◌, IfOk, OnOk, OnErr};
 ghost use Rattle.std.specs.List.{slice_get};
 ghost use Rattle.std.specs.Result.{result_err};
 ghost use Rattle.event_queue.specs.Queue.{has_room};
-ghost use Rattle.thread_model.specs.Deeds.{is_blocked};
-ghost use Rattle.thread_model.specs.Events.{status};
-ghost use Rattle.thread_model.specs.Posting.{post_refusal, spin_after};
-ghost use Rattle.thread_model.specs.State.{with_blocking, with_call, with_event, without_first};
+ghost use Rattle.session_model.specs.Deeds.{is_blocked};
+ghost use Rattle.session_model.specs.Events.{status};
+ghost use Rattle.session_model.specs.Posting.{post_refusal, spin_after};
+ghost use Rattle.session_model.specs.State.{with_blocking, with_call, with_event, without_first};
 ghost use Rattle.session_tables.specs.Tables.{IsPlaced, state_at, with_state};
 
 use crate::tables::Tables;
 use event_queue::{EVENTS, Event, QueuedCall};
-use refusals::Code;
+use plain_types::Code;
 use std::alloc::AllocError;
-use thread_model::{Spin, Status};
+use session_model::{Spin, Status};
 
 impl Tables {
     /// Posts an event, and returns whether there was room for it.

@@ -1,25 +1,25 @@
 //! Posts to the sessions that join what another one publishes.
 ghost use Rattle.std.specs.Prelude.{◌≡◌, ◌<◌, ◌∷◌, [], IsTrue, OnOk, OnErr, length, take};
 ghost use Rattle.std.specs.List.{list_any};
-ghost use Rattle.places.specs.Table.{IsPlace};
+ghost use Rattle.shared_rows.specs.Table.{IsPlace};
 ghost use Rattle.event_queue.specs.Table.{queue_at, with_queue};
 ghost use Rattle.object_tree.specs.Table.{forest_at};
 ghost use Rattle.publish_board.specs.Rows.{listens, publishes};
 ghost use Rattle.publish_board.specs.Table.{desk_at};
-ghost use Rattle.thread_model.specs.Arriving.{is_matched, kinds_of, posts_by, reached, reached_by, with_call};
+ghost use Rattle.session_model.specs.Arriving.{is_matched, kinds_of, posts_by, reached, reached_by, with_call};
 ghost use Rattle.session_tables.specs.Reaching.{FailsBy, Reaches, ReachesBy, heard, only_at, post_at, post_in, posts_at, takes};
 ghost use Rattle.session_tables.specs.Tables.{ChangesOnly, IsPlaced, session_at, state_at};
 
 use crate::tables::Tables;
 use class_table::ClassTable;
-use connection_types::Callee;
+use plain_types::Callee;
 use event_queue::{Event, Priority, QueuedCall, Queues};
 use object_tree::Forests;
 use plain_types::Text;
 use publish_board::{Join, Publication};
 use signature_core::{Kind, fits};
 use std::alloc::{AllocError, Global};
-use thread_model::Post;
+use session_model::Post;
 use variant_value::{Args, Value};
 
 /// A signal that a session sends: where the session is, its name, the object and its signal, and the

@@ -2,11 +2,11 @@
 ghost use Rattle.std.specs.Prelude.{◌≡◌, IfOk, OnOk, OnErr, Some, option_map};
 ghost use Rattle.std.specs.Option.{unwrap_or};
 ghost use Rattle.variant_value.specs.declared.value.Value.TheVariants.{Invalid};
-ghost use Rattle.refusals.specs.Answers.{RefusedBy};
+ghost use Rattle.plain_types.specs.Answers.{RefusedBy};
 ghost use Rattle.variant_value.specs.Values.{IsShort};
 ghost use Rattle.property_store.specs.Store.{dynamic_refusal, fitting};
-ghost use Rattle.thread_model.specs.Showing.{named_value};
-ghost use Rattle.thread_model.specs.Writing.{Declared, Dynamic, Removed, declared, with_writing};
+ghost use Rattle.session_model.specs.Showing.{named_value};
+ghost use Rattle.session_model.specs.Writing.{Declared, Dynamic, Removed, declared, with_writing};
 ghost use Rattle.session_tables.specs.Named.{Tells, WritesNamed};
 ghost use Rattle.session_tables.specs.Tables.{ChangesOnly, IsPlaced, state_at, with_state};
 
@@ -15,7 +15,7 @@ use crate::tables::Tables;
 use bound_stores::Changed;
 use plain_types::Text;
 use property_store::{Property, Unwritten};
-use refusals::Fault;
+use plain_types::Fault;
 use signature_core::Kind;
 use std::alloc::AllocError;
 use variant_value::Value;

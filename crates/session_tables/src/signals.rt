@@ -1,15 +1,15 @@
 //! The connections between objects.
 ghost use Rattle.std.specs.Prelude.{◌≡◌, ◌+◌, IfOk, OnOk, OnErr, count_by, if◌then◌else◌};
 ghost use Rattle.std.specs.List.{list_any};
-ghost use Rattle.refusals.specs.Answers.{RefusedBy};
+ghost use Rattle.plain_types.specs.Answers.{RefusedBy};
 ghost use Rattle.connection_list.specs.Ends.{matches};
 ghost use Rattle.connection_list.specs.Rows.{connect_refusal, has_number};
-ghost use Rattle.thread_model.specs.State.{functor_state, with_connection, with_functor_state, without_connections};
+ghost use Rattle.session_model.specs.State.{functor_state, with_connection, with_functor_state, without_connections};
 ghost use Rattle.session_tables.specs.Tables.{IsPlaced, state_at, with_state};
 
 use crate::tables::Tables;
 use connection_list::{Connection, NewConnection, Pattern};
-use refusals::Fault;
+use plain_types::Fault;
 
 impl Tables {
     /// Connects, and returns the connection's number. The refusals are those of

@@ -2,13 +2,13 @@
 ghost use Rattle.std.specs.Prelude.{◌≡◌, [], OnOk, length};
 ghost use Rattle.session_tables.specs.Session.{fresh, gone};
 ghost use Rattle.session_tables.specs.Tables.{AreSame, HasRoom, IsPlaced, failed_at, opened, with_session, with_state};
-ghost use Rattle.thread_model.specs.State.{empty};
+ghost use Rattle.session_model.specs.State.{empty};
 
 use bound_stores::BoundStores;
 use connection_list::Connections;
 use event_queue::Queues;
 use object_tree::Forests;
-use places::Places;
+use shared_rows::Places;
 use plain_types::Items;
 use property_store::Field;
 use publish_board::Board;

@@ -1,14 +1,14 @@
 //! The trees of objects.
 ghost use Rattle.std.specs.Prelude.{◌≡◌, ◌+◌, ◌&&◌, IfOk, OnOk, OnErr, None};
 ghost use Rattle.std.specs.Result.{result_err};
-ghost use Rattle.refusals.specs.Answers.{RefusedBy};
+ghost use Rattle.plain_types.specs.Answers.{RefusedBy};
 ghost use Rattle.object_tree.specs.Changes.{marked};
 ghost use Rattle.object_tree.specs.Finding.{found_below};
 ghost use Rattle.object_tree.specs.Refusing.{add_refusal, set_parent_refusal};
-ghost use Rattle.thread_model.specs.Showing.{changes};
-ghost use Rattle.thread_model.specs.State.{is_text, title_of, with_object, with_parent, without_object};
-ghost use Rattle.thread_model.specs.Absence.{absence};
-ghost use Rattle.thread_model.specs.Trees.{has_title, is_of_class};
+ghost use Rattle.session_model.specs.Showing.{changes};
+ghost use Rattle.session_model.specs.State.{is_text, title_of, with_object, with_parent, without_object};
+ghost use Rattle.session_model.specs.Absence.{absence};
+ghost use Rattle.session_model.specs.Trees.{has_title, is_of_class};
 ghost use Rattle.session_tables.specs.Classes.{HasClass};
 ghost use Rattle.session_tables.specs.Refused.{OnRefused};
 ghost use Rattle.session_tables.specs.Tables.{AreLaid, AreStored, ChangesOnly, IsPlaced, state_at, with_state};
@@ -18,9 +18,9 @@ use binding_graph::Change;
 use class_table::ClassTable;
 use plain_types::{Items, Text};
 use property_store::Property;
-use refusals::{Code, Fault};
+use plain_types::{Code, Fault};
 use std::alloc::AllocError;
-use thread_model::OBJECT_NAME;
+use session_model::OBJECT_NAME;
 
 impl Tables {
     /// Makes an object below a parent, or a root, whose properties have their defaults, and returns its

@@ -1,6 +1,6 @@
 -- The rows of all places.
 use Rattle.std.proofs.Common.{◌≡◌, ◌≢◌, ◌∙◌, ℕ, suc, ◌+◌, ◌<◌, ◌≤◌, List, [], ◌∷◌, ◌++◌, Option, Some, None, nat_lt, filter, length, map, take, drop, count_by, is_some, IfNone, IsSome, OnErr, Result, Ok, Err, cond, get_or, set, refl, sym, ap, subst, arith, ⊎_elim}
-use Rattle.gap_buffer.specs.Gapped.{Gapped}
+use Rattle.shared_rows.specs.Gapped.{Gapped}
 use Rattle.std.specs.List.{All, insert, remove}
 use Rattle.std.specs.Option.{option_map, unwrap_or}
 use Rattle.std.proofs.lemmas.Bool.{cases_eq, cases_lt, le-ltb, lt-ltb}
@@ -10,8 +10,8 @@ use Rattle.std.proofs.lemmas.List.Edits.{insert_end, length-insert, length-remov
 use Rattle.std.proofs.lemmas.List.Quantifiers.{all_pairs_remove}
 use Rattle.std.proofs.lemmas.List.Sums.{sum_by-set, sum_by_push}
 use Rattle.std.proofs.lemmas.Option.{same_Some}
-use Rattle.places.specs.Table.{IsPlace, Table, with_place}
-use Rattle.places.proofs.ForCallers.{with_same}
+use Rattle.shared_rows.specs.Table.{IsPlace, Table, with_place}
+use Rattle.shared_rows.proofs.TableLemmas.{with_same}
 use Rattle.slab.specs.Slab.{Slab, Updates, slab_len}
 use Rattle.shared_rows.specs.declared.index.Entry.{Entry}
 use Rattle.shared_rows.specs.declared.index.Slot.{Slot}

@@ -5,3 +5,7 @@ pub mod PositionLemmas
 pub mod EntryLemmas
 pub mod KeptLemmas
 pub mod ForCallers
+pub mod TableLemmas
+pub mod PairedLemmas
+pub mod GapLemmas
+pub mod SearchLemmas

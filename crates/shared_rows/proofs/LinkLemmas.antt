@@ -1,6 +1,6 @@
 -- Links in order.
 use Rattle.std.proofs.Common.{◌≡◌, ◌∙◌, ℕ, zero, suc, ◌+◌, ◌-◌, ◌<◌, ◌≤◌, Bool, true, false, not, List, [], ◌∷◌, ◌++◌, Some, Ok, Err, length, filter, find, get_or, take, drop, set, slice_get, refl, subst, sym, ap, arith, ⊎_elim}
-use Rattle.gap_buffer.specs.Gapped.{Gapped}
+use Rattle.shared_rows.specs.Gapped.{Gapped}
 use Rattle.std.specs.Cmp.{IsTotalOrder, alike_right}
 use Rattle.std.specs.List.{All, AllPairs, AllWithin, HoldsAt, insert, remove}
 use Rattle.std.specs.List.Sorted.{IsPartitionPoint, IsPartitionedBy}

@@ -1,6 +1,6 @@
 -- How the rows of the places stand in one slab. No public clause cites this module.
 use Rattle.std.specs.Prelude.{◌≡◌, ◌≢◌, ℕ, ◌<◌, ◌≤◌, List, length, Option, None, Some, count_by, is_some, slice_index_or}
-use Rattle.gap_buffer.specs.Gapped.{Gapped}
+use Rattle.shared_rows.specs.Gapped.{Gapped}
 use Rattle.std.specs.List.{All, AllPairs, AllWithin, filter_map, sum_by}
 use Rattle.std.specs.Option.{option_map}
 use Rattle.shared_rows.specs.Rows.{Keyed}

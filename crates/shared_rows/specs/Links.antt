@@ -1,6 +1,6 @@
 -- What contracts see of links: keys of a type that has a total order.
 use Rattle.std.specs.Prelude.{◌≡◌, ℕ, ◌<◌, ◌≤◌, ◌+◌, not, List, ◌∷◌, ◌++◌, Option, Result, Ok, Err, filter, find, length, refl}
-use Rattle.gap_buffer.specs.Gapped.{Gapped}
+use Rattle.shared_rows.specs.Gapped.{Gapped}
 use Rattle.std.specs.Coded.{Coded, code_by, coded×, coded_list, coded_ℕ}
 use Rattle.std.specs.List.{All, AllPairs, AllWithin, Any, Contains, HoldsAt}
 use Rattle.std.specs.Ordering.{is_eq, is_lt}

@@ -3,7 +3,7 @@ ghost use Rattle.std.specs.Prelude.{◌-◌, ◌<◌, ◌≤◌, IfErr, IfOk, If
 ghost use Rattle.shared_rows.specs.Index.{IsAt, IsCountBelow, IsRisingIndex, IsWindow, HasNot};
 
 use crate::number::Number;
-use gap_buffer::GapBuffer;
+use crate::GapBuffer;
 
 /// A row, and the place that it belongs to.
 #[derive(Drop)]

@@ -3,7 +3,7 @@ ghost use Rattle.std.specs.Prelude.{◌≡◌, ◌≤◌, ◌↔◌, [], IsTrue,
 ghost use Rattle.std.specs.List.{Contains, slice_get};
 ghost use Rattle.shared_rows.specs.Links.{HasRoom, IsInOrder, IsSeat, first_from, with_link, without_link};
 
-use gap_buffer::GapBuffer;
+use crate::GapBuffer;
 use std::alloc::{AllocError, Global};
 use std::cmp::Ordering;
 use std::marker::Model;

@@ -3,13 +3,13 @@ ghost use Rattle.std.specs.Prelude.{◌≡◌, ◌^◌, ◌<◌, ◌≤◌, [], 
 ghost use Rattle.std.specs.Borrow.{MutBor};
 ghost use Rattle.std.specs.Fn.{FnOnceReturnsAtMut};
 ghost use Rattle.std.specs.Option.{option_map};
-ghost use Rattle.places.specs.Table.{IsPlace, MakesRoom, Opens, with_place};
+ghost use Rattle.shared_rows.specs.Table.{IsPlace, MakesRoom, Opens, with_place};
 ghost use Rattle.shared_rows.specs.Rows.{IsSound, added, inserted, key_of, row_under, rows_at, with_row, without, IsAtPosition};
 
 use crate::index::{Entry, Slot, count_below, position};
 use crate::number::{Number, Numbered};
-use gap_buffer::GapBuffer;
-use places::Places;
+use crate::GapBuffer;
+use crate::Places;
 use slab::Slab;
 use std::alloc::{AllocError, Global};
 use std::marker::Model;
@@ -25,7 +25,7 @@ pub struct SharedRows<R: Numbered> {
 
 impl<R: Numbered> Model for SharedRows<R> {
     ghost use Rattle.std.specs.Prelude.{List, map};
-    ghost use Rattle.places.specs.Table.{Table, table_code};
+    ghost use Rattle.shared_rows.specs.Table.{Table, table_code};
     ghost use Rattle.std.specs.Coded.{coded_list};
     ghost use Rattle.shared_rows.specs.Rows.{Keyed, keyed_code};
 

@@ -6,7 +6,7 @@ ghost use Rattle.signature_core.specs.Kinds.{fits, kind_name};
 use crate::kind::Kind;
 use crate::reading::signature;
 use plain_types::{Items, Text};
-use refusals::{Code, Fault};
+use plain_types::{Code, Fault};
 use std::alloc::{AllocError, Global};
 
 /// The most parameters that a signature may have: a limit of our own.
@@ -28,9 +28,9 @@ impl Drop for Signature {
 
 impl Signature {
     ghost use Rattle.std.specs.Option.{ok_or};
-    ghost use Rattle.refusals.specs.Answers.{Answers};
-    ghost use Rattle.refusals.specs.declared.code.Code.TheVariants.{BadSignature};
-    ghost use Rattle.refusals.specs.declared.fault.Fault.TheVariants.{Refused};
+    ghost use Rattle.plain_types.specs.Answers.{Answers};
+    ghost use Rattle.plain_types.specs.declared.code.Code.TheVariants.{BadSignature};
+    ghost use Rattle.plain_types.specs.declared.fault.Fault.TheVariants.{Refused};
     ghost use Rattle.signature_core.specs.Grammar.{Spells, normal_text};
     ghost use Rattle.signature_core.specs.Reading.{signature_of, IsNormal};
 

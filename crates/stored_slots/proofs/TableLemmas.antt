@@ -1,10 +1,10 @@
 -- A list whose elements are seen by a part of each.
 use Rattle.std.proofs.Common.{◌≡◌, ℕ, zero, suc, ◌+◌, ◌<◌, ◌≤◌, List, [], ◌∷◌, Some, None, Bool, not, cond, ap, refl, sym, subst, map, length, get_or, arith}
 use Rattle.std.specs.Prelude.{IsErrAnd, IsSomeAnd, IfOk, Option, Result, Ok, Err, slice_index_or}
-use Rattle.refusals.specs.declared.code.Code.{Code}
-use Rattle.refusals.specs.declared.fault.Fault.{Fault}
-use Rattle.refusals.specs.declared.fault.Fault.TheVariants.{Memory}
-use Rattle.refusals.specs.Answers.{RefusedBy}
+use Rattle.plain_types.specs.declared.code.Code.{Code}
+use Rattle.plain_types.specs.declared.fault.Fault.{Fault}
+use Rattle.plain_types.specs.declared.fault.Fault.TheVariants.{Memory}
+use Rattle.plain_types.specs.Answers.{RefusedBy}
 use Rattle.std.specs.List.{All, position, position_or_len, slice_get}
 use Rattle.std.proofs.lemmas.List.{length-map}
 use Rattle.std.proofs.lemmas.List.Elements.{All-map}

@@ -2,8 +2,8 @@
 -- next states, in the order in which they were handed in.
 use Rattle.std.specs.Prelude.{◌≡◌, ℕ, List, Option, Some, None, IsSomeAnd, bytes_eq, if◌then◌else◌, is_some, length, nat_le, option_map, position, slice_get}
 use Rattle.std.specs.List.{AllZip}
-use Rattle.refusals.specs.declared.code.Code.{Code}
-use Rattle.refusals.specs.declared.code.Code.TheVariants.{Limit, NameTaken}
+use Rattle.plain_types.specs.declared.code.Code.{Code}
+use Rattle.plain_types.specs.declared.code.Code.TheVariants.{Limit, NameTaken}
 use Rattle.signature_core.specs.declared.kind.Kind.{Kind}
 use Rattle.variant_value.specs.declared.value.Value.{Value}
 use Rattle.variant_value.specs.Values.{IsOfKind}

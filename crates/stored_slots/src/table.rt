@@ -6,7 +6,7 @@ use crate::functor::Functor;
 use crate::limit::FUNCTORS;
 use crate::stored::{Closure, StoredFunctor};
 use plain_types::{Items, Text};
-use refusals::{Code, Fault};
+use plain_types::{Code, Fault};
 use signature_core::Kind;
 use std::alloc::{AllocError, Global};
 use term_core::{Action, Body, Expr};
@@ -43,7 +43,7 @@ fn number_of(stored: &[StoredFunctor], name: &str) -> Option<usize>
 impl Functors {
     ghost use Rattle.std.specs.Prelude.{◌++◌, ◌∷◌, [], All, Some, None, IfOk, OnOk, OnErr, slice_get};
     ghost use Rattle.std.specs.Option.{option_copied};
-    ghost use Rattle.refusals.specs.Answers.{RefusedBy};
+    ghost use Rattle.plain_types.specs.Answers.{RefusedBy};
     ghost use Rattle.term_core.specs.Bodies.{IsNext};
     ghost use Rattle.stored_slots.specs.Closures.{MayBeCalled, GivesBody, GivesNext};
     ghost use Rattle.stored_slots.specs.Functors.{IsBodyFor, IsCall, IsFunctor, actions_of, add_refusal, index_of, next_of};

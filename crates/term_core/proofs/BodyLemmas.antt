@@ -8,9 +8,9 @@ use Rattle.std.proofs.lemmas.List.Elements.{All-nil, All-cons}
 use Rattle.serde_json.specs.Data.{Data, null, boolean, number, string, array, object, Items, no_items, item, Members, no_members, member}
 use Rattle.serde_json.specs.Find.{get, as_array, as_bool, as_str}
 use Rattle.plain_types.specs.Names.{is_name}
-use Rattle.refusals.specs.declared.code.Code.TheVariants.{BadValue, Limit}
-use Rattle.refusals.specs.Answers.{Answers}
-use Rattle.refusals.specs.declared.fault.Fault.{Fault}
+use Rattle.plain_types.specs.declared.code.Code.TheVariants.{BadValue, Limit}
+use Rattle.plain_types.specs.Answers.{Answers}
+use Rattle.plain_types.specs.declared.fault.Fault.{Fault}
 use Rattle.variant_value.specs.declared.value.Value.{Value}
 use Rattle.term_core.specs.declared.target.Target.{Target}
 use Rattle.term_core.specs.declared.action.SingleAction.{SingleAction}

@@ -1,8 +1,8 @@
 -- What a loop over a list has read, with what is left of the list.
 use Rattle.std.proofs.Common.{◌≡◌, List, [], ◌∷◌, ◌++◌, Ok, Err, refl, sym, ◌∙◌, append_assoc}
-use Rattle.refusals.specs.Answers.{Answers}
-use Rattle.refusals.specs.declared.fault.Fault.{Fault}
-use Rattle.refusals.specs.declared.fault.Fault.TheVariants.{Refused, Memory}
+use Rattle.plain_types.specs.Answers.{Answers}
+use Rattle.plain_types.specs.declared.fault.Fault.{Fault}
+use Rattle.plain_types.specs.declared.fault.Fault.TheVariants.{Refused, Memory}
 use Rattle.serde_json.specs.Data.{Data, Items, item}
 use Rattle.serde_json.specs.View.{view, items_view}
 use Rattle.serde_json.specs.declared.value.Value.{Value}

@@ -3,14 +3,14 @@ use Rattle.std.specs.Prelude.{◌&&◌, ◌||◌, ℕ, Bool, false, List, [], �
 use Rattle.std.specs.Option.{option_map_or}
 use Rattle.serde_json.specs.Data.{Data, null, Items, no_items, item}
 use Rattle.serde_json.specs.Find.{get, as_array, as_bool, as_str}
-use Rattle.refusals.specs.declared.code.Code.TheVariants.{BadValue}
+use Rattle.plain_types.specs.declared.code.Code.TheVariants.{BadValue}
 use Rattle.signature_core.specs.declared.signature.Signature.{Signature}
 use Rattle.signature_core.specs.Reading.{signature_of}
 use Rattle.term_core.specs.declared.action.SingleAction.{SingleAction}
 use Rattle.term_core.specs.declared.action.SingleAction.TheVariants as e
-use Rattle.connection_types.specs.declared.connection_type.ConnectionType.{ConnectionType}
-use Rattle.connection_types.specs.declared.connection_type.ConnectionType.TheVariants as mode
-use Rattle.connection_types.specs.Modes.{mode_named}
+use Rattle.plain_types.specs.declared.connection_type.ConnectionType.{ConnectionType}
+use Rattle.plain_types.specs.declared.connection_type.ConnectionType.TheVariants as mode
+use Rattle.plain_types.specs.Modes.{mode_named}
 use Rattle.term_core.specs.declared.scope.Scope.{Scope}
 use Rattle.term_core.specs.Term.{Term}
 use Rattle.term_core.specs.Json.{Read, ◌>>=◌, formed, where_holds, has_only, where_only, at_key, name_in, target_in}

@@ -4,7 +4,7 @@ use Rattle.std.specs.Prelude.{bytes_eq, if◌then◌else◌, nat_le, nat_lt, is_
 use Rattle.std.specs.Option.{option_map_or}
 use Rattle.serde_json.specs.Data.{Data, array, object, no_items, item, Members, no_members, member}
 use Rattle.serde_json.specs.Find.{get, as_bool}
-use Rattle.refusals.specs.declared.code.Code.TheVariants.{BadValue, Limit}
+use Rattle.plain_types.specs.declared.code.Code.TheVariants.{BadValue, Limit}
 use Rattle.term_core.specs.declared.limits.TheConstants.{NODES}
 use Rattle.term_core.specs.declared.target.Target.{Target}
 use Rattle.term_core.specs.declared.target.Target.TheVariants.{Itself, Sender, Child, Object}

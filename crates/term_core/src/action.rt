@@ -6,7 +6,7 @@ ghost use Rattle.term_core.specs.Act.{single_action, when, acts_of, count, count
 
 use crate::expr::Expr;
 use crate::target::Target;
-use connection_types::ConnectionType;
+use plain_types::ConnectionType;
 use plain_types::{Items, Text};
 use signature_core::Signature;
 use std::marker::Model;

@@ -1,7 +1,7 @@
 //! Bodies of slots and functors.
 ghost use Rattle.std.specs.Prelude.{◌≡◌, IfOk};
 ghost use Rattle.serde_json.specs.View.{view, items_view};
-ghost use Rattle.refusals.specs.Answers.{Answers};
+ghost use Rattle.plain_types.specs.Answers.{Answers};
 ghost use Rattle.term_core.specs.Bodies.{IsBody, body_of, functor_body_of, limited_body, action_in, actions_in, acts_in};
 
 use crate::action::{Action, are_limited, count_all};
@@ -11,7 +11,7 @@ use crate::json::{BAD, has_only};
 use crate::limits::ACTIONS;
 use crate::scope::Scope;
 use plain_types::Items;
-use refusals::{Code, Fault};
+use plain_types::{Code, Fault};
 use serde_json::Value as Json;
 use std::alloc::Global;
 

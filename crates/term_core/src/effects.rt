@@ -1,7 +1,7 @@
 //! Reading actions that do one thing.
 ghost use Rattle.std.specs.Prelude.{◌≡◌, codes};
 ghost use Rattle.serde_json.specs.View.{view, items_view};
-ghost use Rattle.refusals.specs.Answers.{Answers};
+ghost use Rattle.plain_types.specs.Answers.{Answers};
 ghost use Rattle.term_core.specs.Json.{target_in};
 ghost use Rattle.term_core.specs.Effects.{signature_in, unless_null, optional, flag_in, mode_in, terms_in, set_in, emit_in, connect_in};
 ghost use Rattle.term_core.specs.Effects.{has_receiver, disconnect_in, delete_in, delete_later_in, block_in, set_parent_in, effect_in};
@@ -12,9 +12,9 @@ use crate::forms::{expression, subject};
 use crate::json::{BAD, has_only, name, target};
 use crate::scope::Scope;
 use crate::target::Target;
-use connection_types::ConnectionType;
+use plain_types::ConnectionType;
 use plain_types::Items;
-use refusals::Fault;
+use plain_types::Fault;
 use serde_json::Value as Json;
 use signature_core::Signature;
 use std::alloc::Global;

@@ -1,6 +1,6 @@
 //! Expressions.
 ghost use Rattle.std.specs.Prelude.{◌≡◌, ◌^◌, ◌-◌, min, IfOk, IsTrue};
-ghost use Rattle.refusals.specs.Answers.{Answers};
+ghost use Rattle.plain_types.specs.Answers.{Answers};
 ghost use Rattle.serde_json.specs.View.{view};
 ghost use Rattle.term_core.specs.Term.{const, arg, state, prop, binary, choice, nodes, is_short, has_short_texts};
 ghost use Rattle.term_core.specs.Bodies.{IsNext};
@@ -12,7 +12,7 @@ use crate::operator::Operator;
 use crate::scope::Scope;
 use crate::target::Target;
 use plain_types::Text;
-use refusals::{Code, Fault};
+use plain_types::{Code, Fault};
 use std::alloc::{AllocError, Global};
 use std::marker::Model;
 use variant_value::{TEXT_BYTES, Value};

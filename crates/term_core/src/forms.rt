@@ -2,7 +2,7 @@
 ghost use Rattle.std.specs.Prelude.{◌≡◌, Some, IfSome, IfNone};
 ghost use Rattle.serde_json.specs.Data.{Data, array, item, no_items, object, member, no_members};
 ghost use Rattle.serde_json.specs.View.{view};
-ghost use Rattle.refusals.specs.Answers.{Answers};
+ghost use Rattle.plain_types.specs.Answers.{Answers};
 ghost use Rattle.term_core.specs.Forms.{term_in, argument_in, state_in, subject_in, property_in, binary_in, choice_in};
 
 use crate::expr::Expr;
@@ -10,7 +10,7 @@ use crate::json::{BAD, constant, has_only, name, natural, target};
 use crate::operator::{Form, Operator};
 use crate::scope::Scope;
 use crate::target::Target;
-use refusals::Fault;
+use plain_types::Fault;
 use serde_json::Value as Json;
 use std::alloc::Global;
 

@@ -3,12 +3,12 @@ ghost use Rattle.std.specs.Prelude.{◌≡◌, bytes_eq, map, string_bytes};
 ghost use Rattle.std.specs.List.{list_any, list_all};
 ghost use Rattle.std.specs.Map.{keys_of};
 ghost use Rattle.serde_json.specs.View.{view};
-ghost use Rattle.refusals.specs.Answers.{Answers};
+ghost use Rattle.plain_types.specs.Answers.{Answers};
 ghost use Rattle.term_core.specs.Json.{has_only, name_in, natural_in, constant_in, target_in, child_target};
 
 use crate::target::Target;
 use plain_types::{Text, is_name};
-use refusals::{Code, Fault};
+use plain_types::{Code, Fault};
 use serde_json::{Map, Value as Json};
 use std::alloc::Global;
 use variant_value::Value;

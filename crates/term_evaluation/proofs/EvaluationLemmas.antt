@@ -7,7 +7,7 @@ use Rattle.std.specs.Option.{ok_or, option_map_or, option_or}
 use Rattle.std.proofs.lemmas.Bool.Decides.{nat_tests}
 use Rattle.std.proofs.lemmas.List.{length-append, get_or_append_left, get_or-append-add}
 use Rattle.std.proofs.lemmas.List.Elements.{All-head, All-tail}
-use Rattle.refusals.specs.declared.code.Code.TheVariants.{BadValue, Limit}
+use Rattle.plain_types.specs.declared.code.Code.TheVariants.{BadValue, Limit}
 use Rattle.signature_core.specs.declared.kind.Kind.TheVariants as k
 use Rattle.variant_value.specs.declared.value.Value.{Value}
 use Rattle.variant_value.specs.declared.value.Value.TheVariants as v

@@ -3,8 +3,8 @@ use Rattle.std.specs.Prelude.{◌+ℤ◌, ◌-ℤ◌, ◌++◌, ℕ, ℤ, Bool, 
 use Rattle.std.specs.Bool.{beq}
 use Rattle.std.specs.Option.{ok_or, option_or, option_map_or}
 use Rattle.std.specs.Ordering.{int_eq}
-use Rattle.refusals.specs.declared.code.Code.{Code}
-use Rattle.refusals.specs.declared.code.Code.TheVariants.{BadValue}
+use Rattle.plain_types.specs.declared.code.Code.{Code}
+use Rattle.plain_types.specs.declared.code.Code.TheVariants.{BadValue}
 use Rattle.variant_value.specs.declared.value.Value.{Value}
 use Rattle.variant_value.specs.declared.value.Value.TheVariants as v
 use Rattle.variant_value.specs.Values.{truth_in, number_in, text_in, inferred_number, text_of}

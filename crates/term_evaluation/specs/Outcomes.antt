@@ -1,9 +1,9 @@
 -- What an evaluation ends with.
 use Rattle.std.specs.Prelude.{◌≡◌, Result, Ok, Err}
-use Rattle.refusals.specs.declared.code.Code.{Code}
+use Rattle.plain_types.specs.declared.code.Code.{Code}
 use Rattle.variant_value.specs.declared.value.Value.{Value}
-use Rattle.refusals.specs.declared.fault.Fault.{Fault}
-use Rattle.refusals.specs.declared.fault.Fault.TheVariants as fault
+use Rattle.plain_types.specs.declared.fault.Fault.{Fault}
+use Rattle.plain_types.specs.declared.fault.Fault.TheVariants as fault
 use Rattle.term_evaluation.specs.declared.halt.Halt.{Halt}
 use Rattle.term_evaluation.specs.declared.halt.Halt.TheVariants.{Refused, Own, Memory}
 

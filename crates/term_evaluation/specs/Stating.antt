@@ -1,7 +1,7 @@
 -- The state of a functor: put into its body, and what follows it.
 use Rattle.std.specs.Prelude.{ℕ, pos, ◌-◌, ◌^◌, List, [], map, Option, None, Some, Err, Ok, if◌then◌else◌, option_and_then, unsigned_abs, unwrap_or}
 use Rattle.std.specs.Option.{option_map_or}
-use Rattle.refusals.specs.declared.code.Code.TheVariants.{NoSuchObject}
+use Rattle.plain_types.specs.declared.code.Code.TheVariants.{NoSuchObject}
 use Rattle.variant_value.specs.declared.value.Value.{Value}
 use Rattle.variant_value.specs.declared.value.Value.TheVariants as v
 use Rattle.variant_value.specs.Values.{inferred_number, is_within, number_in}

@@ -1,7 +1,7 @@
 //! The value of an expression.
 ghost use Rattle.std.specs.Prelude.{◌≡◌, ℕ, List};
 ghost use Rattle.std.specs.Option.{option_map};
-ghost use Rattle.refusals.specs.Answers.{Answers};
+ghost use Rattle.plain_types.specs.Answers.{Answers};
 ghost use Rattle.term_core.specs.declared.target.Target.{Target};
 ghost use Rattle.term_evaluation.specs.Evaluation.{argument, eval_by, standing};
 ghost use Rattle.term_evaluation.specs.Outcomes.{Answer, Ends};
@@ -9,7 +9,7 @@ ghost use Rattle.term_evaluation.specs.Outcomes.{Answer, Ends};
 use crate::halt::Halt;
 use crate::operations::{apply, truth};
 use plain_types::Text;
-use refusals::{Code, Fault};
+use plain_types::{Code, Fault};
 use std::alloc::Global;
 use term_core::{Expr, Node, Target};
 use variant_value::Value;
@@ -33,7 +33,7 @@ pub struct NoObjects;
 
 impl Reads for NoObjects {
     ghost use Rattle.std.specs.Prelude.{Err};
-    ghost use Rattle.refusals.specs.declared.code.Code.TheVariants.{NoSuchObject};
+    ghost use Rattle.plain_types.specs.declared.code.Code.TheVariants.{NoSuchObject};
     ghost use Rattle.term_evaluation.specs.Outcomes.{refused};
 
     type Own = ();

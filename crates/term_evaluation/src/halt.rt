@@ -1,5 +1,5 @@
 //! Why an evaluation ends without a value.
-use refusals::{Code, Fault};
+use plain_types::{Code, Fault};
 use std::alloc::AllocError;
 
 /// Why an evaluation ends without a value. `O` is what the reader of properties may answer beside the

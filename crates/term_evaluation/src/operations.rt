@@ -2,14 +2,14 @@
 ghost use Rattle.std.specs.Prelude.{◌≡◌, ◌≤ℤ◌, ◌+ℤ◌, ◌-ℤ◌, ◌++◌, ◌^◌, ◌-◌, pos, neg_ℤ, IfSome, bytes_eq, int_lt, option_map, option_and_then};
 ghost use Rattle.std.specs.Bool.{beq};
 ghost use Rattle.std.specs.Ordering.{int_eq};
-ghost use Rattle.refusals.specs.Answers.{Answers};
+ghost use Rattle.plain_types.specs.Answers.{Answers};
 ghost use Rattle.variant_value.specs.Values.{truth_in, number_in, text_in, number_of, inferred_number, text_of};
 ghost use Rattle.signature_core.specs.declared.kind.Kind.TheVariants as kind;
 ghost use Rattle.term_evaluation.specs.Stating.{state_in, state_value};
 ghost use Rattle.term_evaluation.specs.Operations.{of_two, are_equal, text_value, applied};
 
 use plain_types::Text;
-use refusals::{Code, Fault};
+use plain_types::{Code, Fault};
 use std::alloc::Global;
 use term_core::Operator;
 use variant_value::{TEXT_BYTES, Value};

@@ -7,7 +7,7 @@ use binding_graph::{Bindings, Change, Message, openings, steps};
 use binding_values::{BindingError, is_bindable};
 use plain_types::{Items, Text};
 use property_store::{Field, Property, Stores};
-use refusals::{Code, Fault};
+use plain_types::{Code, Fault};
 use signature_core::Kind;
 use std::alloc::{AllocError, Global};
 use std::marker::Model;

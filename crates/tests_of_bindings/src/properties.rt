@@ -3,7 +3,7 @@ ghost use Rattle.std.specs.Prelude.{◌≡◌, ◌<◌, [], OnOk, length};
 
 use plain_types::{Items, Text};
 use property_store::{Field, Stores, Written};
-use refusals::Fault;
+use plain_types::Fault;
 use signature_core::Kind;
 use std::alloc::{AllocError, Global};
 use std::test::Fail;

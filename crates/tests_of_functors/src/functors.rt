@@ -5,8 +5,8 @@ ghost use Rattle.term_evaluation.specs.Stating.{after};
 
 use crate::handing::answers;
 use plain_types::{Items, Text};
-use program_start::kept_state;
-use refusals::{Code, Fault};
+use command_line::kept_state;
+use plain_types::{Code, Fault};
 use std::alloc::{AllocError, Global};
 use std::test::Fail;
 use stored_slots::{Closure, FUNCTORS, Functors};

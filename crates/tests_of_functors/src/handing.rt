@@ -5,10 +5,10 @@ ghost use Rattle.stored_slots.specs.Functors.{AreArguments};
 ghost use Rattle.term_core.specs.Term.{state};
 ghost use Rattle.term_evaluation.specs.Stating.{after, with_state};
 ghost use Rattle.term_evaluation.specs.Unfolding.{unfolded_body};
-ghost use Rattle.program_start.specs.Clamp.{clamp_body};
+ghost use Rattle.command_line.specs.Clamp.{clamp_body};
 
-use program_start::{clamp_answer, with_clamp};
-use refusals::Fault;
+use command_line::{clamp_answer, with_clamp};
+use plain_types::Fault;
 use std::alloc::{AllocError, Global};
 use stored_slots::Closure;
 use term_core::Action;

@@ -1,6 +1,6 @@
 //! Sessions alone: what comes to one of them tells, on an engine of its own, what it tells beside the others.
 ghost use Rattle.std.specs.Prelude.{◌≡◌, All, Some, IfOk, OnOk};
-ghost use Rattle.thread_model.specs.Fitting.{IsRightPost};
+ghost use Rattle.session_model.specs.Fitting.{IsRightPost};
 ghost use Rattle.session_engine.specs.Core.{place};
 ghost use Rattle.session_engine.specs.Engine.{seen_engine};
 ghost use Rattle.session_engine.specs.Items.{IsRightItem};
@@ -8,7 +8,7 @@ ghost use Rattle.session_engine.specs.Items.{IsRightItem};
 use crate::fakes::hashing;
 use crate::lines::{classes_of, given, text_of};
 use plain_types::{Items, Text};
-use program_start::DEMONSTRATION;
+use command_line::DEMONSTRATION;
 use server_world::{Entry, Server};
 use session_engine::{Engine, Item};
 use signature_core::Kind;
@@ -16,7 +16,7 @@ use std::alloc::{AllocError, Global};
 use std::mem::replace;
 use std::test::Fail;
 use stored_slots::Functors;
-use thread_model::{Command, Post, Tagged};
+use session_model::{Command, Post, Tagged};
 use variant_value::Value;
 
 /// What comes to a session, as a test writes it: a line of its own, or a number that another session posts

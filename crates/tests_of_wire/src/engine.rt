@@ -5,12 +5,12 @@ ghost use Rattle.session_engine.specs.Engine.{seen_engine};
 
 use crate::fakes::hashing;
 use crate::lines::{given, lamps};
-use refusals::{Code, Fault};
+use plain_types::{Code, Fault};
 use session_engine::Engine;
 use std::alloc::{AllocError, Global};
 use std::test::Fail;
 use stored_slots::Functors;
-use thread_model::Tagged;
+use session_model::Tagged;
 
 fn fresh(alloc: Global) -> Result<Engine, AllocError> {
     let functors = Functors::new(alloc);

@@ -6,7 +6,7 @@ use std::hash::RandomState;
 use std::io;
 use std::io::Read;
 use std::random::RandomSource;
-use wire_devices::{Failed, Sink, Source};
+use wire_format::{Failed, Sink, Source};
 
 /// Gives the bytes of a slice, a few a call, and fails at one of its calls.
 #[derive(Drop)]

@@ -2,7 +2,7 @@
 use class_table::ClassTable;
 use plain_types::{Items, Text};
 use std::alloc::{AllocError, Global};
-use thread_model::{Line, Tagged};
+use session_model::{Line, Tagged};
 use wire_format::{Scratch, line_text, read_line};
 
 /// A class with two slots and a property, one below it, and one with two signals.

@@ -9,7 +9,7 @@ use server_world::{
 use std::alloc::{AllocError, Global};
 use std::test::Fail;
 use stored_slots::Functors;
-use thread_model::{
+use session_model::{
     actions_run_in_place, agenda_runs_to_its_end, commands_keep_sessions_sound, machine_is_lawful,
 };
 use wire_format::sessions_are_isolated;

@@ -5,12 +5,12 @@ ghost use Rattle.stored_slots.specs.Functors.{AreArguments};
 ghost use Rattle.term_core.specs.Term.{state};
 ghost use Rattle.term_evaluation.specs.Stating.{after, with_state};
 ghost use Rattle.term_evaluation.specs.Unfolding.{unfolded_body};
-ghost use Rattle.program_start.specs.Clamp.{clamp_body};
+ghost use Rattle.command_line.specs.Clamp.{clamp_body};
 
 use crate::fakes::hashing;
 use crate::lines::classes_of;
 use crate::served::{Host, TURNS, answers};
-use program_start::{DEMONSTRATION, clamp_answer, with_clamp};
+use command_line::{DEMONSTRATION, clamp_answer, with_clamp};
 use server_world::Server;
 use std::alloc::{AllocError, Global};
 use std::test::Fail;

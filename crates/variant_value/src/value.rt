@@ -2,12 +2,12 @@
 ghost use Rattle.std.specs.Prelude.{◌≡◌, ◌↔◌, Some, Ok, IfOk, IsTrue, not};
 ghost use Rattle.std.specs.Option.{ok_or};
 ghost use Rattle.serde_json.specs.View.{view};
-ghost use Rattle.refusals.specs.Answers.{Answers};
+ghost use Rattle.plain_types.specs.Answers.{Answers};
 ghost use Rattle.variant_value.specs.Values.{IsOfKind, IsShort, is_same, value_of, json_of, kind_of, inferred, converted};
 ghost use Rattle.variant_value.specs.Values.{number_of, inferred_number, number_in, whole_number, text_of};
 
 use plain_types::Text;
-use refusals::{Code, Fault};
+use plain_types::{Code, Fault};
 use serde_json::Number;
 use signature_core::Kind;
 use std::alloc::{AllocError, Global};

@@ -5,8 +5,8 @@ use Rattle.plain_types.specs.Names.{is_name}
 use Rattle.serde_json.specs.Data.{Data}
 use Rattle.serde_json.specs.Find.{get, as_str}
 use Rattle.json_reading.specs.Fields.{◌>>=◌, text_at, when}
-use Rattle.thread_model.specs.Asked.{Asked}
-use Rattle.thread_model.specs.Named.{IsNamedAsked}
+use Rattle.session_model.specs.Asked.{Asked}
+use Rattle.session_model.specs.Named.{IsNamedAsked}
 use Rattle.wire_commands.specs.declared.commands.Word.{Word}
 use Rattle.wire_commands.specs.declared.commands.Word.TheVariants as w
 use Rattle.wire_commands.specs.declared.keys.Holds.{Holds}

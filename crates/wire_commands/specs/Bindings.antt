@@ -1,8 +1,8 @@
 -- The commands of bindings and groups.
 use Rattle.std.specs.Prelude.{List, [], ◌∷◌, Option, Some, None, codes}
 use Rattle.json_reading.specs.Fields.{◌>>=◌}
-use Rattle.thread_model.specs.Asked.{Ask, Asked, Begin, Bind, End, Unbind}
-use Rattle.thread_model.specs.declared.query.Query.TheVariants.{BindingError}
+use Rattle.session_model.specs.Asked.{Ask, Asked, Begin, Bind, End, Unbind}
+use Rattle.session_model.specs.declared.query.Query.TheVariants.{BindingError}
 use Rattle.wire_commands.specs.declared.keys.Holds.TheVariants.{Name, Number, Any}
 use Rattle.wire_commands.specs.Form.{Form}
 use Rattle.wire_commands.specs.Held.{Held, json_of, number_of, text_of}

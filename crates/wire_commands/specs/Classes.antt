@@ -1,7 +1,7 @@
 -- The command that describes a class.
 use Rattle.std.specs.Prelude.{List, [], ◌∷◌, Option, None, codes, option_map}
-use Rattle.thread_model.specs.Asked.{Asked, Ask}
-use Rattle.thread_model.specs.declared.query.Query.TheVariants.{Meta}
+use Rattle.session_model.specs.Asked.{Asked, Ask}
+use Rattle.session_model.specs.declared.query.Query.TheVariants.{Meta}
 use Rattle.wire_commands.specs.declared.keys.Holds.TheVariants.{Name}
 use Rattle.wire_commands.specs.Form.{Form}
 use Rattle.wire_commands.specs.Held.{Held, text_of}

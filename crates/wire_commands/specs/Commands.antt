@@ -3,7 +3,7 @@ use Rattle.std.specs.Prelude.{ℕ, List, [], ◌∷◌, Option, codes, bytes_eq}
 use Rattle.std.specs.List.{find}
 use Rattle.serde_json.specs.Data.{Data}
 use Rattle.json_reading.specs.Fields.{◌>>=◌, text_at}
-use Rattle.thread_model.specs.Asked.{Asked}
+use Rattle.session_model.specs.Asked.{Asked}
 use Rattle.wire_commands.specs.declared.commands.Word.{Word}
 use Rattle.wire_commands.specs.declared.commands.Word.TheVariants.{New, Delete, SetParent, Children, Find, Set, Get, DynamicNames, Bind, Unbind}
 use Rattle.wire_commands.specs.declared.commands.Word.TheVariants.{BindingError, Begin, End, Meta, Connect, ConnectFunctor, Disconnect, Invoke, Spin}

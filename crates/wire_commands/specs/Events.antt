@@ -1,8 +1,8 @@
 -- The commands of the event loop.
 use Rattle.std.specs.Prelude.{List, [], ◌∷◌, Option, Some, None, codes, option_map}
-use Rattle.thread_model.specs.Asked.{Ask, Asked, Do, Spin}
-use Rattle.thread_model.specs.declared.deed.Deed.TheVariants.{Block, DeleteLater}
-use Rattle.thread_model.specs.declared.query.Query.TheVariants.{Status}
+use Rattle.session_model.specs.Asked.{Ask, Asked, Do, Spin}
+use Rattle.session_model.specs.declared.deed.Deed.TheVariants.{Block, DeleteLater}
+use Rattle.session_model.specs.declared.query.Query.TheVariants.{Status}
 use Rattle.wire_commands.specs.declared.keys.Holds.TheVariants.{Number, Truth}
 use Rattle.wire_commands.specs.Form.{Form}
 use Rattle.wire_commands.specs.Held.{Held, number_of, truth_of}

@@ -1,6 +1,6 @@
 -- The form of a command.
 use Rattle.std.specs.Prelude.{ℕ, List, Option}
-use Rattle.thread_model.specs.Asked.{Asked}
+use Rattle.session_model.specs.Asked.{Asked}
 use Rattle.wire_commands.specs.Held.{Held}
 use Rattle.wire_commands.specs.Keys.{Key}
 

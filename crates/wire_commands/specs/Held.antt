@@ -6,11 +6,11 @@ use Rattle.std.specs.Option.{option_map_or}
 use Rattle.plain_types.specs.Names.{is_name}
 use Rattle.serde_json.specs.Data.{Data}
 use Rattle.serde_json.specs.Find.{get, as_array, as_bool, as_null, as_object, as_str, as_number, as_i64, as_u64}
-use Rattle.connection_types.specs.declared.connection_type.ConnectionType.{ConnectionType}
-use Rattle.connection_types.specs.declared.connection_type.ConnectionType.TheVariants.{Auto, Queued}
+use Rattle.plain_types.specs.declared.connection_type.ConnectionType.{ConnectionType}
+use Rattle.plain_types.specs.declared.connection_type.ConnectionType.TheVariants.{Auto, Queued}
 use Rattle.event_queue.specs.declared.event.Priority.{Priority}
 use Rattle.event_queue.specs.declared.event.Priority.TheVariants.{Low, Normal, High}
-use Rattle.connection_types.specs.Modes.{mode_named}
+use Rattle.plain_types.specs.Modes.{mode_named}
 use Rattle.json_reading.specs.Fields.{◌>>=◌, when, all_keys, elements_of}
 use Rattle.json_reading.specs.Members.{data_of}
 use Rattle.wire_commands.specs.declared.held.Held.{Held as HeldInCode}

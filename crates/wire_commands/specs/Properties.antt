@@ -1,8 +1,8 @@
 -- The commands of properties.
 use Rattle.std.specs.Prelude.{List, [], ◌∷◌, Option, Some, None, codes, option_map}
 use Rattle.json_reading.specs.Fields.{◌>>=◌}
-use Rattle.thread_model.specs.Asked.{Asked, Ask, Set}
-use Rattle.thread_model.specs.declared.query.Query.TheVariants.{Get, DynamicNames}
+use Rattle.session_model.specs.Asked.{Asked, Ask, Set}
+use Rattle.session_model.specs.declared.query.Query.TheVariants.{Get, DynamicNames}
 use Rattle.wire_commands.specs.declared.keys.Holds.TheVariants.{Name, Number, Any}
 use Rattle.wire_commands.specs.Form.{Form}
 use Rattle.wire_commands.specs.Held.{Held, json_of, number_of, text_of}

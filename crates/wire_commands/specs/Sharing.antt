@@ -3,7 +3,7 @@ use Rattle.std.specs.Prelude.{ℕ, List, [], ◌∷◌, Option, Some, None, code
 use Rattle.serde_json.specs.Data.{Data}
 use Rattle.serde_json.specs.Find.{as_str}
 use Rattle.json_reading.specs.Fields.{◌>>=◌}
-use Rattle.thread_model.specs.Asked.{Asked, Join, Leave, Publish, Reset, Unpublish}
+use Rattle.session_model.specs.Asked.{Asked, Join, Leave, Publish, Reset, Unpublish}
 use Rattle.wire_commands.specs.declared.keys.Holds.TheVariants.{Name, Number, Text, List as AList}
 use Rattle.wire_commands.specs.Form.{Form}
 use Rattle.wire_commands.specs.Held.{Held, number_of, text_of, list_of}

@@ -1,7 +1,7 @@
 -- The commands of signals and slots.
 use Rattle.std.specs.Prelude.{List, [], ◌∷◌, Option, Some, None, codes}
 use Rattle.json_reading.specs.Fields.{◌>>=◌}
-use Rattle.thread_model.specs.Asked.{Asked, Connect, ConnectFunctor, DisconnectOne, Disconnect, Invoke}
+use Rattle.session_model.specs.Asked.{Asked, Connect, ConnectFunctor, DisconnectOne, Disconnect, Invoke}
 use Rattle.wire_commands.specs.declared.keys.Holds.TheVariants.{Name, Number, Text, Truth, Mode, Priority, List as AList}
 use Rattle.wire_commands.specs.Form.{Form}
 use Rattle.wire_commands.specs.Held.{Held, absent, number, number_of, text_of, truth_of, mode_of, priority_for, list_of}

@@ -1,8 +1,8 @@
 -- The commands of trees of objects.
 use Rattle.std.specs.Prelude.{List, [], ◌∷◌, Option, Some, None, codes, option_map}
-use Rattle.thread_model.specs.Asked.{Asked, New, Delete, Do, Ask}
-use Rattle.thread_model.specs.declared.deed.Deed.TheVariants.{SetParent}
-use Rattle.thread_model.specs.declared.query.Query.TheVariants.{Children, Find}
+use Rattle.session_model.specs.Asked.{Asked, New, Delete, Do, Ask}
+use Rattle.session_model.specs.declared.deed.Deed.TheVariants.{SetParent}
+use Rattle.session_model.specs.declared.query.Query.TheVariants.{Children, Find}
 use Rattle.wire_commands.specs.declared.keys.Holds.TheVariants.{Name, Text, Number, NumberOrNull}
 use Rattle.wire_commands.specs.Form.{Form}
 use Rattle.wire_commands.specs.Held.{Held, number_of, text_of}

@@ -1,13 +1,13 @@
 //! The command of classes.
 ghost use Rattle.std.specs.Prelude.{◌≡◌, IfOk, map, option_map};
-ghost use Rattle.thread_model.specs.Asked.{asked};
+ghost use Rattle.session_model.specs.Asked.{asked};
 ghost use Rattle.wire_commands.specs.Held.{held_seen};
 ghost use Rattle.wire_commands.specs.Classes.{meta_of};
 
 use crate::held::Held;
 use crate::keys::{Holds, Key};
 use std::alloc::{AllocError, Global};
-use thread_model::{Command, Query};
+use session_model::{Command, Query};
 
 pub(crate) const META: [Key; 1] = [Key::Needed("class", Holds::Name)];
 

@@ -3,7 +3,7 @@ ghost use Rattle.std.specs.Prelude.{◌≡◌, ◌≤◌, IfOk, length, map, opt
 ghost use Rattle.std.specs.List.{find};
 ghost use Rattle.serde_json.specs.Data.{object};
 ghost use Rattle.json_reading.specs.Members.{members_in};
-ghost use Rattle.thread_model.specs.Asked.{asked};
+ghost use Rattle.session_model.specs.Asked.{asked};
 ghost use Rattle.wire_commands.specs.Commands.{asked_of, form_of, word_named};
 ghost use Rattle.wire_commands.specs.Held.{held_seen};
 ghost use Rattle.wire_commands.specs.Keys.{key_seen};
@@ -31,7 +31,7 @@ use crate::trees::{
 };
 use json_reading::{Member, text_at};
 use std::alloc::{AllocError, Global};
-use thread_model::Command;
+use session_model::Command;
 
 /// What a line asks, by the word at its key `do`.
 #[derive(Clone, Copy)]

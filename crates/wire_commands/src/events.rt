@@ -1,12 +1,12 @@
 //! The commands of the event loop.
 ghost use Rattle.std.specs.Prelude.{◌≡◌, map, option_map};
-ghost use Rattle.thread_model.specs.Asked.{asked};
+ghost use Rattle.session_model.specs.Asked.{asked};
 ghost use Rattle.wire_commands.specs.Held.{held_seen};
 ghost use Rattle.wire_commands.specs.Events.{block_of, delete_later_of, spin_of, status_of};
 
 use crate::held::Held;
 use crate::keys::{Holds, Key};
-use thread_model::{Command, Query};
+use session_model::{Command, Query};
 
 pub(crate) const SPIN: [Key; 0] = [];
 

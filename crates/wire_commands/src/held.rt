@@ -11,7 +11,7 @@ ghost use Rattle.wire_commands.specs.Held.{priority_for, priority_in, reads, sig
 
 use crate::found::find_values;
 use crate::keys::{Holds, Key, MOST_KEYS};
-use connection_types::ConnectionType;
+use plain_types::ConnectionType;
 use event_queue::Priority;
 use json_reading::{Field, Member, Scalar};
 use plain_types::{Items, Text, is_name};

@@ -3,7 +3,7 @@
 
 ghost use Rattle.std.specs.Prelude.{IfSome};
 ghost use Rattle.serde_json.specs.Data.{Data};
-ghost use Rattle.thread_model.specs.Named.{IsNamedAsked};
+ghost use Rattle.session_model.specs.Named.{IsNamedAsked};
 ghost use Rattle.wire_commands.specs.Commands.{asked_of};
 
 mod bindings;

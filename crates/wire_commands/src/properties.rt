@@ -1,13 +1,13 @@
 //! The commands of properties.
 ghost use Rattle.std.specs.Prelude.{◌≡◌, IfOk, map, option_map};
-ghost use Rattle.thread_model.specs.Asked.{asked};
+ghost use Rattle.session_model.specs.Asked.{asked};
 ghost use Rattle.wire_commands.specs.Held.{held_seen};
 ghost use Rattle.wire_commands.specs.Properties.{set_of, get_of, dynamic_names_of};
 
 use crate::held::Held;
 use crate::keys::{Holds, Key};
 use std::alloc::{AllocError, Global};
-use thread_model::{Command, Query};
+use session_model::{Command, Query};
 
 pub(crate) const SET: [Key; 3] = [
     Key::Needed("object", Holds::Number),

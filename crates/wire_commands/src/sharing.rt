@@ -1,7 +1,7 @@
 //! The commands of publications and joins, and the one that begins anew.
 ghost use Rattle.std.specs.Prelude.{◌≡◌, IfOk, map, option_and_then, option_map};
 ghost use Rattle.serde_json.specs.View.{view};
-ghost use Rattle.thread_model.specs.Asked.{asked};
+ghost use Rattle.session_model.specs.Asked.{asked};
 ghost use Rattle.wire_commands.specs.Held.{held_seen, list_of};
 ghost use Rattle.wire_commands.specs.Sharing.{join_of, leave_of, publish_of, reset_of, texts_of, unpublish_of};
 
@@ -10,7 +10,7 @@ use crate::keys::{Holds, Key};
 use plain_types::{Items, Text};
 use serde_json::Value;
 use std::alloc::{AllocError, Global};
-use thread_model::Command;
+use session_model::Command;
 
 pub(crate) const PUBLISH: [Key; 3] = [
     Key::Needed("object", Holds::Number),

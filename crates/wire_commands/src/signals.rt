@@ -1,13 +1,13 @@
 //! The commands of signals and slots.
 ghost use Rattle.std.specs.Prelude.{◌≡◌, IfOk, map, option_map};
-ghost use Rattle.thread_model.specs.Asked.{asked};
+ghost use Rattle.session_model.specs.Asked.{asked};
 ghost use Rattle.wire_commands.specs.Held.{held_seen};
 ghost use Rattle.wire_commands.specs.Signals.{connect_of, connect_functor_of, disconnect_of, invoke_of};
 
 use crate::held::Held;
 use crate::keys::{Holds, Key};
 use std::alloc::{AllocError, Global};
-use thread_model::Command;
+use session_model::Command;
 
 pub(crate) const CONNECT: [Key; 7] = [
     Key::Needed("sender", Holds::Number),

@@ -2,8 +2,8 @@
 use Rattle.std.proofs.Common.{◌≡◌, ℕ, List, [], ◌∷◌, ◌++◌, refl, codes, append_assoc}
 use Rattle.serde_json.specs.Written.{compact_text}
 use Rattle.serde_json.proofs.OnLiterals.{serde_json_on_literals}
-use Rattle.thread_model.specs.declared.line.Spin.{Spin}
-use Rattle.thread_model.specs.declared.line.Status.{Status}
+use Rattle.session_model.specs.declared.line.Spin.{Spin}
+use Rattle.session_model.specs.declared.line.Status.{Status}
 use Rattle.wire_format.specs.Text.{json_of_number, json_of_spin, json_of_status}
 
 -- four keys with their values put behind another text, and the closing bracket

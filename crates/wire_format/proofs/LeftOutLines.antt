@@ -8,9 +8,9 @@ use Rattle.isolation.specs.Pieces.{Told, Blamed, piece_passes, only_pieces, only
 use Rattle.isolation.specs.Influence.{influences}
 use Rattle.isolation.specs.Slice.{kept}
 use Rattle.isolation.proofs.ForCallers.{influences-self, IsClosed-influences, kept-map, leaving_out_pieces}
-use Rattle.thread_model.specs.Machine.{machine}
-use Rattle.thread_model.specs.declared.line.Line.{Line}
-use Rattle.thread_model.proofs.ForCallers.{lawful}
+use Rattle.session_model.specs.Machine.{machine}
+use Rattle.session_model.specs.declared.line.Line.{Line}
+use Rattle.session_model.proofs.ForCallers.{lawful}
 use Rattle.wire_format.specs.declared.fault.LineFault.{LineFault}
 use Rattle.wire_format.specs.Input.{Piece, NoEnd, in_front, whole_lines, bare, lines_of, piece_of, pieces_of, line_passes, without}
 use Rattle.wire_format.specs.Output.{Answer, Said, said_by, said_in, said_all, lines_said_to, LeavingOutLines, LeavingOutStrangers}

@@ -8,3 +8,5 @@ pub mod LeftOutLines
 pub mod Sessions
 pub mod NamedLemmas
 pub mod ForCallers
+pub mod Moved
+pub mod Failures

@@ -1,16 +1,16 @@
 -- The texts of lines, part by part.
 use Rattle.std.proofs.Common.{◌≡◌, ℕ, true, List, [], ◌∷◌, ◌++◌, Option, Some, None, IsTrue, codes, sym, ap, ap₂, ◌∙◌, append_assoc, decimal}
 use Rattle.std.specs.List.{list_all}
-use Rattle.refusals.specs.declared.code.Code.{Code}
-use Rattle.refusals.specs.Codes.{code_text}
+use Rattle.plain_types.specs.declared.code.Code.{Code}
+use Rattle.plain_types.specs.Codes.{code_text}
 use Rattle.binding_values.specs.declared.property.BindingError.{BindingError}
 use Rattle.serde_json.specs.Data.{string}
 use Rattle.serde_json.specs.Written.{compact_text}
 use Rattle.serde_json.proofs.OnLiterals.{serde_json_on_literals}
-use Rattle.thread_model.specs.declared.call.Call.{Call}
-use Rattle.thread_model.specs.declared.line.Answer.{Answer}
-use Rattle.thread_model.specs.declared.line.Line.TheVariants as a_line
-use Rattle.thread_model.specs.declared.line.Line.TheVariants.{Reply, Error}
+use Rattle.session_model.specs.declared.call.Call.{Call}
+use Rattle.session_model.specs.declared.line.Answer.{Answer}
+use Rattle.session_model.specs.declared.line.Line.TheVariants as a_line
+use Rattle.session_model.specs.declared.line.Line.TheVariants.{Reply, Error}
 use Rattle.variant_value.specs.Values.{json_of}
 use Rattle.wire_format.specs.Text.{array_of, error_name, is_plain_byte, is_session_text, json_of_answer, json_of_number, text_of_line}
 use Rattle.wire_format.proofs.Plain.{code_is_plain, session_is_plain, text_of_plain}

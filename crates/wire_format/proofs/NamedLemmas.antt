@@ -6,9 +6,9 @@ use Rattle.isolation.specs.Machine.{Tagged}
 use Rattle.isolation.specs.Pieces.{Given, Faulty}
 use Rattle.json_reading.specs.Fields.{name_at}
 use Rattle.serde_json.specs.Data.{Data}
-use Rattle.thread_model.specs.Asked.{Asked, tag}
-use Rattle.thread_model.specs.Named.{IsNamedAsked}
-use Rattle.thread_model.specs.declared.command.Tagged.{Tagged as Command}
+use Rattle.session_model.specs.Asked.{Asked, tag}
+use Rattle.session_model.specs.Named.{IsNamedAsked}
+use Rattle.session_model.specs.declared.command.Tagged.{Tagged as Command}
 use Rattle.wire_commands.specs.Commands.{asked_of}
 use Rattle.wire_commands.proofs.NamedLemmas.{asked_named}
 use Rattle.wire_format.specs.declared.fault.LineFault.{LineFault}

@@ -4,9 +4,9 @@ use Rattle.std.specs.List.{flat_map, cons_option}
 use Rattle.std.proofs.lemmas.List.Concat.{flat_map-append}
 use Rattle.isolation.specs.Pieces.{Given, Faulty, commands_of, piece_answers}
 use Rattle.isolation.specs.World.{effect, world_after}
-use Rattle.thread_model.specs.Machine.{machine}
-use Rattle.thread_model.specs.Thread.{Settings}
-use Rattle.thread_model.specs.declared.line.Line.{Line}
+use Rattle.session_model.specs.Machine.{machine}
+use Rattle.session_model.specs.Thread.{Settings}
+use Rattle.session_model.specs.declared.line.Line.{Line}
 use Rattle.wire_format.specs.Input.{Piece, NoEnd, piece_of, pieces_of}
 use Rattle.wire_format.specs.Text.{text_of_line}
 use Rattle.wire_format.specs.Output.{World, Said, said_by, said_in, text_of_said, said_all, output, world_of, text_of_piece, world_after_piece}

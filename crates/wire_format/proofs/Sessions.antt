@@ -5,7 +5,7 @@ use Rattle.std.proofs.lemmas.Bool.{cases_Bool, or_left}
 use Rattle.serde_json.specs.Data.{Data}
 use Rattle.isolation.specs.Machine.{Tagged}
 use Rattle.plain_types.specs.Names.{is_name}
-use Rattle.thread_model.specs.Asked.{Asked}
+use Rattle.session_model.specs.Asked.{Asked}
 use Rattle.wire_format.specs.declared.fault.LineFault.{LineFault}
 use Rattle.wire_format.specs.declared.line.TheConstants.{LINE_BYTES}
 use Rattle.json_reading.specs.Fields.{◌>>=◌, when, text_at, name_at}

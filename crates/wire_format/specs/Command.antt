@@ -6,8 +6,8 @@ use Rattle.std.specs.Str.{is_utf8}
 use Rattle.serde_json.specs.Data.{Data}
 use Rattle.serde_json.specs.Read.{read}
 use Rattle.isolation.specs.Machine.{Tagged}
-use Rattle.refusals.specs.declared.code.Code.TheVariants.{UnreadableLine, NotACommand}
-use Rattle.thread_model.specs.Asked.{Asked}
+use Rattle.plain_types.specs.declared.code.Code.TheVariants.{UnreadableLine, NotACommand}
+use Rattle.session_model.specs.Asked.{Asked}
 use Rattle.wire_format.specs.declared.fault.LineFault.{LineFault}
 use Rattle.wire_format.specs.declared.fault.ReadError.{ReadError}
 use Rattle.wire_format.specs.declared.fault.ReadError.TheVariants.{Fault, Memory}

@@ -6,7 +6,7 @@ use Rattle.std.specs.Option.{option_map_or}
 use Rattle.isolation.specs.Machine.{Tagged}
 use Rattle.isolation.specs.Pieces as pieces
 use Rattle.isolation.specs.Pieces.{Given, Faulty, piece_passes}
-use Rattle.thread_model.specs.Asked.{Asked}
+use Rattle.session_model.specs.Asked.{Asked}
 use Rattle.wire_format.specs.declared.fault.LineFault.{LineFault}
 use Rattle.wire_format.specs.Command.{command_of, is_blank}
 

@@ -4,3 +4,6 @@ pub mod Text
 pub mod Shown
 pub mod Parts
 pub mod Output
+pub mod Counts
+pub mod Bytes
+pub mod Adapter

@@ -5,11 +5,11 @@ use Rattle.isolation.specs.Influence.{IsClosed, KnowsAll, influences}
 use Rattle.isolation.specs.Pieces as pieces
 use Rattle.isolation.specs.Pieces.{Given, Faulty, Told, Blamed, commands_of, piece_answers}
 use Rattle.isolation.specs.World.{effect, after, world_after}
-use Rattle.thread_model.specs.declared.line.Line.{Line}
-use Rattle.thread_model.specs.declared.line.Line.TheVariants.{Error}
-use Rattle.thread_model.specs.State.{State}
-use Rattle.thread_model.specs.Machine.{machine}
-use Rattle.thread_model.specs.Thread.{Settings}
+use Rattle.session_model.specs.declared.line.Line.{Line}
+use Rattle.session_model.specs.declared.line.Line.TheVariants.{Error}
+use Rattle.session_model.specs.State.{State}
+use Rattle.session_model.specs.Machine.{machine}
+use Rattle.session_model.specs.Thread.{Settings}
 use Rattle.wire_format.specs.declared.fault.LineFault.{LineFault}
 use Rattle.wire_format.specs.Input.{Piece, pieces_of, without}
 use Rattle.wire_format.specs.Text.{blamed, text_of_line}

@@ -1,10 +1,10 @@
 -- A line's text in parts.
 use Rattle.std.specs.Prelude.{ℕ, Bool, true, false, List, ◌++◌, codes}
 use Rattle.std.specs.List.{list_all}
-use Rattle.thread_model.specs.declared.line.Answer.{Answer}
-use Rattle.thread_model.specs.declared.line.Answer.TheVariants as answer
-use Rattle.thread_model.specs.declared.line.Line.{Line}
-use Rattle.thread_model.specs.declared.line.Line.TheVariants.{Reply, Error, Call, Warning, BindingWarning}
+use Rattle.session_model.specs.declared.line.Answer.{Answer}
+use Rattle.session_model.specs.declared.line.Answer.TheVariants as answer
+use Rattle.session_model.specs.declared.line.Line.{Line}
+use Rattle.session_model.specs.declared.line.Line.TheVariants.{Reply, Error, Call, Warning, BindingWarning}
 use Rattle.variant_value.specs.declared.value.Value.{Value}
 use Rattle.variant_value.specs.declared.value.Value.TheVariants.{Text}
 use Rattle.wire_format.specs.declared.parts.Parts.{Parts}

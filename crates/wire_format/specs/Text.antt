@@ -4,17 +4,17 @@ use Rattle.serde_json.specs.Data.{Data, Members, null, boolean, number, string, 
 use Rattle.serde_json.specs.View.{items_of}
 use Rattle.serde_json.specs.Written.{compact_text}
 use Rattle.plain_types.specs.Names.{is_name}
-use Rattle.refusals.specs.Codes.{code_text}
+use Rattle.plain_types.specs.Codes.{code_text}
 use Rattle.binding_values.specs.declared.property.BindingError.{BindingError}
 use Rattle.binding_values.specs.declared.property.BindingError.TheVariants.{BindingLoop, EvaluationError}
-use Rattle.thread_model.specs.declared.line.Answer.{Answer}
-use Rattle.thread_model.specs.declared.line.Answer.TheVariants.{Number, Found, Numbers, Truth, BindingError as StoodFor}
-use Rattle.thread_model.specs.declared.line.Answer.TheVariants.{Value, Names, Meta, Spun, Status as Counted}
-use Rattle.thread_model.specs.declared.line.Spin.{Spin}
-use Rattle.thread_model.specs.declared.line.Status.{Status}
-use Rattle.thread_model.specs.declared.line.Line.{Line}
-use Rattle.thread_model.specs.declared.line.Line.TheVariants.{Reply, Error, Call, Warning, BindingWarning}
-use Rattle.thread_model.specs.declared.meta.MetaObject.{MetaObject}
+use Rattle.session_model.specs.declared.line.Answer.{Answer}
+use Rattle.session_model.specs.declared.line.Answer.TheVariants.{Number, Found, Numbers, Truth, BindingError as StoodFor}
+use Rattle.session_model.specs.declared.line.Answer.TheVariants.{Value, Names, Meta, Spun, Status as Counted}
+use Rattle.session_model.specs.declared.line.Spin.{Spin}
+use Rattle.session_model.specs.declared.line.Status.{Status}
+use Rattle.session_model.specs.declared.line.Line.{Line}
+use Rattle.session_model.specs.declared.line.Line.TheVariants.{Reply, Error, Call, Warning, BindingWarning}
+use Rattle.session_model.specs.declared.meta.MetaObject.{MetaObject}
 use Rattle.variant_value.specs.Values.{json_of}
 use Rattle.wire_format.specs.declared.fault.LineFault.{LineFault}
 

@@ -9,7 +9,7 @@ ghost use Rattle.wire_format.specs.Text.{array_of, is_session_text, text_of_line
 use crate::shown::{Shown, shown_value};
 use crate::writing::is_plain;
 use itoa::Buffer as Digits;
-use thread_model::Line;
+use session_model::Line;
 use variant_value::Value;
 
 /// The memory that a call's line is written to.

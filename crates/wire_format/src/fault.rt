@@ -1,6 +1,6 @@
 //! Why a line is not read.
 use plain_types::Text;
-use refusals::Code;
+use plain_types::Code;
 use std::alloc::AllocError;
 
 /// Why a line is no command, and for which session that is said.

@@ -1,16 +1,22 @@
-//! The lines of metad's protocol: what command a line is, and what is written for an answer.
+//! The lines of metad's protocol: what command a line is, and what is written for an answer. Beside them the
+//! readers and writers of bytes, which say which bytes they move, where these are known, and count how often
+//! they failed.
 #![tactic(auto)]
 
 ghost use Rattle.wire_format.specs.Output.{LeavingOutLines, LeavingOutStrangers};
 
+mod adapter;
 mod calls;
 mod fault;
 mod line;
 mod parts;
 mod reading;
 mod shown;
+mod traits;
+mod whole;
 mod writing;
 
+pub use adapter::Counted;
 pub use calls::{CALL_BYTES, call_text};
 pub use fault::{LineFault, ReadError};
 pub use itoa::Buffer as Digits;
@@ -18,6 +24,8 @@ pub use json::Scratch;
 pub use line::{LINE_BYTES, is_blank};
 pub use parts::{Parts, error_parts, line_parts};
 pub use reading::read_line;
+pub use traits::{Failed, Sink, Source};
+pub use whole::write_all;
 pub use writing::{line_text, write_line};
 
 /// What holds of inputs and what is written for them: where the lines of sessions are left out that

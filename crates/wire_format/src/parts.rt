@@ -2,15 +2,15 @@
 ghost use Rattle.std.specs.Prelude.{◌≡◌, IsTrue, IfSome};
 ghost use Rattle.std.specs.List.{flat_map};
 ghost use Rattle.std.specs.Option.{is_some};
-ghost use Rattle.thread_model.specs.declared.line.Line.TheVariants.{Error};
+ghost use Rattle.session_model.specs.declared.line.Line.TheVariants.{Error};
 ghost use Rattle.wire_format.specs.Parts.{has_parts, text_of_parts};
 ghost use Rattle.wire_format.specs.Text.{text_of_line, is_session_text};
 
 use crate::shown::{Shown, shown_as};
 use crate::writing::is_plain;
 use itoa::Buffer as Digits;
-use refusals::Code;
-use thread_model::Line;
+use plain_types::Code;
+use session_model::Line;
 
 /// The text of a line in parts, which are borrowed.
 #[derive(Clone, Copy)]

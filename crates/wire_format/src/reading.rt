@@ -5,7 +5,7 @@ ghost use Rattle.serde_json.specs.Read.{read};
 ghost use Rattle.std.specs.Option.{ok_or};
 ghost use Rattle.json_reading.specs.Fields.{name_at};
 ghost use Rattle.json_reading.specs.Members.{members_in};
-ghost use Rattle.thread_model.specs.Asked.{asked, tag};
+ghost use Rattle.session_model.specs.Asked.{asked, tag};
 ghost use Rattle.wire_format.specs.Command.{Gives, command_by, command_in, command_of, json_in, not_a_command, unreadable};
 
 use crate::fault::{LineFault, ReadError};
@@ -13,10 +13,10 @@ use crate::line::LINE_BYTES;
 use json::Scratch;
 use json_reading::{Member, name_at, plain_members, text_at, tree_members};
 use plain_types::Text;
-use refusals::Code;
+use plain_types::Code;
 use serde_json::Value;
 use std::alloc::{AllocError, Global};
-use thread_model::{Command, Tagged};
+use session_model::{Command, Tagged};
 use wire_commands::command_in;
 
 /// The command that the line is. A line that is too long, is no UTF-8 or is no JSON is

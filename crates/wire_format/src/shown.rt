@@ -10,7 +10,7 @@ ghost use Rattle.wire_format.specs.Text.{error_name, json_of_answer, json_of_fou
 use binding_values::BindingError;
 use itoa::Buffer as Digits;
 use plain_types::Text;
-use thread_model::{Answer, MetaObject, Spin, Status};
+use session_model::{Answer, MetaObject, Spin, Status};
 use variant_value::Value;
 
 /// What an answer is written as.

@@ -13,10 +13,10 @@ use binding_values::BindingError;
 use itoa::Buffer as Digits;
 use json::Writer;
 use plain_types::Text;
-use refusals::Code;
+use plain_types::Code;
 use std::alloc::{AllocError, Global};
 use std::mem;
-use thread_model::{Answer, Call, Line, MetaObject, Spin, Status};
+use session_model::{Answer, Call, Line, MetaObject, Spin, Status};
 use variant_value::Value;
 
 /// The text of a line that a session is told, with its line feed: compact JSON, its keys in byte

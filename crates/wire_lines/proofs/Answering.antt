@@ -12,8 +12,8 @@ use Rattle.server_world.proofs.ForCallers.{entry_is}
 use Rattle.server_world.specs.Server.{KnowsAtMost, OnlyRefused, Server, names, seen_by_name, states, was_refused, settings}
 use Rattle.session_engine.specs.Sessions.{AllAreNamed}
 use Rattle.session_tables.specs.Session.{Session}
-use Rattle.thread_model.specs.Asked.{Asked}
-use Rattle.thread_model.specs.Named.{AreNamed}
+use Rattle.session_model.specs.Asked.{Asked}
+use Rattle.session_model.specs.Named.{AreNamed}
 use Rattle.wire_format.specs.declared.fault.LineFault.{LineFault}
 use Rattle.wire_format.specs.Command.{command_of, is_blank}
 use Rattle.wire_format.specs.Input.{Piece, lines_of, piece_from, piece_of, pieces_of}

@@ -1,7 +1,7 @@
 -- How a run asks its source.
 use Rattle.std.proofs.Common.{◌≡◌, ◌+◌, ◌≤◌, ℕ, Result, Ok, Err, IsOk, sym, subst, refl}
 use Rattle.std.specs.Prelude.{◌≢◌}
-use Rattle.wire_devices.specs.Counts.{FailsOnce}
+use Rattle.wire_format.specs.Counts.{FailsOnce}
 use Rattle.wire_lines.specs.declared.fault.RunFault.{RunFault}
 use Rattle.wire_lines.specs.declared.fault.RunFault.TheVariants.{Read, Write, Endless, Memory}
 use Rattle.wire_lines.specs.declared.stream.Summary.{Summary}

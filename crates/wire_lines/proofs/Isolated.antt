@@ -8,10 +8,10 @@ use Rattle.isolation.specs.World.{at_session, world_after, world_lines}
 use Rattle.isolation.proofs.ForCallers.{between_law, leaving_out, told-piece_answers, told_alone}
 use Rattle.server_world.specs.Server.{Server, states, names, settings}
 use Rattle.server_world.proofs.ForCallers.{knows_all}
-use Rattle.thread_model.specs.Asked.{Asked}
-use Rattle.thread_model.specs.Machine.{machine}
-use Rattle.thread_model.specs.Thread.{Settings}
-use Rattle.thread_model.proofs.ForCallers.{lawful}
+use Rattle.session_model.specs.Asked.{Asked}
+use Rattle.session_model.specs.Machine.{machine}
+use Rattle.session_model.specs.Thread.{Settings}
+use Rattle.session_model.proofs.ForCallers.{lawful}
 use Rattle.wire_format.specs.declared.fault.LineFault.{LineFault}
 use Rattle.wire_format.specs.Input.{pieces_of}
 use Rattle.wire_format.specs.Output.{World, world_of}

@@ -6,7 +6,7 @@ use Rattle.std.proofs.lemmas.Grind.{flat_map-append}
 use Rattle.std.proofs.lemmas.List.{take_min, take_more}
 use Rattle.std.specs.Io.KnownBytes.{Appends}
 use Rattle.std.proofs.KnownBytes.{Appends-nil, Appends-trans}
-use Rattle.wire_devices.specs.Bytes.{AppendsFront, AppendsAll}
+use Rattle.wire_format.specs.Bytes.{AppendsFront, AppendsAll}
 use Rattle.wire_lines.specs.Sending.{Out, out, Sent, SentFront, SentAll}
 
 -- what is gathered is written, and then the text is gathered

@@ -2,7 +2,7 @@
 use Rattle.std.proofs.Common.{◌≡◌, ℕ, List, Result, Ok, Err, inl, inr, sym, subst}
 use Rattle.std.specs.Prelude.{Some}
 use Rattle.isolation.specs.Machine.{Tagged}
-use Rattle.thread_model.specs.Asked.{Asked}
+use Rattle.session_model.specs.Asked.{Asked}
 use Rattle.server_world.specs.Server.{Server}
 use Rattle.wire_format.specs.declared.fault.LineFault.{LineFault}
 use Rattle.wire_format.specs.Input.{piece_from}

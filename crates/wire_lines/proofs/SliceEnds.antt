@@ -12,10 +12,10 @@ use Rattle.server_world.specs.Noting.{marked_from, named}
 use Rattle.server_world.specs.Runs.{AreSteps}
 use Rattle.server_world.specs.Server.{Server, names, settings, states, was_refused}
 use Rattle.server_world.proofs.ForCallers.{steps_settings, steps_world}
-use Rattle.thread_model.specs.Asked.{Asked}
-use Rattle.thread_model.specs.Machine.{machine}
-use Rattle.thread_model.specs.Thread.{Settings}
-use Rattle.thread_model.proofs.ForCallers.{lawful}
+use Rattle.session_model.specs.Asked.{Asked}
+use Rattle.session_model.specs.Machine.{machine}
+use Rattle.session_model.specs.Thread.{Settings}
+use Rattle.session_model.proofs.ForCallers.{lawful}
 use Rattle.wire_format.specs.Input.{lines_of, pieces_of}
 use Rattle.wire_format.specs.Output.{world_of}
 use Rattle.wire_format.proofs.ForCallers.{lines_of-empty}

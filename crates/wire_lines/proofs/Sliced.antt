@@ -11,10 +11,10 @@ use Rattle.isolation.specs.Slice.{kept, slice}
 use Rattle.isolation.specs.World.{at_session, world_lines}
 use Rattle.isolation.proofs.ForCallers.{commands_of-append, told-piece_answers, kept-map, length-marks, slice_law}
 use Rattle.server_world.specs.Noting.{marked_from}
-use Rattle.thread_model.specs.Asked.{Asked}
-use Rattle.thread_model.specs.Machine.{machine}
-use Rattle.thread_model.specs.Thread.{Settings}
-use Rattle.thread_model.proofs.ForCallers.{lawful}
+use Rattle.session_model.specs.Asked.{Asked}
+use Rattle.session_model.specs.Machine.{machine}
+use Rattle.session_model.specs.Thread.{Settings}
+use Rattle.session_model.proofs.ForCallers.{lawful}
 use Rattle.wire_format.specs.Input.{NoEnd, Piece, bare, lines_of, piece_of, pieces_of, whole_lines}
 use Rattle.wire_format.specs.Output.{World}
 use Rattle.wire_format.proofs.ForCallers.{lines_of-empty, lines_of-line}

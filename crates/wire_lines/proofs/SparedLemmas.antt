@@ -12,7 +12,7 @@ use Rattle.isolation.specs.Pieces.{Given, Faulty, commands_of, piece_answers}
 use Rattle.isolation.specs.Spared.{AreDone, AreLossy, IsLossy, Mortal, Told}
 use Rattle.isolation.specs.World.{entries_of, world_after}
 use Rattle.isolation.proofs.ForCallers.{IsClosed-influences, influences-self, spared_law}
-use Rattle.refusals.specs.declared.code.Code.TheVariants as code
+use Rattle.plain_types.specs.declared.code.Code.TheVariants as code
 use Rattle.server_world.specs.declared.report.Entry.{Entry}
 use Rattle.server_world.specs.declared.report.Entry.TheVariants.{Lines, OutOfMemory}
 use Rattle.server_world.specs.Runs.{entry_lines}
@@ -21,13 +21,13 @@ use Rattle.server_world.specs.Spared.{EndsIn, IsFine, mortal}
 use Rattle.server_world.proofs.ForCallers.{begins_anew, ends_first, ends_in, is_done, is_lossy, knows_all, told_of}
 use Rattle.session_engine.specs.Sessions.{is_reset}
 use Rattle.session_tables.specs.Session.{Session}
-use Rattle.thread_model.specs.Asked.{Asked}
-use Rattle.thread_model.specs.Machine.{machine}
-use Rattle.thread_model.specs.State.{State}
-use Rattle.thread_model.specs.Thread.{Settings}
-use Rattle.thread_model.specs.declared.line.Line.{Line}
-use Rattle.thread_model.specs.declared.line.Line.TheVariants.{Error}
-use Rattle.thread_model.proofs.ForCallers.{lawful}
+use Rattle.session_model.specs.Asked.{Asked}
+use Rattle.session_model.specs.Machine.{machine}
+use Rattle.session_model.specs.State.{State}
+use Rattle.session_model.specs.Thread.{Settings}
+use Rattle.session_model.specs.declared.line.Line.{Line}
+use Rattle.session_model.specs.declared.line.Line.TheVariants.{Error}
+use Rattle.session_model.proofs.ForCallers.{lawful}
 use Rattle.wire_format.specs.declared.fault.LineFault.{LineFault}
 use Rattle.wire_format.specs.Input.{Piece, lines_of, piece_of, pieces_of, whole_lines, bare}
 use Rattle.wire_format.specs.Output.{Said, lines_said_to, said_all, said_by, said_in, text_of_said, world_of}

@@ -8,16 +8,16 @@ use Rattle.isolation.specs.Machine.{Tagged}
 use Rattle.isolation.specs.Pieces.{Given, Faulty, commands_of, piece_answers}
 use Rattle.isolation.specs.Slice.{kept}
 use Rattle.isolation.specs.World.{after, effect, entries_of, world_lines}
-use Rattle.refusals.specs.declared.code.Code.TheVariants as code
+use Rattle.plain_types.specs.declared.code.Code.TheVariants as code
 use Rattle.server_world.specs.declared.report.Entry.{Entry}
 use Rattle.server_world.specs.declared.report.Entry.TheVariants.{Lines, OutOfMemory}
 use Rattle.server_world.specs.Runs.{entry_lines}
 use Rattle.server_world.proofs.ForCallers.{entry_is}
-use Rattle.thread_model.specs.Asked.{Asked}
-use Rattle.thread_model.specs.Machine.{machine}
-use Rattle.thread_model.specs.Thread.{Settings}
-use Rattle.thread_model.specs.declared.line.Line.{Line}
-use Rattle.thread_model.specs.declared.line.Line.TheVariants.{Error}
+use Rattle.session_model.specs.Asked.{Asked}
+use Rattle.session_model.specs.Machine.{machine}
+use Rattle.session_model.specs.Thread.{Settings}
+use Rattle.session_model.specs.declared.line.Line.{Line}
+use Rattle.session_model.specs.declared.line.Line.TheVariants.{Error}
 use Rattle.wire_format.specs.Input.{Piece, lines_of, piece_of, pieces_of, whole_lines}
 use Rattle.wire_format.specs.Output.{Said, World, lines_said_to, said_by, said_in}
 use Rattle.wire_format.proofs.ForCallers.{lines_of-kept, lines_said_to-append, nothing_said}

@@ -3,9 +3,9 @@ use Rattle.std.proofs.Common.{◌≡◌, ℕ, ◌+◌, ◌<◌, false, List, [],
 use Rattle.std.specs.List.{flat_map}
 use Rattle.std.proofs.lemmas.Grind.{flat_map-append}
 use Rattle.std.proofs.lemmas.List.{take_more}
-use Rattle.wire_devices.specs.Counts.{CountsErrors}
-use Rattle.wire_devices.specs.declared.traits.Failed.{Failed}
-use Rattle.thread_model.specs.declared.line.Line.{Line}
+use Rattle.wire_format.specs.Counts.{CountsErrors}
+use Rattle.wire_format.specs.declared.traits.Failed.{Failed}
+use Rattle.session_model.specs.declared.line.Line.{Line}
 use Rattle.wire_format.specs.Parts.{has_parts}
 use Rattle.wire_format.specs.Text.{text_of_line}
 use Rattle.wire_lines.specs.declared.fault.RunFault.{RunFault}

@@ -11,7 +11,7 @@ use Rattle.server_world.specs.Noting.{AreNoted}
 use Rattle.server_world.specs.Runs.{AreSteps, IsEntry}
 use Rattle.server_world.specs.Server.{Server, OnlyRefused, states}
 use Rattle.server_world.proofs.ForCallers.{noted_step, notes_begin, steps_more}
-use Rattle.thread_model.specs.Asked.{Asked}
+use Rattle.session_model.specs.Asked.{Asked}
 use Rattle.wire_format.specs.Input.{Piece, lines_of, piece_of, pieces_of}
 use Rattle.wire_lines.specs.declared.fault.RunFault.{RunFault}
 use Rattle.wire_lines.specs.declared.fault.RunFault.TheVariants.{Read, Write, Endless, Memory}

@@ -4,7 +4,7 @@ use Rattle.std.specs.Prelude.{MatchResult}
 use Rattle.std.specs.Io.KnownBytes.{Appends}
 use Rattle.std.proofs.lemmas.List.{length-map, take_all, take-append-le}
 use Rattle.server_world.specs.Server.{Server, states, was_refused, settings}
-use Rattle.wire_devices.specs.Bytes.{AppendsFront}
+use Rattle.wire_format.specs.Bytes.{AppendsFront}
 use Rattle.wire_format.specs.Input.{Piece, lines_of, piece_of}
 use Rattle.wire_format.specs.Output.{output, world_of}
 use Rattle.wire_lines.specs.declared.fault.RunFault.{RunFault}

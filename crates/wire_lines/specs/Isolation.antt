@@ -5,8 +5,8 @@ use Rattle.isolation.specs.Influence.{IsClosed, influences}
 use Rattle.isolation.specs.Pieces.{commands_of, told}
 use Rattle.isolation.specs.Slice.{KeepsAtLeast, kept, slice}
 use Rattle.isolation.specs.World.{only}
-use Rattle.thread_model.specs.Machine.{machine}
-use Rattle.thread_model.specs.Thread.{Settings}
+use Rattle.session_model.specs.Machine.{machine}
+use Rattle.session_model.specs.Thread.{Settings}
 use Rattle.wire_format.specs.Input.{pieces_of, without}
 use Rattle.wire_format.specs.Output.{World, answers_to, lines_said_to, said_all, world_of}
 

@@ -3,8 +3,8 @@ use Rattle.std.specs.Prelude.{◌≡◌, ◌⊎◌, ◌<◌, ◌≤◌, ◌+◌,
 use Rattle.std.specs.Prelude.{min, Option, Some, Result, Ok, Err, IsOk, IsErr, IfOk, MatchResult, IsFalse}
 use Rattle.std.specs.Io.KnownBytes.{Appends}
 use Rattle.server_world.specs.Server.{Server, states, names, was_refused, settings}
-use Rattle.wire_devices.specs.Counts.{FailsOnce, greatest_count}
-use Rattle.thread_model.specs.declared.line.Line.{Line}
+use Rattle.wire_format.specs.Counts.{FailsOnce, greatest_count}
+use Rattle.session_model.specs.declared.line.Line.{Line}
 use Rattle.wire_format.specs.Input.{Piece, lines_of}
 use Rattle.wire_format.specs.Output.{output, world_of}
 use Rattle.wire_format.specs.Parts.{has_parts}

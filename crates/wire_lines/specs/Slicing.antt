@@ -9,8 +9,8 @@ use Rattle.isolation.specs.Slice.{kept, slice}
 use Rattle.server_world.specs.declared.report.Entry.{Entry}
 use Rattle.server_world.specs.Runs.{AreSteps}
 use Rattle.server_world.specs.Server.{Server, OnlyRefused, settings, states, was_refused}
-use Rattle.thread_model.specs.Machine.{machine}
-use Rattle.thread_model.specs.Thread.{Settings}
+use Rattle.session_model.specs.Machine.{machine}
+use Rattle.session_model.specs.Thread.{Settings}
 use Rattle.wire_format.specs.Input.{Piece, lines_of, piece_of, pieces_of}
 use Rattle.wire_format.specs.Output.{World, answers_to, world_of}
 use Rattle.wire_lines.specs.declared.fault.RunFault.{RunFault}

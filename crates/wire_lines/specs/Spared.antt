@@ -6,13 +6,13 @@ use Rattle.std.specs.List.{flat_map}
 use Rattle.isolation.specs.Influence.{influences}
 use Rattle.isolation.specs.Pieces.{Given, Faulty, commands_of}
 use Rattle.isolation.specs.Slice.{kept}
-use Rattle.refusals.specs.declared.code.Code.TheVariants as code
+use Rattle.plain_types.specs.declared.code.Code.TheVariants as code
 use Rattle.server_world.specs.declared.report.Entry.{Entry}
 use Rattle.server_world.specs.declared.report.Entry.TheVariants.{Lines, OutOfMemory}
 use Rattle.server_world.specs.Server.{Server, names, settings, states}
 use Rattle.server_world.specs.Spared.{EndsIn}
-use Rattle.thread_model.specs.Machine.{machine}
-use Rattle.thread_model.specs.declared.line.Line.TheVariants.{Error}
+use Rattle.session_model.specs.Machine.{machine}
+use Rattle.session_model.specs.declared.line.Line.TheVariants.{Error}
 use Rattle.wire_format.specs.Input.{Piece, pieces_of, whole_lines}
 use Rattle.wire_format.specs.Output.{Said, lines_said_to, said_all, said_by, text_of_said, world_of}
 use Rattle.wire_format.specs.Text.{blamed, text_of_line}

@@ -3,13 +3,13 @@ use Rattle.std.specs.Prelude.{◌≡◌, ◌⊎◌, ℕ, List, [], ◌∷◌, �
 use Rattle.std.specs.List.{flat_map}
 use Rattle.isolation.specs.Machine.{Tagged}
 use Rattle.isolation.specs.Pieces.{Given, Faulty}
-use Rattle.refusals.specs.declared.code.Code.TheVariants as code
+use Rattle.plain_types.specs.declared.code.Code.TheVariants as code
 use Rattle.server_world.specs.declared.report.Entry.{Entry}
 use Rattle.server_world.specs.declared.report.Entry.TheVariants.{Lines, OutOfMemory}
 use Rattle.server_world.specs.Runs.{IsEntry}
 use Rattle.server_world.specs.Server.{Server, OnlyRefused, settings}
-use Rattle.thread_model.specs.Asked.{Asked}
-use Rattle.thread_model.specs.declared.line.Line.TheVariants.{Error}
+use Rattle.session_model.specs.Asked.{Asked}
+use Rattle.session_model.specs.declared.line.Line.TheVariants.{Error}
 use Rattle.wire_format.specs.declared.fault.LineFault.{LineFault}
 use Rattle.wire_format.specs.Input.{Piece, lines_of, piece_of}
 use Rattle.wire_format.specs.Text.{blamed, text_of_line}

@@ -5,9 +5,9 @@ use Rattle.plain_types.specs.Names.{is_name}
 use Rattle.session_engine.specs.Sessions.{AllAreNamed}
 use Rattle.server_world.specs.Server.{Server, names, seen_by_name, settings, was_refused}
 use Rattle.wire_format.specs.Input.{Piece}
-use Rattle.wire_devices.specs.Counts.{FailsOnce}
-use Rattle.wire_devices.specs.declared.traits.Failed.{Failed}
-use Rattle.thread_model.specs.declared.line.Line.{Line}
+use Rattle.wire_format.specs.Counts.{FailsOnce}
+use Rattle.wire_format.specs.declared.traits.Failed.{Failed}
+use Rattle.session_model.specs.declared.line.Line.{Line}
 use Rattle.wire_format.specs.Parts.{has_parts}
 use Rattle.wire_format.specs.Text.{text_of_line}
 use Rattle.wire_lines.specs.declared.fault.RunFault.{RunFault}

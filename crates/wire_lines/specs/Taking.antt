@@ -9,7 +9,7 @@ use Rattle.server_world.specs.declared.report.Entry.{Entry}
 use Rattle.server_world.specs.Noting.{AreNoted, IsNoted}
 use Rattle.server_world.specs.Runs.{AreSteps, IsEntry}
 use Rattle.server_world.specs.Server.{Server, OnlyRefused, states, was_refused}
-use Rattle.thread_model.specs.Asked.{Asked}
+use Rattle.session_model.specs.Asked.{Asked}
 use Rattle.wire_format.specs.Input.{Piece, lines_of, piece_of}
 use Rattle.wire_lines.specs.declared.fault.RunFault.{RunFault}
 use Rattle.wire_lines.specs.declared.fault.RunFault.TheVariants.{Read, Write, Endless, Memory}

@@ -1,13 +1,13 @@
 //! Buffers of fixed size.
 ghost use Rattle.std.specs.Prelude.{◌≡◌, ◌+◌, ◌-◌, ◌≤◌, ◌++◌, [], IfOk, IsTrue, ◌↔◌, length, take};
-ghost use Rattle.wire_devices.specs.Bytes.{AppendsAll};
-ghost use Rattle.wire_devices.specs.Counts.{CountsErrors};
+ghost use Rattle.wire_format.specs.Bytes.{AppendsAll};
+ghost use Rattle.wire_format.specs.Counts.{CountsErrors};
 ghost use Rattle.wire_lines.specs.declared.buffer.TheConstants.{BUFFER_BYTES};
 ghost use Rattle.wire_lines.specs.Sending.{SentAll, out};
 
 use std::alloc::{AllocError, Global};
 use std::marker::Model;
-use wire_devices::{Failed, Sink, write_all};
+use wire_format::{Failed, Sink, write_all};
 use wire_format::LINE_BYTES;
 
 /// One byte more than a line may have, so that a line which is too long is known by what is kept.

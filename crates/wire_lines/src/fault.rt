@@ -1,6 +1,6 @@
 //! Why a run ends before its input does.
 use std::alloc::AllocError;
-use wire_devices::Failed;
+use wire_format::Failed;
 
 /// Why a run ended before its input did.
 #[derive(Clone, Copy, PartialEq, Eq)]

@@ -1,8 +1,8 @@
-//! What a server allows, in numbers.
-ghost use Rattle.wire_lines.specs.Limits.{AreTheLimits};
+//! What a run reads at most, in numbers.
+ghost use Rattle.wire_lines.specs.Limits.{AreLimitsOfRuns};
 
-/// The number of each limit. There is nothing to run: other clauses know limits by their names, and
+/// The number of each limit of a run. There is nothing to run: other clauses know limits by their names, and
 /// this one says what the names stand for.
-pub fn limits_are_these()
-    ensures { AreTheLimits }
+pub fn limits_of_runs_are_these()
+    ensures { AreLimitsOfRuns }
 {}

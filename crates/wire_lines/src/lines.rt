@@ -1,7 +1,7 @@
 //! Lines, one after another.
 ghost use Rattle.std.specs.Prelude.{◌≡◌, ◌≤◌, ◌∷◌, ◌++◌, [], IfOk};
-ghost use Rattle.wire_devices.specs.Bytes.{AppendsAll};
-ghost use Rattle.wire_devices.specs.Counts.{CountsErrors};
+ghost use Rattle.wire_format.specs.Bytes.{AppendsAll};
+ghost use Rattle.wire_format.specs.Counts.{CountsErrors};
 ghost use Rattle.wire_format.specs.Input.{NoEnd};
 ghost use Rattle.wire_lines.specs.Stream.{Feeds, SinkFails};
 ghost use Rattle.server_world.specs.Server.{seen_as};
@@ -10,7 +10,7 @@ use crate::fault::RunFault;
 use crate::output::Output;
 use server_world::Server;
 use std::alloc::{AllocError, Global};
-use wire_devices::{Failed, Sink};
+use wire_format::{Failed, Sink};
 use wire_format::is_blank;
 
 /// The lines of a run, and what is said to them.

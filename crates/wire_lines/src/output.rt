@@ -2,11 +2,11 @@
 ghost use Rattle.std.specs.Prelude.{◌≡◌, [], IsTrue, IfOk, List, ℕ, Some, Err, false};
 ghost use Rattle.std.specs.List.{flat_map};
 ghost use Rattle.server_world.specs.Server.{OnlyRefused, seen_as, settings};
-ghost use Rattle.thread_model.specs.Asked.{tag};
-ghost use Rattle.thread_model.specs.declared.line.Line.TheVariants.{Error};
-ghost use Rattle.refusals.specs.declared.code.Code.TheVariants.{OutOfMemory};
-ghost use Rattle.wire_devices.specs.Bytes.{AppendsAll};
-ghost use Rattle.wire_devices.specs.Counts.{CountsErrors};
+ghost use Rattle.session_model.specs.Asked.{tag};
+ghost use Rattle.session_model.specs.declared.line.Line.TheVariants.{Error};
+ghost use Rattle.plain_types.specs.declared.code.Code.TheVariants.{OutOfMemory};
+ghost use Rattle.wire_format.specs.Bytes.{AppendsAll};
+ghost use Rattle.wire_format.specs.Counts.{CountsErrors};
 ghost use Rattle.wire_format.specs.Command.{command_of};
 ghost use Rattle.wire_format.specs.Input.{piece_from};
 ghost use Rattle.wire_format.specs.Parts.{has_parts, text_of_parts};
@@ -18,11 +18,11 @@ ghost use Rattle.wire_lines.specs.Stream.{IsStuckBy, SendFails, by_sink};
 
 use crate::buffer::{BUFFER_BYTES, Buffer};
 use crate::fault::RunFault;
-use refusals::Code;
+use plain_types::Code;
 use server_world::Server;
 use std::alloc::{AllocError, Global};
-use thread_model::{Line, Tagged};
-use wire_devices::{Failed, Sink};
+use session_model::{Line, Tagged};
+use wire_format::{Failed, Sink};
 use wire_format::{
     CALL_BYTES, Digits, Parts, ReadError, Scratch, call_text, error_parts, line_parts, read_line,
     write_line,

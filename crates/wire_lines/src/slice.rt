@@ -7,9 +7,9 @@ ghost use Rattle.plain_types.specs.Names.{is_name};
 ghost use Rattle.session_engine.specs.Sessions.{AreSound};
 ghost use Rattle.server_world.specs.Noting.{IsNoted};
 ghost use Rattle.server_world.specs.Server.{KnowsItsSessions, seen_by_name, seen_as};
-ghost use Rattle.thread_model.specs.Asked.{asked, tag};
-ghost use Rattle.thread_model.specs.Named.{IsNamedAsked};
-ghost use Rattle.wire_devices.specs.Counts.{CountsErrors};
+ghost use Rattle.session_model.specs.Asked.{asked, tag};
+ghost use Rattle.session_model.specs.Named.{IsNamedAsked};
+ghost use Rattle.wire_format.specs.Counts.{CountsErrors};
 ghost use Rattle.wire_format.specs.Input.{NoEnd, lines_of, piece_of};
 ghost use Rattle.wire_lines.specs.declared.fault.RunFault.TheVariants.{Endless, Memory, Write};
 ghost use Rattle.wire_lines.specs.declared.stream.TheConstants.{MOST_LINES, MOST_READS};
@@ -25,8 +25,8 @@ use crate::stream::{CHUNK_BYTES, MOST_LINES, MOST_READS, Summary, split_line};
 use plain_types::Text;
 use server_world::{Notes, Server};
 use std::alloc::{AllocError, Global};
-use thread_model::Tagged;
-use wire_devices::{Failed, Sink, Source};
+use session_model::Tagged;
+use wire_format::{Failed, Sink, Source};
 use wire_format::{ReadError, Scratch, is_blank, read_line};
 
 /// The lines of an input, whose commands are done one after another, and what is noted of these.

@@ -14,7 +14,7 @@ use crate::lines::Lines;
 use memchr::memchr;
 use server_world::Server;
 use std::alloc::{AllocError, Global};
-use wire_devices::{Failed, Sink, Source};
+use wire_format::{Failed, Sink, Source};
 
 /// The most lines that a run reads.
 pub const MOST_LINES: u64 = 1 << 32;

@@ -1,5 +1,5 @@
 use Rattle.property_store.specs.Marks.{marks_at}
-use Rattle.kept_values.specs.Right.{AreMore, both}
+use Rattle.binding_values.specs.Right.{AreMore, both}
 use Rattle.binding_graph.specs.Drained.{IsDrained}
 use Rattle.binding_graph.proofs.DrainLemmas.{left}
 use Rattle.binding_graph.proofs.pending.drain.Given as goal

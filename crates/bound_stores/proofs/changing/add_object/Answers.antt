@@ -1,5 +1,5 @@
 use Rattle.std.proofs.Common.{◌≡◌, ◌∙◌, [], sym, ap, rules}
-use Rattle.places.proofs.ForCallers as column
+use Rattle.shared_rows.proofs.ForCallers as column
 use Rattle.property_store.specs.Store.{added}
 use Rattle.property_store.specs.Table.{Shelves, fields_of, store_at, with_store}
 use Rattle.binding_graph.specs.Graph.{no_graph}

@@ -1,5 +1,5 @@
 use Rattle.std.proofs.Common.{◌≡◌, ◌∙◌, [], suc, refl, sym, ap, arith, rules}
-use Rattle.places.proofs.ForCallers as column
+use Rattle.shared_rows.proofs.ForCallers as column
 use Rattle.property_store.specs.Table.{Shelves, store_at}
 use Rattle.binding_graph.specs.Graph.{Graph, begun, no_graph}
 use Rattle.binding_graph.specs.Table.{graph_at}

@@ -1,5 +1,5 @@
 use Rattle.std.proofs.Common.{◌∙◌, [], Some, sym, ap, rules}
-use Rattle.places.proofs.ForCallers as column
+use Rattle.shared_rows.proofs.ForCallers as column
 use Rattle.property_store.specs.Table.{Shelves, store_at}
 use Rattle.binding_values.specs.Binds.{with_binding}
 use Rattle.bound_stores.proofs.SeenLemmas.{changes_seen, forgotten_changes, put_told, settled_seen, settled_store}

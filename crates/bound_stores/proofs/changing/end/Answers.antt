@@ -1,9 +1,9 @@
 use Rattle.std.proofs.Common.{◌∙◌, [], sym, ap, rules}
-use Rattle.places.proofs.ForCallers as column
+use Rattle.shared_rows.proofs.ForCallers as column
 use Rattle.property_store.specs.Table.{Shelves, store_at}
 use Rattle.binding_graph.specs.Graph.{ended}
 use Rattle.binding_graph.specs.Table.{graph_at}
-use Rattle.thread_model.specs.State.{closed}
+use Rattle.session_model.specs.State.{closed}
 use Rattle.bound_stores.specs.Bound.{bound_at, seen_of}
 use Rattle.bound_stores.specs.Settled.{settled_in}
 use Rattle.bound_stores.proofs.InvariantLemmas.{closed_ended, closed_settled}

@@ -1,6 +1,6 @@
 use Rattle.std.proofs.Common.{◌∙◌, ap, rules}
 use Rattle.property_store.specs.Table.{Shelves, store_at}
-use Rattle.places.proofs.ForCallers as column
+use Rattle.shared_rows.proofs.ForCallers as column
 use Rattle.binding_graph.specs.Graph.{no_graph}
 use Rattle.binding_values.specs.Binds.{with_binding}
 use Rattle.binding_graph.specs.Table.{graph_at, with_graph}

@@ -1,5 +1,5 @@
 use Rattle.std.proofs.Common.{rules}
-use Rattle.places.proofs.ForCallers as column
+use Rattle.shared_rows.proofs.ForCallers as column
 use Rattle.property_store.specs.Table.{store_at}
 use Rattle.binding_graph.specs.Graph.{no_graph}
 use Rattle.bound_stores.proofs.PlaceLemmas.{settled_once}

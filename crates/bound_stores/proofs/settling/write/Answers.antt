@@ -1,5 +1,5 @@
 use Rattle.std.proofs.Common.{◌≡◌, ◌∙◌, [], Some, ap, filter, not, rules}
-use Rattle.places.proofs.ForCallers as column
+use Rattle.shared_rows.proofs.ForCallers as column
 use Rattle.property_store.specs.Store.{written}
 use Rattle.property_store.specs.Table.{Shelves, store_at, with_store}
 use Rattle.binding_values.specs.declared.binding.Binding.{Binding}

@@ -1,8 +1,8 @@
 use Rattle.std.proofs.Common.{◌≡◌, ◌<◌, ◌∙◌, ℕ, [], Option, length, refl, sym, ap, subst}
 use Rattle.std.specs.List.{Contains}
 use Rattle.std.proofs.lemmas.List.Elements.{All-contains}
-use Rattle.places.specs.Table.{with_place}
-use Rattle.places.proofs.ForCallers.{changes_same, changes_with, with_there}
+use Rattle.shared_rows.specs.Table.{with_place}
+use Rattle.shared_rows.proofs.ForCallers.{changes_same, changes_with, with_there}
 use Rattle.shared_rows.specs.Rows.{rows_at, with_row}
 use Rattle.shared_rows.specs.Links.{Linked, with_link, without_link}
 use Rattle.object_tree.specs.declared.child.Child.{Child}

@@ -1,6 +1,6 @@
 use Rattle.std.proofs.Common.{◌≢◌, ◌∙◌, [], map, refl, sym, ap, subst}
 use Rattle.std.specs.List.{All, Contains}
-use Rattle.places.proofs.ForCallers.{changes_open, changes_same, changes_twice}
+use Rattle.shared_rows.proofs.ForCallers.{changes_open, changes_same, changes_twice}
 use Rattle.shared_rows.specs.Rows.{rows_at}
 use Rattle.object_tree.specs.declared.child.Child.{Child}
 use Rattle.object_tree.specs.Changes.{orphaned}

@@ -1,5 +1,5 @@
 use Rattle.std.proofs.Common.{◌≡◌, [], Some, length, map, filter}
-use Rattle.places.specs.Table.{ChangesAt, IsPlace}
+use Rattle.shared_rows.specs.Table.{ChangesAt, IsPlace}
 use Rattle.shared_rows.specs.Links.{AreLinked}
 use Rattle.shared_rows.specs.Rows.{rows_at}
 use Rattle.object_tree.specs.Rows.{has_parent}

@@ -1,5 +1,5 @@
 use Rattle.std.proofs.Common.{◌∙◌, ap, refl, sym, rules}
-use Rattle.places.specs.Table.{with_place}
+use Rattle.shared_rows.specs.Table.{with_place}
 use Rattle.shared_rows.specs.Rows.{rows_at, with_row}
 use Rattle.property_store.specs.declared.row.Row.{Row}
 use Rattle.property_store.proofs.LinkLemmas.{link_of_old, link_stands, unlinked_row}

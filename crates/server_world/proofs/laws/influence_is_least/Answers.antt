@@ -1,6 +1,6 @@
 use Rattle.isolation.proofs.ForCallers as reaching
-use Rattle.thread_model.specs.Machine.{machine}
-use Rattle.thread_model.proofs.ForCallers.{lawful}
+use Rattle.session_model.specs.Machine.{machine}
+use Rattle.session_model.proofs.ForCallers.{lawful}
 use Rattle.server_world.proofs.laws.influence_is_least.Goals as goal
 
 pub returns : goal.returns

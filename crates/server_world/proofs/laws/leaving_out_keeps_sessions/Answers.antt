@@ -1,6 +1,6 @@
 use Rattle.isolation.proofs.ForCallers.{leaving_out, final_states, influenced_states}
-use Rattle.thread_model.specs.Machine.{machine}
-use Rattle.thread_model.proofs.ForCallers.{lawful}
+use Rattle.session_model.specs.Machine.{machine}
+use Rattle.session_model.proofs.ForCallers.{lawful}
 use Rattle.server_world.proofs.laws.leaving_out_keeps_sessions.Goals as goal
 
 pub returns-clause-each : goal.returns-clause-each

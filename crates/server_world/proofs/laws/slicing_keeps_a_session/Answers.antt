@@ -1,6 +1,6 @@
 use Rattle.isolation.proofs.ForCallers.{slice_law, slice_from_members, slice_within_influence}
-use Rattle.thread_model.specs.Machine.{machine}
-use Rattle.thread_model.proofs.ForCallers.{lawful}
+use Rattle.session_model.specs.Machine.{machine}
+use Rattle.session_model.proofs.ForCallers.{lawful}
 use Rattle.server_world.proofs.laws.slicing_keeps_a_session.Goals as goal
 
 pub returns-clause-slice : goal.returns-clause-slice

@@ -1,7 +1,7 @@
-use Rattle.thread_model.specs.Deeds.{deed_done}
-use Rattle.thread_model.specs.Doing.{in_state}
+use Rattle.session_model.specs.Deeds.{deed_done}
+use Rattle.session_model.specs.Doing.{in_state}
 use Rattle.std.proofs.Common.{◌∙◌}
-use Rattle.thread_model.proofs.ForCallers.{deed_is_done}
+use Rattle.session_model.proofs.ForCallers.{deed_is_done}
 use Rattle.session_tables.specs.Tables.{state_at}
 use Rattle.session_effects.specs.Setup.{settings_of}
 use Rattle.session_effects.proofs.ActionLemmas.{put_at}

@@ -2,7 +2,7 @@ use Rattle.std.proofs.Common.{◌≡◌, ◌+◌, [], ◌∷◌, get_or, drop, s
 use Rattle.std.proofs.lemmas.Grind.{common_steps}
 use Rattle.std.proofs.lemmas.List.{drop_more}
 use Rattle.signature_core.specs.declared.kind.Kind.TheVariants as k
-use Rattle.thread_model.specs.Targets.{all_converted}
+use Rattle.session_model.specs.Targets.{all_converted}
 use Rattle.session_effects.proofs.FoundLemmas.{answers_refused, behind, converted_more, converted_refused, converted_short, kind_within}
 use Rattle.session_effects.proofs.evaluation.all_converted.Goals as goal
 

@@ -1,5 +1,5 @@
 use Rattle.std.proofs.Common.{◌≡◌, ◌≤◌, drop, length}
-use Rattle.thread_model.specs.Targets.{all_converted}
+use Rattle.session_model.specs.Targets.{all_converted}
 use Rattle.session_effects.proofs.FoundLemmas.{behind}
 use Rattle.session_effects.proofs.evaluation.all_converted.Given as goal
 

@@ -1,5 +1,5 @@
 use Rattle.std.proofs.Common.{◌≡◌, drop}
-use Rattle.thread_model.specs.Targets.{all_evaluated}
+use Rattle.session_model.specs.Targets.{all_evaluated}
 use Rattle.session_tables.specs.Tables.{state_at}
 use Rattle.session_effects.proofs.FoundLemmas.{behind}
 use Rattle.session_effects.proofs.evaluation.all_evaluated.Given as goal

@@ -1,6 +1,6 @@
 use Rattle.std.proofs.Common.{◌∙◌, Ok, ap, sym}
 use Rattle.term_evaluation.proofs.ForCallers.{stands}
-use Rattle.thread_model.specs.Targets.{evaluated, outcome}
+use Rattle.session_model.specs.Targets.{evaluated, outcome}
 use Rattle.session_effects.proofs.evaluation.evaluated.Goals as goal
 
 pub returns-in-Ok : goal.returns-in-Ok

@@ -1,5 +1,5 @@
 use Rattle.std.proofs.Common.{sym, ◌∙◌, arith}
-use Rattle.thread_model.specs.Targets.{evaluated, object_of}
+use Rattle.session_model.specs.Targets.{evaluated, object_of}
 use Rattle.std.proofs.lemmas.Grind.{common_steps}
 use Rattle.session_effects.proofs.ActionLemmas.{is_there_by, read_as}
 use Rattle.session_effects.proofs.WritingLemmas.{sets_property}

@@ -1,5 +1,5 @@
 use Rattle.std.proofs.Common.{refl}
-use Rattle.thread_model.specs.Writing.{Removed}
+use Rattle.session_model.specs.Writing.{Removed}
 use Rattle.session_effects.proofs.WritingLemmas.{refused_as, set_keeps, writes_dynamic, writes_removed}
 use Rattle.session_effects.proofs.writing.write_dynamic.Goals as goal
 

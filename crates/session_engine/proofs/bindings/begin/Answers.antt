@@ -1,8 +1,8 @@
 use Rattle.std.proofs.Common.{ap, sym, ◌∙◌}
-use Rattle.thread_model.specs.declared.line.Answer.TheVariants as a
-use Rattle.thread_model.specs.Effects.{replies}
-use Rattle.thread_model.specs.State.{State, with_group}
-use Rattle.thread_model.proofs.ForCallers.{performs_begin, refusal_begin}
+use Rattle.session_model.specs.declared.line.Answer.TheVariants as a
+use Rattle.session_model.specs.Effects.{replies}
+use Rattle.session_model.specs.State.{State, with_group}
+use Rattle.session_model.proofs.ForCallers.{performs_begin, refusal_begin}
 use Rattle.session_tables.specs.Tables.{state_at}
 use Rattle.session_tables.proofs.ForCallers.{state_with}
 use Rattle.session_engine.proofs.CommandsLemmas.{made_fault, replied}

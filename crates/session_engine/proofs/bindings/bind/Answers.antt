@@ -1,10 +1,10 @@
 use Rattle.std.proofs.Common.{Ok, Some, true, refl, ap, ◌∙◌}
 use Rattle.serde_json.specs.View.{view}
-use Rattle.thread_model.specs.declared.line.Answer.TheVariants as a
-use Rattle.thread_model.specs.Asked.{Bind}
-use Rattle.thread_model.specs.Binding.{binding_refusal}
-use Rattle.thread_model.specs.Methods.{◌>>=◌}
-use Rattle.thread_model.proofs.ForCallers.{bind_done, bind_found, refusal_bind, may_be_bound}
+use Rattle.session_model.specs.declared.line.Answer.TheVariants as a
+use Rattle.session_model.specs.Asked.{Bind}
+use Rattle.session_model.specs.Binding.{binding_refusal}
+use Rattle.session_model.specs.Methods.{◌>>=◌}
+use Rattle.session_model.proofs.ForCallers.{bind_done, bind_found, refusal_bind, may_be_bound}
 use Rattle.session_tables.specs.Tables.{state_at}
 use Rattle.session_tables.proofs.ForCallers.{state_with}
 use Rattle.session_effects.specs.Setup.{settings_of}

@@ -1,6 +1,6 @@
 use Rattle.std.proofs.Common.{◌≡◌, drop}
 use Rattle.term_evaluation.specs.Reading.{reads_of}
-use Rattle.thread_model.specs.Binding.{reads_refusal}
+use Rattle.session_model.specs.Binding.{reads_refusal}
 use Rattle.session_tables.specs.Tables.{state_at}
 use Rattle.session_engine.proofs.bindings.check_reads.Given as goal
 

@@ -1,9 +1,9 @@
 use Rattle.std.proofs.Common.{ap, sym, ◌∙◌}
-use Rattle.thread_model.specs.declared.line.Answer.TheVariants as a
-use Rattle.thread_model.specs.Asked.{End}
-use Rattle.thread_model.specs.Effects.{does_next}
-use Rattle.thread_model.specs.State.{State, without_group}
-use Rattle.thread_model.proofs.ForCallers.{performs_end, refusal_end}
+use Rattle.session_model.specs.declared.line.Answer.TheVariants as a
+use Rattle.session_model.specs.Asked.{End}
+use Rattle.session_model.specs.Effects.{does_next}
+use Rattle.session_model.specs.State.{State, without_group}
+use Rattle.session_model.proofs.ForCallers.{performs_end, refusal_end}
 use Rattle.session_tables.specs.Tables.{state_at}
 use Rattle.session_tables.proofs.ForCallers.{state_with}
 use Rattle.session_effects.specs.Setup.{settings_of}

@@ -1,9 +1,9 @@
 use Rattle.std.proofs.Common.{Some, refl, ap, sym, ◌∙◌}
 use Rattle.std.specs.Result.{result_err}
-use Rattle.thread_model.specs.declared.line.Answer.TheVariants as a
-use Rattle.thread_model.specs.Asked.{Unbind}
-use Rattle.thread_model.specs.Effects.{does_next}
-use Rattle.thread_model.proofs.ForCallers.{refusal_unbind, unbind_done}
+use Rattle.session_model.specs.declared.line.Answer.TheVariants as a
+use Rattle.session_model.specs.Asked.{Unbind}
+use Rattle.session_model.specs.Effects.{does_next}
+use Rattle.session_model.proofs.ForCallers.{refusal_unbind, unbind_done}
 use Rattle.session_tables.specs.Tables.{state_at}
 use Rattle.session_tables.proofs.ForCallers.{state_with}
 use Rattle.session_effects.specs.Setup.{settings_of}

@@ -1,8 +1,8 @@
 use Rattle.std.proofs.Common.{Ok, refl, ap, ◌∙◌}
-use Rattle.thread_model.specs.declared.deed.Deed.TheVariants as d
-use Rattle.thread_model.specs.Deeds.{found_refusal}
-use Rattle.thread_model.specs.Methods.{◌>>=◌}
-use Rattle.thread_model.proofs.ForCallers.{performs_connect, refusal_connect}
+use Rattle.session_model.specs.declared.deed.Deed.TheVariants as d
+use Rattle.session_model.specs.Deeds.{found_refusal}
+use Rattle.session_model.specs.Methods.{◌>>=◌}
+use Rattle.session_model.proofs.ForCallers.{performs_connect, refusal_connect}
 use Rattle.session_tables.specs.Tables.{state_at}
 use Rattle.session_engine.proofs.CommandsLemmas.{behind_first, behind_second, deed_performed, found_fault, stopped}
 use Rattle.session_engine.proofs.connections.connect.Goals as goal

@@ -1,11 +1,11 @@
 use Rattle.std.proofs.Common.{Ok, refl, ap, ◌∙◌}
 use Rattle.std.proofs.lemmas.Bool.{cond-false, cond-true}
-use Rattle.thread_model.specs.declared.deed.Deed.TheVariants as d
-use Rattle.refusals.specs.declared.code.Code.TheVariants.{UniqueFunctor}
+use Rattle.session_model.specs.declared.deed.Deed.TheVariants as d
+use Rattle.plain_types.specs.declared.code.Code.TheVariants.{UniqueFunctor}
 use Rattle.std.specs.Prelude.{Err, false, if◌then◌else◌}
-use Rattle.thread_model.specs.Deeds.{found_refusal}
-use Rattle.thread_model.specs.Methods.{◌>>=◌}
-use Rattle.thread_model.proofs.ForCallers.{performs_connect_functor, refusal_connect_functor}
+use Rattle.session_model.specs.Deeds.{found_refusal}
+use Rattle.session_model.specs.Methods.{◌>>=◌}
+use Rattle.session_model.proofs.ForCallers.{performs_connect_functor, refusal_connect_functor}
 use Rattle.session_tables.specs.Tables.{state_at}
 use Rattle.session_engine.proofs.CommandsLemmas.{behind_first, behind_second, deed_performed, found_fault, stopped}
 use Rattle.session_engine.proofs.connections.connect_functor.Goals as goal

@@ -1,8 +1,8 @@
 use Rattle.std.proofs.Common.{ap, sym, ◌∙◌}
-use Rattle.thread_model.specs.declared.line.Answer.TheVariants as a
-use Rattle.thread_model.specs.Effects.{replies}
-use Rattle.thread_model.specs.State.{without_connections}
-use Rattle.thread_model.proofs.ForCallers.{performs_disconnect_one, refusal_disconnect_one}
+use Rattle.session_model.specs.declared.line.Answer.TheVariants as a
+use Rattle.session_model.specs.Effects.{replies}
+use Rattle.session_model.specs.State.{without_connections}
+use Rattle.session_model.proofs.ForCallers.{performs_disconnect_one, refusal_disconnect_one}
 use Rattle.connection_list.specs.Rows.{has_number}
 use Rattle.session_tables.specs.Tables.{state_at}
 use Rattle.session_engine.proofs.CommandsLemmas.{replied}

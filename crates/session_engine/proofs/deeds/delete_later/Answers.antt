@@ -1,6 +1,6 @@
 use Rattle.std.proofs.Common.{Ok, refl}
-use Rattle.thread_model.specs.declared.deed.Deed.TheVariants.{DeleteLater}
-use Rattle.thread_model.proofs.ForCallers.{performs_do, refusal_do}
+use Rattle.session_model.specs.declared.deed.Deed.TheVariants.{DeleteLater}
+use Rattle.session_model.proofs.ForCallers.{performs_do, refusal_do}
 use Rattle.session_engine.proofs.CommandsLemmas.{deed_performed}
 use Rattle.session_engine.proofs.deeds.delete_later.Goals as goal
 

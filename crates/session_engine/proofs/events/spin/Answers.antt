@@ -1,6 +1,6 @@
 use Rattle.std.proofs.Common.{[], ap}
-use Rattle.thread_model.proofs.ForCallers.{refusal_spin}
-use Rattle.nested_calls.specs.declared.telling.Telling.{Telling}
+use Rattle.session_model.proofs.ForCallers.{refusal_spin}
+use Rattle.dispatch.specs.declared.telling.Telling.{Telling}
 use Rattle.session_engine.proofs.CommandsLemmas.{at_first_reaches, starved_last}
 use Rattle.session_engine.proofs.EventsLemmas.{performs_spun, spin_runs}
 use Rattle.session_engine.proofs.events.spin.Goals as goal

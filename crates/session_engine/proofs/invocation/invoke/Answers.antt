@@ -2,9 +2,9 @@ use Rattle.std.proofs.Common.{◌≡◌, [], None, Some, Ok, map, refl, sym, ap,
 use Rattle.std.specs.Option.{option_copied, option_or}
 use Rattle.std.specs.Result.{result_err}
 use Rattle.serde_json.specs.View.{view}
-use Rattle.thread_model.specs.Refusing.{later_refusal, values_refusal}
-use Rattle.thread_model.specs.Signals.{asked_method, asked_values}
-use Rattle.thread_model.proofs.ForCallers.{invoke_none, refusal_invoke}
+use Rattle.session_model.specs.Refusing.{later_refusal, values_refusal}
+use Rattle.session_model.specs.Signals.{asked_method, asked_values}
+use Rattle.session_model.proofs.ForCallers.{invoke_none, refusal_invoke}
 use Rattle.session_tables.specs.Tables.{state_at}
 use Rattle.session_tables.proofs.ForCallers.{changes_same}
 use Rattle.session_effects.specs.Setup.{settings_of}

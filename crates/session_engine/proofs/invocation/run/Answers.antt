@@ -1,9 +1,9 @@
 use Rattle.std.proofs.Common.{refl, arith, ◌∙◌}
 use Rattle.session_effects.specs.Setup.{settings_of}
 use Rattle.session_effects.proofs.ForCallers.{keeps_same}
-use Rattle.thread_model.specs.Agenda.{method_items}
-use Rattle.nested_calls.specs.Telling.{doing_at}
-use Rattle.nested_calls.proofs.ForCallers.{spent_is, OnOk-map, does_after, does_by, next_none}
+use Rattle.session_model.specs.Agenda.{method_items}
+use Rattle.dispatch.specs.Telling.{doing_at}
+use Rattle.dispatch.proofs.ForCallers.{spent_is, OnOk-map, does_after, does_by, next_none}
 use Rattle.session_engine.proofs.InvocationLemmas.{now_front, now_run, now_sent, now_spent}
 use Rattle.session_engine.proofs.invocation.run.Goals as goal
 use Rattle.session_engine.proofs.invocation.run.Goals.{else-not-method, then-not-method+else-telling-eq0}

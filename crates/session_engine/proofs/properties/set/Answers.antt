@@ -1,10 +1,10 @@
 use Rattle.std.proofs.Common.{Ok, true, false, refl, sym, ap, ◌∙◌}
 use Rattle.std.specs.Result.{result_err}
 use Rattle.serde_json.specs.View.{view}
-use Rattle.thread_model.specs.Doing.{in_state}
-use Rattle.thread_model.specs.Methods.{◌>>=◌}
-use Rattle.thread_model.specs.Writing.{Declared, Nothing, dynamic_writing}
-use Rattle.thread_model.proofs.ForCallers.{refusal_set, nothing_written}
+use Rattle.session_model.specs.Doing.{in_state}
+use Rattle.session_model.specs.Methods.{◌>>=◌}
+use Rattle.session_model.specs.Writing.{Declared, Nothing, dynamic_writing}
+use Rattle.session_model.proofs.ForCallers.{refusal_set, nothing_written}
 use Rattle.session_tables.specs.Tables.{state_at}
 use Rattle.session_effects.specs.declared.announcing.News.TheVariants as news
 use Rattle.session_effects.specs.Setup.{settings_of}

@@ -2,9 +2,9 @@ use Rattle.std.proofs.Common.{Ok, Option, ap, sym, ◌∙◌}
 use Rattle.variant_value.specs.declared.value.Value.{Value}
 use Rattle.binding_values.specs.declared.property.BindingError.{BindingError}
 use Rattle.property_store.specs.declared.property.Property.{Property}
-use Rattle.thread_model.specs.declared.line.Answer.TheVariants as a
-use Rattle.thread_model.specs.Methods.{Found, ◌>>=◌}
-use Rattle.thread_model.specs.State.{shown}
+use Rattle.session_model.specs.declared.line.Answer.TheVariants as a
+use Rattle.session_model.specs.Methods.{Found, ◌>>=◌}
+use Rattle.session_model.specs.State.{shown}
 use Rattle.session_tables.specs.Tables.{state_at}
 use Rattle.session_engine.proofs.CommandsLemmas.{refused_reading}
 use Rattle.session_engine.proofs.queries.binding_error.Goals as goal

@@ -1,8 +1,8 @@
 use Rattle.std.proofs.Common.{Ok, sym, ap, slice_get, ◌∙◌}
 use Rattle.std.specs.Option.{option_copied}
-use Rattle.thread_model.specs.declared.line.Answer.TheVariants as a
-use Rattle.thread_model.specs.Classes.{described}
-use Rattle.thread_model.proofs.ForCallers.{described_at}
+use Rattle.session_model.specs.declared.line.Answer.TheVariants as a
+use Rattle.session_model.specs.Classes.{described}
+use Rattle.session_model.proofs.ForCallers.{described_at}
 use Rattle.session_engine.proofs.CommandsLemmas.{behind_first, behind_second, refused_reading}
 use Rattle.session_engine.proofs.QueriesLemmas.{class_index_there, described_is}
 use Rattle.session_engine.proofs.StepLemmas.{some_none}

@@ -1,7 +1,7 @@
 use Rattle.std.proofs.Common.{Ok, sym, ap, ◌∙◌, ◌&&◌}
-use Rattle.thread_model.specs.declared.line.Answer.TheVariants as a
+use Rattle.session_model.specs.declared.line.Answer.TheVariants as a
 use Rattle.object_tree.specs.Finding.{found_below}
-use Rattle.thread_model.specs.Trees.{has_title, is_of_class}
+use Rattle.session_model.specs.Trees.{has_title, is_of_class}
 use Rattle.session_tables.specs.Tables.{state_at}
 use Rattle.session_engine.proofs.CommandsLemmas.{behind_first, behind_second, refused_reading}
 use Rattle.session_engine.proofs.queries.find.Goals as goal

@@ -1,5 +1,5 @@
 use Rattle.std.proofs.Common.{Ok, sym, ap}
-use Rattle.thread_model.specs.declared.line.Answer.TheVariants as a
+use Rattle.session_model.specs.declared.line.Answer.TheVariants as a
 use Rattle.session_engine.proofs.queries.status.Goals as goal
 
 pub returns : goal.returns

@@ -1,5 +1,5 @@
 use Rattle.std.proofs.Common.{◌≡◌, drop}
-use Rattle.thread_model.specs.Sharing.{kinds_named}
+use Rattle.session_model.specs.Sharing.{kinds_named}
 use Rattle.session_effects.proofs.ForCallers.{behind}
 use Rattle.session_engine.proofs.sharing.asked_kinds.Given as goal
 

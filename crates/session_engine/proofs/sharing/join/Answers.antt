@@ -2,11 +2,11 @@ use Rattle.std.proofs.Common.{ℕ, List, Ok, refl, ap, sym, ◌∙◌}
 use Rattle.signature_core.specs.declared.kind.Kind.{Kind}
 use Rattle.publish_board.specs.declared.join.Join.{Join}
 use Rattle.publish_board.specs.Desk.{join_refusal}
-use Rattle.thread_model.specs.Methods.{Found, ◌>>=◌, method_named, methods_of}
-use Rattle.thread_model.specs.Settings.{Settings}
-use Rattle.thread_model.specs.State.{State}
-use Rattle.thread_model.specs.Sharing.{joining_refusal, joins_found}
-use Rattle.thread_model.proofs.ForCallers.{performs_join, refusal_join}
+use Rattle.session_model.specs.Methods.{Found, ◌>>=◌, method_named, methods_of}
+use Rattle.session_model.specs.Settings.{Settings}
+use Rattle.session_model.specs.State.{State}
+use Rattle.session_model.specs.Sharing.{joining_refusal, joins_found}
+use Rattle.session_model.proofs.ForCallers.{performs_join, refusal_join}
 use Rattle.session_effects.specs.Setup.{settings_of}
 use Rattle.session_tables.specs.Tables.{state_at}
 use Rattle.session_tables.proofs.ForCallers.{changes_same}

@@ -1,11 +1,11 @@
 use Rattle.std.proofs.Common.{refl, ap, sym, ◌∙◌}
 use Rattle.std.specs.Result.{result_err}
-use Rattle.thread_model.specs.declared.line.Answer.TheVariants as a
+use Rattle.session_model.specs.declared.line.Answer.TheVariants as a
 use Rattle.publish_board.specs.Desk.{left}
-use Rattle.thread_model.specs.Effects.{replies}
-use Rattle.thread_model.specs.Sharing.{leaves}
-use Rattle.thread_model.specs.State.{with_desk}
-use Rattle.thread_model.proofs.ForCallers.{performs_leave, refusal_leave}
+use Rattle.session_model.specs.Effects.{replies}
+use Rattle.session_model.specs.Sharing.{leaves}
+use Rattle.session_model.specs.State.{with_desk}
+use Rattle.session_model.proofs.ForCallers.{performs_leave, refusal_leave}
 use Rattle.session_tables.specs.Tables.{state_at}
 use Rattle.session_engine.proofs.CommandsLemmas.{behind_first, behind_second, found_fault, replied, stopped}
 use Rattle.session_engine.proofs.sharing.leave.Goals as goal

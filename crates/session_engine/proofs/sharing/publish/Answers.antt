@@ -1,7 +1,7 @@
 use Rattle.std.proofs.Common.{Ok, refl, ap, sym, ◌∙◌}
-use Rattle.thread_model.specs.Methods.{◌>>=◌}
-use Rattle.thread_model.specs.Sharing.{publication_refusal, publishes_found}
-use Rattle.thread_model.proofs.ForCallers.{performs_publish, refusal_publish}
+use Rattle.session_model.specs.Methods.{◌>>=◌}
+use Rattle.session_model.specs.Sharing.{publication_refusal, publishes_found}
+use Rattle.session_model.proofs.ForCallers.{performs_publish, refusal_publish}
 use Rattle.session_tables.specs.Tables.{state_at}
 use Rattle.session_tables.proofs.ForCallers.{changes_same}
 use Rattle.session_engine.proofs.CommandsLemmas.{behind_first, behind_second, found_fault, made_fault, on_refused, replied, starved, stopped}

@@ -1,4 +1,4 @@
-use Rattle.thread_model.proofs.ForCallers.{performs_reset, refusal_reset}
+use Rattle.session_model.proofs.ForCallers.{performs_reset, refusal_reset}
 use Rattle.session_engine.proofs.CommandsLemmas.{replied}
 use Rattle.session_engine.proofs.sharing.reset.Goals as goal
 

@@ -1,9 +1,9 @@
 use Rattle.std.proofs.Common.{ap, sym, ◌∙◌}
-use Rattle.thread_model.specs.declared.line.Answer.TheVariants as a
+use Rattle.session_model.specs.declared.line.Answer.TheVariants as a
 use Rattle.publish_board.specs.Desk.{unpublished}
-use Rattle.thread_model.specs.Effects.{replies}
-use Rattle.thread_model.specs.State.{with_desk}
-use Rattle.thread_model.proofs.ForCallers.{performs_unpublish, refusal_unpublish}
+use Rattle.session_model.specs.Effects.{replies}
+use Rattle.session_model.specs.State.{with_desk}
+use Rattle.session_model.proofs.ForCallers.{performs_unpublish, refusal_unpublish}
 use Rattle.session_tables.specs.Tables.{state_at}
 use Rattle.session_engine.proofs.CommandsLemmas.{replied}
 use Rattle.session_engine.proofs.sharing.unpublish.Goals as goal

@@ -1,8 +1,8 @@
 use Rattle.std.proofs.Common.{[], ◌∷◌, true, sym, refl, ◌∙◌}
-use Rattle.thread_model.specs.declared.line.Answer.TheVariants as a
-use Rattle.thread_model.specs.Asked as asked
-use Rattle.thread_model.specs.Items.{Delete}
-use Rattle.thread_model.proofs.ForCallers.{performs_delete, refusal_delete}
+use Rattle.session_model.specs.declared.line.Answer.TheVariants as a
+use Rattle.session_model.specs.Asked as asked
+use Rattle.session_model.specs.Items.{Delete}
+use Rattle.session_model.proofs.ForCallers.{performs_delete, refusal_delete}
 use Rattle.session_effects.proofs.ForCallers.{keeps_same}
 use Rattle.session_engine.proofs.CommandsLemmas.{quietly, stopped}
 use Rattle.session_engine.proofs.ToldLemmas.{comes, performs_told, starved_told}

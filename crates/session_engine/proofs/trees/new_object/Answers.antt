@@ -1,8 +1,8 @@
 use Rattle.std.proofs.Common.{◌+◌, sym, ap, refl, ◌∙◌}
-use Rattle.thread_model.specs.declared.line.Answer.TheVariants as a
-use Rattle.thread_model.specs.Effects.{replies}
-use Rattle.thread_model.specs.State.{with_object}
-use Rattle.thread_model.proofs.ForCallers.{performs_new, refusal_new}
+use Rattle.session_model.specs.declared.line.Answer.TheVariants as a
+use Rattle.session_model.specs.Effects.{replies}
+use Rattle.session_model.specs.State.{with_object}
+use Rattle.session_model.proofs.ForCallers.{performs_new, refusal_new}
 use Rattle.session_tables.specs.Tables.{state_at}
 use Rattle.session_engine.proofs.CommandsLemmas.{or_first, or_second, made_fault, replied, stopped}
 use Rattle.session_engine.proofs.trees.new_object.Goals as goal

@@ -2,7 +2,7 @@ use Rattle.std.proofs.Common.{sym, ap, ◌∙◌, arith}
 use Rattle.std.proofs.lemmas.List.Folds.{list_any_at}
 use Rattle.event_queue.specs.Queue.{empty_queue}
 use Rattle.object_tree.specs.Table.{forest_at}
-use Rattle.places.proofs.ForCallers as column
+use Rattle.shared_rows.proofs.ForCallers as column
 use Rattle.session_tables.specs.Reaching.{post_in, takes}
 use Rattle.session_tables.proofs.PostLemmas.{arrive_next, map_err}
 use Rattle.session_tables.proofs.posts.arrive.Goals as goal

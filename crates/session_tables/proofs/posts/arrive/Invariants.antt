@@ -2,8 +2,8 @@ use Rattle.std.proofs.Common.{◌≡◌, drop}
 use Rattle.event_queue.specs.Queue.{empty_queue}
 use Rattle.event_queue.specs.Table.{queue_at}
 use Rattle.object_tree.specs.Table.{forest_at}
-use Rattle.places.specs.Table.{ChangesAt, IsPlace}
-use Rattle.thread_model.specs.Arriving.{reached_by}
+use Rattle.shared_rows.specs.Table.{ChangesAt, IsPlace}
+use Rattle.session_model.specs.Arriving.{reached_by}
 use Rattle.session_tables.specs.Reaching.{post_in}
 use Rattle.session_tables.proofs.posts.arrive.Given as goal
 

@@ -3,7 +3,7 @@ use Rattle.std.specs.Prelude.{codes}
 use Rattle.serde_json.proofs.OnLiterals.{serde_json_on_literals}
 use Rattle.serde_json.specs.Data.{string}
 use Rattle.serde_json.specs.Written.{compact_text}
-use Rattle.thread_model.specs.declared.meta.MetaObject.{MetaObject}
+use Rattle.session_model.specs.declared.meta.MetaObject.{MetaObject}
 use Rattle.wire_format.specs.Text.{array_of, json_of_meta, json_of_name, json_of_number}
 use Rattle.wire_format.proofs.writing.push_meta.Goals as goal
 

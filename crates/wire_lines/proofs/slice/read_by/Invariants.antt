@@ -1,7 +1,7 @@
 -- So far each read gave some bytes, which are kept.
 use Rattle.std.proofs.Common.{◌≡◌, ◌<◌, ◌≤◌, ◌+◌, length, min}
 use Rattle.std.specs.Io.KnownBytes.{Consumes}
-use Rattle.wire_devices.specs.Counts.{greatest_count}
+use Rattle.wire_format.specs.Counts.{greatest_count}
 use Rattle.wire_lines.proofs.slice.read_by.Given as goal
 
 abbrev pub invariant-reads : goal.invariant-reads

@@ -1,5 +1,5 @@
 use Rattle.std.proofs.Common.{◌≡◌, ◌+◌, IfOk, subst, sym}
-use Rattle.refusals.specs.Answers.{RefusedBy}
+use Rattle.plain_types.specs.Answers.{RefusedBy}
 use Rattle.property_store.specs.Table.{store_at}
 use Rattle.binding_graph.specs.Graph.{Graph, begin_refusal, begun}
 use Rattle.binding_graph.specs.Woven.{IsAt, no_woven}

@@ -1,5 +1,5 @@
 use Rattle.std.proofs.Common.{subst}
-use Rattle.refusals.specs.Answers.{RefusedBy}
+use Rattle.plain_types.specs.Answers.{RefusedBy}
 use Rattle.binding_graph.specs.Graph.{Graph, bind_refusal, bound}
 use Rattle.binding_graph.specs.Woven.{no_woven}
 use Rattle.binding_graph.proofs.PlaceLemmas.{graph_now, others_kept, place_there, put_back, put_so, stays_with}

@@ -1,7 +1,7 @@
 use Rattle.std.proofs.Common.{◌∙◌, ap, subst, sym}
 use Rattle.binding_graph.specs.Cache.{cache_at}
 use Rattle.binding_graph.specs.Step.{InStep}
-use Rattle.places.specs.Table.{opened}
+use Rattle.shared_rows.specs.Table.{opened}
 use Rattle.binding_graph.specs.Woven.{unwoven}
 use Rattle.binding_graph.proofs.PlaceLemmas.{nothing_behind, opened_in_step, opened_kept}
 use Rattle.binding_graph.proofs.bindings.Bindings.open.Goals as goal

@@ -1,5 +1,5 @@
 use Rattle.std.proofs.Common.{◌≡◌, IfOk, None, subst, sym}
-use Rattle.places.proofs.ForCallers as column
+use Rattle.shared_rows.proofs.ForCallers as column
 use Rattle.property_store.specs.Store.{without}
 use Rattle.property_store.specs.Table.{store_at}
 use Rattle.binding_graph.specs.Graph.{Graph, no_graph, settled_changes, settled_graph, without_object}

@@ -1,6 +1,6 @@
 use Rattle.std.proofs.Common.{refl, sym, subst}
 use Rattle.property_store.specs.Store.{without_dynamic}
-use Rattle.places.specs.Table.{IsPlace}
+use Rattle.shared_rows.specs.Table.{IsPlace}
 use Rattle.bound_stores.specs.Bound.{BoundShelves}
 use Rattle.bound_stores.proofs.InvariantLemmas.{settled_changed}
 use Rattle.bound_stores.proofs.bound_stores.BoundStores.remove_dynamic.Goals as goal

@@ -1,7 +1,7 @@
 use Rattle.std.proofs.Common.{◌≡◌, Ok, Err, Result, OnOk, OnErr, refl, sym, subst}
 use Rattle.property_store.specs.Store.{changed, with_dynamic}
-use Rattle.places.specs.Table.{IsPlace}
-use Rattle.refusals.specs.declared.fault.Fault.{Fault}
+use Rattle.shared_rows.specs.Table.{IsPlace}
+use Rattle.plain_types.specs.declared.fault.Fault.{Fault}
 use Rattle.property_store.specs.Table.{Stock, store_at}
 use Rattle.binding_graph.specs.Step.{HasStore}
 use Rattle.bound_stores.specs.Bound.{BoundShelves}

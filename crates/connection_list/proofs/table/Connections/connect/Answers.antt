@@ -1,6 +1,6 @@
 use Rattle.std.proofs.Common.{arith, ◌∙◌, ◌+◌, ◌<◌, ap, rules}
-use Rattle.places.specs.Paired.{paired_tables}
-use Rattle.places.specs.Table.{with_place}
+use Rattle.shared_rows.specs.Paired.{paired_tables}
+use Rattle.shared_rows.specs.Table.{with_place}
 use Rattle.connection_list.specs.Rows.{numbered}
 use Rattle.connection_list.specs.Routes.{place_of}
 use Rattle.connection_list.proofs.AddedLemmas.{connected_kept, connected_view, number_above, number_fits, number_next, reserved_kept, reserved_view}

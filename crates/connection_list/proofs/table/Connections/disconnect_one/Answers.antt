@@ -1,7 +1,7 @@
 use Rattle.std.proofs.Common.{◌≡◌, ◌∙◌, ap, false, is_some, sym, arith}
 use Rattle.std.specs.List.{list_any}
-use Rattle.places.specs.Table.{with_place}
-use Rattle.places.proofs.ForCallers.{with_same}
+use Rattle.shared_rows.specs.Table.{with_place}
+use Rattle.shared_rows.proofs.ForCallers.{with_same}
 use Rattle.shared_rows.specs.Rows.{rows_at}
 use Rattle.std.proofs.lemmas.Grind.{common_steps}
 use Rattle.connection_list.specs.Rows.{has_number, no_rows}

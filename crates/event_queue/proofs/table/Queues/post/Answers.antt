@@ -1,5 +1,5 @@
 use Rattle.std.proofs.Common.{◌∙◌, arith, sym, rules}
-use Rattle.places.proofs.ForCallers.{changes_open}
+use Rattle.shared_rows.proofs.ForCallers.{changes_open}
 use Rattle.shared_rows.proofs.ForCallers.{on_err}
 use Rattle.event_queue.proofs.QueueLemmas.{back_again, count_fits, full_stays, logged, of_logs, of_rows, one_posted, takes_more, unposted, waits_back, waits_placed, waits_same}
 use Rattle.event_queue.proofs.table.Queues.post.Goals as goal

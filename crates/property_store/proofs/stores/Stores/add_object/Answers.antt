@@ -2,7 +2,7 @@ use Rattle.std.proofs.Common.{◌≡◌, ◌&&◌, List, arith, cond, length, ma
 use Rattle.std.specs.declared.option.Option.TheVariants as option
 use Rattle.std.proofs.lemmas.Grind.{common_steps}
 use Rattle.std.proofs.lemmas.List.{length-map}
-use Rattle.places.specs.Table.{with_place}
+use Rattle.shared_rows.specs.Table.{with_place}
 use Rattle.shared_rows.specs.Rows.{inserted, key_of, rows_at}
 use Rattle.property_store.specs.declared.field.Field.{Field}
 use Rattle.property_store.specs.declared.link.Head.TheVariants.{First}

@@ -1,6 +1,6 @@
 use Rattle.std.proofs.Common.{ap, arith, length, refl, sym}
 use Rattle.std.proofs.lemmas.Grind.{common_steps}
-use Rattle.places.proofs.ForCallers.{with_same}
+use Rattle.shared_rows.proofs.ForCallers.{with_same}
 use Rattle.property_store.specs.declared.link.Head.TheVariants.{None}
 use Rattle.property_store.specs.declared.row.Row.{Row}
 use Rattle.property_store.specs.Inside.{head_at, limited}

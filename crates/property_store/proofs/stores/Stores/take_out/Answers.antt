@@ -4,7 +4,7 @@ use Rattle.property_store.proofs.StoreLemmas.{row_stands}
 use Rattle.property_store.specs.declared.link.Head.TheVariants.{All}
 use Rattle.property_store.specs.Store.{without}
 use Rattle.property_store.specs.Table.{store_at}
-use Rattle.places.specs.Table.{with_place}
+use Rattle.shared_rows.specs.Table.{with_place}
 use Rattle.property_store.proofs.stores.Stores.take_out.Goals as goal
 use Rattle.property_store.proofs.stores.Stores.take_out.Goals.{in-Some, in_default}
 

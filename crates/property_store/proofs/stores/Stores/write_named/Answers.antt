@@ -1,6 +1,6 @@
 use Rattle.std.proofs.Common.{Err, Ok, arith, cond, refl, sym, rules}
 use Rattle.std.proofs.lemmas.Grind.{common_steps}
-use Rattle.places.proofs.ForCallers.{with_same}
+use Rattle.shared_rows.proofs.ForCallers.{with_same}
 use Rattle.property_store.specs.declared.link.Head.TheVariants.{First, None}
 use Rattle.property_store.specs.Inside.{head_at, limited}
 use Rattle.property_store.specs.Store.{fields_in}

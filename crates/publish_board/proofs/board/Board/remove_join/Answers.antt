@@ -1,5 +1,5 @@
 use Rattle.std.proofs.Common.{◌∙◌, ◌<◌, ap, length, sym, subst}
-use Rattle.places.specs.Table.{Table}
+use Rattle.shared_rows.specs.Table.{Table}
 use Rattle.publish_board.specs.Desk.{Desk, no_desk}
 use Rattle.publish_board.specs.Table.{desk_at}
 use Rattle.publish_board.proofs.ListedLemmas.{no_longer_listed, still_listed}

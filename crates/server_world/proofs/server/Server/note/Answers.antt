@@ -1,5 +1,5 @@
 use Rattle.std.proofs.lemmas.Result.{on_ok_weaker}
-use Rattle.thread_model.specs.Asked.{tag}
+use Rattle.session_model.specs.Asked.{tag}
 use Rattle.server_world.specs.Server.{seen_as}
 use Rattle.server_world.proofs.NotingLemmas.{noted_at}
 use Rattle.server_world.proofs.server.Server.note.Goals as goal

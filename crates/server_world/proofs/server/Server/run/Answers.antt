@@ -1,5 +1,5 @@
 use Rattle.std.proofs.Common.{sym, ap, subst, ◌∙◌, inl, inr, arith, ◌+◌, ◌∷◌, ◌++◌, [], take}
-use Rattle.thread_model.specs.Asked.{tag}
+use Rattle.session_model.specs.Asked.{tag}
 use Rattle.server_world.specs.Server.{seen_as, settings}
 use Rattle.server_world.specs.Runs.{AreSteps, tags}
 use Rattle.server_world.proofs.RunLemmas.{isolated, steps_all, steps_blame, steps_kept, steps_more, steps_settings, steps_world, tags_more}

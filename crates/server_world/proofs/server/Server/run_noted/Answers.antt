@@ -1,5 +1,5 @@
 use Rattle.std.proofs.Common.{ap₂, true≢false, sym, ap, subst, ◌∙◌, refl, arith, ◌+◌, ◌∷◌, ◌++◌, [], take}
-use Rattle.thread_model.specs.Asked.{tag}
+use Rattle.session_model.specs.Asked.{tag}
 use Rattle.server_world.specs.Noting.{AreNoted, kept_places}
 use Rattle.server_world.specs.Server.{seen_as, states}
 use Rattle.server_world.specs.Runs.{AreSteps, tags}

@@ -1,5 +1,5 @@
 use Rattle.std.proofs.Common.{refl, sym, subst}
-use Rattle.thread_model.specs.Asked.{asked}
+use Rattle.session_model.specs.Asked.{asked}
 use Rattle.std.specs.Result.{result_ok}
 use Rattle.session_engine.specs.Core as engine
 use Rattle.session_engine.specs.Engine.{seen_engine}

@@ -1,6 +1,6 @@
 use Rattle.std.proofs.Common.{◌∙◌, None, ap, position, sym, subst}
 use Rattle.std.specs.Prelude.{OnOk, bytes_eq}
-use Rattle.thread_model.specs.Asked.{asked}
+use Rattle.session_model.specs.Asked.{asked}
 use Rattle.session_engine.specs.Core.{seen_by_name}
 use Rattle.session_engine.specs.Items.{HasAdded, HasCome, item_of}
 use Rattle.session_engine.proofs.ItemsLemmas.{arrival_comes}

@@ -1,5 +1,5 @@
 use Rattle.std.proofs.Common.{ap}
-use Rattle.thread_model.proofs.ForCallers.{asked_fits}
+use Rattle.session_model.proofs.ForCallers.{asked_fits}
 use Rattle.session_engine.specs.Engine.{seen_engine}
 use Rattle.session_engine.proofs.CommandsLemmas.{done_answered, done_step, done_whole}
 use Rattle.session_engine.proofs.engine.Engine.command.Goals as goal

@@ -1,6 +1,6 @@
 use Rattle.std.proofs.Common.{Some, ap, position, sym, subst, ◌∙◌}
 use Rattle.std.specs.Prelude.{bytes_eq}
-use Rattle.thread_model.specs.Asked.{asked}
+use Rattle.session_model.specs.Asked.{asked}
 use Rattle.session_engine.specs.Core.{seen_by_name}
 use Rattle.session_engine.specs.Engine.{seen_engine}
 use Rattle.session_engine.specs.Sessions.{IsStep}

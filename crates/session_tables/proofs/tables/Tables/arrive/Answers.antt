@@ -3,11 +3,11 @@ use Rattle.std.specs.List.{list_any}
 use Rattle.event_queue.specs.Queue.{empty_queue}
 use Rattle.event_queue.specs.Table.{queue_at, with_queue}
 use Rattle.object_tree.specs.Table.{forest_at}
-use Rattle.places.specs.Table.{ChangesAt}
+use Rattle.shared_rows.specs.Table.{ChangesAt}
 use Rattle.publish_board.specs.Table.{desk_at}
 use Rattle.signature_core.specs.declared.kind.Kind.{Kind}
-use Rattle.thread_model.specs.declared.post.Post.{Post}
-use Rattle.thread_model.specs.Arriving.{reached_by}
+use Rattle.session_model.specs.declared.post.Post.{Post}
+use Rattle.session_model.specs.Arriving.{reached_by}
 use Rattle.variant_value.specs.declared.value.Value.{Value}
 use Rattle.session_tables.specs.Reaching.{takes, takes_some}
 use Rattle.session_tables.specs.Tables.{session_at}

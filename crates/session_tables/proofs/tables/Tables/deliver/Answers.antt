@@ -1,7 +1,7 @@
 use Rattle.std.proofs.Common.{◌≡◌, ◌<◌, length, take, ap, subst, ◌∙◌, arith}
 use Rattle.publish_board.specs.Table.{desk_at}
-use Rattle.thread_model.specs.Arriving.{posts_by}
-use Rattle.thread_model.specs.State.{State}
+use Rattle.session_model.specs.Arriving.{posts_by}
+use Rattle.session_model.specs.State.{State}
 use Rattle.session_tables.specs.Reaching.{Reaches, posts_at}
 use Rattle.session_tables.proofs.PostLemmas.{posts_next}
 use Rattle.session_tables.proofs.ReachingLemmas.{reaches_twice}

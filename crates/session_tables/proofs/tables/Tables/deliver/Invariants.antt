@@ -1,6 +1,6 @@
 use Rattle.std.proofs.Common.{◌≡◌, take}
 use Rattle.publish_board.specs.Table.{desk_at}
-use Rattle.thread_model.specs.Arriving.{posts_by}
+use Rattle.session_model.specs.Arriving.{posts_by}
 use Rattle.session_tables.specs.Reaching.{Reaches}
 use Rattle.session_tables.specs.Tables.{state_at}
 use Rattle.session_tables.proofs.tables.Tables.deliver.Given as goal

@@ -1,9 +1,9 @@
 use Rattle.std.proofs.Common.{◌≡◌, ◌≤◌, ◌<◌, ◌+◌, ◌-◌, ℕ, true, false, eqb, length, ap, sym, subst, ◌∙◌, IsFalse, arith}
 use Rattle.std.proofs.lemmas.Bool.Decides.{nat_tests}
-use Rattle.places.specs.Table.{IsPlace}
+use Rattle.shared_rows.specs.Table.{IsPlace}
 use Rattle.publish_board.specs.Desk.{names_session}
 use Rattle.publish_board.specs.Table.{IsFirstJoiner, desk_at}
-use Rattle.thread_model.specs.State.{State}
+use Rattle.session_model.specs.State.{State}
 use Rattle.session_tables.specs.Reaching.{Reaches, ReachesBy, only_at, post_at}
 use Rattle.session_tables.proofs.PostLemmas.{post_row, posts_row, reaches_all, reaches_next, reaches_strangers}
 use Rattle.session_tables.proofs.ReachingLemmas.{placed_shaped, session_unchanged}

@@ -3,9 +3,9 @@ use Rattle.std.specs.List.{list_any}
 use Rattle.event_queue.specs.Queue.{empty_queue}
 use Rattle.event_queue.specs.Table.{queue_at, with_queue}
 use Rattle.object_tree.specs.Table.{forest_at}
-use Rattle.places.specs.Table.{ChangesAt}
+use Rattle.shared_rows.specs.Table.{ChangesAt}
 use Rattle.publish_board.specs.Table.{desk_at}
-use Rattle.thread_model.specs.Arriving.{post_of, reached_by}
+use Rattle.session_model.specs.Arriving.{post_of, reached_by}
 use Rattle.session_tables.specs.Reaching.{ReachesBy, only_at, takes, takes_some}
 use Rattle.session_tables.specs.Tables.{session_at}
 use Rattle.session_tables.proofs.PostLemmas.{failed_only, on_err, on_ok, post_row, reach_failed, reach_heard, takes_post}

@@ -1,5 +1,5 @@
 use Rattle.std.proofs.Common.{◌≡◌, ◌∙◌, ◌-◌, [], length, is_some, ap, arith}
-use Rattle.places.proofs.ForCallers.{changes_open, changes_twice, changes_with, with_there}
+use Rattle.shared_rows.proofs.TableLemmas.{changes_open, changes_twice, changes_with, with_there}
 use Rattle.std.proofs.lemmas.Grind.{common_steps}
 use Rattle.shared_rows.specs.Rows.{rows_at, without}
 use Rattle.shared_rows.proofs.RowsLemmas.{length-without, some_at}

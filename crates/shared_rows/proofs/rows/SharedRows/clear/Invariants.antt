@@ -1,5 +1,5 @@
 use Rattle.std.proofs.Common.{[], length}
-use Rattle.places.specs.Table.{ChangesAt, IsPlace}
+use Rattle.shared_rows.specs.Table.{ChangesAt, IsPlace}
 use Rattle.shared_rows.specs.Rows.{rows_at}
 use Rattle.shared_rows.proofs.rows.SharedRows.clear.Given as goal
 

@@ -2,7 +2,7 @@ use Rattle.std.proofs.Common.{◌≡◌, refl}
 use Rattle.std.specs.List.{flat_map}
 use Rattle.server_world.specs.Server.{seen_as}
 use Rattle.server_world.specs.declared.report.Entry.TheVariants.{Lines, OutOfMemory}
-use Rattle.thread_model.specs.Asked.{tag}
+use Rattle.session_model.specs.Asked.{tag}
 use Rattle.wire_format.specs.Text.{text_of_line}
 use Rattle.wire_lines.specs.Sending.{out}
 use Rattle.wire_lines.specs.Steps.{IsDone, entry_text}

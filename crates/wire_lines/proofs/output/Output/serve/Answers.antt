@@ -1,9 +1,9 @@
 use Rattle.std.proofs.Common.{ℕ, List, IsTrue, Some, codes, refl, sym, subst}
 use Rattle.std.proofs.lemmas.Bool.{or_left}
-use Rattle.refusals.specs.declared.code.Code.TheVariants.{OutOfMemory}
+use Rattle.plain_types.specs.declared.code.Code.TheVariants.{OutOfMemory}
 use Rattle.server_world.specs.Server.{seen_as}
-use Rattle.thread_model.specs.Asked.{tag}
-use Rattle.thread_model.specs.declared.line.Line.TheVariants.{Error}
+use Rattle.session_model.specs.Asked.{tag}
+use Rattle.session_model.specs.declared.line.Line.TheVariants.{Error}
 use Rattle.wire_format.specs.Command.{command_of}
 use Rattle.wire_format.specs.Text.{blamed, is_session_text, text_of_line}
 use Rattle.wire_format.proofs.ForCallers.{session_is_name, blamed_is_session_text}

@@ -9,7 +9,7 @@ use Rattle.wire_lines.specs.Taking.{RunsShort}
 use Rattle.wire_lines.proofs.Answering.{entered_named, only_named, only_sessions}
 use Rattle.wire_lines.proofs.Kept.{err_is}
 use Rattle.server_world.specs.declared.report.Entry.TheVariants.{Lines, OutOfMemory}
-use Rattle.thread_model.specs.Asked.{tag}
+use Rattle.session_model.specs.Asked.{tag}
 use Rattle.wire_lines.proofs.slice.Slicing.obey.Goals as goal
 
 pub returns-in_default-clause-stopped : goal.returns-in_default-clause-stopped

@@ -1,6 +1,6 @@
 use Rattle.std.proofs.Common.{◌≡◌, ◌+◌, Ok, Option, OnOk, refl, sym, subst}
 use Rattle.server_world.specs.Server.{seen_as}
-use Rattle.thread_model.specs.Asked.{tag}
+use Rattle.session_model.specs.Asked.{tag}
 use Rattle.wire_format.specs.Input.{Piece, piece_of}
 use Rattle.wire_format.proofs.ForCallers.{piece_of-blank, piece_of-faulty, piece_of-given, read_named, session_is_name}
 use Rattle.wire_lines.specs.Taking.{Takes}

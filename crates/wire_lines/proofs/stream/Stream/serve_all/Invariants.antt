@@ -1,7 +1,7 @@
 -- So far each read gave some bytes, and the lines that ended in them are answered.
 use Rattle.std.proofs.Common.{◌≡◌, ◌≤◌, ◌+◌, ◌++◌, ℕ, List, length, min}
 use Rattle.std.specs.Io.KnownBytes.{Consumes}
-use Rattle.wire_devices.specs.Counts.{greatest_count}
+use Rattle.wire_format.specs.Counts.{greatest_count}
 use Rattle.wire_lines.specs.Stream.{Fed}
 use Rattle.wire_lines.specs.Feeding.{at}
 use Rattle.server_world.specs.Server.{seen_as}

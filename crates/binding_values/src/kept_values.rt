@@ -1,0 +1,106 @@
+//! What is kept of a place's bound properties.
+ghost use Rattle.std.specs.Prelude.{◌≡◌, [], OnErr, OnOk, false, filter, not, true};
+ghost use Rattle.std.specs.Option.{option_map};
+ghost use Rattle.shared_rows.specs.Table.{IsPlace};
+ghost use Rattle.property_store.specs.Property.{among, is_property};
+ghost use Rattle.property_store.specs.Table.{store_at};
+ghost use Rattle.binding_values.specs.Kept.{kept_of};
+ghost use Rattle.binding_values.specs.Stored.{scene_of};
+ghost use Rattle.binding_values.specs.Right.{IsComplete, IsRightBut, IsWhole, only};
+
+use crate::settling::{bound_in, resettle};
+use crate::{Bound, Kept, KeptIndex};
+use property_store::{Property, Stores};
+use std::alloc::{AllocError, Global};
+use std::marker::Model;
+
+/// What is kept of the bound properties of a place, and which of them have read which property.
+#[derive(Drop)]
+pub struct KeptValues {
+    kept: KeptIndex,
+}
+
+impl Model for KeptValues {
+    ghost use Rattle.std.specs.Prelude.{List};
+    ghost use Rattle.binding_values.specs.declared.kept.Done.{Done};
+    ghost use Rattle.binding_values.specs.Coded.{coded_memory};
+
+    ghost Value = { List Done };
+
+    ghost coded = { coded_memory };
+
+    ghost view = { λ values. values.kept };
+}
+
+impl KeptValues {
+    pub fn new(alloc: Global) -> KeptValues
+        ensures { result ≡ [] }
+    {
+        KeptValues {
+            kept: KeptIndex::new(alloc),
+        }
+    }
+
+    /// What is kept of a property.
+    pub fn at(&self, at: Property) -> Option<&Kept>
+        ensures { option_map (λ kept. kept.now) result ≡ kept_of self.now at }
+    {
+        self.kept.at(at)
+    }
+
+    /// Lets go of what is kept of a property that is bound no longer, or to another expression.
+    pub fn forget(&mut self, at: Property)
+        ensures { self.new ≡ filter (λ row. not (is_property at row.at)) self.old }
+    {
+        self.kept.forget(at);
+    }
+
+    /// Lets go of all.
+    pub fn clear(&mut self)
+        ensures { self.new ≡ [] }
+    {
+        self.kept.clear();
+    }
+
+    /// Evaluates what is bound and reached by touched properties, and nothing else; puts what they reach behind
+    /// them, and returns how many evaluations it made. After an `Err` nothing is kept.
+    pub fn settle(
+        &mut self,
+        alloc: Global,
+        stores: &Stores,
+        place: usize,
+        bindings: &Bound,
+        touched: &mut Vec<Property>,
+    ) -> Result<u64, AllocError>
+        requires ready { IsPlace stores.now.shelves.table place }
+        requires right { IsRightBut (scene_of (store_at stores.now.shelves place) bindings.now) (only touched.old.items) (kept_of self.old) }
+        requires whole { IsWhole (scene_of (store_at stores.now.shelves place) bindings.now) (only touched.old.items) (kept_of self.old) }
+        ensures complete { OnOk result (IsComplete (scene_of (store_at stores.now.shelves place) bindings.now) (kept_of self.new)) }
+        ensures same { OnOk result ((q : Property) → among q touched.new.items ≡ false → kept_of self.new q ≡ kept_of self.old q) }
+        ensures more { OnOk result ((q : Property) → among q touched.old.items ≡ true → among q touched.new.items ≡ true) }
+        ensures err { OnErr result (self.new ≡ []) }
+    {
+        let settled = resettle(alloc, stores, place, bindings, &mut self.kept, touched);
+        if settled.is_err() {
+            self.clear();
+        }
+        settled
+    }
+
+    /// Evaluates all that is bound, and returns how many evaluations it made. After an `Err` nothing is kept.
+    pub fn settle_all(
+        &mut self,
+        alloc: Global,
+        stores: &Stores,
+        place: usize,
+        bindings: &Bound,
+    ) -> Result<u64, AllocError>
+        requires { IsPlace stores.now.shelves.table place }
+        ensures complete { OnOk result (IsComplete (scene_of (store_at stores.now.shelves place) bindings.now) (kept_of self.new)) }
+        ensures err { OnErr result (self.new ≡ []) }
+    {
+        self.clear();
+        let mut bound = bound_in(alloc, bindings)?;
+        self.settle(alloc, stores, place, bindings, &mut bound)
+    }
+}

@@ -1,0 +1,11 @@
+-- The number is read as one from 1 to 1,000,000.
+use Rattle.std.proofs.Common.{◌≡◌, ◌∙◌, rules, ap, Some, pos}
+use Rattle.clap.specs.declared.builder.value_parser.ValueParser.TheVariants.{Signed}
+use Rattle.command_line.proofs.options.turns_argument.Goals as goal
+
+pub returns-clause-rule : goal.returns-clause-rule
+returns-clause-rule c =
+    let made : c.range.result ≡ Signed (pos 1) (pos 1000000) = rw (c.value_parser.ensures, c.new-2.ensures.start, c.new-2.ensures.end) at c.range.ensures in
+    let given = c.value_parser-2.ensures.given in
+    let parser : c.value_parser-2.result.value_parser ≡ Some (Signed (pos 1) (pos 1000000)) = given.1 ∙ ap Some (given.2 ∙ made) in
+    search rules

@@ -1,2 +1,0 @@
-pub mod GapLemmas
-pub mod SearchLemmas

@@ -1,2 +1,0 @@
-pub mod Gap
-pub mod Gapped

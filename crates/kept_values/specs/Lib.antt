@@ -1,2 +1,0 @@
-pub mod Right
-pub mod Laws

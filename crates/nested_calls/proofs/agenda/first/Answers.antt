@@ -1,6 +1,0 @@
-use Rattle.std.proofs.Common.{arith}
-use Rattle.std.proofs.lemmas.Grind.{common_steps}
-use Rattle.nested_calls.proofs.agenda.first.Goals as goal
-
-pub returns-then-wanted-values : goal.returns-then-wanted-values
-returns-then-wanted-values c = grind (arith, common_steps)

@@ -1,9 +1,0 @@
--- A `&mut` into a table.
-use Rattle.std.specs.Prelude.{ℕ}
-use Rattle.std.specs.Borrow.{Lends, MutBor, Fml, RattleType}
-use Rattle.places.specs.Table.{Table, with_place}
-use Rattle.places.specs.contracts.table.Places.{the_row}
-
--- the table ends with the last value behind `value` at the place
-abbrev pub LendsPlace : (T : RattleType) → MutBor (Table T.Denot) → ℕ → MutBor T.Denot → Fml
-LendsPlace T table place value = Lends (the_row T) T table value (with_place table.now place)

@@ -1,7 +1,0 @@
-use Rattle.std.proofs.Common.{◌≡◌, map, take}
-use Rattle.class_table.specs.Lookup.{properties}
-use Rattle.thread_model.specs.State.{field_of}
-use Rattle.session_inputs.proofs.class_layouts.fields.Given as goal
-
-abbrev pub invariant-loop-number : goal.invariant-loop-number
-invariant-loop-number l = l.fields ≡ map field_of (take l.number (properties l.classes l.class))

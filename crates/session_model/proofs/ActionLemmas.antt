@@ -1,0 +1,108 @@
+-- The rules by which an action of a slot's body is done: one for each way that it goes.
+use Rattle.std.proofs.Common.{◌≡◌, ℕ, Bool, true, false, cond, List, [], ◌∷◌, Option, Some, None, Ok, Err, sym, ap, ◌∙◌}
+use Rattle.std.specs.Option.{option_map_or, option_or}
+use Rattle.std.specs.Result.{result_err}
+use Rattle.plain_types.specs.declared.code.Code.{Code}
+use Rattle.plain_types.specs.declared.code.Code.TheVariants.{NoSuchObject}
+use Rattle.signature_core.specs.declared.signature.Signature.{Signature}
+use Rattle.variant_value.specs.declared.value.Value.{Value}
+use Rattle.term_core.specs.declared.action.SingleAction.{SingleAction}
+use Rattle.term_core.specs.declared.action.SingleAction.TheVariants as e
+use Rattle.term_core.specs.declared.target.Target.{Target}
+use Rattle.term_core.specs.Act.{Acts, single_action, when}
+use Rattle.term_core.specs.Term.{Term}
+use Rattle.session_model.specs.declared.deed.Deed.{Deed}
+use Rattle.object_tree.specs.Rows.{is_there}
+use Rattle.session_model.specs.Acts.{act_deed, acts, chosen, emission, warns_or, with_found, writing}
+use Rattle.session_model.specs.Agenda.{step}
+use Rattle.session_model.specs.Deeds.{deed_done, deed_refusal, found_refusal}
+use Rattle.session_model.specs.Doing.{Doing}
+use Rattle.session_model.specs.Items.{Act, Emit, Next, Warn, puts}
+use Rattle.session_model.specs.Methods.{Found}
+use Rattle.session_model.specs.Settings.{Settings}
+use Rattle.session_model.specs.Targets.{object_of, truth_evaluated}
+use Rattle.session_model.specs.Writing.{Writing, written}
+
+module _ (settings : Settings) (self sender : ℕ) (args : List Value) (depth : ℕ) (doing : Doing) where
+  -- what a single action comes to
+  abbrev pub comes_to : SingleAction → Next
+  comes_to plain = step settings (Act (single_action plain) args self sender depth) doing
+
+  -- what warns of a code for the object whose slot is run
+  abbrev pub warned : Code → Next
+  warned code = puts (Warn code (Some self) ∷ []) doing
+
+  -- the object that a target is
+  abbrev pub object : Target → ℕ
+  object target = object_of doing.state self sender target
+
+  -- an absence, by whether the object is there
+  abbrev absent : Bool → Option Code
+  absent there = cond there None (Some NoSuchObject)
+
+  -- writing a property
+  module _ (of : Target) (property : List ℕ) (value : Term) (target : ℕ) (is : target ≡ object of) where
+    set_next : ℕ → Bool → Found Writing → Next
+    set_next target there found = warns_or (option_or (absent there) (result_err found)) self doing (with_found found (λ writing. written settings doing target depth writing) doing)
+
+    by_owner : (there : Bool) → is_there doing.state.forest.rows target ≡ there → comes_to (e.Set of property value) ≡ set_next target there (writing doing.state self sender args target property value)
+    unfolding set_next
+    by_owner there e =
+        ap (λ target. set_next target (is_there doing.state.forest.rows target) (writing doing.state self sender args target property value)) (sym is)
+        ∙ ap (λ there. set_next target there (writing doing.state self sender args target property value)) e
+
+    module _ (there : is_there doing.state.forest.rows target ≡ true) where
+      pub set_faulty : (code : Code) → writing doing.state self sender args target property value ≡ Err code → comes_to (e.Set of property value) ≡ warned code
+      unfolding set_next
+      set_faulty code found = by_owner true there ∙ ap (set_next target true) found
+
+      -- what is written is written, and then told of
+      pub set_done : (found : Writing) → writing doing.state self sender args target property value ≡ Ok found → comes_to (e.Set of property value) ≡ written settings doing target depth found
+      unfolding set_next
+      set_done _ found = by_owner true there ∙ ap (set_next target true) found
+
+  -- sending a signal
+  module _ (of : Target) (signal : Signature) (sent : List Term) (target : ℕ) (is : target ≡ object of) where
+    emit_next : ℕ → Bool → Found (ℕ × List Value) → Next
+    emit_next target there found = warns_or (option_or (absent there) (result_err found)) self doing (with_found found (λ emitted. puts (Emit target emitted.0 emitted.1 depth ∷ []) doing) doing)
+
+    by_sender : (there : Bool) → is_there doing.state.forest.rows target ≡ there → comes_to (e.Emit of signal sent) ≡ emit_next target there (emission settings doing.state self sender args target signal sent)
+    unfolding emit_next
+    by_sender there e =
+        ap (λ target. emit_next target (is_there doing.state.forest.rows target) (emission settings doing.state self sender args target signal sent)) (sym is)
+        ∙ ap (λ there. emit_next target there (emission settings doing.state self sender args target signal sent)) e
+
+    pub emit_absent : is_there doing.state.forest.rows target ≡ false → comes_to (e.Emit of signal sent) ≡ warned NoSuchObject
+    unfolding emit_next
+    emit_absent there = by_sender false there
+
+  -- what comes of a deed
+  abbrev pub found_next : Found Deed → Next
+  found_next found = warns_or (found_refusal doing.state found) self doing (with_found found (λ deed. puts [] (deed_done doing deed)) doing)
+
+  next_of : Option (Found Deed) → Next
+  next_of found = option_map_or found_next found (puts [] doing)
+
+  pub by_deed : (plain : SingleAction) (found : Found Deed) → act_deed settings doing.state self sender plain ≡ Some found → comes_to plain ≡ found_next found
+  unfolding next_of
+  by_deed (e.Set of property value) found is = absurd (cc)
+  by_deed (e.Emit of signal sent) found is = absurd (cc)
+  by_deed (e.Delete of) found is = absurd (cc)
+  by_deed _ found is = ap next_of is
+
+  -- doing a deed
+  module _ (plain : SingleAction) where
+    module _ (deed : Deed) (is : act_deed settings doing.state self sender plain ≡ Some (Ok deed)) where
+      pub deed_is_done : deed_refusal doing.state deed ≡ None → comes_to plain ≡ puts [] (deed_done doing deed)
+      deed_is_done passed = by_deed plain (Ok deed) is ∙ ap (λ refusal. warns_or refusal self doing (puts [] (deed_done doing deed))) passed
+
+  -- choosing a branch
+  module _ (test : Term) (held failed : Acts) where
+    pub when_faulty : (code : Code) → truth_evaluated doing.state self sender args test ≡ Err code → step settings (Act (when test held failed) args self sender depth) doing ≡ warned code
+    when_faulty code found = ap (λ truth. chosen truth held failed args self sender depth doing) found
+
+    pub when_held : truth_evaluated doing.state self sender args test ≡ Ok true → step settings (Act (when test held failed) args self sender depth) doing ≡ puts (acts held args self sender depth) doing
+    when_held found = ap (λ truth. chosen truth held failed args self sender depth doing) found
+
+    pub when_failed : truth_evaluated doing.state self sender args test ≡ Ok false → step settings (Act (when test held failed) args self sender depth) doing ≡ puts (acts failed args self sender depth) doing
+    when_failed found = ap (λ truth. chosen truth held failed args self sender depth doing) found

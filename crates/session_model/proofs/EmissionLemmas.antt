@@ -1,0 +1,101 @@
+-- The rules by which a signal is sent, a connection called and a slot run: one for each way that it goes.
+use Rattle.std.proofs.Common.{◌≡◌, ◌<◌, ◌≤◌, ◌+◌, ◌==◌, ℕ, true, false, cond, List, [], ◌∷◌, Option, Some, None, is_some, nat_le, refl, ap, ◌∙◌, arith}
+use Rattle.std.specs.Option.{option_map_or}
+use Rattle.std.proofs.lemmas.Bool.{cond-false, cond-true}
+use Rattle.std.proofs.lemmas.Bool.Decides.{nat_tests}
+use Rattle.plain_types.specs.declared.code.Code.{Code}
+use Rattle.plain_types.specs.declared.code.Code.TheVariants.{Limit}
+use Rattle.variant_value.specs.declared.value.Value.{Value}
+use Rattle.term_core.specs.Act.{acts_of}
+use Rattle.class_table.specs.declared.class.Method.{Method}
+use Rattle.connection_list.specs.declared.connection.Connection.{Connection}
+use Rattle.object_tree.specs.declared.row.Row.{Row}
+use Rattle.object_tree.specs.Rows.{is_there, row_of}
+use Rattle.stored_slots.specs.declared.functor.Functor.{Functor}
+use Rattle.session_model.specs.declared.call.TheConstants.{NESTED_SIGNALS}
+use Rattle.session_model.specs.declared.line.Line.TheVariants as line
+use Rattle.session_model.specs.declared.line.Line.TheVariants.{Warning}
+use Rattle.session_model.specs.Acts.{acts}
+use Rattle.session_model.specs.Arriving.{posts_of}
+use Rattle.binding_values.specs.declared.property.BindingError.{BindingError}
+use Rattle.property_store.specs.declared.property.Property.{Property}
+use Rattle.session_model.specs.Agenda.{binding_line, call_line, callee_called, called, calls_of, connection_of, emitted, functor_ran, is_held_back, ran, step, with_turn}
+use Rattle.session_model.specs.Doing.{Doing, posting, shot, line_told, turn_taken, used_up}
+use Rattle.session_model.specs.Items.{Call, Emit, Run, RunFunctor, Warn, WarnOf, puts}
+use Rattle.session_model.specs.Functors.{functor_at}
+use Rattle.session_model.specs.Methods.{method_at}
+use Rattle.session_model.specs.Settings.{Settings}
+
+module _ (settings : Settings) (target signal : ℕ) (args : List Value) (depth : ℕ) (doing : Doing) where
+  -- an object that has gone sends nothing
+  pub emit_absent : is_there doing.state.forest.rows target ≡ false → step settings (Emit target signal args depth) doing ≡ puts [] doing
+  emit_absent absent = by (row_of doing.state.forest.rows target) absent
+    where
+      by : (found : Option Row) → is_some found ≡ false → option_map_or (emitted settings doing target signal args depth) found (puts [] doing) ≡ puts [] doing
+      by (Some row) out = absurd (cc)
+      by None out = refl
+
+  module _ (row : Row) (there : row_of doing.state.forest.rows target ≡ Some row) where
+    is_emitted : step settings (Emit target signal args depth) doing ≡ emitted settings doing target signal args depth row
+    is_emitted = ap (λ found. option_map_or (emitted settings doing target signal args depth) found (puts [] doing)) there
+
+    -- a signal that is held back is not sent
+    pub emit_held_back : is_held_back signal row ≡ true → step settings (Emit target signal args depth) doing ≡ puts [] doing
+    emit_held_back held = is_emitted ∙ cond-true (is_held_back signal row) _ _ held
+
+    module _ (sent : is_held_back signal row ≡ false) where
+      is_sent : step settings (Emit target signal args depth) doing
+          ≡ cond (nat_le NESTED_SIGNALS depth) (puts (Warn Limit (Some target) ∷ []) doing) (puts (calls_of doing target signal args depth) (posting doing (posts_of settings.classes doing.state target signal args)))
+      is_sent = is_emitted ∙ cond-false (is_held_back signal row) _ _ sent
+
+      -- a signal that is nested too deep is not sent, and its object is warned of
+      pub emit_deep : NESTED_SIGNALS ≤ depth → step settings (Emit target signal args depth) doing ≡ puts (Warn Limit (Some target) ∷ []) doing
+      emit_deep deep = let is : nat_le NESTED_SIGNALS depth ≡ true = grind (arith, nat_tests, deep) in is_sent ∙ cond-true (nat_le NESTED_SIGNALS depth) _ _ is
+
+      -- a signal that is not nested too deep is posted, and calls what is connected to it
+      pub emit_calls : depth < NESTED_SIGNALS → step settings (Emit target signal args depth) doing ≡ puts (calls_of doing target signal args depth) (posting doing (posts_of settings.classes doing.state target signal args))
+      emit_calls shallow = let is : nat_le NESTED_SIGNALS depth ≡ false = grind (arith, nat_tests, shallow) in is_sent ∙ cond-false (nat_le NESTED_SIGNALS depth) _ _ is
+
+module _ (settings : Settings) (number : ℕ) (args : List Value) (depth : ℕ) (doing : Doing) where
+  -- a connection that is broken is not called
+  pub call_broken : connection_of doing number ≡ None → step settings (Call number args depth) doing ≡ puts [] doing
+  call_broken broken = ap (λ found. option_map_or (λ connection. with_turn doing (called settings connection args depth)) found (puts [] doing)) broken
+
+  module _ (connection : Connection) (standing : connection_of doing number ≡ Some connection) where
+    is_called : step settings (Call number args depth) doing ≡ with_turn doing (called settings connection args depth)
+    is_called = ap (λ found. option_map_or (λ connection. with_turn doing (called settings connection args depth)) found (puts [] doing)) standing
+
+    -- a connection that finds no turn left is not called
+    pub call_spent : doing.turns ≡ 0 → step settings (Call number args depth) doing ≡ puts [] (used_up doing)
+    call_spent none = let is : (doing.turns == 0) ≡ true = grind (arith, nat_tests, none) in is_called ∙ cond-true (doing.turns == 0) _ _ is
+
+    -- what becomes of the session: a turn is taken, and a single-shot connection is broken
+    abbrev pub after : Doing
+    after = shot (turn_taken doing) connection
+
+    -- a connection that stands takes a turn where one is left
+    pub call_taken : 0 < doing.turns → step settings (Call number args depth) doing ≡ callee_called settings connection args depth after connection.callee
+    call_taken some = let is : (doing.turns == 0) ≡ false = grind (arith, nat_tests, some) in is_called ∙ cond-false (doing.turns == 0) _ (called settings connection args depth (turn_taken doing)) is
+
+module _ (settings : Settings) (target index sender : ℕ) (args : List Value) (depth : ℕ) (doing : Doing) where
+  -- a slot that is there is told of, and does what its body says, one level deeper
+  pub run_slot : (method : Method) → method_at settings doing.state target index ≡ Some method → step settings (Run target index sender args depth) doing
+      ≡ puts (acts (acts_of method.body.actions) args target sender (depth + 1)) (line_told doing (call_line method target sender args))
+  run_slot method has = ap (λ found. option_map_or (ran doing target sender args depth) found (puts [] doing)) has
+
+module _ (settings : Settings) (target index sender connection : ℕ) (args : List Value) (depth : ℕ) (doing : Doing) where
+  -- a functor that is not there runs nothing
+  pub run_functor_absent : functor_at settings index ≡ None → step settings (RunFunctor target index sender connection args depth) doing ≡ puts [] doing
+  run_functor_absent absent = ap (λ found. option_map_or (functor_ran doing target sender connection args depth) found (puts [] doing)) absent
+
+  -- a functor that is there is told of, steps its connection's state, and does what its body says
+  pub run_functor : (functor : Functor) → functor_at settings index ≡ Some functor → step settings (RunFunctor target index sender connection args depth) doing ≡ functor_ran doing target sender connection args depth functor
+  run_functor functor has = ap (λ found. option_map_or (functor_ran doing target sender connection args depth) found (puts [] doing)) has
+
+module _ (settings : Settings) (doing : Doing) where
+  -- a warning and a reply are told
+  pub warn_told : (code : Code) (object : Option ℕ) → step settings (Warn code object) doing ≡ puts [] (line_told doing (line.Warning code object))
+  warn_told code object = refl
+
+  pub warn_of_told : (at : Property) (error : BindingError) → step settings (WarnOf at error) doing ≡ puts [] (line_told doing (binding_line settings doing.state at error))
+  warn_of_told at error = refl

@@ -1,0 +1,171 @@
+-- After each change what a session holds still fits the objects of some rows, and what it has posted is right.
+use Rattle.std.proofs.Common.{◌≡◌, ◌+◌, ◌==◌, ℕ, Bool, true, not, List, [], ◌∷◌, ◌++◌, None, refl}
+use Rattle.std.specs.List.{All}
+use Rattle.std.proofs.lemmas.Bool.{cond_both}
+use Rattle.std.proofs.lemmas.List.Elements.{All-append, All-cons, All-filter, All-nil, All-push}
+use Rattle.plain_types.specs.declared.code.Code.TheVariants.{TurnsUsedUp}
+use Rattle.connection_list.specs.declared.connection.Connection.{Connection}
+use Rattle.connection_list.specs.Ends.{matches, touches}
+use Rattle.connection_list.specs.Rows.{has_number, numbered}
+use Rattle.event_queue.specs.declared.event.Event.{Event}
+use Rattle.event_queue.specs.declared.event.Event.TheVariants as event
+use Rattle.event_queue.specs.declared.event.QueuedCall.{QueuedCall}
+use Rattle.event_queue.specs.Queue.{has_room}
+use Rattle.object_tree.specs.declared.row.Row.{Row}
+use Rattle.publish_board.specs.declared.join.Join.{Join}
+use Rattle.publish_board.specs.declared.publication.Publication.{Publication}
+use Rattle.connection_list.proofs.ForCallers.{all_stepped}
+use Rattle.session_model.specs.declared.deed.Deed.{Deed}
+use Rattle.session_model.specs.declared.deed.Deed.TheVariants as d
+use Rattle.session_model.specs.declared.line.Line.{Line}
+use Rattle.session_model.specs.declared.line.Line.TheVariants.{Warning}
+use Rattle.session_model.specs.declared.post.Post.{Post}
+use Rattle.session_model.specs.Agenda.{queued}
+use Rattle.session_model.specs.Deeds.{deed_done, with_deed}
+use Rattle.session_model.specs.Doing.{Doing, dying, first_taken, in_state, lost, posted, posting, severed, shot, line_told, turn_taken, used_up, stepped}
+use Rattle.session_model.specs.Fitting.{IsConnected, IsFittingDeed, IsFittingEvent, IsFittingItem, IsJoined, IsPublished, IsRightPost}
+use Rattle.session_model.specs.Items.{Item, Next, puts}
+use Rattle.session_model.specs.Settings.{Settings}
+use Rattle.session_model.specs.State.{State, with_event, without_connections}
+use Rattle.session_model.specs.Writing.{Declared, Dynamic, Nothing, Removed, Writing, with_writing}
+use Rattle.session_model.proofs.FittingClassLemmas.{Fits}
+use Rattle.session_model.proofs.QueueLemmas.{each_dropped, each_posted, each_taken}
+
+module _ (settings : Settings) (rows : List Row) where
+  -- what a session holds fits the objects of these rows, and what it has posted is right
+  pub record Carries (doing : Doing) : Type 0 where
+    pub fits : Fits settings rows doing.state
+    pub posts : All IsRightPost doing.posts
+
+  -- and so after an item, with all that is to be done first then
+  pub record Comes (next : Next) : Type 0 where
+    pub carries : Carries next.doing
+    pub items : All (IsFittingItem settings next.doing.state) next.items
+
+  -- fewer connections fit
+  fits_without : (state : State) (test : Connection → Bool) → Fits settings rows state → Fits settings rows (without_connections state test)
+  fits_without state test fit = record {
+    events = fit.events;
+    connections = All-filter (λ row. not (test row)) (IsConnected settings rows) state.connections.rows fit.connections;
+    publications = fit.publications;
+    joins = fit.joins;
+  }
+
+  -- and one more event that fits
+  fits_event : (state : State) (event : Event) → IsFittingEvent settings rows event → Fits settings rows state → Fits settings rows (with_event state event)
+  fits_event state event new fit = record {
+    events = each_posted (IsFittingEvent settings rows) state.queue event new fit.events;
+    connections = fit.connections;
+    publications = fit.publications;
+    joins = fit.joins;
+  }
+
+  pub fits_deed : (state : State) (deed : Deed) → IsFittingDeed settings rows deed → Fits settings rows state → Fits settings rows (with_deed state deed)
+  fits_deed state (d.Connect new unique) may fit = record {
+    events = fit.events;
+    connections = All-push (IsConnected settings rows) state.connections.rows (numbered (state.connections.last_number + 1) new) fit.connections may;
+    publications = fit.publications;
+    joins = fit.joins;
+  }
+  fits_deed state (d.Disconnect pattern) may fit = fits_without state (matches pattern) fit
+  fits_deed state (d.SetParent target parent) may fit = record { events = fit.events; connections = fit.connections; publications = fit.publications; joins = fit.joins }
+  fits_deed state (d.DeleteLater target) may fit = fits_event state (event.Deletion target) tt fit
+  fits_deed state (d.Block target on) may fit = record { events = fit.events; connections = fit.connections; publications = fit.publications; joins = fit.joins }
+
+  pub fits_writing : (state : State) (object : ℕ) (writing : Writing) → Fits settings rows state → Fits settings rows (with_writing state object writing)
+  fits_writing state object (Declared number value) fit = record { events = fit.events; connections = fit.connections; publications = fit.publications; joins = fit.joins }
+  fits_writing state object (Dynamic name value) fit = record { events = fit.events; connections = fit.connections; publications = fit.publications; joins = fit.joins }
+  fits_writing state object (Removed name) fit = record { events = fit.events; connections = fit.connections; publications = fit.publications; joins = fit.joins }
+  fits_writing state object Nothing fit = fit
+
+  module _ (doing : Doing) (on : Carries doing) where
+    pub told_carries : (said : Line) → Carries (line_told doing said)
+    unfolding line_told
+    told_carries said = record { fits = on.fits; posts = on.posts }
+
+    pub posting_carries : (more : List Post) → All IsRightPost more → Carries (posting doing more)
+    unfolding posting
+    posting_carries more right = record { fits = on.fits; posts = All-append IsRightPost doing.posts more on.posts right }
+
+    pub turn_carries : Carries (turn_taken doing)
+    unfolding turn_taken
+    turn_carries = record { fits = on.fits; posts = on.posts }
+
+    pub used_up_carries : Carries (used_up doing)
+    unfolding used_up
+    used_up_carries = cond_both doing.spent doing (record doing { spent = true; lines = doing.lines ++ Warning TurnsUsedUp None ∷ [] }) Carries (λ spent. on) (λ fresh. record { fits = on.fits; posts = on.posts })
+
+    pub shot_carries : (row : Connection) → Carries (shot doing row)
+    unfolding shot
+    shot_carries row = cond_both row.single (in_state doing (without_connections doing.state (has_number row.number))) doing Carries
+        (λ single. record { fits = fits_without doing.state (has_number row.number) on.fits; posts = on.posts }) (λ lasting. on)
+
+    pub stepped_carries : (number next : ℕ) → Carries (stepped doing number next)
+    unfolding stepped
+    stepped_carries number next = record {
+      fits = record {
+        events = on.fits.events;
+        connections = all_stepped number next (IsConnected settings rows) (λ row may. record { signal_there = may.signal_there; callee = may.callee; fitting = may.fitting }) doing.state.connections.rows on.fits.connections;
+        publications = on.fits.publications;
+        joins = on.fits.joins;
+      };
+      posts = on.posts;
+    }
+
+    posted_carries : (event : Event) → IsFittingEvent settings rows event → Carries (posted doing event)
+    unfolding posted
+    posted_carries event new = record { fits = fits_event doing.state event new on.fits; posts = on.posts }
+
+    lost_carries : Carries (lost doing)
+    unfolding lost
+    lost_carries = record { fits = record { events = on.fits.events; connections = on.fits.connections; publications = on.fits.publications; joins = on.fits.joins }; posts = on.posts }
+
+    pub queued_carries : (call : QueuedCall) → IsFittingEvent settings rows (event.Call call) → Carries (queued doing call)
+    queued_carries call new = cond_both (has_room doing.state.queue) (posted doing (event.Call call)) (lost doing) Carries (λ room. posted_carries (event.Call call) new) (λ full. lost_carries)
+
+    pub first_carries : Carries (first_taken doing)
+    unfolding first_taken
+    first_carries = record {
+      fits = record { events = each_taken (IsFittingEvent settings rows) doing.state.queue on.fits.events; connections = on.fits.connections; publications = on.fits.publications; joins = on.fits.joins };
+      posts = on.posts;
+    }
+
+    pub done_carries : (deed : Deed) → IsFittingDeed settings rows deed → Carries (deed_done doing deed)
+    unfolding deed_done
+    done_carries deed may = record { fits = fits_deed doing.state deed may on.fits; posts = on.posts }
+
+    pub dying_carries : (target : ℕ) → Carries (dying doing target)
+    unfolding dying
+    dying_carries target = record { fits = record { events = on.fits.events; connections = on.fits.connections; publications = on.fits.publications; joins = on.fits.joins }; posts = on.posts }
+
+    pub severed_carries : (target : ℕ) → Carries (severed doing target)
+    unfolding severed
+    severed_carries target = record {
+      fits = record {
+        events = each_dropped (IsFittingEvent settings rows) target doing.state.queue on.fits.events;
+        connections = All-filter (λ row. not (touches target row)) (IsConnected settings rows) doing.state.connections.rows on.fits.connections;
+        publications = All-filter (λ (row : Publication). not (row.object == target)) (IsPublished settings rows) doing.state.desk.publications on.fits.publications;
+        joins = All-filter (λ (join : Join). not (join.object == target)) (IsJoined settings rows) doing.state.desk.joins on.fits.joins;
+      };
+      posts = on.posts;
+    }
+
+    -- nothing more is to be done, or one thing
+    pub no_item : Comes (puts [] doing)
+    no_item = record { carries = on; items = All-nil (IsFittingItem settings doing.state) }
+
+    pub one_item : (item : Item) → IsFittingItem settings doing.state item → Comes (puts (item ∷ []) doing)
+    one_item item fit = record { carries = on; items = All-cons (IsFittingItem settings doing.state) item [] fit (All-nil (IsFittingItem settings doing.state)) }
+
+-- a turn, and a single-shot connection that is broken, leave the objects
+pub turn_rows : (doing : Doing) → (turn_taken doing).state.forest.rows ≡ doing.state.forest.rows
+unfolding turn_taken
+turn_rows doing = refl
+
+pub shot_rows : (doing : Doing) (row : Connection) → (shot doing row).state.forest.rows ≡ doing.state.forest.rows
+unfolding shot
+shot_rows doing row = cond_both row.single (in_state doing (without_connections doing.state (has_number row.number))) doing (λ (new : Doing). new.state.forest.rows ≡ doing.state.forest.rows) (λ single. refl) (λ lasting. refl)
+
+pub first_rows : (doing : Doing) → (first_taken doing).state.forest.rows ≡ doing.state.forest.rows
+unfolding first_taken
+first_rows doing = refl

@@ -1,0 +1,147 @@
+-- What becomes of connections while an agenda is done: some are broken, and those that are made have
+-- greater numbers.
+use Rattle.std.proofs.Common.{◌≡◌, ◌<◌, ◌≤◌, ◌+◌, ◌&&◌, ℕ, Bool, true, not, List, [], ◌∷◌, ◌++◌, ◌==◌, All, Option, Some, None, filter, map, refl, sym, ap, ap₂, subst, ◌∙◌, append_assoc, arith}
+use Rattle.std.proofs.lemmas.Bool.{cond_both}
+use Rattle.std.proofs.lemmas.List.{append-nil, map-append}
+use Rattle.std.proofs.lemmas.List.Elements.{filter-append}
+use Rattle.std.proofs.lemmas.List.Elements.{All-append, All-cons, All-filter, All-nil, All-weaker}
+use Rattle.plain_types.specs.declared.code.Code.TheVariants.{TurnsUsedUp}
+use Rattle.connection_list.specs.declared.connection.Connection.{Connection}
+use Rattle.connection_list.specs.declared.connection.NewConnection.{NewConnection}
+use Rattle.connection_list.specs.declared.pattern.Pattern.{Pattern}
+use Rattle.connection_list.specs.declared.pattern.Receiver.{Receiver}
+use Rattle.connection_list.specs.Ends.{allows, allows_receiver, matches, touches}
+use Rattle.connection_list.specs.Rows.{Rows, has_number, numbered}
+use Rattle.connection_list.proofs.ForCallers.{IsUnseen, filter-changed, stepped-same, stepped_row}
+use Rattle.session_model.specs.declared.line.Line.TheVariants.{Warning}
+use Rattle.session_model.specs.declared.deed.Deed.{Deed}
+use Rattle.session_model.specs.declared.deed.Deed.TheVariants as d
+use Rattle.session_model.specs.Agenda.{step}
+use Rattle.session_model.specs.Deeds.{deed_done}
+use Rattle.session_model.specs.Doing.{Doing, dying, first_taken, in_state, lost, posted, posting, shot, line_told, turn_taken, used_up, severed, stepped}
+use Rattle.session_model.specs.Items.{Item}
+use Rattle.session_model.specs.Run.{run}
+use Rattle.session_model.specs.Settings.{Settings}
+use Rattle.session_model.specs.State.{without_connections}
+use Rattle.session_model.specs.Writing.{Declared, Dynamic, Nothing, Removed, Writing, with_writing}
+use Rattle.session_model.proofs.FilterLemmas.{filter-all, filter-both}
+use Rattle.session_model.proofs.RunLemmas.{run_keeps}
+use Rattle.session_model.proofs.StepLemmas.{Holds, step_holds}
+
+-- of the connections some are left, and those that were made since have greater numbers
+pub record IsLater (old new : Rows) : Type 0 where
+  pub left : Connection → Bool
+  pub added : List Connection
+  pub rows : new.rows ≡ filter left old.rows ++ added
+  pub above : All (λ row. old.last_number < row.number) added
+  pub last : old.last_number ≤ new.last_number
+
+above-nothing : (last : ℕ) → All (λ (row : Connection). last < row.number) []
+above-nothing last = All-nil (λ (row : Connection). last < row.number)
+
+pub later_same : (place : Rows) → IsLater place place
+later_same place = record { left = λ row. true; added = []; rows = sym (filter-all place.rows) ∙ sym (append-nil (filter (λ row. true) place.rows)); above = above-nothing place.last_number; last = omega arith }
+
+later_without : (test : Connection → Bool) (place : Rows) → IsLater place (record { rows = filter (λ row. not (test row)) place.rows; last_number = place.last_number })
+later_without test place = record { left = λ row. not (test row); added = []; rows = sym (append-nil (filter (λ row. not (test row)) place.rows)); above = above-nothing place.last_number; last = omega arith }
+
+later_linked : (place : Rows) (new : NewConnection) → IsLater place (record { rows = place.rows ++ numbered (place.last_number + 1) new ∷ []; last_number = place.last_number + 1 })
+later_linked place new = record {
+  left = λ row. true;
+  added = numbered (place.last_number + 1) new ∷ [];
+  rows = ap (λ rows. rows ++ numbered (place.last_number + 1) new ∷ []) (sym (filter-all place.rows));
+  above = All-cons (λ (row : Connection). place.last_number < row.number) (numbered (place.last_number + 1) new) [] (omega arith) (above-nothing place.last_number);
+  last = omega arith;
+}
+
+pub later_both : (one two three : Rows) → IsLater one two → IsLater two three → IsLater one three
+later_both one two three first second = record {
+  left = λ row. first.left row && second.left row;
+  added = filter second.left first.added ++ second.added;
+  rows =
+      second.rows
+      ∙ ap (λ rows. filter second.left rows ++ second.added) first.rows
+      ∙ ap (λ rows. rows ++ second.added) (filter-append second.left (filter first.left one.rows) first.added)
+      ∙ append_assoc (filter second.left (filter first.left one.rows)) (filter second.left first.added) second.added
+      ∙ ap (λ rows. rows ++ (filter second.left first.added ++ second.added)) (filter-both first.left second.left one.rows);
+  above = All-append (λ (row : Connection). one.last_number < row.number) (filter second.left first.added) second.added
+      (All-filter second.left (λ (row : Connection). one.last_number < row.number) first.added first.above)
+      (All-weaker (λ (row : Connection). two.last_number < row.number) (λ (row : Connection). one.last_number < row.number) (λ row h. omega (arith, first.last, h)) second.added second.above);
+  last = omega (arith, first.last, second.last);
+}
+
+-- connections without what their functors keep, which changes while they stand
+abbrev pub bare_row : Connection → Connection
+bare_row row = record row { state = 0 }
+
+abbrev pub bare : Rows → Rows
+bare place = record { rows = map bare_row place.rows; last_number = place.last_number }
+
+bare_without : (test : Connection → Bool) → IsUnseen bare_row test → (place : Rows) → IsLater (bare place) (bare (record { rows = filter (λ row. not (test row)) place.rows; last_number = place.last_number }))
+bare_without test keeps place =
+    subst (λ rows. IsLater (bare place) (record { rows = rows; last_number = place.last_number })) (filter-changed bare_row (λ row. not (test row)) (λ row. ap not (keeps row)) place.rows) (later_without test (bare place))
+
+-- a pattern does not ask for them
+bare_matches : (pattern : Pattern) → IsUnseen bare_row (matches pattern)
+bare_matches pattern row = ap (λ b. pattern.sender == row.sender && allows pattern.signal row.signal && b) (by pattern.receiver)
+  where
+    by : (wanted : Option Receiver) → allows_receiver wanted (bare_row row) ≡ allows_receiver wanted row
+    by None = refl
+    by (Some wanted) = refl
+
+bare_linked : (place : Rows) (new : NewConnection) → IsLater (bare place) (bare (record { rows = place.rows ++ numbered (place.last_number + 1) new ∷ []; last_number = place.last_number + 1 }))
+bare_linked place new =
+    subst (λ rows. IsLater (bare place) (record { rows = rows; last_number = place.last_number + 1 })) (sym (map-append bare_row place.rows (numbered (place.last_number + 1) new ∷ []))) (later_linked (bare place) new)
+
+bare_stepped : (number next : ℕ) (rows : List Connection) → map bare_row (map (stepped_row number next) rows) ≡ map bare_row rows
+bare_stepped number next [] = refl
+bare_stepped number next (row ∷ rows) = ap₂ (λ row rows. row ∷ rows) (stepped-same number next bare_row (λ row. refl) row) (bare_stepped number next rows)
+
+-- the connections after a change of a session, or after what an item comes to, whatever their functors keep
+abbrev pub Later : Doing → Doing → Type 0
+Later old new = IsLater (bare old.state.connections) (bare new.state.connections)
+
+unchanged : (doing : Doing) → Later doing doing
+unchanged doing = later_same (bare doing.state.connections)
+
+deed_later : (doing : Doing) (deed : Deed) → Later doing (deed_done doing deed)
+unfolding deed_done
+deed_later doing (d.Connect new unique) = bare_linked doing.state.connections new
+deed_later doing (d.Disconnect pattern) = bare_without (matches pattern) (bare_matches pattern) doing.state.connections
+deed_later doing _ = unchanged doing
+
+written_later : (doing : Doing) (target : ℕ) (writing : Writing) → Later doing (in_state doing (with_writing doing.state target writing))
+written_later doing target (Declared number value) = unchanged doing
+written_later doing target (Dynamic name value) = unchanged doing
+written_later doing target (Removed name) = unchanged doing
+written_later doing target Nothing = unchanged doing
+
+-- what each change makes of the connections
+holds : Holds Later
+unfolding line_told posting turn_taken used_up shot posted lost first_taken dying severed stepped
+holds = record {
+  same = unchanged;
+  both = λ one two three first second. later_both (bare one.state.connections) (bare two.state.connections) (bare three.state.connections) first second;
+  tells = λ doing said. unchanged doing;
+  publishes = λ doing more. unchanged doing;
+  takes_turn = unchanged;
+  uses_up = λ doing. cond_both doing.spent doing (record doing { spent = true; lines = doing.lines ++ Warning TurnsUsedUp None ∷ [] }) (Later doing) (λ spent. unchanged doing) (λ fresh. unchanged doing);
+  shoots = λ doing row. cond_both row.single (in_state doing (without_connections doing.state (has_number row.number))) doing (Later doing) (λ single. bare_without (has_number row.number) (λ row. refl) doing.state.connections) (λ lasting. unchanged doing);
+  posts = λ doing event. unchanged doing;
+  loses = unchanged;
+  takes = unchanged;
+  does = deed_later;
+  writes = written_later;
+  marks = λ doing target. unchanged doing;
+  severs = λ doing target. bare_without (touches target) (λ row. refl) doing.state.connections;
+  goes = λ doing target. unchanged doing;
+  steps = λ doing number next. subst (λ rows. IsLater (bare doing.state.connections) (record { rows = rows; last_number = doing.state.connections.last_number })) (sym (bare_stepped number next doing.state.connections.rows)) (unchanged doing);
+}
+
+module _ (settings : Settings) where
+  pub step_later : (item : Item) (doing : Doing) → Later doing (step settings item doing).doing
+  step_later item doing = step_holds settings Later holds item doing
+
+  pub run_later : (agenda : List Item) (doing : Doing) → Later doing (run settings agenda doing)
+  run_later agenda doing = run_keeps settings (λ items new. Later doing new)
+      (λ item rest new before. later_both (bare doing.state.connections) (bare new.state.connections) (bare (step settings item new).doing.state.connections) before (step_later item new)) agenda doing (unchanged doing)

@@ -1,0 +1,205 @@
+-- What each change leaves of what bounds a run: turns, objects and connections.
+use Rattle.std.proofs.Common.{◌≡◌, ◌≤◌, ◌+◌, ◌==◌, ℕ, Bool, true, false, not, cond, List, [], ◌∷◌, ◌++◌, length, filter, max, None, refl, arith}
+use Rattle.std.proofs.lemmas.List.{length-append, length-map}
+use Rattle.std.proofs.lemmas.Bool.{cond_both, eqb-false}
+use Rattle.plain_types.specs.declared.code.Code.TheVariants.{TurnsUsedUp}
+use Rattle.connection_list.specs.declared.connection.Connection.{Connection}
+use Rattle.connection_list.specs.declared.limit.TheConstants.{CONNECTIONS}
+use Rattle.connection_list.specs.Ends.{matches, touches}
+use Rattle.connection_list.specs.Rows.{has_number, numbered}
+use Rattle.connection_list.proofs.ForCallers.{stepped_row}
+use Rattle.object_tree.specs.Rows.{has_number as has_object}
+use Rattle.object_tree.specs.declared.row.Row.{Row}
+use Rattle.object_tree.specs.Refusing.{object_refusal}
+use Rattle.object_tree.specs.Changes.{marked, orphaned, removed, with_blocked}
+use Rattle.event_queue.specs.declared.event.Event.{Event}
+use Rattle.event_queue.specs.declared.event.Event.TheVariants as event
+use Rattle.event_queue.specs.declared.event.QueuedCall.{QueuedCall}
+use Rattle.event_queue.specs.Queue.{has_room}
+use Rattle.session_model.specs.declared.line.Line.{Line}
+use Rattle.session_model.specs.declared.line.Line.TheVariants.{Warning}
+use Rattle.std.specs.List.{list_any}
+use Rattle.publish_board.specs.declared.join.Join.{Join}
+use Rattle.session_model.specs.declared.post.Post.{Post}
+use Rattle.session_model.specs.Agenda.{lives, queued}
+use Rattle.session_model.specs.declared.deed.Deed.{Deed}
+use Rattle.session_model.specs.declared.deed.Deed.TheVariants as d
+use Rattle.session_model.specs.Deeds.{deed_done, deed_refusal}
+use Rattle.session_model.specs.Doing.{Doing, dying, first_taken, in_state, lost, posted, shot, stepped, line_told, turn_taken, used_up, posting, severed}
+use Rattle.binding_values.specs.Stored.{properties_in}
+use Rattle.property_store.specs.Store.{with_dynamic, with_value, without_dynamic}
+use Rattle.session_model.specs.State.{without_connections, without_object}
+use Rattle.session_model.specs.Writing.{Declared, Dynamic, Nothing, Removed, Writing, with_writing}
+use Rattle.session_model.proofs.BindingLemmas.{fewer_without, many_changed}
+use Rattle.session_model.proofs.ConnectionLemmas.{allowed, or_none}
+use Rattle.session_model.proofs.DeskLemmas.{fewer_pass}
+use Rattle.session_model.proofs.LivingLemmas.{all_orphaned-living, changed-as_many, filter-fewer, filter-living, living_rows, marked-one, reparented-as_many}
+
+-- nothing that bounds the run has grown
+pub record Shrinks (old new : Doing) : Type 0 where
+  pub turns : new.turns ≤ old.turns
+  -- every event that is taken takes a turn
+  pub taken : new.turns + new.taken ≤ old.turns + old.taken
+  pub living : living_rows new.state.forest.rows ≤ living_rows old.state.forest.rows
+  pub objects : length new.state.forest.rows ≤ length old.state.forest.rows
+  pub connections : max CONNECTIONS (length new.state.connections.rows) ≤ max CONNECTIONS (length old.state.connections.rows)
+  pub properties : length (properties_in new.state.store) ≤ length (properties_in old.state.store)
+  -- no join is made
+  pub joins : (test : Join → Bool) → list_any test new.state.desk.joins ≡ true → list_any test old.state.desk.joins ≡ true
+
+pub same : (doing : Doing) → Shrinks doing doing
+same doing = record { turns = omega arith; taken = omega arith; living = omega arith; objects = omega arith; connections = omega arith; properties = omega arith; joins = λ test held. held }
+
+pub both : (one two three : Doing) → Shrinks one two → Shrinks two three → Shrinks one three
+both one two three first second = record {
+  turns = omega (arith, first.turns, second.turns);
+  taken = omega (arith, first.taken, second.taken);
+  living = omega (arith, first.living, second.living);
+  objects = omega (arith, first.objects, second.objects);
+  connections = omega (arith, first.connections, second.connections);
+  properties = omega (arith, first.properties, second.properties);
+  joins = λ test held. first.joins test (second.joins test held);
+}
+
+-- fewer rows are no more of them
+kept : (n : ℕ) (test : Connection → Bool) (rows : List Connection) → max n (length (filter test rows)) ≤ max n (length rows)
+kept n test rows = let fewer = filter-fewer test rows in omega (arith, fewer)
+
+pub told_shrinks : (doing : Doing) (said : Line) → Shrinks doing (line_told doing said)
+unfolding line_told
+told_shrinks doing said = record { turns = omega arith; taken = omega arith; living = omega arith; objects = omega arith; connections = omega arith; properties = omega arith; joins = λ test held. held }
+
+pub posting_shrinks : (doing : Doing) (more : List Post) → Shrinks doing (posting doing more)
+unfolding posting
+posting_shrinks doing more = record { turns = omega arith; taken = omega arith; living = omega arith; objects = omega arith; connections = omega arith; properties = omega arith; joins = λ test held. held }
+
+pub used_up_shrinks : (doing : Doing) → Shrinks doing (used_up doing)
+unfolding used_up
+used_up_shrinks doing =
+    cond_both doing.spent doing (record doing { spent = true; lines = doing.lines ++ Warning TurnsUsedUp None ∷ [] }) (Shrinks doing)
+    (λ spent. same doing)
+    (λ fresh. record { turns = omega arith; taken = omega arith; living = omega arith; objects = omega arith; connections = omega arith; properties = omega arith; joins = λ test held. held })
+
+pub turn_shrinks : (doing : Doing) → Shrinks doing (turn_taken doing)
+unfolding turn_taken
+turn_shrinks doing = record { turns = omega arith; taken = omega arith; living = omega arith; objects = omega arith; connections = omega arith; properties = omega arith; joins = λ test held. held }
+
+pub turn_taken-less : (doing : Doing) → (doing.turns == 0) ≡ false → (turn_taken doing).turns + 1 ≤ doing.turns
+unfolding turn_taken
+turn_taken-less doing some = let more = eqb-false doing.turns 0 some in omega (arith, more)
+
+pub shot_shrinks : (doing : Doing) (row : Connection) → Shrinks doing (shot doing row)
+unfolding shot
+shot_shrinks doing row =
+    cond_both row.single (in_state doing (without_connections doing.state (has_number row.number))) doing (Shrinks doing)
+    (λ single. record { turns = omega arith; taken = omega arith; living = omega arith; objects = omega arith; connections = kept CONNECTIONS (λ other. not (has_number row.number other)) doing.state.connections.rows; properties = omega arith; joins = λ test held. held })
+    (λ lasting. same doing)
+
+pub stepped_shrinks : (doing : Doing) (number next : ℕ) → Shrinks doing (stepped doing number next)
+unfolding stepped
+stepped_shrinks doing number next =
+    let many = length-map doing.state.connections.rows (stepped_row number next) in
+    record { turns = omega arith; taken = omega arith; living = omega arith; objects = omega arith; connections = omega (arith, many); properties = omega arith; joins = λ test held. held }
+
+pub severed_shrinks : (doing : Doing) (target : ℕ) → Shrinks doing (severed doing target)
+unfolding severed
+severed_shrinks doing target = record {
+  turns = omega arith;
+  taken = omega arith;
+  living = omega arith;
+  objects = omega arith;
+  connections = kept CONNECTIONS (λ row. not (touches target row)) doing.state.connections.rows;
+  properties = omega arith;
+  joins = λ test held. fewer_pass test (λ join. not (join.object == target)) doing.state.desk.joins held;
+}
+
+pub posted_shrinks : (doing : Doing) (event : Event) → Shrinks doing (posted doing event)
+unfolding posted
+posted_shrinks doing event = record { turns = omega arith; taken = omega arith; living = omega arith; objects = omega arith; connections = omega arith; properties = omega arith; joins = λ test held. held }
+
+pub lost_shrinks : (doing : Doing) → Shrinks doing (lost doing)
+unfolding lost
+lost_shrinks doing = record { turns = omega arith; taken = omega arith; living = omega arith; objects = omega arith; connections = omega arith; properties = omega arith; joins = λ test held. held }
+
+pub queued_shrinks : (doing : Doing) (call : QueuedCall) → Shrinks doing (queued doing call)
+queued_shrinks doing call =
+    cond_both (has_room doing.state.queue) (posted doing (event.Call call)) (lost doing) (Shrinks doing)
+    (λ room. posted_shrinks doing (event.Call call))
+    (λ full. lost_shrinks doing)
+
+-- the first event is taken, with a turn
+pub taken_shrinks : (doing : Doing) → (doing.turns == 0) ≡ false → Shrinks doing (first_taken (turn_taken doing))
+unfolding first_taken turn_taken
+taken_shrinks doing some =
+    let more = eqb-false doing.turns 0 some in
+    record { turns = omega arith; taken = omega (arith, more); living = omega arith; objects = omega arith; connections = omega arith; properties = omega arith; joins = λ test held. held }
+
+pub first_taken-turns : (doing : Doing) → (first_taken doing).turns ≡ doing.turns
+unfolding first_taken
+first_taken-turns doing = refl
+
+-- what is written bounds nothing
+pub written_shrinks : (doing : Doing) (target : ℕ) (writing : Writing) → Shrinks doing (in_state doing (with_writing doing.state target writing))
+written_shrinks doing target (Declared number value) =
+    let many = many_changed (with_value number value) target (λ of. refl) (λ of. refl) doing.state.store in
+    record { turns = omega arith; taken = omega arith; living = omega arith; objects = omega arith; connections = omega arith; properties = omega (arith, many); joins = λ test held. held }
+written_shrinks doing target (Dynamic name value) =
+    let many = many_changed (with_dynamic name value) target (λ of. refl) (λ of. refl) doing.state.store in
+    record { turns = omega arith; taken = omega arith; living = omega arith; objects = omega arith; connections = omega arith; properties = omega (arith, many); joins = λ test held. held }
+written_shrinks doing target (Removed name) =
+    let many = many_changed (without_dynamic name) target (λ of. refl) (λ of. refl) doing.state.store in
+    record { turns = omega arith; taken = omega arith; living = omega arith; objects = omega arith; connections = omega arith; properties = omega (arith, many); joins = λ test held. held }
+written_shrinks doing target Nothing = same doing
+
+-- a deed leaves as many living objects
+pub deed_shrinks : (doing : Doing) (deed : Deed) → deed_refusal doing.state deed ≡ None → Shrinks doing (deed_done doing deed)
+unfolding deed_done with_blocked
+deed_shrinks doing (d.Connect new unique) passed =
+    let all = or_none (object_refusal doing.state.forest.rows new.sender) _ passed in
+    let its = allowed doing.state.connections new unique (or_none (object_refusal doing.state.forest.rows new.receiver) _ all.1).1 in
+    record {
+      turns = omega arith;
+      taken = omega arith;
+      living = omega arith;
+      objects = omega arith;
+      connections = omega (arith, its.room, length-append doing.state.connections.rows (numbered (doing.state.connections.last_number + 1) new ∷ []));
+      properties = omega arith;
+      joins = λ test held. held;
+    }
+deed_shrinks doing (d.Disconnect pattern) passed = record { turns = omega arith; taken = omega arith; living = omega arith; objects = omega arith; connections = kept CONNECTIONS (λ row. not (matches pattern row)) doing.state.connections.rows; properties = omega arith; joins = λ test held. held }
+deed_shrinks doing (d.SetParent target parent) passed =
+    let many = reparented-as_many doing.state.forest target parent in
+    record { turns = omega arith; taken = omega arith; living = omega (arith, many.living); objects = omega (arith, many.objects); connections = omega arith; properties = omega arith; joins = λ test held. held }
+deed_shrinks doing (d.DeleteLater target) passed = record { turns = omega arith; taken = omega arith; living = omega arith; objects = omega arith; connections = omega arith; properties = omega arith; joins = λ test held. held }
+deed_shrinks doing (d.Block target on) passed =
+    let many = changed-as_many (λ (row : Row). record row { blocked = on }) target (λ row. refl) doing.state.forest.rows in
+    record { turns = omega arith; taken = omega arith; living = omega (arith, many.living); objects = omega (arith, many.objects); connections = omega arith; properties = omega arith; joins = λ test held. held }
+
+pub gone_shrinks : (doing : Doing) (target : ℕ) → Shrinks doing (in_state doing (without_object doing.state target))
+unfolding removed
+gone_shrinks doing target =
+    let rows = doing.state.forest.rows in
+    let left = filter (λ row. not (has_object target row)) rows in
+    let fewer = filter-fewer (λ row. not (has_object target row)) rows in
+    let mapped = length-map left (orphaned target) in
+    record {
+      turns = omega arith;
+      taken = omega arith;
+      living = omega (arith, all_orphaned-living target left, filter-living (λ row. not (has_object target row)) rows);
+      objects = omega (arith, fewer, mapped);
+      connections = omega arith;
+      properties = fewer_without target doing.state.store;
+      joins = λ test held. held;
+    }
+
+-- marking a living object as dying leaves fewer living ones
+pub dying_less : (doing : Doing) (target : ℕ) → lives doing target ≡ true → living_rows (dying doing target).state.forest.rows + 1 ≤ living_rows doing.state.forest.rows
+unfolding dying marked
+dying_less doing target lives = let less = marked-one target doing.state.forest.rows lives in omega (arith, less)
+
+pub dying_shrinks : (doing : Doing) (target : ℕ) → lives doing target ≡ true → Shrinks doing (dying doing target)
+unfolding dying marked
+dying_shrinks doing target lives =
+    let less = marked-one target doing.state.forest.rows lives in
+    let mapped = length-map doing.state.forest.rows (λ row. cond (has_object target row) (record row { dying = true }) row) in
+    record { turns = omega arith; taken = omega arith; living = omega (arith, less); objects = omega (arith, mapped); connections = omega arith; properties = omega arith; joins = λ test held. held }

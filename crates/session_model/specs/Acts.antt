@@ -1,0 +1,129 @@
+-- What an action of a slot's body does, and why it is refused.
+use Rattle.std.specs.Prelude.{ℕ, Bool, true, false, List, [], ◌∷◌, Option, Some, None, Ok, Err}
+use Rattle.std.specs.Option.{option_map, option_map_or, option_or}
+use Rattle.std.specs.Result.{result_err}
+use Rattle.plain_types.specs.declared.code.Code.{Code}
+use Rattle.signature_core.specs.declared.signature.Signature.{Signature}
+use Rattle.variant_value.specs.declared.value.Value.{Value}
+use Rattle.term_core.specs.declared.action.SingleAction.{SingleAction}
+use Rattle.term_core.specs.declared.action.SingleAction.TheVariants as e
+use Rattle.term_core.specs.declared.target.Target.{Target}
+use Rattle.term_core.specs.Act.{Acts, more, nothing}
+use Rattle.term_core.specs.Term.{Term}
+use Rattle.plain_types.specs.declared.connection_type.ConnectionType.{ConnectionType}
+use Rattle.connection_list.specs.declared.connection.NewConnection.{NewConnection}
+use Rattle.connection_list.specs.declared.pattern.Pattern.{Pattern}
+use Rattle.object_tree.specs.Refusing.{object_refusal}
+use Rattle.session_model.specs.Absence.{absence, named_absence}
+use Rattle.session_model.specs.Connecting.{new_connection, pattern_with}
+use Rattle.session_model.specs.declared.deed.Deed.{Deed}
+use Rattle.session_model.specs.declared.deed.Deed.TheVariants as d
+use Rattle.session_model.specs.Deeds.{behind, deed_done, found_refusal}
+use Rattle.session_model.specs.Doing.{Doing}
+use Rattle.session_model.specs.Items.{Act, Delete, Emit, Item, Next, Warn, puts}
+use Rattle.session_model.specs.Methods.{Found, ◌>>=◌, kinds_at, method_with, methods_of, signal_with}
+use Rattle.session_model.specs.Settings.{Settings}
+use Rattle.session_model.specs.State.{State}
+use Rattle.session_model.specs.Targets.{all_converted, all_evaluated, evaluated, named_object_of, object_of}
+use Rattle.session_model.specs.Writing.{Writing, acted_writing, written}
+
+-- the actions of a body or of a branch, each to be done
+abbrev pub acts : Acts → List Value → ℕ → ℕ → ℕ → List Item
+acts nothing args self sender depth = []
+acts (more action rest) args self sender depth = Act action args self sender depth ∷ acts rest args self sender depth
+
+-- the index of a signal of an object, and what it is sent with: values of the kinds of its parameters
+abbrev pub emission : Settings → State → ℕ → ℕ → List Value → ℕ → Signature → List Term → Found (ℕ × List Value)
+emission settings state self sender args object signal sent =
+    signal_with (methods_of settings state object) signal >>= λ index.
+    all_evaluated state self sender args sent >>= λ values.
+    all_converted (kinds_at (methods_of settings state object) index) values >>= λ converted. Ok (index, converted)
+
+-- the connection of a signal of an object to a method of another
+abbrev pub connection : Settings → State → ℕ → Signature → ℕ → Signature → ConnectionType → Bool → Found NewConnection
+connection settings state object signal receiver method mode single =
+    new_connection settings state
+    object (signal_with (methods_of settings state object) signal)
+    receiver (method_with (methods_of settings state receiver) method)
+    mode single
+
+-- which connections of an object are broken, by signal, receiver and method where they are given
+abbrev pub pattern : Settings → State → ℕ → Option Signature → Option ℕ → Option Signature → Found Pattern
+pattern settings state object signal receiver method =
+    pattern_with
+    object (option_map (signal_with (methods_of settings state object)) signal)
+    receiver (λ receiver. option_map (method_with (methods_of settings state receiver)) method)
+
+-- what is written to a property of an object: the value that an expression has
+abbrev pub writing : State → ℕ → ℕ → List Value → ℕ → List ℕ → Term → Found Writing
+writing state self sender args object name value = evaluated state self sender args value >>= acted_writing state object name
+
+-- the deed that an action of the slot of `self` is, or why it is none; no other action is a deed
+abbrev pub act_deed : Settings → State → ℕ → ℕ → SingleAction → Option (Found Deed)
+act_deed settings state self sender (e.Connect of signal to method mode unique single) = Some (
+    behind (object_refusal state.forest.rows (object_of state self sender of)) (
+    behind (object_refusal state.forest.rows (object_of state self sender to))
+    (connection settings state (object_of state self sender of) signal (object_of state self sender to) method mode single >>= λ new.
+    Ok (d.Connect new unique))))
+act_deed settings state self sender (e.Disconnect of signal to method) = Some (
+    behind (absence state (object_of state self sender of)) (
+    behind (named_absence state (named_object_of state self sender to))
+    (pattern settings state (object_of state self sender of) signal (named_object_of state self sender to) method >>= λ pattern. Ok (d.Disconnect pattern))))
+act_deed settings state self sender (e.DeleteLater target) = Some (Ok (d.DeleteLater (object_of state self sender target)))
+act_deed settings state self sender (e.Block of on) = Some (Ok (d.Block (object_of state self sender of) on))
+act_deed settings state self sender (e.SetParent of parent) =
+    Some (Ok (d.SetParent (object_of state self sender of) (named_object_of state self sender parent)))
+act_deed settings state self sender _ = None
+
+module _ (settings : Settings) (state : State) (self sender : ℕ) (args : List Value) where
+  -- the number of the object that a target is; 0 where there is none
+  abbrev object : Target → ℕ
+  object target = object_of state self sender target
+
+  -- why an action of the slot of `self` is refused: the first of these
+  abbrev pub act_refusal : SingleAction → Option Code
+  act_refusal (e.Set of property value) =
+      option_or (absence state (object of))
+      (result_err (writing state self sender args (object of) property value))
+  act_refusal (e.Emit of signal sent) =
+      option_or (absence state (object of))
+      (result_err (emission settings state self sender args (object of) signal sent))
+  act_refusal (e.Delete target) = object_refusal state.forest.rows (object target)
+  act_refusal plain = option_map_or (found_refusal state) (act_deed settings state self sender plain) None
+
+-- what comes of something that was looked for; nothing where it was not found
+abbrev pub with_found : {A : Type 0} → Found A → (A → Next) → Doing → Next
+with_found (Ok found) next doing = next found
+with_found (Err code) next doing = puts [] doing
+
+module _ (settings : Settings) (doing : Doing) (self sender : ℕ) (args : List Value) (depth : ℕ) where
+  -- the number of the object that a target is when the action is done
+  abbrev acted_object : Target → ℕ
+  acted_object target = object_of doing.state self sender target
+
+  -- what an action comes to that is not refused
+  abbrev pub acted : SingleAction → Next
+  acted (e.Set of property value) =
+      with_found (writing doing.state self sender args (acted_object of) property value)
+      (λ writing. written settings doing (acted_object of) depth writing) doing
+  acted (e.Emit of signal sent) =
+      with_found (emission settings doing.state self sender args (acted_object of) signal sent)
+      (λ emitted. puts (Emit (acted_object of) emitted.0 emitted.1 depth ∷ []) doing) doing
+  acted (e.Delete target) = puts (Delete (acted_object target) depth ∷ []) doing
+  acted plain = option_map_or (λ found. with_found found (λ deed. puts [] (deed_done doing deed)) doing)
+      (act_deed settings doing.state self sender plain) (puts [] doing)
+
+-- a refused action warns of its code for the object whose slot is run, and does nothing
+abbrev pub warns_or : Option Code → ℕ → Doing → Next → Next
+warns_or (Some code) self doing next = puts (Warn code (Some self) ∷ []) doing
+warns_or None self doing next = next
+
+-- the branch that is taken, by the truth that the test is
+abbrev pub branch : Bool → Acts → Acts → Acts
+branch true held failed = held
+branch false held failed = failed
+
+-- the branch that is taken is done in place of the choice
+abbrev pub chosen : Found Bool → Acts → Acts → List Value → ℕ → ℕ → ℕ → Doing → Next
+chosen (Ok truth) held failed args self sender depth doing = puts (acts (branch truth held failed) args self sender depth) doing
+chosen (Err code) held failed args self sender depth doing = puts (Warn code (Some self) ∷ []) doing

@@ -1,0 +1,195 @@
+-- How a session does what it has to do, item by item.
+use Rattle.std.specs.Prelude.{◌+◌, ◌==◌, ◌&&◌, ℕ, Bool, false, not, List, [], ◌∷◌, ◌++◌, map, filter}
+use Rattle.std.specs.Prelude.{find, take, length, nat_le, Option, Some, None, if◌then◌else◌}
+use Rattle.std.specs.Option.{option_map_or}
+use Rattle.plain_types.specs.declared.code.Code.TheVariants.{Limit}
+use Rattle.variant_value.specs.declared.value.Value.{Value}
+use Rattle.binding_values.specs.declared.property.BindingError.{BindingError}
+use Rattle.property_store.specs.declared.property.Property.{Property}
+use Rattle.term_core.specs.Act.{acts_of, single_action, when}
+use Rattle.term_evaluation.specs.Stating.{after, with_state}
+use Rattle.class_table.specs.declared.class.Method.{Method}
+use Rattle.class_table.specs.Lookup.{method_text}
+use Rattle.plain_types.specs.declared.callee.Callee.{Callee}
+use Rattle.plain_types.specs.declared.callee.Callee.TheVariants as callee
+use Rattle.connection_list.specs.declared.connection.Connection.{Connection}
+use Rattle.connection_list.specs.Ends.{calls}
+use Rattle.event_queue.specs.declared.event.Event.{Event}
+use Rattle.event_queue.specs.declared.event.Event.TheVariants as event
+use Rattle.event_queue.specs.declared.event.QueuedCall.{QueuedCall}
+use Rattle.event_queue.specs.declared.event.Priority.TheVariants.{Normal}
+use Rattle.event_queue.specs.Queue.{has_room}
+use Rattle.connection_list.specs.Rows.{has_number}
+use Rattle.object_tree.specs.declared.row.Row.{Row}
+use Rattle.object_tree.specs.Rows.{children, row_of, is_same}
+use Rattle.stored_slots.specs.declared.functor.Functor.{Functor}
+use Rattle.session_model.specs.declared.call.TheConstants.{DESTROYED, NESTED_SIGNALS}
+use Rattle.session_model.specs.declared.line.Answer.TheVariants as a
+use Rattle.session_model.specs.declared.line.Line.{Line}
+use Rattle.session_model.specs.declared.line.Line.TheVariants as line
+use Rattle.session_model.specs.Arriving.{posts_of}
+use Rattle.session_model.specs.Acts.{act_refusal, acted, acts, chosen, warns_or}
+use Rattle.session_model.specs.Doing.{Doing, dying, first_taken, lost, posted, posting, severed, shot, stepped, line_told, turn_taken, used_up}
+use Rattle.session_model.specs.Items.{Act, Call, Cut, Delete, Emit, Gone, Item, Kin, Next, Reply, ReplySpun, Run, RunFunctor, Spin, Warn, WarnOf, puts}
+use Rattle.session_model.specs.Functors.{functor_at}
+use Rattle.session_model.specs.Methods.{method_at}
+use Rattle.session_model.specs.Posting.{is_queued, spin_of}
+use Rattle.session_model.specs.Settings.{Settings}
+use Rattle.session_model.specs.Showing.{comes_to, property_at}
+use Rattle.session_model.specs.State.{State, functor_state, without_object}
+use Rattle.session_model.specs.Targets.{truth_evaluated}
+
+-- an object that stands is not dying
+abbrev pub is_living : Row → Bool
+is_living row = not row.dying
+
+-- an object of this number stands and is not dying
+abbrev pub lives : Doing → ℕ → Bool
+lives doing number = option_map_or is_living (row_of doing.state.forest.rows number) false
+
+-- the object stands, is not dying, and has this parent
+abbrev pub lives_below : Doing → ℕ → ℕ → Bool
+lives_below doing parent number = option_map_or (λ row. is_living row && is_same row.parent (Some parent)) (row_of doing.state.forest.rows number) false
+
+-- the children of an object, each to be deleted
+unfoldable pub kins : Doing → ℕ → ℕ → List Item
+kins doing target depth = map (λ child. Kin target child depth) (children doing.state.forest.rows (Some target))
+
+-- the connections of a signal, each to be called, in the order in which they were made
+unfoldable pub calls_of : Doing → ℕ → ℕ → List Value → ℕ → List Item
+calls_of doing target signal args depth = map (λ row. Call row.number args depth) (filter (calls target signal) doing.state.connections.rows)
+
+-- is a signal held back, as those of a blocked object are; `destroyed()` never is
+abbrev pub is_held_back : ℕ → Row → Bool
+is_held_back signal row = row.blocked && not (signal == DESTROYED)
+
+-- a signal that is sent is posted under each name that it is published by, and calls what is connected to
+-- it; held back it does neither, and nested too deep neither
+abbrev pub emitted : Settings → Doing → ℕ → ℕ → List Value → ℕ → Row → Next
+emitted settings doing target signal args depth row =
+    if is_held_back signal row then puts [] doing
+    else (if nat_le NESTED_SIGNALS depth then puts (Warn Limit (Some target) ∷ []) doing
+    else puts (calls_of doing target signal args depth) (posting doing (posts_of settings.classes doing.state target signal args)))
+
+-- where a turn is left it is taken, and else none of this is done
+abbrev pub with_turn : Doing → (Doing → Next) → Next
+with_turn doing next = if doing.turns == 0 then puts [] (used_up doing) else next (turn_taken doing)
+
+-- the connection of a number, where it stands
+abbrev pub connection_of : Doing → ℕ → Option Connection
+connection_of doing number = find (has_number number) doing.state.connections.rows
+
+-- a method is called by a signal that is sent on, or by a slot that is run
+abbrev pub method_items : ℕ → ℕ → ℕ → List Value → ℕ → ℕ → Method → List Item
+method_items target index sender args sent_at run_at method =
+    if method.is_signal then Emit target index args sent_at ∷ []
+    else Run target index sender args run_at ∷ []
+
+-- a call is posted as an event, or lost where there are as many as there may be
+abbrev pub queued : Doing → QueuedCall → Doing
+queued doing call = if has_room doing.state.queue then posted doing (event.Call call) else lost doing
+
+-- the call of what a connection calls, as it is queued
+abbrev pub queued_call : Connection → Callee → List Value → QueuedCall
+queued_call connection callee args = record {
+  object = connection.receiver;
+  callee = callee;
+  sender = connection.sender;
+  connection = connection.number;
+  priority = Normal;
+  args = args;
+}
+
+-- a method is called with as many of the first arguments as it has parameters: later, or at once, where
+-- a signal is sent one level deeper
+abbrev pub method_called : Connection → ℕ → List Value → ℕ → Doing → Method → Next
+method_called connection index args depth doing method =
+    let given = take (length method.signature.kinds) args in
+    if is_queued connection.mode
+    then puts [] (queued doing (queued_call connection (callee.Method index) given))
+    else puts (method_items connection.receiver index connection.sender given (depth + 1) depth method) doing
+
+-- the same of a functor, whose context object is the receiver
+abbrev pub functor_called : Connection → ℕ → List Value → ℕ → Doing → Functor → Next
+functor_called connection index args depth doing functor =
+    let given = take (length functor.params) args in
+    if is_queued connection.mode
+    then puts [] (queued doing (queued_call connection (callee.Functor index) given))
+    else puts (RunFunctor connection.receiver index connection.sender connection.number given depth ∷ []) doing
+
+-- what a connection calls
+abbrev pub callee_called : Settings → Connection → List Value → ℕ → Doing → Callee → Next
+callee_called settings connection args depth doing (callee.Method index) =
+    option_map_or (method_called connection index args depth doing) (method_at settings doing.state connection.receiver index) (puts [] doing)
+callee_called settings connection args depth doing (callee.Functor index) =
+    option_map_or (functor_called connection index args depth doing) (functor_at settings index) (puts [] doing)
+
+-- a connection's call; a single-shot connection goes first
+abbrev pub called : Settings → Connection → List Value → ℕ → Doing → Next
+called settings connection args depth doing = callee_called settings connection args depth (shot doing connection) connection.callee
+
+-- what an event comes to: all that it does is done at depth 0
+abbrev pub call_items : Settings → State → QueuedCall → Callee → List Item
+call_items settings state call (callee.Method index) =
+    option_map_or (method_items call.object index call.sender call.args 0 0) (method_at settings state call.object index) []
+call_items settings state call (callee.Functor index) = RunFunctor call.object index call.sender call.connection call.args 0 ∷ []
+
+abbrev pub event_items : Settings → State → Event → List Item
+event_items settings state (event.Call call) = call_items settings state call call.callee
+event_items settings state (event.Deletion target) = Delete target 0 ∷ []
+
+-- the first event is taken, and then the next one, while there are any and a turn is left for each
+abbrev pub spun : Settings → Doing → List Event → Next
+spun settings doing [] = puts [] doing
+spun settings doing (event ∷ later) = with_turn doing (λ doing. puts (event_items settings doing.state event ++ Spin ∷ []) (first_taken doing))
+
+-- the line of a call
+abbrev pub call_line : Method → ℕ → ℕ → List Value → Line
+call_line method target sender args = line.Call (record { method = method_text method; object = target; sender = sender; args = args })
+
+-- the line of a functor's call, by its name
+abbrev pub functor_line : Functor → ℕ → ℕ → List Value → Line
+functor_line functor target sender args = line.Call (record { method = functor.name; object = target; sender = sender; args = args })
+
+-- a slot is told of, and then does what its body says, one level deeper
+abbrev pub ran : Doing → ℕ → ℕ → List Value → ℕ → Method → Next
+ran doing target sender args depth method =
+    puts (acts (acts_of method.body.actions) args target sender (depth + 1)) (line_told doing (call_line method target sender args))
+
+-- and so does a functor for its context object, over the state that its connection keeps; the state that
+-- follows is kept there before that
+abbrev pub functor_ran : Doing → ℕ → ℕ → ℕ → List Value → ℕ → Functor → Next
+functor_ran doing target sender connection args depth functor =
+    let state = functor_state doing.state connection in
+    puts (acts (acts_of (with_state state functor.body).actions) args target sender (depth + 1))
+    (stepped (line_told doing (functor_line functor target sender args)) connection (after functor.next state args))
+
+-- the line that warns of the error of a bound property, by its name
+abbrev pub binding_line : Settings → State → Property → BindingError → Line
+binding_line settings state at error =
+    line.BindingWarning at.object (option_map_or (λ property. property.name) (property_at settings state at.object at.number) []) error
+
+-- what an item comes to
+abbrev pub step : Settings → Item → Doing → Next
+step settings (Emit target signal args depth) doing =
+    option_map_or (emitted settings doing target signal args depth) (row_of doing.state.forest.rows target) (puts [] doing)
+step settings (Call number args depth) doing =
+    option_map_or (λ connection. with_turn doing (called settings connection args depth)) (connection_of doing number) (puts [] doing)
+step settings (Run target method sender args depth) doing =
+    option_map_or (ran doing target sender args depth) (method_at settings doing.state target method) (puts [] doing)
+step settings (RunFunctor target functor sender connection args depth) doing =
+    option_map_or (functor_ran doing target sender connection args depth) (functor_at settings functor) (puts [] doing)
+step settings (Act (single_action plain) args self sender depth) doing =
+    warns_or (act_refusal settings doing.state self sender args plain) self doing (acted settings doing self sender args depth plain)
+step settings (Act (when test held failed) args self sender depth) doing =
+    chosen (truth_evaluated doing.state self sender args test) held failed args self sender depth doing
+step settings (Warn code object) doing = puts [] (line_told doing (line.Warning code object))
+step settings (WarnOf at error) doing = puts [] (line_told doing (binding_line settings doing.state at error))
+step settings (Delete target depth) doing = if lives doing target
+    then puts (Emit target DESTROYED [] depth ∷ Cut target depth ∷ Gone target depth ∷ []) (dying doing target) else puts [] doing
+step settings (Cut target depth) doing = puts (kins doing target depth) (severed doing target)
+step settings (Kin parent child depth) doing = if lives_below doing parent child then puts (Delete child depth ∷ []) doing else puts [] doing
+step settings (Gone target depth) doing = comes_to settings doing depth (without_object doing.state target) None
+step settings Spin doing = spun settings doing doing.state.queue.events
+step settings (Reply answer) doing = puts [] (line_told doing (line.Reply answer))
+step settings ReplySpun doing = puts [] (line_told doing (line.Reply (a.Spun (spin_of doing))))

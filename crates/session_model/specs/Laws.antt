@@ -1,0 +1,75 @@
+-- What commands, posts and items leave of every session.
+use Rattle.std.specs.Prelude.{◌≡◌, ℕ, List, [], ◌∷◌, ◌++◌, IsFalse}
+use Rattle.std.specs.List.{All, list_any}
+use Rattle.variant_value.specs.declared.value.Value.{Value}
+use Rattle.term_core.specs.Act.{Act}
+use Rattle.term_evaluation.specs.Unfolding.{unfolded}
+use Rattle.class_table.specs.declared.class.Class.{Class}
+use Rattle.session_model.specs.declared.post.Post.{Post}
+use Rattle.session_model.specs.Agenda.{step}
+use Rattle.session_model.specs.Asked.{Asked}
+use Rattle.session_model.specs.Doing.{Doing}
+use Rattle.session_model.specs.Fitting.{AreSettings, IsFitting, IsFittingAsked, IsFittingUnderWay, IsRightPost}
+use Rattle.session_model.specs.Items as to_do
+use Rattle.session_model.specs.Items.{Item}
+use Rattle.session_model.specs.Named.{AreNamed, IsNamedAsked, IsNamedItem}
+use Rattle.session_model.specs.Run.{run}
+use Rattle.session_model.specs.State.{IsDeclared, IsSound, State, empty}
+use Rattle.session_model.specs.Thread.{Settings, arrives, does}
+use Rattle.session_model.specs.UnderWay.{IsUnderWay, is_gone}
+
+-- a session is sound before its first command, and stays so in each command and with each post of
+-- another session
+pub record KeepsSound : Type 0 where
+  pub at_first : IsSound empty
+  pub by_command : (settings : Settings) (self : List ℕ) (state : State) (asked : Asked) → IsSound state → IsSound (does settings self state asked).state
+  pub by_post : (classes : List Class) (state : State) (from : List ℕ) (post : Post) → IsSound state → IsSound (arrives classes state from post)
+
+-- while it does an agenda exactly those objects are dying that it is still to let go, and their
+-- connections are broken and their events forgotten before; so at the end no object is dying, no
+-- connection has lost an end, and no event names an object that is gone
+pub record KeepsUnderWay : Type 0 where
+  pub at_first : (agenda : List Item) (state : State) → IsFalse (list_any is_gone agenda) → IsSound state → IsUnderWay agenda state
+  pub by_item : (settings : Settings) (item : Item) (agenda : List Item) (doing : Doing) → IsUnderWay (item ∷ agenda) doing.state
+      → IsUnderWay ((step settings item doing).items ++ agenda) (step settings item doing).doing.state
+  pub at_end : (state : State) → IsUnderWay [] state → IsSound state
+
+-- each object has the properties that its class declares: before the first command, item by item while a
+-- command is done, after it, and after each post of another session
+pub record KeepsDeclared : Type 0 where
+  pub at_first : (classes : List Class) → IsDeclared classes empty
+  pub by_item : (settings : Settings) (item : Item) (doing : Doing)
+      → IsDeclared settings.classes doing.state → IsDeclared settings.classes (step settings item doing).doing.state
+  pub by_command : (settings : Settings) (self : List ℕ) (state : State) (asked : Asked)
+      → IsSound state → IsDeclared settings.classes state → IsDeclared settings.classes (does settings self state asked).state
+  pub by_post : (classes : List Class) (state : State) (from : List ℕ) (post : Post)
+      → IsDeclared classes state → IsDeclared classes (arrives classes state from post)
+
+-- what a session holds fits the classes and the functors: before the first command, item by item while a command
+-- is done, after it, and after each right post of another session; what a command posts is right
+pub record KeepsFitting : Type 0 where
+  pub at_first : (settings : Settings) → IsFitting settings empty
+  pub by_item : (settings : Settings) (item : Item) (agenda : List Item) (doing : Doing)
+      → AreSettings settings → IsFittingUnderWay settings (item ∷ agenda) doing
+      → IsFittingUnderWay settings ((step settings item doing).items ++ agenda) (step settings item doing).doing
+  pub by_command : (settings : Settings) (self : List ℕ) (state : State) (asked : Asked) → AreSettings settings
+      → IsFittingAsked settings state asked → IsSound state → IsDeclared settings.classes state → IsFitting settings state
+      → IsFitting settings (does settings self state asked).state × All IsRightPost (does settings self state asked).posts
+  pub by_post : (settings : Settings) (state : State) (from : List ℕ) (post : Post)
+      → IsFitting settings state → IsRightPost post → IsFitting settings (arrives settings.classes state from post)
+
+-- what a session holds is called by names: before the first command, item by item while a command is done, after
+-- one that uses names for what it sets, publishes and joins, and after each post of another session
+pub record KeepsNamed : Type 0 where
+  pub at_first : AreNamed empty
+  pub by_item : (settings : Settings) (item : Item) (agenda : List Item) (doing : Doing)
+      → AreSettings settings → All IsNamedItem (item ∷ agenda) → AreNamed doing.state
+      → All IsNamedItem ((step settings item doing).items ++ agenda) × AreNamed (step settings item doing).doing.state
+  pub by_command : (settings : Settings) (self : List ℕ) (state : State) (asked : Asked)
+      → AreSettings settings → IsNamedAsked asked → AreNamed state → AreNamed (does settings self state asked).state
+  pub by_post : (classes : List Class) (state : State) (from : List ℕ) (post : Post) → AreNamed state → AreNamed (arrives classes state from post)
+
+-- an action over the arguments of its slot does what it does with them put in, over none
+abbrev pub ActsInPlace : Type 0
+ActsInPlace = (settings : Settings) (action : Act) (args : List Value) (self sender depth : ℕ) (doing : Doing) →
+    run settings (to_do.Act action args self sender depth ∷ []) doing ≡ run settings (to_do.Act (unfolded args action) [] self sender depth ∷ []) doing

@@ -1,5 +1,0 @@
-use Rattle.thread_model.proofs.RunLemmas.{runs_to_its_end}
-use Rattle.thread_model.proofs.agenda_runs_to_its_end.Goals as goal
-
-pub returns : goal.returns
-returns c = runs_to_its_end

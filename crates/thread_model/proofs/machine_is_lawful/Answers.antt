@@ -1,5 +1,0 @@
-use Rattle.thread_model.proofs.Lawful.{lawful}
-use Rattle.thread_model.proofs.machine_is_lawful.Goals as goal
-
-pub returns : goal.returns
-returns c = lawful
