@@ -4,7 +4,7 @@
 For each crate: its lines of code (contracts among them, without comments and blank lines), the lines of
 its definitions, how many lines of proof there are for one of code, its public functions, its edits and
 its longest contract. It fails at a contract of more than 8 clauses, a crate of more than 1,500 or a file
-of more than 800 lines of code, a line of code or definitions of more than 160 characters, more than two
+of more than 800 lines of code, a line of code, definitions or proofs of more than 160 characters, more than two
 edits for each public function, and more than 220 edits in all. The crates of tests have lines that a
 program prints, and those may be longer. An edit that begins with a line `wrong body: WORDS` is counted in all, and not with its crate's.
 Usage: budget.py REPOSITORY
@@ -46,8 +46,8 @@ def lines_in(folder, ending):
 
 
 def long_lines_in(folder):
-    """Where lines of code and definitions stand that are longer than they may be."""
-    paths = [*folder.glob("src/**/*.rt"), *folder.glob("specs/**/*.antt")]
+    """Where lines of code, definitions and proofs stand that are longer than they may be."""
+    paths = [*folder.glob("src/**/*.rt"), *folder.glob("specs/**/*.antt"), *folder.glob("proofs/**/*.antt")]
     lines = ((path, number, line) for path in sorted(paths) for number, line in enumerate(path.read_text().splitlines(), 1))
     return [f"{path.relative_to(folder)}:{number}" for path, number, line in lines if len(line) > MOST_IN_LINE]
 

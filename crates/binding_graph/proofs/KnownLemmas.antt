@@ -6,8 +6,8 @@ use Rattle.property_store.specs.declared.property.Property.{Property}
 use Rattle.property_store.specs.Property.{is_property}
 use Rattle.property_store.specs.Store.{Store}
 use Rattle.binding_values.specs.declared.binding.Binding.{Binding}
-use Rattle.binding_values.specs.declared.kept.Kept.{Kept}
-use Rattle.binding_values.specs.Kept.{IsKept, IsUnbound, Keeping, at_hand}
+use Rattle.binding_values.specs.declared.eval_result.EvalResult.{EvalResult}
+use Rattle.binding_values.specs.EvalResult.{IsKept, IsUnbound, Keeping, at_hand}
 use Rattle.binding_values.specs.Scene.{Cell, Outcome}
 use Rattle.binding_values.specs.Stored.{cell_in, outcome_in, scene_of}
 use Rattle.binding_values.proofs.ForCallers.{property_eq}
@@ -19,15 +19,15 @@ use Rattle.binding_graph.specs.Graph.{shown_as, shown_at, shown_now}
 use Rattle.binding_graph.proofs.FoundLemmas.{shown_of}
 
 -- what is kept, or else what is stored, is the value
-pub kept_or_stored : (store : Store) (bindings : List Binding) (keeping : Keeping) → IsComplete (scene_of store bindings) keeping → (q : Property) (cell : Cell) → cell_in store q ≡ Some cell → option_map_or (λ (kept : Kept). kept.outcome) (keeping q) (Ok cell.value) ≡ outcome_in store bindings q
+pub kept_or_stored : (store : Store) (bindings : List Binding) (keeping : Keeping) → IsComplete (scene_of store bindings) keeping → (q : Property) (cell : Cell) → cell_in store q ≡ Some cell → option_map_or (λ (kept : EvalResult). kept.outcome) (keeping q) (Ok cell.value) ≡ outcome_in store bindings q
 kept_or_stored store bindings keeping complete q cell is = by (keeping q) refl (complete.whole q) ∙ complete_is_known (scene_of store bindings) keeping complete q
   where
-    by : (kept : Option Kept) → keeping q ≡ kept → IsKept keeping q ⊎ IsUnbound (scene_of store bindings) q → option_map_or (λ (kept : Kept). kept.outcome) kept (Ok cell.value) ≡ option_map_or (λ (kept : Kept). kept.outcome) kept (at_hand (scene_of store bindings) q)
+    by : (kept : Option EvalResult) → keeping q ≡ kept → IsKept keeping q ⊎ IsUnbound (scene_of store bindings) q → option_map_or (λ (kept : EvalResult). kept.outcome) kept (Ok cell.value) ≡ option_map_or (λ (kept : EvalResult). kept.outcome) kept (at_hand (scene_of store bindings) q)
     by (Some kept) e whole = refl
     by None e (inl (kept, f)) = absurd (let never : None ≡ Some kept = sym e ∙ f in cc)
     by None e (inr unbound) = rw (unbound, is) refl
 
-pub shown_so : (store : Store) (bindings : List Binding) (keeping : Keeping) → IsComplete (scene_of store bindings) keeping → (q : Property) (cell : Cell) → Some cell ≡ cell_in store q → (outcome : Outcome) → outcome ≡ option_map_or (λ (kept : Kept). kept.outcome) (keeping q) (Ok cell.value) → Some (shown_as q cell.kind outcome) ≡ shown_now store bindings q
+pub shown_so : (store : Store) (bindings : List Binding) (keeping : Keeping) → IsComplete (scene_of store bindings) keeping → (q : Property) (cell : Cell) → Some cell ≡ cell_in store q → (outcome : Outcome) → outcome ≡ option_map_or (λ (kept : EvalResult). kept.outcome) (keeping q) (Ok cell.value) → Some (shown_as q cell.kind outcome) ≡ shown_now store bindings q
 shown_so store bindings keeping complete q cell is outcome known =
     ap (λ outcome. Some (shown_as q cell.kind outcome)) (known ∙ kept_or_stored store bindings keeping complete q cell (sym is))
     ∙ ap (option_map (λ (cell : Cell). shown_as q cell.kind (outcome_in store bindings q))) is

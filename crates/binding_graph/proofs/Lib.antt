@@ -4,7 +4,7 @@ pub mod ShownLemmas
 pub mod FoundLemmas
 pub mod StepLemmas
 pub mod ToldLemmas
-pub mod WovenLemmas
+pub mod GraphAndCacheLemmas
 pub mod RemovalLemmas
 pub mod TouchedLemmas
 pub mod RowLemmas

@@ -8,9 +8,9 @@ use Rattle.shared_rows.proofs.ForCallers.{with_there}
 use Rattle.property_store.specs.declared.property.Property.{Property}
 use Rattle.property_store.specs.Marks.{Marks, has_marks, is_marked, marks_at}
 use Rattle.property_store.specs.Store.{Store, without}
-use Rattle.property_store.specs.Table.{Stock, store_at, with_store}
+use Rattle.property_store.specs.Table.{StoresView, store_at, with_store}
 use Rattle.binding_values.specs.declared.binding.Binding.{Binding}
-use Rattle.binding_values.specs.Kept.{kept_of, known}
+use Rattle.binding_values.specs.EvalResult.{kept_of, known}
 use Rattle.binding_values.specs.Scene.{Cell}
 use Rattle.binding_values.specs.Stored.{fields_at, outcome_in, properties_in, scene_of}
 use Rattle.binding_values.proofs.ForCallers.{all_given}
@@ -21,7 +21,7 @@ use Rattle.binding_graph.specs.declared.shown.Shown.{Shown}
 use Rattle.binding_graph.specs.Cache.{Cache, IsInStep, shown_by}
 use Rattle.binding_graph.specs.Drained.{IsDrained}
 use Rattle.binding_graph.specs.Graph.{Graph, all_shown, changes, has_turn, in_turn, is_open, notice, settled_changes, shown_as, shown_at, shown_now, warning, without_object}
-use Rattle.binding_graph.specs.Woven.{without_shown}
+use Rattle.binding_graph.specs.GraphAndCache.{without_shown}
 use Rattle.binding_graph.proofs.FoundLemmas.{shown_of}
 use Rattle.binding_graph.proofs.StepLemmas.{both_marked, more_in_step, more_of_both, nothing_marked, same_shown}
 use Rattle.binding_graph.proofs.TouchedLemmas.{found_filter}
@@ -97,7 +97,7 @@ told_without object store bindings last written =
 
 -- the store without the object, by way of one that was drained
 
-module _ (place object : ℕ) (old drained dropped new : Stock) (is_place : IsPlace old.shelves.table place) (drains : IsDrained place old drained)
+module _ (place object : ℕ) (old drained dropped new : StoresView) (is_place : IsPlace old.shelves.table place) (drains : IsDrained place old drained)
     (drops : dropped.shelves ≡ with_store drained.shelves place (without object (store_at drained.shelves place))) (takes : new.shelves ≡ dropped.shelves) where
   pub removed_shelves : new.shelves ≡ with_store old.shelves place (without object (store_at old.shelves place))
   removed_shelves = takes ∙ (drops ∙ ap (λ shelves. with_store shelves place (without object (store_at shelves place))) drains.shelves)

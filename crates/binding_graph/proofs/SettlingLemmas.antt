@@ -7,12 +7,12 @@ use Rattle.property_store.specs.declared.property.Property.{Property}
 use Rattle.property_store.specs.Marks.{Marks, has_marks, is_marked, marks_at}
 use Rattle.property_store.specs.Property.{among}
 use Rattle.property_store.specs.Store.{IsSound, Store}
-use Rattle.property_store.specs.Table.{Stock, store_at}
+use Rattle.property_store.specs.Table.{StoresView, store_at}
 use Rattle.property_store.proofs.ForCallers.{unmapped}
-use Rattle.binding_values.specs.declared.kept.Done.{Done}
-use Rattle.binding_values.specs.declared.kept.Kept.{Kept}
+use Rattle.binding_values.specs.declared.eval_result.CacheEntry.{CacheEntry}
+use Rattle.binding_values.specs.declared.eval_result.EvalResult.{EvalResult}
 use Rattle.binding_values.specs.Binds.{AreBindings}
-use Rattle.binding_values.specs.Kept.{at_hand, kept_of}
+use Rattle.binding_values.specs.EvalResult.{at_hand, kept_of}
 use Rattle.binding_values.specs.Scene.{Cell}
 use Rattle.binding_values.specs.Sorted.{IsRising}
 use Rattle.binding_values.specs.Stored.{cell_in, outcome_in, scene_of}
@@ -30,7 +30,7 @@ use Rattle.binding_graph.proofs.TouchedLemmas.{changes_of_touched, merged_is_all
 
 -- what was taken from the store is pending
 
-pub drained_in_step : (old new : Stock) (place : ℕ) (graph : Graph) (cache : Cache) (pending : Marks) → IsDrained place old new → AreMore (both (marks_at old.marks place) cache.pending) pending → IsInStep (store_at old.shelves place) (marks_at old.marks place) graph cache → IsInStep (store_at new.shelves place) (marks_at new.marks place) graph (record cache { pending = pending })
+pub drained_in_step : (old new : StoresView) (place : ℕ) (graph : Graph) (cache : Cache) (pending : Marks) → IsDrained place old new → AreMore (both (marks_at old.marks place) cache.pending) pending → IsInStep (store_at old.shelves place) (marks_at old.marks place) graph cache → IsInStep (store_at new.shelves place) (marks_at new.marks place) graph (record cache { pending = pending })
 drained_in_step old new place graph cache pending drained are_more step =
     same_in_step (store_at old.shelves place) (store_at new.shelves place) (marks_at new.marks place) (marks_at new.marks place) graph (record cache { pending = pending }) (ap (λ shelves. store_at shelves place) drained.shelves) refl
     (more_in_step step (λ q on. both_marked (marks_at new.marks place) pending q ∙ or_right (is_marked (marks_at new.marks place) q) _ (are_more q on)))
@@ -46,7 +46,7 @@ module _ (store : Store) (marks : Marks) (graph : Graph) (cache : Cache) (none :
   pub touched_whole : IsWhole (scene_of store graph.bindings) (only cache.pending.each) (kept_of cache.kept)
   touched_whole q off = step.whole q (same_marks q ∙ off)
 
-  module _ (sound : IsSound store) (are : AreBindings graph.bindings) (kept : List Done) (touched : List Property) (complete : IsComplete (scene_of store graph.bindings) (kept_of kept)) (same : (q : Property) → among q touched ≡ false → kept_of kept q ≡ kept_of cache.kept q) (more : (q : Property) → among q cache.pending.each ≡ true → among q touched ≡ true)
+  module _ (sound : IsSound store) (are : AreBindings graph.bindings) (kept : List CacheEntry) (touched : List Property) (complete : IsComplete (scene_of store graph.bindings) (kept_of kept)) (same : (q : Property) → among q touched ≡ false → kept_of kept q ≡ kept_of cache.kept q) (more : (q : Property) → among q cache.pending.each ≡ true → among q touched ≡ true)
       (now : List Shown) (found : (q : Property) → shown_at now q ≡ (if among q touched then shown_now store graph.bindings q else None)) where
     all_rising : IsRising (λ (shown : Shown). shown.at) (all_shown store graph.bindings)
     all_rising = (all_shown_sound store sound graph.bindings are).rising
@@ -62,8 +62,8 @@ module _ (store : Store) (marks : Marks) (graph : Graph) (cache : Cache) (none :
         ∙ (ap (λ outcome. option_map (λ (cell : Cell). shown_as q cell.kind outcome) (cell_in store q)) (complete_is_known (scene_of store graph.bindings) (kept_of kept) complete q)
         ∙ sym (found_in_all store graph.bindings q)))
       where
-        by_kept : Option Kept → Option Shown
-        by_kept kept = option_map (λ (cell : Cell). shown_as q cell.kind (option_map_or (λ (kept : Kept). kept.outcome) kept (at_hand (scene_of store graph.bindings) q))) (cell_in store q)
+        by_kept : Option EvalResult → Option Shown
+        by_kept kept = option_map (λ (cell : Cell). shown_as q cell.kind (option_map_or (λ (kept : EvalResult). kept.outcome) kept (at_hand (scene_of store graph.bindings) q))) (cell_in store q)
 
     -- what is not there has shown nothing
     gone : (q : Property) → among q touched ≡ true → shown_at (all_shown store graph.bindings) q ≡ None → shown_at graph.last q ≡ None

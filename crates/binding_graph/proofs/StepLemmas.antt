@@ -14,12 +14,12 @@ use Rattle.property_store.specs.Marks.{AreMarked, HasMarks, Marks, all_marks, ha
 use Rattle.property_store.specs.Named.{declared_at, written_named}
 use Rattle.property_store.specs.Property.{among, is_property}
 use Rattle.property_store.specs.Store.{Properties, Store, properties_of, without, written}
-use Rattle.property_store.specs.Table.{Stock, fields_of, store_at}
+use Rattle.property_store.specs.Table.{StoresView, fields_of, store_at}
 use Rattle.property_store.proofs.ForCallers.{filter_all, none_passes}
 use Rattle.binding_values.specs.declared.binding.Binding.{Binding}
-use Rattle.binding_values.specs.declared.kept.Kept.{Kept}
+use Rattle.binding_values.specs.declared.eval_result.EvalResult.{EvalResult}
 use Rattle.binding_values.specs.declared.property.BindingError.TheVariants.{BindingLoop, EvaluationError}
-use Rattle.binding_values.specs.Kept.{Keeping, kept_of}
+use Rattle.binding_values.specs.EvalResult.{Keeping, kept_of}
 use Rattle.binding_values.specs.Scene.{Cell, Outcome, Scene}
 use Rattle.binding_values.specs.Stored.{cell_in, outcome_in, scene_of}
 use Rattle.binding_values.specs.Right.{AreMore, DiffersAt, IsComplete, both}
@@ -78,7 +78,7 @@ same_shown store other bindings after marks keeping differs q off = ap₂ shows 
     shows : Option Cell → Option Term → Option Shown
     shows cell term =
         let stands : Outcome = option_map_or (λ (term : Term). Err BindingLoop) term (option_map_or (λ (cell : Cell). Ok cell.value) cell (Err EvaluationError)) in
-        option_map (λ (cell : Cell). shown_as q cell.kind (option_map_or (λ (kept : Kept). kept.outcome) (keeping q) stands)) cell
+        option_map (λ (cell : Cell). shown_as q cell.kind (option_map_or (λ (kept : EvalResult). kept.outcome) (keeping q) stands)) cell
 
 -- what is in step stays so where what changes is marked, of the store or of the bindings
 
@@ -146,7 +146,7 @@ all_in_step store marks graph cache empty on = record {
   there = λ some q none. absurd (both_ways (marks.all || cache.pending.all) some (or_right marks.all _ on));
 }
   where
-    nothing : (q : Property) (kept : Kept) → kept_of cache.kept q ≡ Some kept → ⊥
+    nothing : (q : Property) (kept : EvalResult) → kept_of cache.kept q ≡ Some kept → ⊥
     nothing q kept is = let none : None ≡ Some kept = ap (λ rows. kept_of rows q) (sym empty) ∙ is in cc
 
     never : (q : Property) → is_marked (both marks cache.pending) q ≡ false → ⊥
@@ -159,7 +159,7 @@ same_in_step store other marks more graph cache e f step = subst (λ other. IsIn
 
 -- another store at one place
 
-module _ (old new : Stock) (place : ℕ) (store : Store) (is_place : IsPlace old.shelves.table place) (has : HasStore place store old new) where
+module _ (old new : StoresView) (place : ℕ) (store : Store) (is_place : IsPlace old.shelves.table place) (has : HasStore place store old new) where
   stands_there : store_at new.shelves place ≡ store
   stands_there = ap (λ shelves. store_at shelves place) has ∙ with_there [] old.shelves.table place store is_place
 
@@ -229,7 +229,7 @@ no_dynamic_in_step old new place object name is_place has same = unmarked_there 
 nothing_without : (store : Store) (object : ℕ) → properties_of store object ≡ None → without object store ≡ store
 nothing_without store object none = filter_all (λ (of : Properties). not (of.object == object)) store (λ k d within. ap not (none_passes (λ (of : Properties). of.object == object) store none k d within))
 
-module _ (old new : Stock) (place object : ℕ) (marked : HasMarks place (cond (is_some (properties_of (store_at old.shelves place) object)) all_marks (marks_at old.marks place)) old.marks new.marks) where
+module _ (old new : StoresView) (place object : ℕ) (marked : HasMarks place (cond (is_some (properties_of (store_at old.shelves place) object)) all_marks (marks_at old.marks place)) old.marks new.marks) where
   removal_there : (graph : Graph) (cache : Cache) → IsInStep (store_at old.shelves place) (marks_at old.marks place) graph cache → IsInStep (without object (store_at old.shelves place)) (marks_at new.marks place) graph cache
   removal_there graph cache step = by (properties_of before object) refl
     where
@@ -247,7 +247,7 @@ module _ (old new : Stock) (place object : ℕ) (marked : HasMarks place (cond (
       by None e = same_in_step before (without object before) (marks_at old.marks place) (marks_at new.marks place) graph cache (nothing_without before object e) (at None e) step
 
 -- so in the store that there is then
-pub removal_at : (old new : Stock) (place object : ℕ) → HasMarks place (cond (is_some (properties_of (store_at old.shelves place) object)) all_marks (marks_at old.marks place)) old.marks new.marks → IsPlace old.shelves.table place → HasStore place (without object (store_at old.shelves place)) old new
+pub removal_at : (old new : StoresView) (place object : ℕ) → HasMarks place (cond (is_some (properties_of (store_at old.shelves place) object)) all_marks (marks_at old.marks place)) old.marks new.marks → IsPlace old.shelves.table place → HasStore place (without object (store_at old.shelves place)) old new
     → (graph : Graph) (cache : Cache) → IsInStep (store_at old.shelves place) (marks_at old.marks place) graph cache → IsInStep (store_at new.shelves place) (marks_at new.marks place) graph cache
 removal_at old new place object marked is_place has graph cache step =
     subst (λ store. IsInStep store (marks_at new.marks place) graph cache) (sym (stands_there old new place (without object (store_at old.shelves place)) is_place has)) (removal_there old new place object marked graph cache step)
@@ -260,7 +260,7 @@ clearing_in_step old new place is_place has marked = all_marked_there old new pl
 
 -- one more place, or room for one
 
-nowhere_changed : (old new : Stock) → ((place : ℕ) → store_at new.shelves place ≡ store_at old.shelves place) → ((place : ℕ) → marks_at new.marks place ≡ marks_at old.marks place) → StaysInStep old new
+nowhere_changed : (old new : StoresView) → ((place : ℕ) → store_at new.shelves place ≡ store_at old.shelves place) → ((place : ℕ) → marks_at new.marks place ≡ marks_at old.marks place) → StaysInStep old new
 unfolding InStep
 nowhere_changed old new stores marks bindings step place =
     same_in_step (store_at old.shelves place) (store_at new.shelves place) (marks_at old.marks place) (marks_at new.marks place) (graph_at bindings.graphs place) (cache_at bindings.caches place) (stores place) (marks place) (step place)

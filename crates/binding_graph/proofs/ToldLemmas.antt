@@ -7,7 +7,7 @@ use Rattle.variant_value.specs.Values.{IsOfKind, is_same}
 use Rattle.property_store.specs.Store.{Store}
 use Rattle.property_store.specs.Store as store
 use Rattle.binding_graph.specs.declared.change.Change.{Change}
-use Rattle.binding_graph.specs.declared.change.Message.TheVariants as message
+use Rattle.binding_graph.specs.declared.change.ChangeKind.TheVariants as message
 use Rattle.binding_values.specs.declared.property.BindingError.{BindingError}
 use Rattle.property_store.specs.declared.property.Property.{Property}
 use Rattle.binding_graph.specs.declared.shown.Shown.{Shown}

@@ -18,7 +18,7 @@ use Rattle.binding_values.specs.declared.property.BindingError.TheVariants.{Bind
 use Rattle.binding_values.specs.Sorted.{IsRising, is_before}
 use Rattle.binding_values.proofs.ForCallers.{is_itself, property_eq, before_trans, is_behind, is_other, is_property_sym}
 use Rattle.binding_graph.specs.declared.change.Change.{Change}
-use Rattle.binding_graph.specs.declared.change.Message.TheVariants as message
+use Rattle.binding_graph.specs.declared.change.ChangeKind.TheVariants as message
 use Rattle.binding_graph.specs.declared.shown.Shown.{Shown}
 use Rattle.binding_graph.specs.Graph.{changes, has_turn, in_turn, is_same_error, notice, shown_at, warning}
 

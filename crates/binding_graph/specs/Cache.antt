@@ -4,8 +4,8 @@ use Rattle.property_store.specs.declared.property.Property.{Property}
 use Rattle.property_store.specs.Marks.{Marks, all_marks, is_marked}
 use Rattle.property_store.specs.Store.{Store}
 use Rattle.binding_values.specs.declared.binding.Binding.{Binding}
-use Rattle.binding_values.specs.declared.kept.Done.{Done}
-use Rattle.binding_values.specs.Kept.{Keeping, kept_of, known}
+use Rattle.binding_values.specs.declared.eval_result.CacheEntry.{CacheEntry}
+use Rattle.binding_values.specs.EvalResult.{Keeping, kept_of, known}
 use Rattle.binding_values.specs.Stored.{cell_in, scene_of}
 use Rattle.binding_values.specs.Right.{IsRightBut, IsWhole, both}
 use Rattle.binding_graph.specs.declared.shown.Shown.{Shown}
@@ -13,7 +13,7 @@ use Rattle.binding_graph.specs.Graph.{Graph, shown_as, shown_at}
 
 pub record Cache : Type 0 where
   -- what the last evaluation of each bound property gave
-  pub kept : List Done
+  pub kept : List CacheEntry
   -- what has changed of the bindings since
   pub pending : Marks
   -- how many evaluations settlings have made

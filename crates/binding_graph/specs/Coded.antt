@@ -6,14 +6,14 @@ use Rattle.property_store.specs.contracts.property.Property as property
 use Rattle.property_store.specs.declared.property.Property.{Property}
 use Rattle.property_store.specs.Marks.{Marks}
 use Rattle.binding_values.specs.declared.binding.Binding.{Binding}
-use Rattle.binding_values.specs.declared.kept.Done.{Done}
+use Rattle.binding_values.specs.declared.eval_result.CacheEntry.{CacheEntry}
 use Rattle.binding_graph.specs.declared.shown.Shown.{Shown}
 use Rattle.binding_graph.specs.contracts.shown.Shown as shown
-use Rattle.binding_values.specs.Coded.{coded_bindings, coded_memory}
+use Rattle.binding_values.specs.Coded.{coded_bindings, coded_eval_cache}
 use Rattle.binding_graph.specs.Cache.{Cache}
 use Rattle.binding_graph.specs.Graph.{Graph}
 use Rattle.binding_graph.specs.Table.{Graphs}
-use Rattle.binding_graph.specs.Woven.{Woven}
+use Rattle.binding_graph.specs.GraphAndCache.{GraphAndCache}
 
 abbrev pub coded_showing : Coded (List Shown)
 coded_showing = coded_list shown.the_row.coded
@@ -29,11 +29,11 @@ coded_marks = code_by (Bool × List Property) (coded× coded_bool (coded_list pr
 
 abbrev pub coded_cache : Coded Cache
 coded_cache =
-    code_by (List Done × (Marks × ℕ)) (coded× coded_memory (coded× coded_marks coded_ℕ))
+    code_by (List CacheEntry × (Marks × ℕ)) (coded× coded_eval_cache (coded× coded_marks coded_ℕ))
     (λ c. (c.kept, (c.pending, c.evaluations))) (λ p. record { kept = p.0; pending = p.1.0; evaluations = p.1.1 }) (λ _. refl)
 
-abbrev pub coded_woven : Coded Woven
-coded_woven = code_by (Graph × Cache) (coded× coded_graph coded_cache) (λ w. (w.graph, w.cache)) (λ p. record { graph = p.0; cache = p.1 }) (λ _. refl)
+abbrev pub coded_pair : Coded GraphAndCache
+coded_pair = code_by (Graph × Cache) (coded× coded_graph coded_cache) (λ w. (w.graph, w.cache)) (λ p. record { graph = p.0; cache = p.1 }) (λ _. refl)
 
 abbrev pub coded_graphs : Coded Graphs
 coded_graphs = code_by (Table Graph × List Cache) (coded× (table_code coded_graph) (coded_list coded_cache))

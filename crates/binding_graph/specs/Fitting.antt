@@ -3,8 +3,8 @@ use Rattle.std.specs.Prelude.{All, IfSome, Option}
 use Rattle.variant_value.specs.Values.{IsOfKind, IsShort}
 use Rattle.property_store.specs.Store.{Store}
 use Rattle.property_store.specs.Store as store
-use Rattle.binding_graph.specs.declared.change.Message.{Message}
-use Rattle.binding_graph.specs.declared.change.Message.TheVariants.{Error, Value}
+use Rattle.binding_graph.specs.declared.change.ChangeKind.{ChangeKind}
+use Rattle.binding_graph.specs.declared.change.ChangeKind.TheVariants.{Error, Value}
 use Rattle.property_store.specs.declared.property.Property.{Property}
 use Rattle.binding_graph.specs.Graph.{Graph, settled_changes, settled_graph, value_in}
 use Rattle.binding_graph.specs.Graph as graph
@@ -15,7 +15,7 @@ abbrev pub ValuesAreShort : Type 0
 ValuesAreShort = (s : Store) (g : Graph) → store.IsSound s → graph.IsSound g → (q : Property) → IsShort (value_in s g q).0
 
 -- a value that is told is one of the property's kind
-abbrev pub IsFitting : Store → Property → Message → Type 0
+abbrev pub IsFitting : Store → Property → ChangeKind → Type 0
 IsFitting s at (Error error) = Unit {0}
 IsFitting s at (Value value) = IfSome (cell_in s at) (λ cell. IsOfKind cell.kind value)
 

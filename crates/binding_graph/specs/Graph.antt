@@ -12,7 +12,7 @@ use Rattle.term_core.specs.Term.{Term}
 use Rattle.property_store.specs.Store.{Store, default_of, written}
 use Rattle.binding_values.specs.declared.binding.Binding.{Binding}
 use Rattle.binding_graph.specs.declared.change.Change.{Change}
-use Rattle.binding_graph.specs.declared.change.Message.TheVariants as message
+use Rattle.binding_graph.specs.declared.change.ChangeKind.TheVariants as message
 use Rattle.property_store.specs.declared.property.Property.{Property}
 use Rattle.binding_values.specs.declared.property.BindingError.{BindingError}
 use Rattle.binding_values.specs.declared.property.BindingError.TheVariants.{BindingLoop, EvaluationError}

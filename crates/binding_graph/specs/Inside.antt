@@ -2,10 +2,10 @@
 use Rattle.std.specs.Prelude.{Option, Some, None}
 use Rattle.std.specs.declared.alloc.Global.{Global}
 use Rattle.std.specs.declared.boxed.Box.{Box}
-use Rattle.binding_graph.specs.declared.graph.Web.{Web}
-use Rattle.binding_graph.specs.Woven.{Woven, no_woven}
+use Rattle.binding_graph.specs.declared.graph.BindingGraph.{BindingGraph}
+use Rattle.binding_graph.specs.GraphAndCache.{GraphAndCache, no_graph_and_cache}
 
 -- the graph that was made, or else none
-abbrev pub woven_of : Option (Box Web Global) → Woven
-woven_of None = no_woven
-woven_of (Some web) = web.value
+abbrev pub pair_of : Option (Box BindingGraph Global) → GraphAndCache
+pair_of None = no_graph_and_cache
+pair_of (Some inner) = inner.value

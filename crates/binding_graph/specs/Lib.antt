@@ -1,7 +1,7 @@
 pub mod Graph
 pub mod Cache
 pub mod Table
-pub mod Woven
+pub mod GraphAndCache
 pub mod Coded
 pub mod Step
 pub mod Fitting

@@ -7,7 +7,7 @@ ghost use Rattle.shared_rows.specs.Table.{ChangesAt, IsPlace, MakesRoom, Opens};
 ghost use Rattle.plain_types.specs.Answers.{RefusedBy};
 ghost use Rattle.term_core.specs.Forms.{is_within_limits};
 ghost use Rattle.property_store.specs.Store.{without};
-ghost use Rattle.property_store.specs.Table.{Stock, store_at};
+ghost use Rattle.property_store.specs.Table.{StoresView, store_at};
 ghost use Rattle.variant_value.specs.Values.{IsShort};
 ghost use Rattle.binding_graph.specs.Cache.{cache_at, no_cache};
 ghost use Rattle.binding_graph.specs.Drained.{IsDrained, IsStored};
@@ -20,10 +20,9 @@ ghost use Rattle.binding_graph.specs.Table.{OthersKept, graph_at, with_graph};
 use crate::change::Change;
 use crate::lazy_graph::LazyGraph;
 use binding_values::BindingError;
-use shared_rows::Places;
-use plain_types::Items;
+use plain_types::{Code, Fault, Items};
 use property_store::{Property, Stores};
-use plain_types::{Code, Fault};
+use shared_rows::Places;
 use std::alloc::{AllocError, Global};
 use std::marker::Model;
 use term_core::Expr;
@@ -46,16 +45,16 @@ impl Model for Bindings {
 
     ghost coded = { coded_graphs };
 
-    ghost use Rattle.binding_graph.specs.Woven.{unwoven};
+    ghost use Rattle.binding_graph.specs.GraphAndCache.{split};
 
-    ghost view = { λ bindings. unwoven bindings.graphs };
+    ghost view = { λ bindings. split bindings.graphs };
 }
 
 impl Bindings {
     /// A table with no place, which takes no memory yet.
     pub fn new(alloc: Global) -> Bindings
         ensures places { result.graphs.places ≡ [] }
-        ensures step { (stores : Stock) → stores.shelves.table.places ≡ [] → InStep stores result }
+        ensures step { (stores : StoresView) → stores.shelves.table.places ≡ [] → InStep stores result }
     {
         Bindings {
             graphs: Places::new(alloc),
@@ -67,7 +66,7 @@ impl Bindings {
     pub fn ready(&mut self) -> Result<(), AllocError>
         ensures graphs { MakesRoom self.old.graphs self.new.graphs result }
         ensures caches { self.new.caches ≡ self.old.caches }
-        ensures step { (stores : Stock) → InStep stores self.old → InStep stores self.new }
+        ensures step { (stores : StoresView) → InStep stores self.old → InStep stores self.new }
     {
         self.graphs.ready()
     }
@@ -78,7 +77,7 @@ impl Bindings {
         ensures graphs { Opens self.old.graphs no_graph self.new.graphs result }
         ensures nothing { cache_at self.new.caches result ≡ no_cache }
         ensures others { OthersKept result self.old self.new }
-        ensures step { (stores : Stock) → InStep stores self.old → InStep stores self.new }
+        ensures step { (stores : StoresView) → InStep stores self.old → InStep stores self.new }
     {
         self.graphs.open(LazyGraph::new())
     }
@@ -90,7 +89,7 @@ impl Bindings {
         ensures cleared { self.new.graphs ≡ with_graph self.old.graphs place no_graph }
         ensures nothing { cache_at self.new.caches place ≡ no_cache }
         ensures others { OthersKept place self.old self.new }
-        ensures step { (stores : Stock) → InStep stores self.old → InStep stores self.new }
+        ensures step { (stores : StoresView) → InStep stores self.old → InStep stores self.new }
     {
         *self.graphs.get_mut(place) = LazyGraph::new();
     }

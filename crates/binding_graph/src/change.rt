@@ -3,10 +3,10 @@ use binding_values::BindingError;
 use property_store::Property;
 use variant_value::Value;
 
-/// What a settling tells of a property.
+/// A change reports a property whose value or error is another one than before.
 pub struct Change {
     pub at: Property,
-    pub told: Message,
+    pub told: ChangeKind,
 }
 
 impl Drop for Change {
@@ -15,9 +15,9 @@ impl Drop for Change {
     }
 }
 
-/// What is told.
+/// A change is an error or a value.
 #[derive(Drop)]
-pub enum Message {
+pub enum ChangeKind {
     /// An error that is new, or another than before.
     Error(BindingError),
     /// The value, which is another than before.

@@ -1,9 +1,9 @@
-//! What has changed between two showings.
+//! Changes are found by a comparison of two showings.
 ghost use Rattle.std.specs.Prelude.{◌≡◌, ◌++◌, IfOk, OnOk, filter, filter_map};
 ghost use Rattle.variant_value.specs.Values.{is_same};
 ghost use Rattle.binding_graph.specs.Graph.{before, changes, has_turn, is_same_error, notice, warning};
 
-use crate::change::{Change, Message};
+use crate::change::{Change, ChangeKind};
 use crate::showing::Showing;
 use crate::shown::Shown;
 use binding_values::BindingError;
@@ -52,7 +52,7 @@ fn warning(last: &Showing, shown: &Shown) -> Option<Change>
     }
     Some(Change {
         at: shown.at,
-        told: Message::Error(error),
+        told: ChangeKind::Error(error),
     })
 }
 
@@ -65,7 +65,7 @@ fn notice(alloc: Global, last: &Showing, shown: &Shown) -> Result<Option<Change>
     }
     Ok(Some(Change {
         at: shown.at,
-        told: Message::Value(shown.value.copy(alloc)?),
+        told: ChangeKind::Value(shown.value.copy(alloc)?),
     }))
 }
 
@@ -120,7 +120,7 @@ fn notify(
     Ok(())
 }
 
-/// What has changed: first all warnings, then all notifications, of the written property first.
+/// Returns the changes: first all warnings, then all notifications, of the written property first.
 pub(crate) fn changes(
     alloc: Global,
     last: &Showing,

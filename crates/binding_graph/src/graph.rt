@@ -7,16 +7,15 @@ ghost use Rattle.term_core.specs.Forms.{is_within_limits};
 ghost use Rattle.property_store.specs.Table.{store_at};
 ghost use Rattle.binding_graph.specs.Graph.{IsSound, bind_refusal, bound, end_refusal, ended, fresh, is_bound, is_open};
 ghost use Rattle.binding_graph.specs.Graph.{shown_at, shown_in, shown_now, unbound, value_in, without_object};
-ghost use Rattle.binding_graph.specs.Woven.{IsAt, StaysAt, no_woven};
+ghost use Rattle.binding_graph.specs.GraphAndCache.{IsAt, StaysAt, no_graph_and_cache};
 
 use crate::pending::Pending;
 use crate::show::{show, show_kept, shown_as};
 use crate::showing::Showing;
 use crate::shown::Shown;
-use binding_values::{Binding, BindingError, Bound, cell_at};
-use binding_values::KeptValues;
-use property_store::{Property, Stores, default_of};
+use binding_values::{Binding, BindingError, Bound, KeptValues, cell_at};
 use plain_types::Code;
+use property_store::{Property, Stores, default_of};
 use signature_core::Kind;
 use std::alloc::{AllocError, Global};
 use std::marker::Model;
@@ -26,7 +25,7 @@ use variant_value::Value;
 /// The bindings of a place, what its properties showed, and its groups; what is kept of the bindings' values, and
 /// what has changed since of the bindings.
 #[derive(Drop)]
-pub(crate) struct Web {
+pub(crate) struct BindingGraph {
     pub(crate) bindings: Bound,
     pub(crate) last: Showing,
     pub(crate) depth: u32,
@@ -35,28 +34,28 @@ pub(crate) struct Web {
     pub(crate) evaluations: u64,
 }
 
-impl Model for Web {
+impl Model for BindingGraph {
     ghost use Rattle.std.specs.Prelude.{◌≤◌};
-    ghost use Rattle.binding_graph.specs.Coded.{coded_woven};
-    ghost use Rattle.binding_graph.specs.Woven.{Woven};
+    ghost use Rattle.binding_graph.specs.Coded.{coded_pair};
+    ghost use Rattle.binding_graph.specs.GraphAndCache.{GraphAndCache};
 
-    ghost Value = { Woven };
+    ghost Value = { GraphAndCache };
 
-    ghost coded = { coded_woven };
+    ghost coded = { coded_pair };
 
-    ghost view = { λ web. record {
-      graph = record { bindings = web.bindings; last = web.last; depth = web.depth };
-      cache = record { kept = web.kept; pending = web.pending; evaluations = web.evaluations };
+    ghost view = { λ inner. record {
+      graph = record { bindings = inner.bindings; last = inner.last; depth = inner.depth };
+      cache = record { kept = inner.kept; pending = inner.pending; evaluations = inner.evaluations };
     } };
 
-    ghost invariant = { λ web. web.depth ≤ 1000 };
+    ghost invariant = { λ inner. inner.depth ≤ 1000 };
 }
 
-impl Web {
-    pub(crate) fn new(alloc: Global) -> Web
-        ensures { result ≡ no_woven }
+impl BindingGraph {
+    pub(crate) fn new(alloc: Global) -> BindingGraph
+        ensures { result ≡ no_graph_and_cache }
     {
-        Web {
+        BindingGraph {
             bindings: Bound::new(alloc),
             last: Showing::new(alloc),
             depth: 0,
@@ -132,7 +131,7 @@ impl Web {
         self.pending.mark_all();
     }
 
-    /// What a bound property shows in a group.
+    /// Returns the value that a bound property shows in a group.
     fn shown_then(&self, alloc: Global, at: Property, kind: Kind) -> Result<Shown, AllocError>
         ensures { IfOk result (λ shown. shown ≡ option_map_or (λ stood. stood) (shown_at self.now.graph.last at) (fresh at kind)) }
     {
@@ -142,7 +141,8 @@ impl Web {
         }
     }
 
-    /// What a property shows by the values and the bindings of now: by what is kept, where nothing is marked.
+    /// Returns the value that a property shows by the values and the bindings of now: by the cache, where
+    /// nothing is marked.
     fn shown_now(
         &self,
         alloc: Global,
@@ -160,7 +160,7 @@ impl Web {
         show(alloc, stores, place, &self.bindings, at)
     }
 
-    /// What a property shows, where it is there.
+    /// Returns the value that a property shows, where it is there.
     fn shown(
         &self,
         alloc: Global,

@@ -8,16 +8,15 @@ ghost use Rattle.property_store.specs.Store.{without};
 ghost use Rattle.property_store.specs.Table.{store_at};
 ghost use Rattle.binding_graph.specs.Graph.{IsSound, begin_refusal, begun, bind_refusal, bound, end_refusal, ended, is_bound};
 ghost use Rattle.binding_graph.specs.Graph.{settled_changes, settled_graph, unbound, value_in, without_object};
-ghost use Rattle.binding_graph.specs.Inside.{woven_of};
+ghost use Rattle.binding_graph.specs.Inside.{pair_of};
 ghost use Rattle.binding_graph.specs.Drained.{IsDrained, IsStored};
-ghost use Rattle.binding_graph.specs.Woven.{IsAt, StaysAt, no_woven};
+ghost use Rattle.binding_graph.specs.GraphAndCache.{IsAt, StaysAt, no_graph_and_cache};
 
 use crate::change::Change;
-use crate::graph::Web;
+use crate::graph::BindingGraph;
 use binding_values::BindingError;
-use plain_types::Items;
+use plain_types::{Code, Fault, Items};
 use property_store::{Property, Stores};
-use plain_types::{Code, Fault};
 use std::alloc::{AllocError, Global};
 use std::marker::Model;
 use term_core::Expr;
@@ -32,25 +31,25 @@ pub const GROUPS: u32 = 1000;
 /// A graph that takes no memory before its first binding or group.
 #[derive(Drop)]
 pub(crate) struct LazyGraph {
-    made: Option<Box<Web>>,
+    made: Option<Box<BindingGraph>>,
 }
 
 impl Model for LazyGraph {
-    ghost use Rattle.binding_graph.specs.Coded.{coded_woven};
-    ghost use Rattle.binding_graph.specs.Woven.{Woven};
+    ghost use Rattle.binding_graph.specs.Coded.{coded_pair};
+    ghost use Rattle.binding_graph.specs.GraphAndCache.{GraphAndCache};
 
-    ghost Value = { Woven };
+    ghost Value = { GraphAndCache };
 
-    ghost coded = { coded_woven };
+    ghost coded = { coded_pair };
 
-    ghost use Rattle.binding_graph.specs.Inside.{woven_of};
+    ghost use Rattle.binding_graph.specs.Inside.{pair_of};
 
-    ghost view = { λ graph. woven_of graph.made };
+    ghost view = { λ graph. pair_of graph.made };
 }
 
 impl LazyGraph {
     pub(crate) fn new() -> LazyGraph
-        ensures { result ≡ no_woven }
+        ensures { result ≡ no_graph_and_cache }
     {
         LazyGraph { made: None }
     }
@@ -60,7 +59,7 @@ impl LazyGraph {
         ensures sound { IsSound self.now.graph }
     {
         match &self.made {
-            Some(web) => web.count(),
+            Some(inner) => inner.count(),
             None => 0,
         }
     }
@@ -69,7 +68,7 @@ impl LazyGraph {
         ensures { result ≡ self.now.graph.depth }
     {
         match &self.made {
-            Some(web) => web.depth(),
+            Some(inner) => inner.depth(),
             None => 0,
         }
     }
@@ -78,7 +77,7 @@ impl LazyGraph {
         ensures { result ≡ self.now.cache.evaluations }
     {
         match &self.made {
-            Some(web) => web.evaluations(),
+            Some(inner) => inner.evaluations(),
             None => 0,
         }
     }
@@ -87,7 +86,7 @@ impl LazyGraph {
         ensures { result ≡ is_bound self.now.graph.bindings at }
     {
         match &self.made {
-            Some(web) => web.is_bound(at),
+            Some(inner) => inner.is_bound(at),
             None => false,
         }
     }
@@ -110,10 +109,10 @@ impl LazyGraph {
     {
         self.may_bind(at)?;
         make(&mut self.made, alloc)?;
-        let Some(web) = &mut self.made else {
+        let Some(inner) = &mut self.made else {
             unreachable!()
         };
-        web.bind(at, expr)?;
+        inner.bind(at, expr)?;
         Ok(())
     }
 
@@ -122,10 +121,10 @@ impl LazyGraph {
         ensures graph { self.new.graph ≡ unbound self.old.graph at }
         ensures step { StaysAt self.old self.new }
     {
-        let Some(web) = &mut self.made else {
+        let Some(inner) = &mut self.made else {
             return;
         };
-        web.unbind(at);
+        inner.unbind(at);
     }
 
     /// Takes an object out of the store with its bindings, and tells what has changed by it.
@@ -144,11 +143,11 @@ impl LazyGraph {
         ensures stores { IsStored place (without object (store_at stores.old.shelves place)) stores.old stores.new }
         ensures step { IsAt stores.new place self.new }
     {
-        let Some(web) = &mut self.made else {
+        let Some(inner) = &mut self.made else {
             stores.drop_object(place, object);
             return self.settle(alloc, stores, place, None);
         };
-        web.remove(alloc, stores, place, object)
+        inner.remove(alloc, stores, place, object)
     }
 
     pub(crate) fn value(
@@ -163,8 +162,8 @@ impl LazyGraph {
         ensures { IfOk result (λ found. found ≡ value_in (store_at stores.now.shelves place) self.now.graph at) }
     {
         match &self.made {
-            Some(web) => web.value(alloc, stores, place, at),
-            None => Web::new(alloc).value(alloc, stores, place, at),
+            Some(inner) => inner.value(alloc, stores, place, at),
+            None => BindingGraph::new(alloc).value(alloc, stores, place, at),
         }
     }
 
@@ -184,10 +183,10 @@ impl LazyGraph {
         ensures step { IsAt stores.new place self.new }
     {
         make(&mut self.made, alloc)?;
-        let Some(web) = &mut self.made else {
+        let Some(inner) = &mut self.made else {
             unreachable!()
         };
-        web.settle(alloc, stores, place, written)
+        inner.settle(alloc, stores, place, written)
     }
 
     pub(crate) fn begin(
@@ -209,10 +208,10 @@ impl LazyGraph {
             return Err(Fault::Refused(Code::Limit));
         }
         make(&mut self.made, alloc)?;
-        let Some(web) = &mut self.made else {
+        let Some(inner) = &mut self.made else {
             unreachable!()
         };
-        Ok(web.begin(alloc, stores, place)?)
+        Ok(inner.begin(alloc, stores, place)?)
     }
 
     pub(crate) fn end(&mut self) -> Result<u32, Code>
@@ -223,19 +222,19 @@ impl LazyGraph {
         ensures step { StaysAt self.old self.new }
     {
         match &mut self.made {
-            Some(web) => web.end(),
+            Some(inner) => inner.end(),
             None => Err(Code::NoGroup),
         }
     }
 }
 
 /// Makes a graph where there is none.
-fn make(made: &mut Option<Box<Web>>, alloc: Global) -> Result<(), AllocError>
-    ensures same { woven_of made.new ≡ woven_of made.old }
+fn make(made: &mut Option<Box<BindingGraph>>, alloc: Global) -> Result<(), AllocError>
+    ensures same { pair_of made.new ≡ pair_of made.old }
     ensures made { OnOk result (IsSome made.new) }
 {
     if made.is_none() {
-        *made = Some(Box::new(alloc, Web::new(alloc))?);
+        *made = Some(Box::new(alloc, BindingGraph::new(alloc))?);
     }
     Ok(())
 }

@@ -1,6 +1,6 @@
-//! What bound properties show, and groups: for each place the bindings of its properties, what each property
-//! shows, and what a change changes. What was evaluated is kept, and evaluated again where a change reaches it. What
-//! the value of a bound property is, stands in `binding_values`.
+//! This crate keeps the bindings of each place and its groups: the value that each property shows, and the
+//! changes that a write causes. Results of evaluations are cached, and evaluated again where a change reaches
+//! them. The crate `binding_values` says what the value of a bound property is.
 #![tactic(auto)]
 
 mod bindings;
@@ -17,6 +17,6 @@ mod showing;
 mod shown;
 
 pub use bindings::Bindings;
-pub use change::{Change, Message};
-pub use laws::{fitting, openings, steps};
+pub use change::{Change, ChangeKind};
+pub use laws::{law_fitting, law_openings, law_steps};
 pub use lazy_graph::{BINDINGS, GROUPS};

@@ -1,4 +1,4 @@
-//! What has changed of the bindings of a place since it was settled.
+//! Pending marks record the changes of a place's bindings since it was settled.
 ghost use Rattle.std.specs.Prelude.{◌≡◌, false, not, true};
 ghost use Rattle.shared_rows.specs.Table.{IsPlace};
 ghost use Rattle.property_store.specs.Marks.{all_marks, has_marks, is_marked, marks_at, no_marks};
@@ -11,7 +11,7 @@ use std::alloc::Global;
 use std::marker::Model;
 use std::mem;
 
-/// So many properties are marked at most; where there are more, all are.
+/// At most this many properties are marked; where there are more, all are.
 const MARKS: usize = 16384;
 
 /// The properties that are marked, or that all are.

@@ -9,10 +9,10 @@ ghost use Rattle.binding_values.specs.Right.{AreMore};
 ghost use Rattle.binding_graph.specs.Cache.{IsInStep};
 ghost use Rattle.binding_graph.specs.Graph.{settled_changes, settled_graph, without_object};
 ghost use Rattle.binding_graph.specs.Drained.{IsStored};
-ghost use Rattle.binding_graph.specs.Woven.{IsAt, StaysKept, without_shown};
+ghost use Rattle.binding_graph.specs.GraphAndCache.{IsAt, StaysKept, without_shown};
 
 use crate::change::Change;
-use crate::graph::Web;
+use crate::graph::BindingGraph;
 use crate::pending::{Pending, drain};
 use binding_values::KeptValues;
 use plain_types::Items;
@@ -32,7 +32,8 @@ fn forget(pending: &mut Pending, kept: &mut KeptValues, at: Property)
     kept.forget(at);
 }
 
-/// So for the properties of an object, and for the one that stands for names that it does not declare.
+/// Forgets the cached results of an object's properties, and that of the one that stands for names that it does
+/// not declare.
 fn forget_object(pending: &mut Pending, kept: &mut KeptValues, object: u32, count: usize)
     ensures marked { (number : ℕ) → number ≤ count → is_marked pending.new (record { object = object; number = number }) ≡ true }
     ensures step { StaysKept pending.old kept.old pending.new kept.new }
@@ -58,7 +59,7 @@ fn declared(stores: &Stores, place: usize, object: u32) -> usize
     }
 }
 
-impl Web {
+impl BindingGraph {
     /// Lets go of an object that goes from the store, of its bindings and of what it showed. What has read its
     /// properties is marked.
     fn let_go(&mut self, object: u32, count: usize)

@@ -5,11 +5,11 @@ ghost use Rattle.property_store.specs.Marks.{has_marks, marks_at};
 ghost use Rattle.property_store.specs.Table.{store_at};
 ghost use Rattle.binding_graph.specs.Graph.{all_shown, begun, changes, settled_changes, settled_graph};
 ghost use Rattle.binding_graph.specs.Drained.{IsDrained};
-ghost use Rattle.binding_graph.specs.Woven.{IsAt};
+ghost use Rattle.binding_graph.specs.GraphAndCache.{IsAt};
 
 use crate::change::Change;
 use crate::changes::changes;
-use crate::graph::Web;
+use crate::graph::BindingGraph;
 use crate::pending::drain;
 use crate::show::{show_all, show_touched};
 use crate::showing::Showing;
@@ -17,7 +17,7 @@ use plain_types::Items;
 use property_store::{Property, Stores};
 use std::alloc::{AllocError, Global};
 
-/// What has changed, where that is asked.
+/// Returns the changes, where they are asked for.
 fn tell(
     alloc: Global,
     tells: bool,
@@ -33,7 +33,7 @@ fn tell(
     changes(alloc, last, now, written)
 }
 
-impl Web {
+impl BindingGraph {
     /// Evaluates all that is bound.
     fn refresh_all(
         &mut self,
@@ -129,7 +129,7 @@ impl Web {
         told
     }
 
-    /// What has changed since the last settling.
+    /// Returns the changes since the last settling.
     pub(crate) fn settle(
         &mut self,
         alloc: Global,

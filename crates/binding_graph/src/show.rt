@@ -1,4 +1,4 @@
-//! What properties show by the values and the bindings of now.
+//! These functions find the values that properties show by the values and the bindings of now.
 ghost use Rattle.std.specs.Prelude.{◌≡◌, ◌<◌, ◌++◌, [], ◌∷◌, if◌then◌else◌, IfOk, None, Ok, OnOk, filter_map, length, slice_index_or};
 ghost use Rattle.std.specs.Option.{option_map_or};
 ghost use Rattle.shared_rows.specs.Table.{IsPlace};
@@ -7,20 +7,19 @@ ghost use Rattle.property_store.specs.Property.{among, is_property};
 ghost use Rattle.property_store.specs.Store.{Properties};
 ghost use Rattle.property_store.specs.Table.{store_at};
 ghost use Rattle.binding_graph.specs.Graph.{AreShown, all_shown, shown_as, shown_at, shown_now};
-ghost use Rattle.binding_values.specs.Kept.{IsClosed, IsRight, kept_of};
+ghost use Rattle.binding_values.specs.EvalResult.{IsClosed, IsRight, kept_of};
 ghost use Rattle.binding_values.specs.Stored.{properties_of_object, scene_of};
 ghost use Rattle.binding_values.specs.Right.{IsComplete};
 
 use crate::showing::Showing;
 use crate::shown::Shown;
-use binding_values::{BindingError, Bound, Memory, cell_at, outcome};
-use binding_values::KeptValues;
+use binding_values::{BindingError, Bound, EvalCache, KeptValues, cell_at, outcome};
 use property_store::{Property, Stores, default_of};
 use signature_core::Kind;
 use std::alloc::{AllocError, Global};
 use variant_value::Value;
 
-/// What a property of a kind shows.
+/// Returns the value that a property of a kind shows.
 pub(crate) fn shown_as(at: Property, kind: Kind, outcome: Result<Value, BindingError>) -> Shown
     ensures { result ≡ shown_as at kind outcome }
 {
@@ -40,7 +39,7 @@ pub(crate) fn shown_as(at: Property, kind: Kind, outcome: Result<Value, BindingE
     }
 }
 
-/// What a property shows, where it is there; all is evaluated that it reads.
+/// Returns the value that a property shows, where it is there; all is evaluated that it reads.
 pub(crate) fn show(
     alloc: Global,
     stores: &Stores,
@@ -54,12 +53,12 @@ pub(crate) fn show(
     let Some((kind, _)) = cell_at(stores, place, at) else {
         return Ok(None);
     };
-    let mut done = Memory::new(alloc);
+    let mut done = EvalCache::new(alloc);
     let outcome = outcome(alloc, stores, place, bindings, &mut done, at)?;
     Ok(Some(shown_as(at, kind, outcome)))
 }
 
-/// What is kept of a property, or else what it stores.
+/// Returns the cached result of a property, or else its stored value.
 fn known(
     alloc: Global,
     kept: &KeptValues,
@@ -77,7 +76,7 @@ fn known(
     }
 }
 
-/// What a property shows, where it is there, by what is kept of all that is bound.
+/// Returns the value that a property shows, where it is there, by the cached results of all that is bound.
 pub(crate) fn show_kept(
     alloc: Global,
     stores: &Stores,
@@ -144,7 +143,7 @@ fn show_object(
     Ok(())
 }
 
-/// What all declared properties of a place show, by rising object and number.
+/// Returns the values that all declared properties of a place show, by rising object and number.
 pub(crate) fn show_all(
     alloc: Global,
     stores: &Stores,
@@ -164,7 +163,7 @@ pub(crate) fn show_all(
     Ok(Showing::from_rows(rows))
 }
 
-/// What properties show that are there.
+/// Returns the values of those of the properties that are there.
 fn show_each(
     alloc: Global,
     stores: &Stores,
@@ -195,8 +194,8 @@ fn put_in_order(properties: &mut [Property])
     properties.sort_unstable_by_key(|at| (at.object, at.number));
 }
 
-/// What touched properties show that are there. They are put in order first, so that what each shows stands behind
-/// what those before it show.
+/// Returns the values of those touched properties that are there. They are put in order first, so that the
+/// value of each stands after the values of those before it.
 pub(crate) fn show_touched(
     alloc: Global,
     stores: &Stores,

@@ -1,4 +1,4 @@
-//! What properties of a place show.
+//! A showing lists the values that the properties of a place show.
 ghost use Rattle.std.specs.Prelude.{◌≡◌, ◌<◌, ◌≤◌, ◌==◌, ◌+◌, [], IsOk, OnErr, OnOk, filter, not, vec_len};
 ghost use Rattle.std.specs.Vec.{vec_capacity};
 ghost use Rattle.std.specs.Option.{option_map};
@@ -12,7 +12,7 @@ use property_store::Property;
 use std::alloc::{AllocError, Global};
 use std::marker::Model;
 
-/// What properties show, by rising object and number.
+/// A showing lists the values that properties show, by rising object and number.
 #[derive(Drop)]
 pub(crate) struct Showing {
     rows: Vec<Shown>,
@@ -58,7 +58,7 @@ impl Showing {
         self.rows.as_slice()
     }
 
-    /// What a property shows.
+    /// Returns the value that a property shows.
     pub(crate) fn at(&self, at: Property) -> Option<&Shown>
         ensures { option_map (λ shown. shown.now) result ≡ shown_at self.now at }
     {

@@ -1,13 +1,13 @@
-//! What properties show.
+//! A property shows a value.
 ghost use Rattle.std.specs.Prelude.{◌≡◌, IfOk};
 
-use binding_values::{BindingError, Placed};
+use binding_values::{BindingError, HasProperty};
 use property_store::Property;
 use signature_core::Kind;
 use std::alloc::{AllocError, Global};
 use variant_value::Value;
 
-/// What a property shows: its value, or in error the default of its kind, and the error.
+/// A property shows its value, or in error the default of its kind, and the error.
 pub struct Shown {
     pub at: Property,
     pub kind: Kind,
@@ -26,7 +26,7 @@ impl Drop for Shown {
     }
 }
 
-impl Placed for Shown {
+impl HasProperty for Shown {
     ghost at = { λ shown. shown.at };
 
     fn at(&self) -> Property {

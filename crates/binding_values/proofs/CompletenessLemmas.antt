@@ -4,8 +4,8 @@ use Rattle.std.proofs.lemmas.Bool.{both_ways, false_from_ne_true}
 use Rattle.property_store.specs.declared.property.Property.{Property}
 use Rattle.property_store.specs.Marks.{Marks, is_marked, no_marks}
 use Rattle.binding_values.specs.Scene.{Scene, plain, settled}
-use Rattle.binding_values.specs.declared.kept.Kept.{Kept}
-use Rattle.binding_values.specs.Kept.{IsClosed, IsKept, IsRight, IsUnbound, IsWithin, Keeping, known}
+use Rattle.binding_values.specs.declared.eval_result.EvalResult.{EvalResult}
+use Rattle.binding_values.specs.EvalResult.{IsClosed, IsKept, IsRight, IsUnbound, IsWithin, Keeping, known}
 use Rattle.binding_values.proofs.KeptLemmas.{fresh_unbound, hand_unbound, known_kept, known_none, known_unbound, none_some, same_evaluation, unbound_unkept}
 use Rattle.binding_values.specs.Right.{AreMore, IsClear, IsComplete, IsRightBut, IsSpread, IsWhole, unmarked}
 
@@ -17,7 +17,7 @@ part_is_right scene less keeping right within closed q kept is =
     let same = same_evaluation scene scene (known scene keeping) (known scene less) q.object r.term (λ k d lt. refl) (subst (All (λ r. known scene less r ≡ known scene keeping r)) (sym r.reads) (λ k d lt. known_in _ (closed q kept is k d lt))) in
     record { cell = r.cell; term = r.term; there = r.there; bound = r.bound; outcome = ap (settled r.cell.kind) same.value ∙ r.outcome; reads = same.reads ∙ r.reads; value = r.value }
   where
-    none_kept : (r : Property) → keeping r ≡ None → (o : Option Kept) → less r ≡ o → o ≡ None
+    none_kept : (r : Property) → keeping r ≡ None → (o : Option EvalResult) → less r ≡ o → o ≡ None
     none_kept r none None e = refl
     none_kept r none (Some kept) e = absurd (none_some _ _ none (within r kept e))
 
@@ -53,14 +53,14 @@ complete_is_right scene marks keeping complete part within closed clear = part_i
 
 -- what is kept of the rest
 
-pub rest_kept : (marks : Marks) (keeping : Keeping) (q : Property) (kept : Kept) → unmarked marks keeping q ≡ Some kept → (is_marked marks q ≡ false) × (keeping q ≡ Some kept)
+pub rest_kept : (marks : Marks) (keeping : Keeping) (q : Property) (kept : EvalResult) → unmarked marks keeping q ≡ Some kept → (is_marked marks q ≡ false) × (keeping q ≡ Some kept)
 rest_kept marks keeping q kept is = by (is_marked marks q) is
   where
     by : (b : Bool) → cond b None (keeping q) ≡ Some kept → (b ≡ false) × (keeping q ≡ Some kept)
     by true e = absurd (cc)
     by false e = (refl, e)
 
-pub kept_of_rest : (marks : Marks) (keeping : Keeping) (q : Property) (kept : Kept) → is_marked marks q ≡ false → keeping q ≡ Some kept → unmarked marks keeping q ≡ Some kept
+pub kept_of_rest : (marks : Marks) (keeping : Keeping) (q : Property) (kept : EvalResult) → is_marked marks q ≡ false → keeping q ≡ Some kept → unmarked marks keeping q ≡ Some kept
 kept_of_rest marks keeping q kept off is = ap (λ b. cond b None (keeping q)) off ∙ is
 
 pub rest_is_right : (scene : Scene) (marks : Marks) (keeping : Keeping) → IsRightBut scene marks keeping → IsSpread scene marks keeping → IsRight scene (unmarked marks keeping) × IsClosed scene (unmarked marks keeping)

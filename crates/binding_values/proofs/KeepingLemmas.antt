@@ -5,14 +5,14 @@ use Rattle.std.specs.List.{AllWithin, cons_option, insert}
 use Rattle.property_store.proofs.ForCallers.{filter_all, none_passes}
 use Rattle.property_store.specs.declared.property.Property.{Property}
 use Rattle.property_store.specs.Property.{is_property}
-use Rattle.binding_values.specs.declared.kept.Done.{Done}
-use Rattle.binding_values.specs.declared.kept.Kept.{Kept}
+use Rattle.binding_values.specs.declared.eval_result.CacheEntry.{CacheEntry}
+use Rattle.binding_values.specs.declared.eval_result.EvalResult.{EvalResult}
 use Rattle.binding_values.specs.declared.kept_rows.KeptRow.{KeptRow}
 use Rattle.binding_values.specs.Keeping.{IsPut, done_of, standing}
-use Rattle.binding_values.specs.Kept.{kept_of}
+use Rattle.binding_values.specs.EvalResult.{kept_of}
 use Rattle.binding_values.specs.Sorted.{IsCountBefore, IsRising, is_before}
 use Rattle.binding_values.proofs.FuelLemmas.{property_eq}
-use Rattle.binding_values.proofs.MemoryLemmas.{inserted_here, inserted_other}
+use Rattle.binding_values.proofs.EvalCacheLemmas.{inserted_here, inserted_other}
 use Rattle.binding_values.proofs.SortedLemmas.{all_after, before_other, found_nowhere, found_there, inserted, is_other, replaced, with_rising}
 
 -- what is found where an element stands in place of another
@@ -31,7 +31,7 @@ module _ {X : Type 0} (p : X → Bool) where
 
 -- what is kept of the property of a row
 
-abbrev pub kept_in : Option KeptRow → Option Kept
+abbrev pub kept_in : Option KeptRow → Option EvalResult
 kept_in found = option_and_then (λ (row : KeptRow). row.kept) found
 
 none_standing : (rows : List KeptRow) (q : Property) → All (λ (row : KeptRow). is_property q row.at ≡ false) rows → kept_of (standing rows) q ≡ None
@@ -41,7 +41,7 @@ none_standing (row ∷ rows) q others = by row.kept (none_standing rows q (λ k 
     here : is_property q row.at ≡ false
     here = others 0 row (omega arith)
 
-    by : (kept : Option Kept) → kept_of (standing rows) q ≡ None → kept_of (cons_option (done_of (record { at = row.at; kept = kept })) (standing rows)) q ≡ None
+    by : (kept : Option EvalResult) → kept_of (standing rows) q ≡ None → kept_of (cons_option (done_of (record { at = row.at; kept = kept })) (standing rows)) q ≡ None
     by (Some kept) rest = rw here rest
     by None rest = rest
 
@@ -55,7 +55,7 @@ kept_at (row ∷ rows) q rising = by (is_property q row.at) refl row.kept (kept_
     later : is_property q row.at ≡ true → All (λ (row : KeptRow). is_property q row.at ≡ false) rows
     later same k d lt = is_other q (get_or rows k d).at (subst (λ (p : Property). is_before p (get_or rows k d).at ≡ true) (sym (property_eq q row.at same)) (rising 0 (suc k) d (omega arith) (omega arith)))
 
-    by : (same : Bool) → is_property q row.at ≡ same → (kept : Option Kept) → kept_of (standing rows) q ≡ kept_in (find wanted rows)
+    by : (same : Bool) → is_property q row.at ≡ same → (kept : Option EvalResult) → kept_of (standing rows) q ≡ kept_in (find wanted rows)
         → kept_of (cons_option (done_of (record { at = row.at; kept = kept })) (standing rows)) q ≡ kept_in (cond same (Some (record { at = row.at; kept = kept })) (find wanted rows))
     by true same (Some kept) rest = rw same refl
     by true same None rest = none_standing rows q (later same)
@@ -64,16 +64,16 @@ kept_at (row ∷ rows) q rising = by (is_property q row.at) refl row.kept (kept_
 
 -- fewer rows
 
-pub standing_filter : (p : Property → Bool) (rows : List KeptRow) → standing (filter (λ (row : KeptRow). p row.at) rows) ≡ filter (λ (row : Done). p row.at) (standing rows)
+pub standing_filter : (p : Property → Bool) (rows : List KeptRow) → standing (filter (λ (row : KeptRow). p row.at) rows) ≡ filter (λ (row : CacheEntry). p row.at) (standing rows)
 standing_filter p [] = refl
 standing_filter p (row ∷ rows) = by (p row.at) refl row.kept (standing_filter p rows)
   where
     fewer : List KeptRow
     fewer = filter (λ (row : KeptRow). p row.at) rows
 
-    by : (stays : Bool) → p row.at ≡ stays → (kept : Option Kept) → standing fewer ≡ filter (λ (row : Done). p row.at) (standing rows)
-        → standing (cond stays (record { at = row.at; kept = kept } ∷ fewer) fewer) ≡ filter (λ (row : Done). p row.at) (cons_option (done_of (record { at = row.at; kept = kept })) (standing rows))
-    by true stays (Some kept) rest = rw stays (ap (λ (done : List Done). record { at = row.at; kept = kept } ∷ done) rest)
+    by : (stays : Bool) → p row.at ≡ stays → (kept : Option EvalResult) → standing fewer ≡ filter (λ (row : CacheEntry). p row.at) (standing rows)
+        → standing (cond stays (record { at = row.at; kept = kept } ∷ fewer) fewer) ≡ filter (λ (row : CacheEntry). p row.at) (cons_option (done_of (record { at = row.at; kept = kept })) (standing rows))
+    by true stays (Some kept) rest = rw stays (ap (λ (done : List CacheEntry). record { at = row.at; kept = kept } ∷ done) rest)
     by true stays None rest = rest
     by false goes (Some kept) rest = rw goes rest
     by false goes None rest = rest
@@ -103,7 +103,7 @@ module _ (rows : List KeptRow) (place : ℕ) (at : Property) (rising : IsRising 
     pub none_there : kept_of (standing rows) at ≡ None
     none_there = kept_at rows at rising ∙ ap kept_in nowhere
 
-    pub others_only : standing rows ≡ filter (λ (row : Done). not (is_property at row.at)) (standing rows)
+    pub others_only : standing rows ≡ filter (λ (row : CacheEntry). not (is_property at row.at)) (standing rows)
     others_only = ap standing (sym (all_others at rows (none_passes (λ (row : KeptRow). is_property at row.at) rows nowhere))) ∙ standing_filter (λ q. not (is_property at q)) rows
 
   -- its row does
@@ -111,7 +111,7 @@ module _ (rows : List KeptRow) (place : ℕ) (at : Property) (rising : IsRising 
     pub kept_there : kept_of (standing rows) at ≡ (get_or rows place d).kept
     kept_there = kept_at rows at rising ∙ ap kept_in (found_there (λ (row : KeptRow). row.at) rows at place count d within here)
 
-    pub let_go : (new : KeptRow) → new.kept ≡ None → standing (set rows place new) ≡ filter (λ (row : Done). not (is_property at row.at)) (standing rows)
+    pub let_go : (new : KeptRow) → new.kept ≡ None → standing (set rows place new) ≡ filter (λ (row : CacheEntry). not (is_property at row.at)) (standing rows)
     let_go new gone =
         others_without at rows place new d gone within here (before_other (λ (row : KeptRow). row.at) rows at place count)
         (λ k e low high. is_other at (get_or rows k e).at (all_after (λ (row : KeptRow). row.at) rows at place count rising d within here k e low high))
@@ -127,7 +127,7 @@ module _ (rows : List KeptRow) (place : ℕ) (at : Property) (rising : IsRising 
 
 module _ (rows : List KeptRow) (place : ℕ) (new : KeptRow) (rising : IsRising (λ (row : KeptRow). row.at) rows) (count : IsCountBefore (λ (row : KeptRow). row.at) rows new.at place) where
   -- what is found of a property is the new row, or what was found before
-  put_by : (row : Done) → new.at ≡ row.at → new.kept ≡ Some row.kept → (after : List KeptRow) → IsRising (λ (row : KeptRow). row.at) after
+  put_by : (row : CacheEntry) → new.at ≡ row.at → new.kept ≡ Some row.kept → (after : List KeptRow) → IsRising (λ (row : KeptRow). row.at) after
       → ((q : Property) → is_property q new.at ≡ true → find (λ (row : KeptRow). is_property q row.at) after ≡ Some new)
       → ((q : Property) → is_property q new.at ≡ false → find (λ (row : KeptRow). is_property q row.at) after ≡ find (λ (row : KeptRow). is_property q row.at) rows)
       → IsPut row (standing rows) (standing after)
@@ -141,13 +141,13 @@ module _ (rows : List KeptRow) (place : ℕ) (new : KeptRow) (rising : IsRising 
     pub insert_rising : IsRising (λ (row : KeptRow). row.at) (insert rows place new)
     insert_rising = subst (IsRising (λ (row : KeptRow). row.at)) (sym (inserted (λ (row : KeptRow). row.at) new rows place rising count other)) (with_rising (λ (row : KeptRow). row.at) new rows rising)
 
-    pub put_new : (row : Done) → new.at ≡ row.at → new.kept ≡ Some row.kept → IsPut row (standing rows) (standing (insert rows place new))
+    pub put_new : (row : CacheEntry) → new.at ≡ row.at → new.kept ≡ Some row.kept → IsPut row (standing rows) (standing (insert rows place new))
     put_new row at_is kept_is = put_by row at_is kept_is (insert rows place new) insert_rising
         (λ q same. inserted_here (λ (row : KeptRow). is_property q row.at) rows place new same (ap (λ (p : Property). find (λ (row : KeptRow). is_property p row.at) rows) (property_eq q new.at same) ∙ nowhere rows place new.at rising count other))
         (λ q differs. inserted_other (λ (row : KeptRow). is_property q row.at) rows place new differs)
 
   module _ (within : place < length rows) (here : is_property new.at (get_or rows place new).at ≡ true) where
-    pub put_there : (row : Done) → new.at ≡ row.at → new.kept ≡ Some row.kept → IsPut row (standing rows) (standing (set rows place new))
+    pub put_there : (row : CacheEntry) → new.at ≡ row.at → new.kept ≡ Some row.kept → IsPut row (standing rows) (standing (set rows place new))
     put_there row at_is kept_is = put_by row at_is kept_is (set rows place new) (still_rising rows place new.at rising count new within here new refl)
         (λ q same. set_here (λ (row : KeptRow). is_property q row.at) rows place new within same
         (λ k d low high. ap (λ (p : Property). is_property p (get_or rows k d).at) (property_eq q new.at same) ∙ before_other (λ (row : KeptRow). row.at) rows new.at place count k d low high))

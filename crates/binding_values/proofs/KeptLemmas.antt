@@ -14,8 +14,8 @@ use Rattle.binding_values.specs.declared.property.BindingError.TheVariants.{Bind
 use Rattle.term_evaluation.specs.Met.{met_by}
 use Rattle.binding_values.specs.Scene.{Cell, Outcome, Scene, choose, evaluated, met, passed_on, plain, reader, reading, settled, stored, term_at}
 use Rattle.property_store.specs.Property.{among, is_property}
-use Rattle.binding_values.specs.declared.kept.Kept.{Kept}
-use Rattle.binding_values.specs.Kept.{at_hand, Agrees, IsClosed, IsKept, IsRight, IsRightAt, IsSteady, IsUnbound, IsWithin, Keeping, Knows, known}
+use Rattle.binding_values.specs.declared.eval_result.EvalResult.{EvalResult}
+use Rattle.binding_values.specs.EvalResult.{at_hand, Agrees, IsClosed, IsKept, IsRight, IsRightAt, IsSteady, IsUnbound, IsWithin, Keeping, Knows, known}
 use Rattle.binding_values.specs.Laws.{IsSubset}
 use Rattle.term_evaluation.proofs.ForCallers.{Follows, Turn, first_part, follows}
 use Rattle.binding_values.proofs.MapLemmas.{each_given}
@@ -85,19 +85,19 @@ same_or_loop_unbound scene seen q unbound = ⊎_elim (λ e. inr (loop_where_seen
 
 -- what is kept, and what is known by it
 
-pub known_kept : (scene : Scene) (keeping : Keeping) (q : Property) (kept : Kept) → keeping q ≡ Some kept → known scene keeping q ≡ kept.outcome
-known_kept scene keeping q kept is = ap (λ o. option_map_or (λ (kept : Kept). kept.outcome) o (at_hand scene q)) is
+pub known_kept : (scene : Scene) (keeping : Keeping) (q : Property) (kept : EvalResult) → keeping q ≡ Some kept → known scene keeping q ≡ kept.outcome
+known_kept scene keeping q kept is = ap (λ o. option_map_or (λ (kept : EvalResult). kept.outcome) o (at_hand scene q)) is
 
 pub hand_unbound : (scene : Scene) (q : Property) → IsUnbound scene q → at_hand scene q ≡ stored scene q
 hand_unbound scene q unbound = ap (λ o. option_map_or (λ (term : Term). Err BindingLoop) o (stored scene q)) unbound
 
 pub known_none : (scene : Scene) (keeping : Keeping) (q : Property) → keeping q ≡ None → known scene keeping q ≡ at_hand scene q
-known_none scene keeping q none = ap (λ o. option_map_or (λ (kept : Kept). kept.outcome) o (at_hand scene q)) none
+known_none scene keeping q none = ap (λ o. option_map_or (λ (kept : EvalResult). kept.outcome) o (at_hand scene q)) none
 
 pub unbound_unkept : (scene : Scene) (keeping : Keeping) → IsRight scene keeping → (q : Property) → IsUnbound scene q → keeping q ≡ None
 unbound_unkept scene keeping right q unbound = by (keeping q) refl
   where
-    by : (o : Option Kept) → keeping q ≡ o → o ≡ None
+    by : (o : Option EvalResult) → keeping q ≡ o → o ≡ None
     by None e = refl
     by (Some kept) e = absurd (none_some _ _ unbound (right q kept e).bound)
 
@@ -133,9 +133,9 @@ module _ (a b : Scene) (keeping : Keeping) (right : IsRight a keeping) (agrees :
   -- a property that is kept has where more was seen, apart from what is kept, in the other scene the value
   -- that it has in the one
   abbrev Carried : List Property → Type 0
-  Carried one = (more : List Property) → IsBeside b keeping one more → (q : Property) (kept : Kept) → keeping q ≡ Some kept → plain b more q ≡ plain a one q
+  Carried one = (more : List Property) → IsBeside b keeping one more → (q : Property) (kept : EvalResult) → keeping q ≡ Some kept → plain b more q ≡ plain a one q
 
-  carried_read : (one : List Property) (more : List Property) → IsBeside b keeping one more → ((r : Property) (kept : Kept) → keeping r ≡ Some kept → plain b more r ≡ plain a one r) → (r : Property) → IsSteady a b keeping r → plain b more r ≡ plain a one r
+  carried_read : (one : List Property) (more : List Property) → IsBeside b keeping one more → ((r : Property) (kept : EvalResult) → keeping r ≡ Some kept → plain b more r ≡ plain a one r) → (r : Property) → IsSteady a b keeping r → plain b more r ≡ plain a one r
   carried_read one more c next r (inl (kept, is)) = next r kept is
   carried_read one more c next r (inr (in_a, in_b, same)) = ⊎_elim seen fresh (cases_Bool (among r one))
     where
@@ -146,10 +146,10 @@ module _ (a b : Scene) (keeping : Keeping) (right : IsRight a keeping) (agrees :
       fresh e = ⊎_elim (λ h. absurd (c.bound r h e in_b)) (λ h. fresh_unbound b more r in_b h ∙ (sym same ∙ sym (fresh_unbound a one r in_a e))) (cases_Bool (among r more))
 
   -- what is really read with properties seen is the first of what was read
-  read_so_far : (one : List Property) (q : Property) (kept : Kept) → keeping q ≡ Some kept → (term : Term) → term_at a.bindings q ≡ Some term → (object : ℕ) → All (IsSteady a b keeping) (met a (known a keeping) object term) → (rest : List Read) × (met_by [] (reader a (known a keeping) object) term ≡ met_by [] (reader a (plain a one) object) term ++ rest)
+  read_so_far : (one : List Property) (q : Property) (kept : EvalResult) → keeping q ≡ Some kept → (term : Term) → term_at a.bindings q ≡ Some term → (object : ℕ) → All (IsSteady a b keeping) (met a (known a keeping) object term) → (rest : List Read) × (met_by [] (reader a (known a keeping) object) term ≡ met_by [] (reader a (plain a one) object) term ++ rest)
   read_so_far one q kept is term bound object steady = met_before IsLoop _ _ _ _ (goes_as a (known a keeping) (plain a one) object term (λ k d lt. each _ (steady k d lt)))
     where
-      back : (r : Property) (k : Kept) → keeping r ≡ Some k → IsSameOrLoop (plain a one r) (plain a [] r) → IsSameOrLoop (plain a one r) (known a keeping r)
+      back : (r : Property) (k : EvalResult) → keeping r ≡ Some k → IsSameOrLoop (plain a one r) (plain a [] r) → IsSameOrLoop (plain a one r) (known a keeping r)
       back r k e (inl same) = inl (same ∙ ((right r k e).value ∙ sym (known_kept a keeping r k e)))
       back r k e (inr loop) = inr loop
 
@@ -157,10 +157,10 @@ module _ (a b : Scene) (keeping : Keeping) (right : IsRight a keeping) (agrees :
       each r (inl (k, e)) = back r k e (same_or_loop a [] one (λ z h. absurd (both_ways false refl h)) r)
       each r (inr (in_a, in_b, same)) = subst (IsSameOrLoop (plain a one r)) (sym (known_unbound a keeping right r in_a)) (same_or_loop_unbound a one r in_a)
 
-  pub steady_reads : (q : Property) (kept : Kept) (is : keeping q ≡ Some kept) → All (IsSteady a b keeping) (met a (known a keeping) q.object (right q kept is).term)
+  pub steady_reads : (q : Property) (kept : EvalResult) (is : keeping q ≡ Some kept) → All (IsSteady a b keeping) (met a (known a keeping) q.object (right q kept is).term)
   steady_reads q kept is = subst (All (IsSteady a b keeping)) (sym (right q kept is).reads) (agrees q kept is).reads
 
-  same_value : (one more : List Property) → ((r : Property) → IsSteady a b keeping r → plain b more r ≡ plain a one r) → (q : Property) (kept : Kept) (is : keeping q ≡ Some kept) → eval_by [] (reader b (plain b more) q.object) (right q kept is).term ≡ eval_by [] (reader a (plain a one) q.object) (right q kept is).term
+  same_value : (one more : List Property) → ((r : Property) → IsSteady a b keeping r → plain b more r ≡ plain a one r) → (q : Property) (kept : EvalResult) (is : keeping q ≡ Some kept) → eval_by [] (reader b (plain b more) q.object) (right q kept is).term ≡ eval_by [] (reader a (plain a one) q.object) (right q kept is).term
   same_value one more values q kept is =
       let r = right q kept is in
       let first = read_so_far one q kept is r.term r.bound q.object (steady_reads q kept is) in
@@ -173,7 +173,7 @@ module _ (a b : Scene) (keeping : Keeping) (right : IsRight a keeping) (agrees :
       at None h = tt
       at (Some r) h = values r h
 
-  pub cell_there : (q : Property) (kept : Kept) (is : keeping q ≡ Some kept) → (d : Cell) × (b.cell_at q ≡ Some d) × ((right q kept is).cell.kind ≡ d.kind)
+  pub cell_there : (q : Property) (kept : EvalResult) (is : keeping q ≡ Some kept) → (d : Cell) × (b.cell_at q ≡ Some d) × ((right q kept is).cell.kind ≡ d.kind)
   cell_there q kept is = same_kind (b.cell_at q) (right q kept is).cell (ap (option_map (λ cell. cell.kind)) (sym (right q kept is).there) ∙ (agrees q kept is).kind)
 
   carried : (one : List Property) → Carried one
@@ -209,10 +209,10 @@ right_is_known scene keeping right closed = knows scene scene keeping right agre
     agrees : Agrees scene scene keeping
     agrees q kept is = record { kind = refl; term = refl; names = λ term bound k d lt. refl; reads = λ k d lt. steady _ (closed q kept is k d lt) }
 
-pub more_is_right : (scene : Scene) (keeping more : Keeping) → IsRight scene keeping → IsClosed scene keeping → IsWithin keeping more → ((q : Property) (kept : Kept) → more q ≡ Some kept → keeping q ≡ None → IsRightAt scene more q kept) → IsRight scene more
+pub more_is_right : (scene : Scene) (keeping more : Keeping) → IsRight scene keeping → IsClosed scene keeping → IsWithin keeping more → ((q : Property) (kept : EvalResult) → more q ≡ Some kept → keeping q ≡ None → IsRightAt scene more q kept) → IsRight scene more
 more_is_right scene keeping more right closed within rest q kept is = by (keeping q) refl
   where
-    bound_unkept : (r : Property) → IsUnbound scene r → (o : Option Kept) → more r ≡ o → (p : Option Kept) → keeping r ≡ p → o ≡ None
+    bound_unkept : (r : Property) → IsUnbound scene r → (o : Option EvalResult) → more r ≡ o → (p : Option EvalResult) → keeping r ≡ p → o ≡ None
     bound_unkept r unbound None e p f = refl
     bound_unkept r unbound (Some k) e None f = absurd (none_some _ _ unbound (rest r k e f).bound)
     bound_unkept r unbound (Some k) e (Some old) f = absurd (none_some _ _ unbound (right r old f).bound)
@@ -222,15 +222,15 @@ more_is_right scene keeping more right closed within rest q kept is = by (keepin
     known_in r (inr unbound) =
         (known_none scene more r (bound_unkept r unbound (more r) refl (keeping r) refl) ∙ hand_unbound scene r unbound) ∙ sym (known_unbound scene keeping right r unbound)
 
-    same_kept : (k : Kept) → keeping q ≡ Some k → k ≡ kept
+    same_kept : (k : EvalResult) → keeping q ≡ Some k → k ≡ kept
     same_kept k e = let both : Some k ≡ Some kept = sym (within q k e) ∙ is in cc
 
-    old : (k : Kept) → keeping q ≡ Some k → IsRightAt scene more q k
+    old : (k : EvalResult) → keeping q ≡ Some k → IsRightAt scene more q k
     old k e =
         let r = right q k e in
         let same = same_evaluation scene scene (known scene keeping) (known scene more) q.object r.term (λ k d lt. refl) (subst (All (λ r. known scene more r ≡ known scene keeping r)) (sym r.reads) (λ n d lt. known_in _ (closed q k e n d lt))) in
         record { cell = r.cell; term = r.term; there = r.there; bound = r.bound; outcome = ap (settled r.cell.kind) same.value ∙ r.outcome; reads = same.reads ∙ r.reads; value = r.value }
 
-    by : (o : Option Kept) → keeping q ≡ o → IsRightAt scene more q kept
+    by : (o : Option EvalResult) → keeping q ≡ o → IsRightAt scene more q kept
     by None e = rest q kept is e
     by (Some k) e = subst (IsRightAt scene more q) (same_kept k e) (old k e)

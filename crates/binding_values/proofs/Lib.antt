@@ -9,7 +9,7 @@ pub mod StackLemmas
 pub mod SortedLemmas
 pub mod BoundLemmas
 pub mod StoredLemmas
-pub mod MemoryLemmas
+pub mod EvalCacheLemmas
 pub mod KeepingLemmas
 pub mod ReaderLemmas
 pub mod ReachedLemmas

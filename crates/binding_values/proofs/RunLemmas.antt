@@ -6,14 +6,14 @@ use Rattle.std.proofs.lemmas.List.Elements.{All-append, All-cons, All-nil}
 use Rattle.term_core.specs.Term.{Term}
 use Rattle.term_evaluation.specs.declared.reading.Read.{Read}
 use Rattle.term_evaluation.specs.Outcomes.{own}
-use Rattle.binding_values.specs.declared.kept.Done.{Done}
-use Rattle.binding_values.specs.declared.kept.Kept.{Kept}
+use Rattle.binding_values.specs.declared.eval_result.CacheEntry.{CacheEntry}
+use Rattle.binding_values.specs.declared.eval_result.EvalResult.{EvalResult}
 use Rattle.property_store.specs.declared.property.Property.{Property}
 use Rattle.binding_values.specs.declared.property.BindingError.TheVariants.{BindingLoop}
 use Rattle.term_evaluation.specs.Met.{met_by}
 use Rattle.binding_values.specs.Scene.{Scene, met, passed_on, plain, reader, reading, settled, stored, term_at}
 use Rattle.property_store.specs.Property.{among, is_property}
-use Rattle.binding_values.specs.Kept.{Apart, IsClosed, IsKept, IsRight, IsRightAt, IsUnbound, IsWithin, Keeping, kept_of, known}
+use Rattle.binding_values.specs.EvalResult.{Apart, IsClosed, IsKept, IsRight, IsRightAt, IsUnbound, IsWithin, Keeping, kept_of, known}
 use Rattle.term_evaluation.specs.Met.{EachButLast}
 use Rattle.binding_values.specs.Run.{IsSettled, IsTried, Stacked, WaitsFor, ats}
 use Rattle.term_evaluation.proofs.ForCallers.{IsValue, goes_on}
@@ -27,7 +27,7 @@ settled_by : (scene : Scene) (keeping : Keeping) (o : Option Property) → IsVal
 settled_by scene keeping None h = tt
 settled_by scene keeping (Some q) (value, e) = by (keeping q) (term_at scene.bindings q) refl refl
   where
-    by : (o : Option Kept) (term : Option Term) → keeping q ≡ o → term_at scene.bindings q ≡ term → IsSettled scene keeping q
+    by : (o : Option EvalResult) (term : Option Term) → keeping q ≡ o → term_at scene.bindings q ≡ term → IsSettled scene keeping q
     by (Some kept) term is bound = inl (kept, is)
     by None None is bound = inr bound
     by None (Some term) is bound =
@@ -41,39 +41,39 @@ settled_but_last scene keeping object term =
 
 -- rows
 
-pub kept_append_some : (D E : List Done) (q : Property) (kept : Kept) → kept_of D q ≡ Some kept → kept_of (D ++ E) q ≡ Some kept
+pub kept_append_some : (D E : List CacheEntry) (q : Property) (kept : EvalResult) → kept_of D q ≡ Some kept → kept_of (D ++ E) q ≡ Some kept
 kept_append_some [] E q kept is = absurd (cc)
 kept_append_some (row ∷ rest) E q kept is = by (is_property q row.at) is (kept_append_some rest E q kept)
   where
-    by : (t : Bool) → option_map (λ (row : Done). row.kept) (cond t (Some row) (find (λ (row : Done). is_property q row.at) rest)) ≡ Some kept → (kept_of rest q ≡ Some kept → kept_of (rest ++ E) q ≡ Some kept) → option_map (λ (row : Done). row.kept) (cond t (Some row) (find (λ (row : Done). is_property q row.at) (rest ++ E))) ≡ Some kept
+    by : (t : Bool) → option_map (λ (row : CacheEntry). row.kept) (cond t (Some row) (find (λ (row : CacheEntry). is_property q row.at) rest)) ≡ Some kept → (kept_of rest q ≡ Some kept → kept_of (rest ++ E) q ≡ Some kept) → option_map (λ (row : CacheEntry). row.kept) (cond t (Some row) (find (λ (row : CacheEntry). is_property q row.at) (rest ++ E))) ≡ Some kept
     by true e next = e
     by false e next = next e
 
-pub kept_append_none : (D E : List Done) (q : Property) → kept_of D q ≡ None → kept_of (D ++ E) q ≡ kept_of E q
+pub kept_append_none : (D E : List CacheEntry) (q : Property) → kept_of D q ≡ None → kept_of (D ++ E) q ≡ kept_of E q
 kept_append_none [] E q none = refl
 kept_append_none (row ∷ rest) E q none = by (is_property q row.at) none (kept_append_none rest E q)
   where
-    by : (t : Bool) → option_map (λ (row : Done). row.kept) (cond t (Some row) (find (λ (row : Done). is_property q row.at) rest)) ≡ None → (kept_of rest q ≡ None → kept_of (rest ++ E) q ≡ kept_of E q) → option_map (λ (row : Done). row.kept) (cond t (Some row) (find (λ (row : Done). is_property q row.at) (rest ++ E))) ≡ kept_of E q
+    by : (t : Bool) → option_map (λ (row : CacheEntry). row.kept) (cond t (Some row) (find (λ (row : CacheEntry). is_property q row.at) rest)) ≡ None → (kept_of rest q ≡ None → kept_of (rest ++ E) q ≡ kept_of E q) → option_map (λ (row : CacheEntry). row.kept) (cond t (Some row) (find (λ (row : CacheEntry). is_property q row.at) (rest ++ E))) ≡ kept_of E q
     by true e next = absurd (cc)
     by false e next = next e
 
-pub kept_within : (D E : List Done) → IsWithin (kept_of D) (kept_of (D ++ E))
+pub kept_within : (D E : List CacheEntry) → IsWithin (kept_of D) (kept_of (D ++ E))
 kept_within D E q kept is = kept_append_some D E q kept is
 
 -- what rows keep of a property that stands in them
-pub kept_among : (rows : List Done) (q : Property) → among q (ats rows) ≡ true → IsKept (kept_of rows) q
+pub kept_among : (rows : List CacheEntry) (q : Property) → among q (ats rows) ≡ true → IsKept (kept_of rows) q
 kept_among [] q h = absurd (cc)
 kept_among (row ∷ rest) q h = by (is_property q row.at) h (kept_among rest q)
   where
-    by : (t : Bool) → (t || among q (ats rest)) ≡ true → (among q (ats rest) ≡ true → IsKept (kept_of rest) q) → (kept : Kept) × (option_map (λ (row : Done). row.kept) (cond t (Some row) (find (λ (row : Done). is_property q row.at) rest)) ≡ Some kept)
+    by : (t : Bool) → (t || among q (ats rest)) ≡ true → (among q (ats rest) ≡ true → IsKept (kept_of rest) q) → (kept : EvalResult) × (option_map (λ (row : CacheEntry). row.kept) (cond t (Some row) (find (λ (row : CacheEntry). is_property q row.at) rest)) ≡ Some kept)
     by true e next = (row.kept, refl)
     by false e next = next e
 
-pub among_kept : (rows : List Done) (q : Property) (kept : Kept) → kept_of rows q ≡ Some kept → among q (ats rows) ≡ true
+pub among_kept : (rows : List CacheEntry) (q : Property) (kept : EvalResult) → kept_of rows q ≡ Some kept → among q (ats rows) ≡ true
 among_kept [] q kept is = absurd (cc)
 among_kept (row ∷ rest) q kept is = by (is_property q row.at) is (among_kept rest q kept)
   where
-    by : (t : Bool) → option_map (λ (row : Done). row.kept) (cond t (Some row) (find (λ (row : Done). is_property q row.at) rest)) ≡ Some kept → (kept_of rest q ≡ Some kept → among q (ats rest) ≡ true) → (t || among q (ats rest)) ≡ true
+    by : (t : Bool) → option_map (λ (row : CacheEntry). row.kept) (cond t (Some row) (find (λ (row : CacheEntry). is_property q row.at) rest)) ≡ Some kept → (kept_of rest q ≡ Some kept → among q (ats rest) ≡ true) → (t || among q (ats rest)) ≡ true
     by true e next = refl
     by false e next = next e
 
@@ -95,16 +95,16 @@ pub apart_none : (scene : Scene) (keeping : Keeping) → Apart scene keeping []
 apart_none scene keeping = record { absent = λ r h. absurd (both_ways false refl h); bound = λ r h u. both_ways false refl h }
 
 -- more is kept: each new row is right by what was kept before
-pub record IsNew (scene : Scene) (keeping more : Keeping) (q : Property) (kept : Kept) : Type 0 where
+pub record IsNew (scene : Scene) (keeping more : Keeping) (q : Property) (kept : EvalResult) : Type 0 where
   pub tried : IsTried scene keeping q kept
   pub same : All (λ r. known scene more r ≡ known scene keeping r) kept.reads
   pub value : plain scene [] q ≡ kept.outcome
   pub closed : All (λ r. IsKept more r ⊎ IsUnbound scene r) kept.reads
 
-pub grows : (scene : Scene) (keeping more : Keeping) → IsRight scene keeping → IsClosed scene keeping → IsWithin keeping more → ((q : Property) (kept : Kept) → more q ≡ Some kept → keeping q ≡ None → IsNew scene keeping more q kept) → IsRight scene more × IsClosed scene more
+pub grows : (scene : Scene) (keeping more : Keeping) → IsRight scene keeping → IsClosed scene keeping → IsWithin keeping more → ((q : Property) (kept : EvalResult) → more q ≡ Some kept → keeping q ≡ None → IsNew scene keeping more q kept) → IsRight scene more × IsClosed scene more
 grows scene keeping more right closed within new = (more_is_right scene keeping more right closed within rest, still_closed)
   where
-    rest : (q : Property) (kept : Kept) → more q ≡ Some kept → keeping q ≡ None → IsRightAt scene more q kept
+    rest : (q : Property) (kept : EvalResult) → more q ≡ Some kept → keeping q ≡ None → IsRightAt scene more q kept
     rest q kept is none =
         let n = new q kept is none in
         let same = same_evaluation scene scene (known scene keeping) (known scene more) q.object n.tried.term (λ k d lt. refl) (subst (All (λ r. known scene more r ≡ known scene keeping r)) (sym n.tried.reads) n.same) in
@@ -113,20 +113,20 @@ grows scene keeping more right closed within new = (more_is_right scene keeping 
     still_closed : IsClosed scene more
     still_closed q kept is = by (keeping q) refl
       where
-        old : (k : Kept) → keeping q ≡ Some k → k ≡ kept → All (λ r. IsKept more r ⊎ IsUnbound scene r) kept.reads
-        old k e same = subst (λ (k : Kept). All (λ r. IsKept more r ⊎ IsUnbound scene r) k.reads) same (λ n d lt. wider _ (closed q k e n d lt))
+        old : (k : EvalResult) → keeping q ≡ Some k → k ≡ kept → All (λ r. IsKept more r ⊎ IsUnbound scene r) kept.reads
+        old k e same = subst (λ (k : EvalResult). All (λ r. IsKept more r ⊎ IsUnbound scene r) k.reads) same (λ n d lt. wider _ (closed q k e n d lt))
           where
             wider : (r : Property) → IsKept keeping r ⊎ IsUnbound scene r → IsKept more r ⊎ IsUnbound scene r
             wider r (inl (k', e')) = inl (k', within r k' e')
             wider r (inr unbound) = inr unbound
 
-        by : (o : Option Kept) → keeping q ≡ o → All (λ r. IsKept more r ⊎ IsUnbound scene r) kept.reads
+        by : (o : Option EvalResult) → keeping q ≡ o → All (λ r. IsKept more r ⊎ IsUnbound scene r) kept.reads
         by None e = (new q kept is e).closed
         by (Some k) e = old k e (let both : Some k ≡ Some kept = sym (within q k e) ∙ is in cc)
 
 -- an evaluation that has come to nothing but what is settled is the value
 
-finished_value : (scene : Scene) (keeping : Keeping) → IsRight scene keeping → IsClosed scene keeping → (q : Property) (kept : Kept) → IsTried scene keeping q kept → All (IsSettled scene keeping) kept.reads → plain scene [] q ≡ kept.outcome
+finished_value : (scene : Scene) (keeping : Keeping) → IsRight scene keeping → IsClosed scene keeping → (q : Property) (kept : EvalResult) → IsTried scene keeping q kept → All (IsSettled scene keeping) kept.reads → plain scene [] q ≡ kept.outcome
 finished_value scene keeping right closed q kept tried all =
     let apart = apart_one scene keeping q tried.term tried.bound tried.absent [] (apart_none scene keeping) in
     let same = same_evaluation scene scene (known scene keeping) (plain scene (q ∷ [])) q.object tried.term (λ k d lt. refl) (subst (All (λ r. plain scene (q ∷ []) r ≡ known scene keeping r)) (sym tried.reads) (λ k d lt. settled_value scene keeping right closed (q ∷ []) apart _ (all k d lt))) in
@@ -143,28 +143,28 @@ still_settled scene keeping more within r (inr unbound) = inr unbound
 
 -- one row more
 
-module _ (scene : Scene) (D : List Done) (row : Done) (right : IsRight scene (kept_of D)) (closed : IsClosed scene (kept_of D)) (tried : IsTried scene (kept_of D) row.at row.kept) where
-  More : List Done
+module _ (scene : Scene) (D : List CacheEntry) (row : CacheEntry) (right : IsRight scene (kept_of D)) (closed : IsClosed scene (kept_of D)) (tried : IsTried scene (kept_of D) row.at row.kept) where
+  More : List CacheEntry
   More = D ++ row ∷ []
 
-  own_row : (q : Property) (kept : Kept) → kept_of D q ≡ None → kept_of (D ++ row ∷ []) q ≡ Some kept → (q ≡ row.at) × (row.kept ≡ kept)
+  own_row : (q : Property) (kept : EvalResult) → kept_of D q ≡ None → kept_of (D ++ row ∷ []) q ≡ Some kept → (q ≡ row.at) × (row.kept ≡ kept)
   own_row q kept none is = by (is_property q row.at) refl (sym (kept_append_none D (row ∷ []) q none) ∙ is)
     where
-      by : (t : Bool) → is_property q row.at ≡ t → option_map (λ (row : Done). row.kept) (cond t (Some row) None) ≡ Some kept → (q ≡ row.at) × (row.kept ≡ kept)
+      by : (t : Bool) → is_property q row.at ≡ t → option_map (λ (row : CacheEntry). row.kept) (cond t (Some row) None) ≡ Some kept → (q ≡ row.at) × (row.kept ≡ kept)
       by true e h = (property_eq q row.at e, cc)
       by false e h = absurd (cc)
 
   unbound_new : (r : Property) → IsUnbound scene r → kept_of (D ++ row ∷ []) r ≡ None
   unbound_new r unbound = by (kept_of (D ++ row ∷ []) r) refl
     where
-      by : (o : Option Kept) → kept_of (D ++ row ∷ []) r ≡ o → o ≡ None
+      by : (o : Option EvalResult) → kept_of (D ++ row ∷ []) r ≡ o → o ≡ None
       by None e = refl
       by (Some kept) e =
           let own = own_row r kept (unbound_unkept scene (kept_of D) right r unbound) e in
           absurd (none_some _ _ unbound (ap (term_at scene.bindings) own.0 ∙ tried.bound))
 
   pub others_none : (z : Property) → kept_of D z ≡ None → is_property z row.at ≡ false → kept_of (D ++ row ∷ []) z ≡ None
-  others_none z none off = kept_append_none D (row ∷ []) z none ∙ ap (λ t. option_map (λ (row : Done). row.kept) (cond t (Some row) None)) off
+  others_none z none off = kept_append_none D (row ∷ []) z none ∙ ap (λ t. option_map (λ (row : CacheEntry). row.kept) (cond t (Some row) None)) off
 
   -- a row whose reads are all settled
   pub finished : All (IsSettled scene (kept_of D)) row.kept.reads → IsRight scene (kept_of (D ++ row ∷ [])) × IsClosed scene (kept_of (D ++ row ∷ []))
@@ -178,13 +178,13 @@ module _ (scene : Scene) (D : List Done) (row : Done) (right : IsRight scene (ke
         closed = λ k d lt. still_settled scene (kept_of D) (kept_of (D ++ row ∷ [])) (kept_within D (row ∷ [])) _ (all k d lt);
       }
 
-      new : (q : Property) (kept : Kept) → kept_of (D ++ row ∷ []) q ≡ Some kept → kept_of D q ≡ None → IsNew scene (kept_of D) (kept_of (D ++ row ∷ [])) q kept
+      new : (q : Property) (kept : EvalResult) → kept_of (D ++ row ∷ []) q ≡ Some kept → kept_of D q ≡ None → IsNew scene (kept_of D) (kept_of (D ++ row ∷ [])) q kept
       new q kept is none =
           let own = own_row q kept none is in
           subst (λ z. IsNew scene (kept_of D) (kept_of (D ++ row ∷ [])) z kept) (sym own.0) (subst (IsNew scene (kept_of D) (kept_of (D ++ row ∷ [])) row.at) own.1 at_row)
 
   -- what waits for another property waits for it still
-  waits_still : (q : Property) (kept : Kept) (next : Property) → IsTried scene (kept_of D) q kept → WaitsFor scene (kept_of D) kept.reads next → is_property q row.at ≡ false → is_property next row.at ≡ false → IsTried scene (kept_of (D ++ row ∷ [])) q kept × WaitsFor scene (kept_of (D ++ row ∷ [])) kept.reads next
+  waits_still : (q : Property) (kept : EvalResult) (next : Property) → IsTried scene (kept_of D) q kept → WaitsFor scene (kept_of D) kept.reads next → is_property q row.at ≡ false → is_property next row.at ≡ false → IsTried scene (kept_of (D ++ row ∷ [])) q kept × WaitsFor scene (kept_of (D ++ row ∷ [])) kept.reads next
   waits_still q kept next t w off next_off =
       let within = kept_within D (row ∷ []) in
       let next_none = others_none next w.absent next_off in
@@ -196,7 +196,7 @@ module _ (scene : Scene) (D : List Done) (row : Done) (right : IsRight scene (ke
         record { front = w.front; last = w.last; settled = λ k d lt. still_settled scene (kept_of D) (kept_of (D ++ row ∷ [])) within _ (w.settled k d lt); term = w.term; bound = w.bound; absent = next_none },
       )
 
-  pub stacked_still : (rows : List Done) (top : Property) → Stacked scene (kept_of D) rows top → among row.at (top ∷ ats rows) ≡ false → Stacked scene (kept_of (D ++ row ∷ [])) rows top
+  pub stacked_still : (rows : List CacheEntry) (top : Property) → Stacked scene (kept_of D) rows top → among row.at (top ∷ ats rows) ≡ false → Stacked scene (kept_of (D ++ row ∷ [])) rows top
   stacked_still [] top stack off = tt
   stacked_still (r ∷ rest) top stack off =
       let parts = or_parts (is_property row.at top) (among row.at (ats (r ∷ rest))) off in

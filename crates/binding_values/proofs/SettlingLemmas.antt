@@ -6,9 +6,9 @@ use Rattle.property_store.specs.declared.property.Property.{Property}
 use Rattle.property_store.specs.Property.{among, is_property}
 use Rattle.property_store.specs.Store.{Store}
 use Rattle.binding_values.specs.declared.binding.Binding.{Binding}
-use Rattle.binding_values.specs.declared.kept.Done.{Done}
-use Rattle.binding_values.specs.declared.kept.Kept.{Kept}
-use Rattle.binding_values.specs.Kept.{IsClosed, IsKept, IsRight, IsUnbound, IsWithin, Keeping, kept_of}
+use Rattle.binding_values.specs.declared.eval_result.CacheEntry.{CacheEntry}
+use Rattle.binding_values.specs.declared.eval_result.EvalResult.{EvalResult}
+use Rattle.binding_values.specs.EvalResult.{IsClosed, IsKept, IsRight, IsUnbound, IsWithin, Keeping, kept_of}
 use Rattle.binding_values.specs.Reached.{AreKeptToo, IsLonger, IsReached}
 use Rattle.binding_values.specs.Run.{IsSettled}
 use Rattle.binding_values.specs.Scene.{Scene, term_at}
@@ -33,8 +33,8 @@ right_more scene old new keeping longer right part within closed clear =
 pub whole_more : (scene : Scene) (old new : List Property) (keeping : Keeping) → IsLonger old new → IsWhole scene (only old) keeping → IsWhole scene (only new) keeping
 whole_more scene old new keeping longer whole q off = whole q (false_from_ne_true (among q old) (λ on. both_ways (among q new) off (longer_among old new longer q on)))
 
-module _ (scene : Scene) (before : Keeping) (touched : List Property) (rows : List Done) (reached : IsReached before touched rows) where
-  stays : (q : Property) (kept : Kept) → among q touched ≡ false → before q ≡ Some kept → kept_of rows q ≡ Some kept
+module _ (scene : Scene) (before : Keeping) (touched : List Property) (rows : List CacheEntry) (reached : IsReached before touched rows) where
+  stays : (q : Property) (kept : EvalResult) → among q touched ≡ false → before q ≡ Some kept → kept_of rows q ≡ Some kept
   stays q kept off is = reached.gone q ∙ (ap (λ b. cond b None (before q)) off ∙ is)
 
   reached_spread : IsWhole scene (only touched) before → IsSpread scene (only touched) before
@@ -62,11 +62,11 @@ module _ (scene : Scene) (before : Keeping) (touched : List Property) (rows : Li
     pub is_same : (q : Property) → among q touched ≡ false → after q ≡ before q
     is_same q off = by (whole q off)
       where
-        never : IsUnbound scene q → (o : Option Kept) → after q ≡ o → o ≡ None
+        never : IsUnbound scene q → (o : Option EvalResult) → after q ≡ o → o ≡ None
         never unbound None is = refl
         never unbound (Some kept) is = absurd (let bound = (right q kept is).bound in cc)
 
-        none : IsUnbound scene q → (o : Option Kept) → before q ≡ o → after q ≡ o
+        none : IsUnbound scene q → (o : Option EvalResult) → before q ≡ o → after q ≡ o
         none unbound None is = never unbound (after q) refl
         none unbound (Some kept) is = within q kept (stays q kept off is)
 
@@ -93,5 +93,5 @@ bound_or_not store bindings q off = inr (by bindings off)
 
 -- what was found is kept
 
-pub all_kept : (memory rows after found : List Done) → memory ≡ rows ++ found → AreKeptToo found rows after → kept_of memory ≡ kept_of after
+pub all_kept : (memory rows after found : List CacheEntry) → memory ≡ rows ++ found → AreKeptToo found rows after → kept_of memory ≡ kept_of after
 all_kept memory rows after found parts kept = λ i q. (ap (λ l. kept_of l q) parts ∙ sym (kept q)) i

@@ -5,12 +5,12 @@ use Rattle.std.proofs.lemmas.List.{reverse-append}
 use Rattle.std.proofs.lemmas.List.Folds.{list_any-append}
 use Rattle.term_core.specs.Term.{Term}
 use Rattle.binding_values.specs.declared.binding.Binding.{Binding}
-use Rattle.binding_values.specs.declared.kept.Done.{Done}
-use Rattle.binding_values.specs.declared.kept.Kept.{Kept}
+use Rattle.binding_values.specs.declared.eval_result.CacheEntry.{CacheEntry}
+use Rattle.binding_values.specs.declared.eval_result.EvalResult.{EvalResult}
 use Rattle.property_store.specs.declared.property.Property.{Property}
 use Rattle.binding_values.specs.Scene.{Scene, term_at, unmet}
 use Rattle.property_store.specs.Property.{among, is_property}
-use Rattle.binding_values.specs.Kept.{IsClosed, IsKept, IsRight, kept_of}
+use Rattle.binding_values.specs.EvalResult.{IsClosed, IsKept, IsRight, kept_of}
 use Rattle.binding_values.specs.Run.{IsRunning, IsSettled, IsTried, Stacked, Stepped, WaitsFor, ats, bottom, work}
 use Rattle.binding_values.proofs.FuelLemmas.{is_itself, property_eq, unmet_less}
 use Rattle.binding_values.proofs.KeptLemmas.{none_some}
@@ -22,7 +22,7 @@ use Rattle.binding_values.proofs.LoopLemmas.{looped, really_reads, stacked_apart
 last_first : {X : Type 0} (xs : List X) (x : X) → reverse (xs ++ x ∷ []) ≡ x ∷ reverse xs
 last_first xs x = reverse-append xs (x ∷ [])
 
-ats_append : (xs ys : List Done) → ats (xs ++ ys) ≡ ats xs ++ ats ys
+ats_append : (xs ys : List CacheEntry) → ats (xs ++ ys) ≡ ats xs ++ ats ys
 ats_append [] ys = refl
 ats_append (x ∷ xs) ys = ap (λ l. x.at ∷ l) (ats_append xs ys)
 
@@ -47,7 +47,7 @@ or_end true false = refl
 or_end false true = refl
 or_end false false = refl
 
-pub among_reversed : (z : Property) (rows : List Done) → among z (ats (reverse rows)) ≡ among z (ats rows)
+pub among_reversed : (z : Property) (rows : List CacheEntry) → among z (ats (reverse rows)) ≡ among z (ats rows)
 among_reversed z [] = refl
 among_reversed z (row ∷ rest) =
     ap (λ l. among z (ats l)) (reverse-append (row ∷ []) rest)
@@ -60,21 +60,21 @@ unfolding unmet
 same_unmet one other same [] = refl
 same_unmet one other same (b ∷ bs) = ap₂ (λ t n. cond t n (suc n)) (same b.at) (same_unmet one other same bs)
 
-bottom_push : (B : List Done) (row : Done) (next : Property) → bottom (B ++ row ∷ []) next ≡ bottom B row.at
+bottom_push : (B : List CacheEntry) (row : CacheEntry) (next : Property) → bottom (B ++ row ∷ []) next ≡ bottom B row.at
 bottom_push [] row next = refl
 bottom_push (b ∷ rest) row next = refl
 
-bottom_stands : (B : List Done) (top : Property) → among (bottom B top) (top ∷ ats (reverse B)) ≡ true
+bottom_stands : (B : List CacheEntry) (top : Property) → among (bottom B top) (top ∷ ats (reverse B)) ≡ true
 bottom_stands [] top = or_left _ _ (is_itself top)
 bottom_stands (b ∷ rest) top = or_right (is_property b.at top) _ (among_reversed b.at (b ∷ rest) ∙ or_left _ _ (is_itself b.at))
 
 -- where nothing is kept, nothing stands
-not_among : (D : List Done) (q : Property) → kept_of D q ≡ None → among q (ats D) ≡ false
+not_among : (D : List CacheEntry) (q : Property) → kept_of D q ≡ None → among q (ats D) ≡ false
 not_among D q none = false_from_ne_true (among q (ats D)) (λ h. let k = kept_among D q h in none_some _ _ none k.1)
 
 -- the stack grows
 
-pub pushed : (scene : Scene) (D B : List Done) (row : Done) (next : Property) → IsRunning scene D B row.at → IsTried scene (kept_of D) row.at row.kept → WaitsFor scene (kept_of D) row.kept.reads next → among next (row.at ∷ ats (reverse B)) ≡ false → Stepped scene D B row.at D (B ++ row ∷ []) (Some next)
+pub pushed : (scene : Scene) (D B : List CacheEntry) (row : CacheEntry) (next : Property) → IsRunning scene D B row.at → IsTried scene (kept_of D) row.at row.kept → WaitsFor scene (kept_of D) row.kept.reads next → among next (row.at ∷ ats (reverse B)) ≡ false → Stepped scene D B row.at D (B ++ row ∷ []) (Some next)
 pushed scene D B row next running t w fresh = (now, (λ q kept is. is), bottom_push B row next, less)
   where
     now : IsRunning scene D (B ++ row ∷ []) next
@@ -105,13 +105,13 @@ pushed scene D B row next running t w fresh = (now, (λ q kept is. is), bottom_p
 
 -- a property is finished
 
-pub ended : (scene : Scene) (D : List Done) (row : Done) → IsRunning scene D [] row.at → IsTried scene (kept_of D) row.at row.kept → All (IsSettled scene (kept_of D)) row.kept.reads → Stepped scene D [] row.at (D ++ row ∷ []) [] None
+pub ended : (scene : Scene) (D : List CacheEntry) (row : CacheEntry) → IsRunning scene D [] row.at → IsTried scene (kept_of D) row.at row.kept → All (IsSettled scene (kept_of D)) row.kept.reads → Stepped scene D [] row.at (D ++ row ∷ []) [] None
 ended scene D row running t all =
     let both = finished scene D row running.right running.closed t all in
     let own = kept_among (row ∷ []) row.at (or_left _ _ (is_itself row.at)) in
     (both.0, both.1, kept_within D (row ∷ []), (own.0, kept_append_none D (row ∷ []) row.at t.absent ∙ own.1))
 
-pub popped : (scene : Scene) (D B : List Done) (entry row : Done) → IsRunning scene D (B ++ entry ∷ []) row.at → IsTried scene (kept_of D) row.at row.kept → All (IsSettled scene (kept_of D)) row.kept.reads → Stepped scene D (B ++ entry ∷ []) row.at (D ++ row ∷ []) B (Some entry.at)
+pub popped : (scene : Scene) (D B : List CacheEntry) (entry row : CacheEntry) → IsRunning scene D (B ++ entry ∷ []) row.at → IsTried scene (kept_of D) row.at row.kept → All (IsSettled scene (kept_of D)) row.kept.reads → Stepped scene D (B ++ entry ∷ []) row.at (D ++ row ∷ []) B (Some entry.at)
 popped scene D B entry row running t all = (now, kept_within D (row ∷ []), sym (bottom_push B entry row.at), less)
   where
     both : IsRight scene (kept_of (D ++ row ∷ [])) × IsClosed scene (kept_of (D ++ row ∷ []))
@@ -145,33 +145,33 @@ popped scene D B entry row running t all = (now, kept_within D (row ∷ []), sym
 
 -- a loop
 
-pub all_looped : (scene : Scene) (D B : List Done) (row : Done) (next : Property) → IsRunning scene D B row.at → IsTried scene (kept_of D) row.at row.kept → WaitsFor scene (kept_of D) row.kept.reads next → among next (row.at ∷ ats (reverse B)) ≡ true → Stepped scene D B row.at (D ++ row ∷ reverse B) [] None
+pub all_looped : (scene : Scene) (D B : List CacheEntry) (row : CacheEntry) (next : Property) → IsRunning scene D B row.at → IsTried scene (kept_of D) row.at row.kept → WaitsFor scene (kept_of D) row.kept.reads next → among next (row.at ∷ ats (reverse B)) ≡ true → Stepped scene D B row.at (D ++ row ∷ reverse B) [] None
 all_looped scene D B row next running t w stands =
     let both = looped scene D row (reverse B) next running.right running.closed t w running.stacked stands in
     (both.0, both.1, kept_within D (row ∷ reverse B), start (kept_of D (bottom B row.at)) refl)
   where
-    start : (o : Option Kept) → kept_of D (bottom B row.at) ≡ o → IsKept (kept_of (D ++ row ∷ reverse B)) (bottom B row.at)
+    start : (o : Option EvalResult) → kept_of D (bottom B row.at) ≡ o → IsKept (kept_of (D ++ row ∷ reverse B)) (bottom B row.at)
     start (Some kept) e = (kept, kept_append_some D (row ∷ reverse B) (bottom B row.at) kept e)
     start None e = let k = kept_among (row ∷ reverse B) (bottom B row.at) (bottom_stands B row.at) in (k.0, kept_append_none D (row ∷ reverse B) (bottom B row.at) e ∙ k.1)
 
 -- the same, with what lists are told by equations
 
-pub ended_at : (scene : Scene) (D D' B B' : List Done) (row : Done) → IsRunning scene D B row.at → IsTried scene (kept_of D) row.at row.kept → All (IsSettled scene (kept_of D)) row.kept.reads → B ≡ [] → D' ≡ D ++ row ∷ [] → Stepped scene D B row.at D' B' None
+pub ended_at : (scene : Scene) (D D' B B' : List CacheEntry) (row : CacheEntry) → IsRunning scene D B row.at → IsTried scene (kept_of D) row.at row.kept → All (IsSettled scene (kept_of D)) row.kept.reads → B ≡ [] → D' ≡ D ++ row ∷ [] → Stepped scene D B row.at D' B' None
 ended_at scene D D' B B' row running t all none more =
     subst (λ l. Stepped scene D l row.at D' B' None) (sym none)
     (subst (λ l. Stepped scene D [] row.at l B' None) (sym more) (ended scene D row (subst (λ l. IsRunning scene D l row.at) none running) t all))
 
-pub popped_at : (scene : Scene) (D D' B B' : List Done) (entry row : Done) → IsRunning scene D B row.at → IsTried scene (kept_of D) row.at row.kept → All (IsSettled scene (kept_of D)) row.kept.reads → B ≡ B' ++ entry ∷ [] → D' ≡ D ++ row ∷ [] → Stepped scene D B row.at D' B' (Some entry.at)
+pub popped_at : (scene : Scene) (D D' B B' : List CacheEntry) (entry row : CacheEntry) → IsRunning scene D B row.at → IsTried scene (kept_of D) row.at row.kept → All (IsSettled scene (kept_of D)) row.kept.reads → B ≡ B' ++ entry ∷ [] → D' ≡ D ++ row ∷ [] → Stepped scene D B row.at D' B' (Some entry.at)
 popped_at scene D D' B B' entry row running t all less more =
     subst (λ l. Stepped scene D l row.at D' B' (Some entry.at)) (sym less)
     (subst (λ l. Stepped scene D (B' ++ entry ∷ []) row.at l B' (Some entry.at)) (sym more) (popped scene D B' entry row (subst (λ l. IsRunning scene D l row.at) less running) t all))
 
-pub pushed_at : (scene : Scene) (D B B' : List Done) (row : Done) (next : Property) → IsRunning scene D B row.at → IsTried scene (kept_of D) row.at row.kept → WaitsFor scene (kept_of D) row.kept.reads next → is_property next row.at ≡ false → among next (ats B) ≡ false → B' ≡ B ++ row ∷ [] → Stepped scene D B row.at D B' (Some next)
+pub pushed_at : (scene : Scene) (D B B' : List CacheEntry) (row : CacheEntry) (next : Property) → IsRunning scene D B row.at → IsTried scene (kept_of D) row.at row.kept → WaitsFor scene (kept_of D) row.kept.reads next → is_property next row.at ≡ false → among next (ats B) ≡ false → B' ≡ B ++ row ∷ [] → Stepped scene D B row.at D B' (Some next)
 pushed_at scene D B B' row next running t w own below more =
     subst (λ l. Stepped scene D B row.at D l (Some next)) (sym more)
     (pushed scene D B row next running t w (ap₂ (λ a b. a || b) own (among_reversed next B ∙ below)))
 
-pub looped_at : (scene : Scene) (D D' D'' B B' : List Done) (row : Done) (next : Property) → IsRunning scene D B row.at → IsTried scene (kept_of D) row.at row.kept → WaitsFor scene (kept_of D) row.kept.reads next → (is_property next row.at || among next (ats B)) ≡ true → D' ≡ D ++ row ∷ [] → D'' ≡ D' ++ reverse B → Stepped scene D B row.at D'' B' None
+pub looped_at : (scene : Scene) (D D' D'' B B' : List CacheEntry) (row : CacheEntry) (next : Property) → IsRunning scene D B row.at → IsTried scene (kept_of D) row.at row.kept → WaitsFor scene (kept_of D) row.kept.reads next → (is_property next row.at || among next (ats B)) ≡ true → D' ≡ D ++ row ∷ [] → D'' ≡ D' ++ reverse B → Stepped scene D B row.at D'' B' None
 looped_at scene D D' D'' B B' row next running t w stands one more =
     let whole : D'' ≡ D ++ row ∷ reverse B = more ∙ (ap (λ l. l ++ reverse B) one ∙ append_assoc D (row ∷ []) (reverse B)) in
     subst (λ l. Stepped scene D B row.at l B' None) (sym whole)
@@ -179,5 +179,5 @@ looped_at scene D D' D'' B B' row next running t w stands one more =
 
 -- what was looked for is kept
 
-pub begins : (scene : Scene) (D : List Done) (start : Property) (term : Term) → IsRight scene (kept_of D) → IsClosed scene (kept_of D) → term_at scene.bindings start ≡ Some term → kept_of D start ≡ None → IsRunning scene D [] start
+pub begins : (scene : Scene) (D : List CacheEntry) (start : Property) (term : Term) → IsRight scene (kept_of D) → IsClosed scene (kept_of D) → term_at scene.bindings start ≡ Some term → kept_of D start ≡ None → IsRunning scene D [] start
 begins scene D start term right closed bound absent = record { right = right; closed = closed; absent = absent; term = term; bound = bound; fresh = refl; stacked = tt }

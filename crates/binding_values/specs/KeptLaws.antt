@@ -8,7 +8,7 @@ use Rattle.property_store.specs.Property.{is_property}
 use Rattle.property_store.specs.Store.{Store, added, changed, properties_of, with_dynamic, without_dynamic, written}
 use Rattle.binding_values.specs.declared.binding.Binding.{Binding}
 use Rattle.binding_values.specs.Binds.{with_binding}
-use Rattle.binding_values.specs.Kept.{Agrees, IsClosed, IsRight, Keeping, known}
+use Rattle.binding_values.specs.EvalResult.{Agrees, IsClosed, IsRight, Keeping, known}
 use Rattle.binding_values.specs.Scene.{Scene, plain}
 use Rattle.binding_values.specs.Stored.{scene_of}
 use Rattle.binding_values.specs.Right.{AreMore, DiffersAt, IsComplete, IsRightBut, IsSpread, IsWhole, unmarked}

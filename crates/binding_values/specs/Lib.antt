@@ -1,5 +1,5 @@
 pub mod Scene
-pub mod Kept
+pub mod EvalResult
 pub mod Keeping
 pub mod Readers
 pub mod Reached

@@ -1,7 +1,7 @@
 -- An entry for a property.
 use Rattle.std.specs.Prelude.{◌≡◌, ◌<◌, ◌⊎◌, ℕ, false, List, Some, find, length, slice_index_or}
 use Rattle.std.specs.List.{insert}
-use Rattle.binding_values.specs.declared.memory.Entry.{Entry}
+use Rattle.binding_values.specs.declared.eval_cache.Entry.{Entry}
 use Rattle.property_store.specs.declared.property.Property.{Property}
 use Rattle.property_store.specs.Property.{is_property}
 use Rattle.binding_values.specs.Sorted.{IsCountBefore}

@@ -7,7 +7,7 @@ use Rattle.term_evaluation.specs.declared.halt.Halt.{Halt}
 use Rattle.term_evaluation.specs.declared.halt.Halt.TheVariants.{Refused, Own, Memory}
 use Rattle.binding_values.specs.declared.known.Known.{Known}
 use Rattle.property_store.specs.declared.property.Property.{Property}
-use Rattle.binding_values.specs.Kept.{kept_of, known}
+use Rattle.binding_values.specs.EvalResult.{kept_of, known}
 use Rattle.binding_values.specs.Scene.{Outcome, Scene}
 use Rattle.binding_values.specs.Stored.{scene_of}
 

@@ -4,8 +4,8 @@ use Rattle.term_core.specs.declared.target.Target.{Target}
 use Rattle.property_store.specs.declared.property.Property.{Property}
 use Rattle.property_store.specs.Marks.{Marks, is_marked}
 use Rattle.binding_values.specs.Scene.{Scene, term_at}
-use Rattle.binding_values.specs.declared.kept.Kept.{Kept}
-use Rattle.binding_values.specs.Kept.{IsClosed, IsKept, IsRight, IsUnbound, IsWithin, Keeping}
+use Rattle.binding_values.specs.declared.eval_result.EvalResult.{EvalResult}
+use Rattle.binding_values.specs.EvalResult.{IsClosed, IsKept, IsRight, IsUnbound, IsWithin, Keeping}
 
 -- these are marked, and nothing else
 abbrev pub only : List Property → Marks
@@ -20,12 +20,12 @@ abbrev pub AreMore : Marks → Marks → Type 0
 AreMore marks more = (q : Property) → is_marked marks q ≡ true → is_marked more q ≡ true
 
 -- no property that is kept is marked, and none that it has read
-pub record IsClearAt (marks : Marks) (q : Property) (kept : Kept) : Type 0 where
+pub record IsClearAt (marks : Marks) (q : Property) (kept : EvalResult) : Type 0 where
   pub own : is_marked marks q ≡ false
   pub reads : All (λ r. is_marked marks r ≡ false) kept.reads
 
 abbrev pub IsClear : Marks → Keeping → Type 0
-IsClear marks keeping = (q : Property) (kept : Kept) → keeping q ≡ Some kept → IsClearAt marks q kept
+IsClear marks keeping = (q : Property) (kept : EvalResult) → keeping q ≡ Some kept → IsClearAt marks q kept
 
 -- what is kept is right, but at properties that a marked one reaches: every part of it is right that has read
 -- none but unbound properties and its own, and none that is marked
@@ -55,7 +55,7 @@ pub record DiffersAt (marks : Marks) (a b : Scene) : Type 0 where
 
 -- what reads a marked property is marked, and so is what is bound and not kept
 pub record IsSpread (scene : Scene) (marks : Marks) (keeping : Keeping) : Type 0 where
-  pub read : (q : Property) (kept : Kept) → keeping q ≡ Some kept → is_marked marks q ≡ false → All (λ r. is_marked marks r ≡ false) kept.reads
+  pub read : (q : Property) (kept : EvalResult) → keeping q ≡ Some kept → is_marked marks q ≡ false → All (λ r. is_marked marks r ≡ false) kept.reads
   pub bound : (q : Property) → is_marked marks q ≡ false → IsKept keeping q ⊎ IsUnbound scene q
 
 -- what is kept of properties that are not marked

@@ -1,12 +1,12 @@
 -- How values are found over a stack.
 use Rattle.std.specs.Prelude.{◌≡◌, ◌⊎◌, ◌<◌, ◌+◌, ◌*◌, ℕ, false, List, [], ◌∷◌, ◌++◌, All, length, map, reverse, Option, Some, None}
 use Rattle.term_core.specs.Term.{Term}
-use Rattle.binding_values.specs.declared.kept.Done.{Done}
-use Rattle.binding_values.specs.declared.kept.Kept.{Kept}
+use Rattle.binding_values.specs.declared.eval_result.CacheEntry.{CacheEntry}
+use Rattle.binding_values.specs.declared.eval_result.EvalResult.{EvalResult}
 use Rattle.property_store.specs.declared.property.Property.{Property}
 use Rattle.binding_values.specs.Scene.{Cell, Scene, evaluated, met, term_at, unmet}
 use Rattle.property_store.specs.Property.{among}
-use Rattle.binding_values.specs.Kept.{IsClosed, IsKept, IsRight, IsUnbound, IsWithin, Keeping, kept_of, known}
+use Rattle.binding_values.specs.EvalResult.{IsClosed, IsKept, IsRight, IsUnbound, IsWithin, Keeping, kept_of, known}
 use Rattle.binding_values.specs.Laws.{ReallyReads}
 
 -- a property whose value is known: it is kept, or unbound
@@ -14,7 +14,7 @@ abbrev pub IsSettled : Scene → Keeping → Property → Type 0
 IsSettled scene keeping q = IsKept keeping q ⊎ IsUnbound scene q
 
 -- what an evaluation over what is kept gave
-pub record IsTried (scene : Scene) (keeping : Keeping) (q : Property) (kept : Kept) : Type 0 where
+pub record IsTried (scene : Scene) (keeping : Keeping) (q : Property) (kept : EvalResult) : Type 0 where
   pub cell : Cell
   pub term : Term
   pub there : scene.cell_at q ≡ Some cell
@@ -32,23 +32,23 @@ pub record WaitsFor (scene : Scene) (keeping : Keeping) (reads : List Property) 
   pub bound : term_at scene.bindings next ≡ Some term
   pub absent : keeping next ≡ None
 
-abbrev pub ats : List Done → List Property
+abbrev pub ats : List CacheEntry → List Property
 ats rows = map (λ row. row.at) rows
 
 -- a row of the stack, whose evaluation waits for the property above it
-pub record IsStackedOn (scene : Scene) (keeping : Keeping) (row : Done) (before : List Property) (next : Property) : Type 0 where
+pub record IsStackedOn (scene : Scene) (keeping : Keeping) (row : CacheEntry) (before : List Property) (next : Property) : Type 0 where
   pub tried : IsTried scene keeping row.at row.kept
   pub waits : WaitsFor scene keeping row.kept.reads next
   pub reads : ReallyReads scene before row.at next
   pub fresh : among row.at before ≡ false
 
 -- the rows of the stack, the latest first
-abbrev pub Stacked : Scene → Keeping → List Done → Property → Type 0
+abbrev pub Stacked : Scene → Keeping → List CacheEntry → Property → Type 0
 Stacked scene keeping [] top = Unit {0}
 Stacked scene keeping (row ∷ rest) top = IsStackedOn scene keeping row (ats rest) top × Stacked scene keeping rest row.at
 
 -- what is kept is right, and the value of the property on top is looked for, for those that are stacked
-pub record IsRunning (scene : Scene) (done below : List Done) (top : Property) : Type 0 where
+pub record IsRunning (scene : Scene) (done below : List CacheEntry) (top : Property) : Type 0 where
   pub right : IsRight scene (kept_of done)
   pub closed : IsClosed scene (kept_of done)
   pub absent : kept_of done top ≡ None
@@ -58,16 +58,16 @@ pub record IsRunning (scene : Scene) (done below : List Done) (top : Property) :
   pub stacked : Stacked scene (kept_of done) (reverse below) top
 
 -- the property for which all others are looked for
-abbrev pub bottom : List Done → Property → Property
+abbrev pub bottom : List CacheEntry → Property → Property
 bottom [] top = top
 bottom (row ∷ rest) top = row.at
 
 -- how much is left to do at most
-abbrev pub work : Scene → List Done → List Done → Property → ℕ
+abbrev pub work : Scene → List CacheEntry → List CacheEntry → Property → ℕ
 work scene done below top = 2 * unmet (ats done ++ top ∷ ats (reverse below)) scene.bindings + length below
 
 -- a step: all that was looked for is kept, or there is another property on top, and less to do
-abbrev pub Stepped : Scene → List Done → List Done → Property → List Done → List Done → Option Property → Type 0
+abbrev pub Stepped : Scene → List CacheEntry → List CacheEntry → Property → List CacheEntry → List CacheEntry → Option Property → Type 0
 Stepped scene done below top done' below' None =
     IsRight scene (kept_of done') × IsClosed scene (kept_of done') × IsWithin (kept_of done) (kept_of done') × IsKept (kept_of done') (bottom below top)
 Stepped scene done below top done' below' (Some next) =

@@ -1,7 +1,7 @@
 //! Bindings.
 ghost use Rattle.std.specs.Prelude.{◌≡◌};
 
-use crate::sorted::Placed;
+use crate::sorted::HasProperty;
 use property_store::Property;
 use term_core::Expr;
 
@@ -17,7 +17,7 @@ impl Drop for Binding {
     }
 }
 
-impl Placed for Binding {
+impl HasProperty for Binding {
     ghost at = { λ binding. binding.at };
 
     fn at(&self) -> Property {

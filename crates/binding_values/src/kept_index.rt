@@ -1,19 +1,20 @@
-//! What is kept of bound properties from one change to the next, and which of them have read which property.
+//! The index keeps results of bound properties from one change to the next, and which of them have read which
+//! property.
 ghost use Rattle.std.specs.Prelude.{◌≡◌, ◌+◌, ◌≤◌, ◌∷◌, [], OnOk, filter, length, not};
 ghost use Rattle.std.specs.Option.{option_map};
 ghost use Rattle.property_store.specs.Property.{is_property};
-ghost use Rattle.binding_values.specs.Kept.{Keeping, kept_of};
+ghost use Rattle.binding_values.specs.EvalResult.{Keeping, kept_of};
 ghost use Rattle.binding_values.specs.Reached.{AreKeptToo, AreLetGo, HasReaders, IsLonger, IsReached, without};
 ghost use Rattle.binding_values.specs.Readers.{AreAmong, IsUnread};
 
-use crate::kept::{Done, Kept};
+use crate::eval_result::{CacheEntry, EvalResult};
 use crate::kept_rows::KeptRows;
 use crate::readers::Readers;
 use property_store::Property;
 use std::alloc::{AllocError, Global};
 use std::marker::Model;
 
-/// What is kept of bound properties, and what leads from each property to those that have read it.
+/// The index holds results of bound properties, and leads from each property to those that have read it.
 #[derive(Drop)]
 pub struct KeptIndex {
     rows: KeptRows,
@@ -22,13 +23,13 @@ pub struct KeptIndex {
 
 impl Model for KeptIndex {
     ghost use Rattle.std.specs.Prelude.{List};
-    ghost use Rattle.binding_values.specs.declared.kept.Done.{Done};
-    ghost use Rattle.binding_values.specs.Coded.{coded_memory};
+    ghost use Rattle.binding_values.specs.declared.eval_result.CacheEntry.{CacheEntry};
+    ghost use Rattle.binding_values.specs.Coded.{coded_eval_cache};
     ghost use Rattle.binding_values.specs.Reached.{HasReaders};
 
-    ghost Value = { List Done };
+    ghost Value = { List CacheEntry };
 
-    ghost coded = { coded_memory };
+    ghost coded = { coded_eval_cache };
 
     ghost view = { λ kept. kept.rows };
 
@@ -45,8 +46,8 @@ impl KeptIndex {
         }
     }
 
-    /// What is kept of a property.
-    pub fn at(&self, at: Property) -> Option<&Kept>
+    /// Returns the result of a property, where one is kept.
+    pub fn at(&self, at: Property) -> Option<&EvalResult>
         ensures { option_map (λ kept. kept.now) result ≡ kept_of self.now at }
     {
         self.rows.at(at)
@@ -78,7 +79,7 @@ impl KeptIndex {
     }
 
     /// Keeps what was found of properties of which nothing is kept.
-    pub fn keep_all(&mut self, found: Vec<Done>) -> Result<(), AllocError>
+    pub fn keep_all(&mut self, found: Vec<CacheEntry>) -> Result<(), AllocError>
         ensures { OnOk result (AreKeptToo found.items self.old self.new) }
     {
         keep_all(&mut self.rows, &mut self.readers, found)
@@ -154,7 +155,7 @@ fn spread(
 }
 
 /// Keeps what was found of a property, unless something is kept of it.
-fn keep(rows: &mut KeptRows, readers: &mut Readers, row: Done) -> Result<(), AllocError>
+fn keep(rows: &mut KeptRows, readers: &mut Readers, row: CacheEntry) -> Result<(), AllocError>
     requires { HasReaders rows.old readers.old }
     ensures kept { OnOk result (AreKeptToo (row ∷ []) rows.old rows.new) }
     ensures readers { HasReaders rows.new readers.new }
@@ -166,7 +167,11 @@ fn keep(rows: &mut KeptRows, readers: &mut Readers, row: Done) -> Result<(), All
     rows.put(row)
 }
 
-fn keep_all(rows: &mut KeptRows, readers: &mut Readers, found: Vec<Done>) -> Result<(), AllocError>
+fn keep_all(
+    rows: &mut KeptRows,
+    readers: &mut Readers,
+    found: Vec<CacheEntry>,
+) -> Result<(), AllocError>
     requires { HasReaders rows.old readers.old }
     ensures kept { OnOk result (AreKeptToo found.items rows.old rows.new) }
     ensures readers { HasReaders rows.new readers.new }

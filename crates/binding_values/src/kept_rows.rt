@@ -1,12 +1,12 @@
-//! What is kept of bound properties from one change to the next.
+//! These rows keep results of bound properties from one change to the next.
 ghost use Rattle.std.specs.Prelude.{◌≡◌, [], OnErr, OnOk, filter, not};
 ghost use Rattle.std.specs.Option.{option_map};
 ghost use Rattle.property_store.specs.Property.{is_property};
-ghost use Rattle.binding_values.specs.Kept.{kept_of};
+ghost use Rattle.binding_values.specs.EvalResult.{kept_of};
 ghost use Rattle.binding_values.specs.Keeping.{IsPut};
 
-use crate::kept::{Done, Kept};
-use crate::sorted::{Placed, count_before, is_at, row_at};
+use crate::eval_result::{CacheEntry, EvalResult};
+use crate::sorted::{HasProperty, count_before, is_at, row_at};
 use property_store::{Property, is_property};
 use std::alloc::{AllocError, Global};
 use std::marker::Model;
@@ -15,10 +15,10 @@ use std::marker::Model;
 #[derive(Drop)]
 pub(crate) struct KeptRow {
     pub(crate) at: Property,
-    pub(crate) kept: Option<Kept>,
+    pub(crate) kept: Option<EvalResult>,
 }
 
-impl Placed for KeptRow {
+impl HasProperty for KeptRow {
     ghost at = { λ row. row.at };
 
     fn at(&self) -> Property {
@@ -26,7 +26,7 @@ impl Placed for KeptRow {
     }
 }
 
-/// What is kept of properties, by rising object and number.
+/// The rows hold results of properties, by rising object and number.
 #[derive(Drop)]
 pub struct KeptRows {
     rows: Vec<KeptRow>,
@@ -34,14 +34,14 @@ pub struct KeptRows {
 
 impl Model for KeptRows {
     ghost use Rattle.std.specs.Prelude.{List};
-    ghost use Rattle.binding_values.specs.declared.kept.Done.{Done};
-    ghost use Rattle.binding_values.specs.Coded.{coded_memory};
+    ghost use Rattle.binding_values.specs.declared.eval_result.CacheEntry.{CacheEntry};
+    ghost use Rattle.binding_values.specs.Coded.{coded_eval_cache};
     ghost use Rattle.binding_values.specs.Keeping.{standing};
     ghost use Rattle.binding_values.specs.Sorted.{IsRising};
 
-    ghost Value = { List Done };
+    ghost Value = { List CacheEntry };
 
-    ghost coded = { coded_memory };
+    ghost coded = { coded_eval_cache };
 
     ghost view = { λ kept. standing kept.rows.items };
 
@@ -57,8 +57,8 @@ impl KeptRows {
         }
     }
 
-    /// What is kept of a property.
-    pub fn at(&self, at: Property) -> Option<&Kept>
+    /// Returns the result of a property, where one is kept.
+    pub fn at(&self, at: Property) -> Option<&EvalResult>
         ensures { option_map (λ kept. kept.now) result ≡ kept_of self.now at }
     {
         let row = row_at(self.rows.as_slice(), at)?;
@@ -66,7 +66,7 @@ impl KeptRows {
     }
 
     /// Keeps this of its property, whatever was kept of it. Where something was, this takes no memory.
-    pub fn put(&mut self, row: Done) -> Result<(), AllocError>
+    pub fn put(&mut self, row: CacheEntry) -> Result<(), AllocError>
         ensures ok { OnOk result (IsPut row self.old self.new) }
         ensures err { OnErr result (self.new ≡ self.old) }
     {
@@ -82,7 +82,7 @@ impl KeptRows {
     }
 
     /// Lets go of what is kept of a property, and returns it.
-    pub fn take(&mut self, at: Property) -> Option<Kept>
+    pub fn take(&mut self, at: Property) -> Option<EvalResult>
         ensures taken { result ≡ kept_of self.old at }
         ensures new { self.new ≡ filter (λ row. not (is_property at row.at)) self.old }
     {

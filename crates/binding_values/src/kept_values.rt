@@ -1,20 +1,20 @@
-//! What is kept of a place's bound properties.
+//! A place keeps results of its bound properties.
 ghost use Rattle.std.specs.Prelude.{◌≡◌, [], OnErr, OnOk, false, filter, not, true};
 ghost use Rattle.std.specs.Option.{option_map};
 ghost use Rattle.shared_rows.specs.Table.{IsPlace};
 ghost use Rattle.property_store.specs.Property.{among, is_property};
 ghost use Rattle.property_store.specs.Table.{store_at};
-ghost use Rattle.binding_values.specs.Kept.{kept_of};
+ghost use Rattle.binding_values.specs.EvalResult.{kept_of};
 ghost use Rattle.binding_values.specs.Stored.{scene_of};
 ghost use Rattle.binding_values.specs.Right.{IsComplete, IsRightBut, IsWhole, only};
 
 use crate::settling::{bound_in, resettle};
-use crate::{Bound, Kept, KeptIndex};
+use crate::{Bound, EvalResult, KeptIndex};
 use property_store::{Property, Stores};
 use std::alloc::{AllocError, Global};
 use std::marker::Model;
 
-/// What is kept of the bound properties of a place, and which of them have read which property.
+/// A place keeps results of its bound properties, and which of them have read which property.
 #[derive(Drop)]
 pub struct KeptValues {
     kept: KeptIndex,
@@ -22,12 +22,12 @@ pub struct KeptValues {
 
 impl Model for KeptValues {
     ghost use Rattle.std.specs.Prelude.{List};
-    ghost use Rattle.binding_values.specs.declared.kept.Done.{Done};
-    ghost use Rattle.binding_values.specs.Coded.{coded_memory};
+    ghost use Rattle.binding_values.specs.declared.eval_result.CacheEntry.{CacheEntry};
+    ghost use Rattle.binding_values.specs.Coded.{coded_eval_cache};
 
-    ghost Value = { List Done };
+    ghost Value = { List CacheEntry };
 
-    ghost coded = { coded_memory };
+    ghost coded = { coded_eval_cache };
 
     ghost view = { λ values. values.kept };
 }
@@ -41,8 +41,8 @@ impl KeptValues {
         }
     }
 
-    /// What is kept of a property.
-    pub fn at(&self, at: Property) -> Option<&Kept>
+    /// Returns the result of a property, where one is kept.
+    pub fn at(&self, at: Property) -> Option<&EvalResult>
         ensures { option_map (λ kept. kept.now) result ≡ kept_of self.now at }
     {
         self.kept.at(at)

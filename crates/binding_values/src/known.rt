@@ -1,4 +1,4 @@
-//! What an evaluation knows.
+//! An evaluation knows kept results, and the values that are stored.
 ghost use Rattle.std.specs.Prelude.{◌≡◌, ◌&&◌, bytes_eq, position};
 ghost use Rattle.std.specs.Option.{option_map};
 ghost use Rattle.shared_rows.specs.Table.{IsPlace};
@@ -9,7 +9,7 @@ ghost use Rattle.binding_values.specs.Scene.{passed_on, term_at};
 ghost use Rattle.binding_values.specs.Stored.{bindable_number, cell_in, is_bindable, named_in, scene_of};
 
 use crate::bound::Bound;
-use crate::memory::Memory;
+use crate::eval_cache::EvalCache;
 use crate::property::BindingError;
 use plain_types::Text;
 use property_store::{Field, Property, Stores, is_property};
@@ -25,7 +25,7 @@ pub(crate) struct Known<'a> {
     pub(crate) stores: &'a Stores,
     pub(crate) place: usize,
     pub(crate) bindings: &'a Bound,
-    pub(crate) done: &'a Memory,
+    pub(crate) done: &'a EvalCache,
 }
 
 /// The expression that a property is bound to which is there.
@@ -105,7 +105,7 @@ pub(crate) fn named(
 }
 
 impl<'a> Known<'a> {
-    /// What reading a property answers: what is kept of it, or what is stored where it is unbound.
+    /// Reads a property: returns its kept result, or its stored value where it is unbound.
     pub(crate) fn read(&self, alloc: Global, at: Property) -> Result<Value, Halt<BindingError>>
         requires { IsReady self.now }
         ensures { Ends result (passed_on (values_in self.now at)) }

@@ -5,7 +5,8 @@
 
 mod binding;
 mod bound;
-mod kept;
+mod eval_cache;
+mod eval_result;
 mod kept_index;
 mod kept_laws;
 mod kept_rows;
@@ -13,7 +14,6 @@ mod kept_values;
 mod known;
 mod laws;
 mod meeting;
-mod memory;
 mod property;
 mod readers;
 mod run;
@@ -22,13 +22,13 @@ mod sorted;
 
 pub use binding::Binding;
 pub use bound::Bound;
-pub use kept::{Done, Kept};
+pub use eval_cache::EvalCache;
+pub use eval_result::{CacheEntry, EvalResult};
 pub use kept_index::KeptIndex;
-pub use kept_laws::{changes, keepings};
+pub use kept_laws::{law_changes, law_keepings};
 pub use kept_values::KeptValues;
 pub use known::{cell_at, expr_at, is_bindable};
-pub use laws::{chains, values};
-pub use memory::Memory;
+pub use laws::{law_chains, law_values};
 pub use property::BindingError;
 pub use run::{find, outcome};
-pub use sorted::{Placed, count_before, is_at, row_at};
+pub use sorted::{HasProperty, count_before, is_at, row_at};

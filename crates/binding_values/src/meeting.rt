@@ -5,12 +5,11 @@ ghost use Rattle.term_evaluation.specs.Outcomes.{Ends};
 ghost use Rattle.binding_values.specs.Looking.{IfEnds, IsReady, scene_in, values_in};
 ghost use Rattle.binding_values.specs.Scene.{evaluated, met, reader};
 
-use crate::kept::Kept;
+use crate::eval_result::EvalResult;
 use crate::known::{Known, named};
 use crate::property::BindingError;
-use plain_types::Items;
+use plain_types::{Code, Items};
 use property_store::Property;
-use plain_types::Code;
 use signature_core::Kind;
 use std::alloc::{AllocError, Global};
 use term_core::{Expr, Node};
@@ -63,14 +62,14 @@ fn note(noted: &mut Vec<Property>, at: Property) -> Result<(), AllocError>
     Ok(())
 }
 
-/// What an evaluation of a binding gives to keep.
+/// Returns the result that an evaluation of a binding gives.
 pub(crate) fn attempt(
     alloc: Global,
     known: &Known,
     at: Property,
     kind: Kind,
     expr: &Expr,
-) -> Result<Kept, AllocError>
+) -> Result<EvalResult, AllocError>
     requires { IsReady known.now }
     ensures outcome { IfOk result (λ kept. kept.outcome ≡ evaluated (scene_in known.now) (values_in known.now) at.object kind expr.now) }
     ensures reads { IfOk result (λ kept. kept.reads ≡ met (scene_in known.now) (values_in known.now) at.object expr.now) }
@@ -84,7 +83,7 @@ pub(crate) fn attempt(
         Err(Halt::Refused(_)) => Err(BindingError::EvaluationError),
         Err(Halt::Memory) => return Err(AllocError),
     };
-    Ok(Kept {
+    Ok(EvalResult {
         outcome,
         reads: Items::from_vec(noted),
     })

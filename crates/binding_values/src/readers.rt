@@ -35,7 +35,7 @@ fn is_this(this: Option<Property>, at: Property) -> bool {
     }
 }
 
-/// What leads from properties to those that have read them: those of one property stand together.
+/// The edges lead from properties to those that have read them: those of one property stand together.
 #[derive(Drop)]
 pub(crate) struct Readers {
     edges: Links<Edge>,
@@ -102,7 +102,8 @@ impl Readers {
         Ok(())
     }
 
-    /// What the property has read knows it no longer, but for the one that does not already.
+    /// Removes a reader from each of the properties that it has read, except for the one that has already lost
+    /// it.
     pub(crate) fn remove_all(&mut self, reads: &[Property], reader: Property, but: Option<Property>)
         ensures { AreFewer reader self.old self.new }
     {

@@ -5,7 +5,7 @@ ghost use Rattle.shared_rows.specs.Table.{IsPlace};
 ghost use Rattle.property_store.specs.Table.{store_at};
 ghost use Rattle.term_evaluation.specs.Met.{EachButLast};
 ghost use Rattle.binding_values.specs.declared.property.BindingError.TheVariants.{EvaluationError};
-ghost use Rattle.binding_values.specs.Kept.{IsClosed, IsKept, IsRight, IsWithin, kept_of};
+ghost use Rattle.binding_values.specs.EvalResult.{IsClosed, IsKept, IsRight, IsWithin, kept_of};
 ghost use Rattle.binding_values.specs.Looking.{IsReady, scene_in};
 ghost use Rattle.binding_values.specs.Run.{IsRunning, IsSettled, IsTried, Stepped, WaitsFor, ats, bottom};
 ghost use Rattle.binding_values.specs.Scene.{term_at};
@@ -13,10 +13,10 @@ ghost use Rattle.property_store.specs.Property.{among};
 ghost use Rattle.binding_values.specs.Stored.{cell_in, outcome_in, scene_of};
 
 use crate::bound::Bound;
-use crate::kept::{Done, Kept};
+use crate::eval_cache::EvalCache;
+use crate::eval_result::{CacheEntry, EvalResult};
 use crate::known::{Known, cell_at, expr_at};
 use crate::meeting::attempt;
-use crate::memory::Memory;
 use crate::property::BindingError;
 use property_store::{Property, Stores, is_property};
 use std::alloc::{AllocError, Global};
@@ -32,8 +32,8 @@ fn expr_of<'a>(known: &Known<'a>, at: Property) -> &'a Expr
     known.bindings.expr_at(at).unwrap()
 }
 
-/// What an evaluation of a bound property gives to keep.
-fn tried(alloc: Global, known: &Known, at: Property) -> Result<Kept, AllocError>
+/// Returns the result that an evaluation of a bound property gives.
+fn tried(alloc: Global, known: &Known, at: Property) -> Result<EvalResult, AllocError>
     requires ready { IsReady known.now }
     requires bound { IsSome (term_at (scene_in known.now).bindings at) }
     requires absent { kept_of known.now.done.now at ≡ None }
@@ -66,7 +66,7 @@ fn waits_for(known: &Known, reads: &[Property]) -> Option<Property>
 }
 
 /// The property stands in a row.
-fn stands_in(rows: &[Done], at: Property) -> bool
+fn stands_in(rows: &[CacheEntry], at: Property) -> bool
     ensures { result ≡ among at (ats rows.now) }
 {
     for row in rows {
@@ -78,7 +78,7 @@ fn stands_in(rows: &[Done], at: Property) -> bool
 }
 
 /// Moves the rows of a stack behind others, the latest first.
-fn unstack(done: &mut Memory, below: &mut Vec<Done>) -> Result<(), AllocError>
+fn unstack(done: &mut EvalCache, below: &mut Vec<CacheEntry>) -> Result<(), AllocError>
     ensures done { OnOk result (done.new ≡ done.old ++ reverse below.old.items) }
     ensures below { OnOk result (below.new.items ≡ []) }
 {
@@ -88,15 +88,15 @@ fn unstack(done: &mut Memory, below: &mut Vec<Done>) -> Result<(), AllocError>
     Ok(())
 }
 
-/// The same, with the property that it waits for.
+/// Returns the result that an evaluation of a bound property gives, with the property that it waits for.
 fn look(
     alloc: Global,
     stores: &Stores,
     place: usize,
     bindings: &Bound,
-    done: &Memory,
+    done: &EvalCache,
     at: Property,
-) -> Result<(Kept, Option<Property>), AllocError>
+) -> Result<(EvalResult, Option<Property>), AllocError>
     requires ready { IsPlace stores.now.shelves.table place }
     requires bound { IsSome (term_at (scene_of (store_at stores.now.shelves place) bindings.now).bindings at) }
     requires absent { kept_of done.now at ≡ None }
@@ -125,8 +125,8 @@ fn step(
     stores: &Stores,
     place: usize,
     bindings: &Bound,
-    done: &mut Memory,
-    below: &mut Vec<Done>,
+    done: &mut EvalCache,
+    below: &mut Vec<CacheEntry>,
     top: Property,
 ) -> Result<Option<Property>, AllocError>
     requires ready { IsPlace stores.now.shelves.table place }
@@ -136,7 +136,7 @@ fn step(
     let (kept, next) = look(alloc, stores, place, bindings, done, top)?;
     match next {
         None => {
-            done.push(Done { at: top, kept })?;
+            done.push(CacheEntry { at: top, kept })?;
             match below.pop() {
                 None => Ok(None),
                 Some(entry) => Ok(Some(entry.at)),
@@ -144,11 +144,11 @@ fn step(
         }
         Some(next) => {
             if is_property(next, top) || stands_in(below, next) {
-                done.push(Done { at: top, kept })?;
+                done.push(CacheEntry { at: top, kept })?;
                 unstack(done, below)?;
                 return Ok(None);
             }
-            below.push(Done { at: top, kept })?;
+            below.push(CacheEntry { at: top, kept })?;
             Ok(Some(next))
         }
     }
@@ -161,7 +161,7 @@ pub fn find(
     stores: &Stores,
     place: usize,
     bindings: &Bound,
-    done: &mut Memory,
+    done: &mut EvalCache,
     start: Property,
 ) -> Result<(), AllocError>
     requires ready { IsPlace stores.now.shelves.table place }
@@ -193,7 +193,7 @@ pub fn outcome(
     stores: &Stores,
     place: usize,
     bindings: &Bound,
-    done: &mut Memory,
+    done: &mut EvalCache,
     at: Property,
 ) -> Result<Result<Value, BindingError>, AllocError>
     requires ready { IsPlace stores.now.shelves.table place }
@@ -211,7 +211,7 @@ pub fn outcome(
     outcome_of(alloc, kept)
 }
 
-/// What is stored; a property that is not there has no value.
+/// Returns the stored value; a property that is not there has none.
 fn stored(
     alloc: Global,
     stores: &Stores,
@@ -228,7 +228,7 @@ fn stored(
 }
 
 /// A copy of what an evaluation ended with.
-fn outcome_of(alloc: Global, kept: &Kept) -> Result<Result<Value, BindingError>, AllocError>
+fn outcome_of(alloc: Global, kept: &EvalResult) -> Result<Result<Value, BindingError>, AllocError>
     ensures { IfOk result (λ outcome. outcome ≡ kept.now.outcome) }
 {
     match &kept.outcome {

@@ -1,15 +1,15 @@
-//! What a change reaches is let go of, evaluated, and kept again.
+//! A settling drops the results that a change reaches, evaluates them, and keeps them again.
 ghost use Rattle.std.specs.Prelude.{◌≡◌, All, IfOk, OnOk, false, map, true};
 ghost use Rattle.shared_rows.specs.Table.{IsPlace};
 ghost use Rattle.property_store.specs.declared.property.Property.{Property};
 ghost use Rattle.property_store.specs.Property.{among};
 ghost use Rattle.property_store.specs.Table.{store_at};
-ghost use Rattle.binding_values.specs.Kept.{IsClosed, IsRight, IsWithin, kept_of};
+ghost use Rattle.binding_values.specs.EvalResult.{IsClosed, IsRight, IsWithin, kept_of};
 ghost use Rattle.binding_values.specs.Run.{IsSettled};
 ghost use Rattle.binding_values.specs.Stored.{scene_of};
 ghost use Rattle.binding_values.specs.Right.{IsComplete, IsRightBut, IsWhole, only};
 
-use crate::{Bound, KeptIndex, Memory, expr_at, find};
+use crate::{Bound, EvalCache, KeptIndex, expr_at, find};
 use property_store::{Property, Stores};
 use std::alloc::{AllocError, Global};
 use std::mem;
@@ -20,7 +20,7 @@ fn evaluate(
     stores: &Stores,
     place: usize,
     bindings: &Bound,
-    memory: &mut Memory,
+    memory: &mut EvalCache,
     at: Property,
 ) -> Result<(), AllocError>
     requires ready { IsPlace stores.now.shelves.table place }
@@ -42,7 +42,7 @@ fn evaluate_all(
     stores: &Stores,
     place: usize,
     bindings: &Bound,
-    memory: &mut Memory,
+    memory: &mut EvalCache,
     touched: &[Property],
 ) -> Result<(), AllocError>
     requires ready { IsPlace stores.now.shelves.table place }
@@ -77,7 +77,7 @@ fn refresh(
     ensures settled { OnOk result (All (IsSettled (scene_of (store_at stores.now.shelves place) bindings.now) (kept_of kept.new)) touched.now) }
 {
     let base = mem::replace(kept, KeptIndex::new(alloc));
-    let mut memory = Memory::over(alloc, base);
+    let mut memory = EvalCache::over(alloc, base);
     evaluate_all(alloc, stores, place, bindings, &mut memory, touched)?;
     let (base, found) = memory.into_parts();
     let evaluations = found.len() as u64;

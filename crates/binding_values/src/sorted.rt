@@ -8,7 +8,7 @@ use crate::property::is_before;
 use property_store::{Property, is_property};
 
 /// A row that is about a property.
-pub trait Placed {
+pub trait HasProperty {
     ghost use Rattle.property_store.specs.declared.property.Property.{Property};
 
     ghost at: { Self → Property };
@@ -18,7 +18,7 @@ pub trait Placed {
 }
 
 /// Where a property's row stands, if each object has as many rows as any other.
-fn guess<T: Placed>(rows: &[T], at: Property) -> usize {
+fn guess<T: HasProperty>(rows: &[T], at: Property) -> usize {
     let len = rows.len();
     if len < 16 {
         return len;
@@ -32,7 +32,7 @@ fn guess<T: Placed>(rows: &[T], at: Property) -> usize {
 }
 
 /// How many rows stand before those of a property. Where its row does not stand where it may be guessed, it is searched.
-pub fn count_before<T: Placed>(rows: &[T], at: Property) -> usize
+pub fn count_before<T: HasProperty>(rows: &[T], at: Property) -> usize
     requires { IsRising T.at rows.now }
     ensures { IsCountBefore T.at rows.now at result }
 {
@@ -54,7 +54,7 @@ pub fn count_before<T: Placed>(rows: &[T], at: Property) -> usize
 }
 
 /// Whether the row of a property stands at a place.
-pub fn is_at<T: Placed>(rows: &[T], place: usize, at: Property) -> bool
+pub fn is_at<T: HasProperty>(rows: &[T], place: usize, at: Property) -> bool
     ensures { result ≡ option_map_or (λ row. is_property at (T.at row)) (slice_get rows.now place) false }
 {
     match rows.get(place) {
@@ -64,7 +64,7 @@ pub fn is_at<T: Placed>(rows: &[T], place: usize, at: Property) -> bool
 }
 
 /// The row of a property.
-pub fn row_at<T: Placed>(rows: &[T], at: Property) -> Option<&T>
+pub fn row_at<T: HasProperty>(rows: &[T], at: Property) -> Option<&T>
     requires { IsRising T.at rows.now }
     ensures { option_map (λ row. row.now) result ≡ find (λ row. is_property at (T.at row)) rows.now }
 {

@@ -14,11 +14,11 @@ use Rattle.variant_value.specs.Values.{IsOfKind, IsShort, converted, is_same}
 use Rattle.property_store.specs.declared.field.Field.{Field}
 use Rattle.property_store.specs.Store.{AreSound, IsSound, Properties, Store, changed, field_at, fitting, is_change, properties_of, value_at, with_value, without, write_refusal}
 use Rattle.property_store.specs.Store as stored
-use Rattle.property_store.specs.Table.{Shelves, store_at, with_store}
+use Rattle.property_store.specs.Table.{StoreTable, store_at, with_store}
 use Rattle.property_store.proofs.ForCallers.{converted_fits, with_value_sound, sound_changed}
 use Rattle.binding_values.specs.declared.binding.Binding.{Binding}
 use Rattle.binding_graph.specs.declared.change.Change.{Change}
-use Rattle.binding_graph.specs.declared.change.Message.TheVariants as message
+use Rattle.binding_graph.specs.declared.change.ChangeKind.TheVariants as message
 use Rattle.property_store.specs.declared.property.Property.{Property}
 use Rattle.binding_graph.specs.Graph.{Graph, all_shown, changes, is_bound, is_open, no_graph, value_in}
 use Rattle.binding_values.specs.Scene.{Cell}
@@ -28,7 +28,7 @@ use Rattle.binding_graph.specs.Table.{Graphs, graph_at}
 use Rattle.session_model.specs.State.{closed}
 use Rattle.session_model.proofs.ForCallers.{going_told, its_cell, write_told}
 use Rattle.bound_stores.specs.Bound.{all_closed, bound_at, seen_of, with_bound}
-use Rattle.bound_stores.specs.Changed.{alone, changes_in, told_at, told_of}
+use Rattle.bound_stores.specs.WriteChanges.{alone, changes_in, told_at, told_of}
 use Rattle.bound_stores.specs.Named.{TellsWritten, with_written}
 use Rattle.bound_stores.specs.Settled.{is_idle}
 use Rattle.bound_stores.proofs.CellLemmas.{found_sound, standing}
@@ -129,7 +129,7 @@ kept_idle bindings place test idle =
     sym (unbound_idle (closed graph) test its) ∙ ap (λ (graph : Graph). let after : Graph = record graph { bindings = filter test graph.bindings } in after) (sym (closed_at bindings.graphs place))
 
 -- so it is seen
-module _ (stores after : Shelves) (bindings : Graphs) (place : ℕ) (q : Property) (value fit : Value) (shelf : IsPlace stores.table place) (idle : is_idle (graph_at bindings.graphs place) ≡ true) (sound : IsSound (store_at stores place)) (short : IsShort value)
+module _ (stores after : StoreTable) (bindings : Graphs) (place : ℕ) (q : Property) (value fit : Value) (shelf : IsPlace stores.table place) (idle : is_idle (graph_at bindings.graphs place) ≡ true) (sound : IsSound (store_at stores place)) (short : IsShort value)
     (fits : fitting (store_at stores place) q.object q.number value ≡ Some fit) (is : after ≡ with_store stores place (changed (with_value q.number fit) q.object (store_at stores place))) where
   pub alone_told : TellsWritten place q (seen_of stores bindings) (seen_of after bindings) (alone (is_change (store_at stores place) q.object q.number value))
   alone_told =
@@ -143,7 +143,7 @@ module _ (stores after : Shelves) (bindings : Graphs) (place : ℕ) (q : Propert
       its = idle_is graph idle
 
       at_place : store_at after place ≡ changed (with_value q.number fit) q.object (store_at stores place)
-      at_place = ap (λ (shelves : Shelves). store_at shelves place) is ∙ column.with_there [] stores.table place _ shelf
+      at_place = ap (λ (shelves : StoreTable). store_at shelves place) is ∙ column.with_there [] stores.table place _ shelf
 
       shown : (value_in (store_at after place) (bound_at (seen_of after bindings) place) q).0 ≡ fit
       shown =
@@ -158,23 +158,23 @@ module _ (stores after : Shelves) (bindings : Graphs) (place : ℕ) (q : Propert
           ∙ ap (λ bindings. changes (all_shown (store_at stores place) bindings) (all_shown (changed (with_value q.number fit) q.object (store_at stores place)) bindings) (Some q)) its.none))
 
 -- the store alone is another one
-module _ (stores after : Shelves) (bindings : Graphs) (place : ℕ) (store : Store) (test : Binding → Bool) (idle : is_idle (graph_at bindings.graphs place) ≡ true) (is : after ≡ with_store stores place store) where
+module _ (stores after : StoreTable) (bindings : Graphs) (place : ℕ) (store : Store) (test : Binding → Bool) (idle : is_idle (graph_at bindings.graphs place) ≡ true) (is : after ≡ with_store stores place store) where
   pub idle_seen : seen_of after bindings ≡ with_bound (seen_of stores bindings) place store (record (graph_at (all_closed bindings.graphs) place) { bindings = filter test (graph_at (all_closed bindings.graphs) place).bindings })
   idle_seen = put_seen stores after bindings bindings place store (graph_at bindings.graphs place) _ is (sym (column.with_same no_graph bindings.graphs place)) (kept_idle bindings place test idle)
 
-pub alone_seen : (stores after : Shelves) (bindings : Graphs) (place : ℕ) (q : Property) (fit : Value) → is_idle (graph_at bindings.graphs place) ≡ true → after ≡ with_store stores place (changed (with_value q.number fit) q.object (store_at stores place))
+pub alone_seen : (stores after : StoreTable) (bindings : Graphs) (place : ℕ) (q : Property) (fit : Value) → is_idle (graph_at bindings.graphs place) ≡ true → after ≡ with_store stores place (changed (with_value q.number fit) q.object (store_at stores place))
     → seen_of after bindings ≡ with_written (seen_of stores bindings) place q fit
 alone_seen stores after bindings place q fit idle is = idle_seen stores after bindings place (changed (with_value q.number fit) q.object (store_at stores place)) (λ binding. not (is_property q binding.at)) idle is
 
 -- an object that goes tells nothing
-pub going_alone : (stores after : Shelves) (bindings : Graphs) (place object : ℕ) → IsPlace stores.table place → is_idle (graph_at bindings.graphs place) ≡ true → after ≡ with_store stores place (without object (store_at stores place))
+pub going_alone : (stores after : StoreTable) (bindings : Graphs) (place object : ℕ) → IsPlace stores.table place → is_idle (graph_at bindings.graphs place) ≡ true → after ≡ with_store stores place (without object (store_at stores place))
     → told_at place (seen_of stores bindings) (seen_of after bindings) None ≡ []
 going_alone stores after bindings place object shelf idle is =
     let graph = graph_at bindings.graphs place in
     let its = idle_is graph idle in
     let store = store_at stores place in
     told_seen stores after bindings bindings place None
-    ∙ (ap (λ after. told_of store graph after graph None) (ap (λ (shelves : Shelves). store_at shelves place) is ∙ column.with_there [] stores.table place (without object store) shelf)
+    ∙ (ap (λ after. told_of store graph after graph None) (ap (λ (shelves : StoreTable). store_at shelves place) is ∙ column.with_there [] stores.table place (without object store) shelf)
     ∙ (ap (λ deep. cond deep [] (changes (all_shown store graph.bindings) (all_shown (without object store) graph.bindings) None)) its.shut
     ∙ (ap (λ bindings. changes (all_shown store bindings) (all_shown (without object store) bindings) None) its.none
     ∙ going_told store object None)))

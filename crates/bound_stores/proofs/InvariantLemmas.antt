@@ -6,7 +6,7 @@ use Rattle.std.proofs.lemmas.List.{get_or-set_other}
 use Rattle.shared_rows.specs.Table.{IsPlace, Table}
 use Rattle.shared_rows.proofs.ForCallers as column
 use Rattle.property_store.specs.Store.{Properties, Store, changed}
-use Rattle.property_store.specs.Table.{Shelves, Stock, store_at, with_store}
+use Rattle.property_store.specs.Table.{StoreTable, StoresView, store_at, with_store}
 use Rattle.binding_values.specs.declared.binding.Binding.{Binding}
 use Rattle.binding_graph.specs.declared.shown.Shown.{Shown}
 use Rattle.binding_graph.specs.Graph.{Graph, all_shown, begun, ended, is_open}
@@ -25,20 +25,20 @@ kept_same change object same fields values store (first ∷ rest) = showing_same
 
 -- so all stay settled with it
 pub settled_changed : (change : Properties → Properties) (object : ℕ) → ((of : Properties) → (change of).object ≡ of.object) → ((of : Properties) → (change of).fields ≡ of.fields) → ((of : Properties) → (change of).values ≡ of.values)
-    → (stores new : Stock) (bindings : Graphs) (place : ℕ) → IsPlace stores.shelves.table place → AllSettled stores bindings → new.shelves ≡ with_store stores.shelves place (changed change object (store_at stores.shelves place)) → InStep new bindings → AllSettled new bindings
+    → (stores new : StoresView) (bindings : Graphs) (place : ℕ) → IsPlace stores.shelves.table place → AllSettled stores bindings → new.shelves ≡ with_store stores.shelves place (changed change object (store_at stores.shelves place)) → InStep new bindings → AllSettled new bindings
 settled_changed change object same fields values stores new bindings place shelf all is step = record { step = step; each = λ at. ⊎_elim (here at) (λ e. elsewhere at (λ same. absurd (grind (arith, same, e)))) (cases_Bool (eqb at place)) }
   where
     at_place : IsSettled (store_at new.shelves place) (graph_at bindings.graphs place)
     at_place shut =
         all.each place shut
         ∙ (sym (kept_same change object same fields values (store_at stores.shelves place) (graph_at bindings.graphs place).bindings)
-        ∙ ap (λ store. kept_of store (graph_at bindings.graphs place).bindings) (sym (ap (λ (stores : Shelves). store_at stores place) is ∙ column.with_there [] stores.shelves.table place _ shelf)))
+        ∙ ap (λ store. kept_of store (graph_at bindings.graphs place).bindings) (sym (ap (λ (stores : StoreTable). store_at stores place) is ∙ column.with_there [] stores.shelves.table place _ shelf)))
 
     here : (at : ℕ) → eqb at place ≡ true → IsSettled (store_at new.shelves at) (graph_at bindings.graphs at)
     here at e = let same : at ≡ place = grind (arith, e) in subst (λ at. IsSettled (store_at new.shelves at) (graph_at bindings.graphs at)) (sym same) at_place
 
     elsewhere : (at : ℕ) → at ≢ place → IsSettled (store_at new.shelves at) (graph_at bindings.graphs at)
-    elsewhere at differ = subst (λ store. IsSettled store (graph_at bindings.graphs at)) (sym (ap (λ (stores : Shelves). store_at stores at) is ∙ get_or-set_other stores.shelves.table.places place at _ [] differ)) (all.each at)
+    elsewhere at differ = subst (λ store. IsSettled store (graph_at bindings.graphs at)) (sym (ap (λ (stores : StoreTable). store_at stores at) is ∙ get_or-set_other stores.shelves.table.places place at _ [] differ)) (all.each at)
 
 -- what contracts see of a graph that is put
 pub seen_put : (graphs : Table Graph) (place : ℕ) (graph : Graph) → all_closed (with_graph graphs place graph) ≡ with_graph (all_closed graphs) place (closed graph)

@@ -13,10 +13,10 @@ use Rattle.property_store.specs.declared.unwritten.Unwritten.{Unwritten}
 use Rattle.property_store.specs.declared.unwritten.Unwritten.TheVariants.{Refused, Undeclared}
 use Rattle.property_store.specs.Named.{answer_named, declared_at, written_named}
 use Rattle.property_store.specs.Store.{IsSound, Properties, Store, changed, declared_in, field_at, field_number, fitting, is_change, properties_of, with_value, write_refusal, written}
-use Rattle.property_store.specs.Table.{Shelves, store_at, with_store}
+use Rattle.property_store.specs.Table.{StoreTable, store_at, with_store}
 use Rattle.binding_graph.specs.Table.{Graphs, graph_at}
 use Rattle.bound_stores.specs.Bound.{seen_of}
-use Rattle.bound_stores.specs.Changed.{alone}
+use Rattle.bound_stores.specs.WriteChanges.{alone}
 use Rattle.bound_stores.specs.Named.{TellsWritten, WritesDeclared, WritesNamed}
 use Rattle.bound_stores.specs.Settled.{is_idle}
 use Rattle.bound_stores.proofs.AloneLemmas.{alone_seen, alone_told}
@@ -155,7 +155,7 @@ module _ (store : Store) (object : ℕ) (name : List ℕ) (value : Value) where
           (e ∙ ap {B = Result (ℕ × Bool) Unwritten} (λ refusal. option_map_or (λ code. Err (Refused code)) refusal (Ok (at.0, is_change store object at.0 value))) (refusal_kind store object at.0 at.1 value there))
 
 -- so it is seen
-module _ (stores after : Shelves) (bindings : Graphs) (place object : ℕ) (name : List ℕ) (value : Value) where
+module _ (stores after : StoreTable) (bindings : Graphs) (place object : ℕ) (name : List ℕ) (value : Value) where
   pub named_alone : (number : ℕ) (change : Bool) → IsPlace stores.table place → is_idle (graph_at bindings.graphs place) ≡ true → IsSound (store_at stores place) → IsShort value → Ok (number, change) ≡ answer_named (store_at stores place) object name value
       → after ≡ with_store stores place (written_named (store_at stores place) object name value) → WritesDeclared place object name value (seen_of stores bindings) number (alone change) (seen_of after bindings)
   named_alone number change shelf idle sound short e new =

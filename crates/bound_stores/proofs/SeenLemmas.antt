@@ -3,7 +3,7 @@ use Rattle.std.proofs.Common.{◌≡◌, ◌∙◌, ℕ, Bool, true, false, cond
 use Rattle.shared_rows.specs.Table.{ChangesAt, IsPlace, Table}
 use Rattle.shared_rows.proofs.ForCallers as column
 use Rattle.property_store.specs.Store.{Store}
-use Rattle.property_store.specs.Table.{Shelves, store_at, with_store}
+use Rattle.property_store.specs.Table.{StoreTable, store_at, with_store}
 use Rattle.binding_values.specs.declared.binding.Binding.{Binding}
 use Rattle.binding_graph.specs.declared.change.Change.{Change}
 use Rattle.property_store.specs.declared.property.Property.{Property}
@@ -11,16 +11,16 @@ use Rattle.binding_graph.specs.Graph.{Graph, all_shown, changes, is_open, no_gra
 use Rattle.binding_graph.specs.Table.{Graphs, graph_at, with_graph}
 use Rattle.session_model.specs.State.{closed}
 use Rattle.bound_stores.specs.Bound.{BoundShelves, ChangesBound, all_closed, bound_at, seen_of, with_bound}
-use Rattle.bound_stores.specs.Changed.{told_at, told_of}
+use Rattle.bound_stores.specs.WriteChanges.{told_at, told_of}
 use Rattle.bound_stores.specs.Settled.{kept_of, settled_in}
 use Rattle.bound_stores.proofs.InvariantLemmas.{closed_bound, closed_settled, seen_put}
 use Rattle.bound_stores.proofs.SettledLemmas.{closed_at, closed_bindings, closed_depth}
 
 -- what is stored at a place, put there again
-pub same_store : (stores : Shelves) (place : ℕ) → with_store stores place (store_at stores place) ≡ stores
-same_store stores place = ap (λ table. let shelves : Shelves = record { layouts = stores.layouts; table = table } in shelves) (column.with_same [] stores.table place)
+pub same_store : (stores : StoreTable) (place : ℕ) → with_store stores place (store_at stores place) ≡ stores
+same_store stores place = ap (λ table. let shelves : StoreTable = record { layouts = stores.layouts; table = table } in shelves) (column.with_same [] stores.table place)
 
-pub settled_store : (stores new : Shelves) (place : ℕ) → new ≡ stores → new ≡ with_store stores place (store_at stores place)
+pub settled_store : (stores new : StoreTable) (place : ℕ) → new ≡ stores → new ≡ with_store stores place (store_at stores place)
 settled_store stores new place same = same ∙ sym (same_store stores place)
 
 -- a graph with other bindings
@@ -38,7 +38,7 @@ told_closed store graph other after written =
 pub changes_closed : (old new : Table Graph) (place : ℕ) → ChangesAt no_graph place old new → ChangesAt no_graph place (all_closed old) (all_closed new)
 changes_closed old new place e = ap all_closed e ∙ (seen_put old place (graph_at new place) ∙ ap (with_graph (all_closed old) place) (sym (closed_at new place)))
 
-module _ (stores new : Shelves) (bindings after : Graphs) (place : ℕ) where
+module _ (stores new : StoreTable) (bindings after : Graphs) (place : ℕ) where
   -- a store and a graph that are put
   pub put_seen : (store : Store) (graph other : Graph) → new ≡ with_store stores place store → after.graphs ≡ with_graph bindings.graphs place graph → closed graph ≡ other → seen_of new after ≡ with_bound (seen_of stores bindings) place store other
   put_seen store graph other first second is =
@@ -66,14 +66,14 @@ module _ (stores new : Shelves) (bindings after : Graphs) (place : ℕ) where
   module _ (shelf : IsPlace stores.table place) (there : IsPlace bindings.graphs place) where
     pub put_changes : (store : Store) (graph : Graph) → new ≡ with_store stores place store → after.graphs ≡ with_graph bindings.graphs place graph → ChangesBound place (seen_of stores bindings) (seen_of new after)
     put_changes store graph first second =
-        changes_seen (ap (λ (shelves : Shelves). shelves.layouts) first) (column.changes_with [] stores.table new.table place store shelf (ap (λ (shelves : Shelves). shelves.table) first))
+        changes_seen (ap (λ (shelves : StoreTable). shelves.layouts) first) (column.changes_with [] stores.table new.table place store shelf (ap (λ (shelves : StoreTable). shelves.table) first))
         (column.changes_with no_graph bindings.graphs after.graphs place graph there second)
 
     pub put_told : (store : Store) (change : List Binding → List Binding) (written : Option Property) → new ≡ with_store stores place store → after.graphs ≡ with_graph bindings.graphs place (settled_in store (with_bindings change (graph_at bindings.graphs place)))
         → told_at place (seen_of stores bindings) (seen_of new after) written ≡ cond (is_open (graph_at bindings.graphs place)) [] (changes (all_shown (store_at stores place) (graph_at bindings.graphs place).bindings) (all_shown store (change (graph_at bindings.graphs place).bindings)) written)
     put_told store change written first second =
         told_seen written
-        ∙ (ap (λ store. told_of (store_at stores place) old store (graph_at after.graphs place) written) (ap (λ (shelves : Shelves). store_at shelves place) first ∙ column.with_there [] stores.table place store shelf)
+        ∙ (ap (λ store. told_of (store_at stores place) old store (graph_at after.graphs place) written) (ap (λ (shelves : StoreTable). store_at shelves place) first ∙ column.with_there [] stores.table place store shelf)
         ∙ (ap (λ graph. told_of (store_at stores place) old store graph written) (ap (λ graphs. graph_at graphs place) second ∙ column.with_there no_graph bindings.graphs place _ there)
         ∙ by (is_open old)))
       where

@@ -2,14 +2,14 @@
 use Rattle.std.specs.Prelude.{◌≡◌, ℕ, [], map}
 use Rattle.shared_rows.specs.Table.{ChangesAt, Table}
 use Rattle.property_store.specs.Store.{Store}
-use Rattle.property_store.specs.Table.{Shelves, Stock, store_at, with_store}
+use Rattle.property_store.specs.Table.{StoreTable, StoresView, store_at, with_store}
 use Rattle.binding_graph.specs.Graph.{Graph, no_graph}
 use Rattle.binding_graph.specs.Table.{Graphs, graph_at, with_graph}
 use Rattle.session_model.specs.State.{closed}
 
 pub record BoundShelves : Type 0 where
   -- what is stored
-  pub shelves : Shelves
+  pub shelves : StoreTable
   -- the bindings and groups; outside of groups what was shown is no part of them
   pub graphs : Table Graph
 
@@ -18,11 +18,11 @@ abbrev pub all_closed : Table Graph → Table Graph
 all_closed graphs = record { places = map closed graphs.places; room = graphs.room }
 
 -- so stores and bindings are seen
-abbrev pub seen_of : Shelves → Graphs → BoundShelves
+abbrev pub seen_of : StoreTable → Graphs → BoundShelves
 seen_of shelves bindings = record { shelves = shelves; graphs = all_closed bindings.graphs }
 
 -- and what was written is not
-abbrev pub without_marks : Stock → Graphs → BoundShelves
+abbrev pub without_marks : StoresView → Graphs → BoundShelves
 without_marks stores bindings = seen_of stores.shelves bindings
 
 -- what is stored at a place

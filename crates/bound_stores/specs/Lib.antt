@@ -1,5 +1,5 @@
 pub mod Bound
-pub mod Changed
+pub mod WriteChanges
 pub mod Coded
 pub mod Named
 pub mod Reading

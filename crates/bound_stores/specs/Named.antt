@@ -11,12 +11,12 @@ use Rattle.property_store.specs.Store.{with_value}
 use Rattle.property_store.specs.Store as store
 use Rattle.property_store.specs.declared.property.Property.{Property}
 use Rattle.binding_graph.specs.Graph.{unbound, value_in}
-use Rattle.bound_stores.specs.declared.changed.Changed.{Changed}
+use Rattle.bound_stores.specs.declared.write_changes.WriteChanges.{WriteChanges}
 use Rattle.bound_stores.specs.Bound.{BoundShelves, bound_at, stored_at, with_bound}
-use Rattle.bound_stores.specs.Changed.{changes_in, told_at}
+use Rattle.bound_stores.specs.WriteChanges.{changes_in, told_at}
 
 -- the changes where a property was written
-abbrev pub TellsWritten : ℕ → Property → BoundShelves → BoundShelves → Changed → Type 0
+abbrev pub TellsWritten : ℕ → Property → BoundShelves → BoundShelves → WriteChanges → Type 0
 TellsWritten place at old new changed = changes_in at (value_in (stored_at new place) (bound_at new place) at).0 changed ≡ told_at place old new (Some at)
 
 -- a declared property was given a value of its kind, and is bound no longer
@@ -26,7 +26,7 @@ with_written bound place at value =
 
 module _ (place object : ℕ) (name : List ℕ) (value : Value) (old : BoundShelves) where
   -- a declared property of this name was given the value as one of its kind
-  pub record WritesDeclared (number : ℕ) (changed : Changed) (new : BoundShelves) : Type 0 where
+  pub record WritesDeclared (number : ℕ) (changed : WriteChanges) (new : BoundShelves) : Type 0 where
     pub kind : Kind
     pub fit : Value
     pub named : declared_at (stored_at old place) object name ≡ Some (number, kind)
@@ -42,7 +42,7 @@ module _ (place object : ℕ) (name : List ℕ) (value : Value) (old : BoundShel
     pub misfit : converted kind value ≡ None
 
   -- a value was written to the property of a name; or there is none, or it does not fit
-  abbrev pub WritesNamed : Result (ℕ × Changed) Unwritten → BoundShelves → Type 0
+  abbrev pub WritesNamed : Result (ℕ × WriteChanges) Unwritten → BoundShelves → Type 0
   WritesNamed (Ok found) new = WritesDeclared found.0 found.1 new
   WritesNamed (Err (Undeclared rest)) new = (rest ≡ value) × (declared_at (stored_at old place) object name ≡ None) × (new ≡ old)
   WritesNamed (Err (Refused code)) new = (code ≡ BadValue) × DoesNotFit × (new ≡ old)

@@ -2,7 +2,7 @@
 use Rattle.std.specs.Prelude.{◌≡◌, ◌==◌, ◌&&◌, ℕ, Bool, List, [], ◌∷◌, length, IsFalse, if◌then◌else◌}
 use Rattle.shared_rows.specs.Table.{ChangesAt, IsPlace}
 use Rattle.property_store.specs.Store.{Store}
-use Rattle.property_store.specs.Table.{Stock, store_at}
+use Rattle.property_store.specs.Table.{StoresView, store_at}
 use Rattle.binding_values.specs.declared.binding.Binding.{Binding}
 use Rattle.binding_graph.specs.declared.shown.Shown.{Shown}
 use Rattle.binding_graph.specs.Graph.{Graph, all_shown, is_open, no_graph}
@@ -24,44 +24,44 @@ abbrev pub settled_in : Store → Graph → Graph
 settled_in store graph = if is_open graph then graph else record graph { last = kept_of store graph.bindings }
 
 -- every place is so
-pub record AllSettled (stores : Stock) (bindings : Graphs) : Type 0 where
+pub record AllSettled (stores : StoresView) (bindings : Graphs) : Type 0 where
   pub step : InStep stores bindings
   pub each : (place : ℕ) → IsSettled (store_at stores.shelves place) (graph_at bindings.graphs place)
 
 -- a place that is there, where stores and bindings are in step
-pub record IsInStepAt (place : ℕ) (stores : Stock) (bindings : Graphs) : Type 0 where
+pub record IsInStepAt (place : ℕ) (stores : StoresView) (bindings : Graphs) : Type 0 where
   pub store : IsPlace stores.shelves.table place
   pub graph : IsPlace bindings.graphs place
   pub step : InStep stores bindings
 
 -- and that is settled
-pub record IsSettledAt (place : ℕ) (stores : Stock) (bindings : Graphs) : Type 0 where
+pub record IsSettledAt (place : ℕ) (stores : StoresView) (bindings : Graphs) : Type 0 where
   pub store : IsPlace stores.shelves.table place
   pub graph : IsPlace bindings.graphs place
   pub step : InStep stores bindings
   pub settled : IsSettled (store_at stores.shelves place) (graph_at bindings.graphs place)
 
 -- a place that is there, where every place is settled
-pub record IsReady (place : ℕ) (stores : Stock) (bindings : Graphs) : Type 0 where
+pub record IsReady (place : ℕ) (stores : StoresView) (bindings : Graphs) : Type 0 where
   pub store : IsPlace stores.shelves.table place
   pub graph : IsPlace bindings.graphs place
   pub all : AllSettled stores bindings
 
 -- no place but this one has changed, nor what classes declare, and stores and bindings are in step
-pub record ChangesInStep (place : ℕ) (old new : Stock) (bindings after : Graphs) : Type 0 where
+pub record ChangesInStep (place : ℕ) (old new : StoresView) (bindings after : Graphs) : Type 0 where
   pub layouts : new.shelves.layouts ≡ old.shelves.layouts
   pub stores : ChangesAt [] place old.shelves.table new.shelves.table
   pub graphs : ChangesAt no_graph place bindings.graphs after.graphs
   pub step : InStep new after
 
 -- so where the stores are as they were
-pub record LeavesStores (place : ℕ) (old new : Stock) (bindings after : Graphs) : Type 0 where
+pub record LeavesStores (place : ℕ) (old new : StoresView) (bindings after : Graphs) : Type 0 where
   pub stores : new.shelves ≡ old.shelves
   pub graphs : ChangesAt no_graph place bindings.graphs after.graphs
   pub step : InStep new after
 
 -- no place but this one has changed, and every place is settled
-pub record StaysSettled (place : ℕ) (old new : Stock) (bindings after : Graphs) : Type 0 where
+pub record StaysSettled (place : ℕ) (old new : StoresView) (bindings after : Graphs) : Type 0 where
   pub only : ChangesBound place (without_marks old bindings) (without_marks new after)
   pub all : AllSettled new after
 

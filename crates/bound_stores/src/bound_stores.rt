@@ -1,4 +1,4 @@
-//! What the properties of all places store, and their bindings.
+//! The bound stores hold the values of all places' properties, and their bindings.
 ghost use Rattle.std.specs.Prelude.{◌≡◌, ◌≤◌, [], IfOk, IfSome, IsFalse, IsTrue, None, OnErr, OnOk, Some, if◌then◌else◌};
 ghost use Rattle.shared_rows.specs.Table.{IsPlace, Opens, opened};
 ghost use Rattle.plain_types.specs.Answers.{RefusedBy};
@@ -11,16 +11,15 @@ ghost use Rattle.binding_graph.specs.Graph.{ended, is_open, no_graph, taken, unb
 ghost use Rattle.binding_values.specs.Stored.{is_bindable};
 ghost use Rattle.session_model.specs.State.{closed};
 ghost use Rattle.bound_stores.specs.Bound.{ChangesBound, bound_at, stored_at, with_bound};
-ghost use Rattle.bound_stores.specs.Changed.{told_at};
+ghost use Rattle.bound_stores.specs.WriteChanges.{told_at};
 ghost use Rattle.bound_stores.specs.Named.{TellsWritten, WritesNamed, with_written};
 ghost use Rattle.bound_stores.specs.Settled.{is_idle};
 
-use crate::changed::Changed;
 use crate::changing;
+use crate::write_changes::WriteChanges;
 use binding_graph::{Bindings, Change};
-use plain_types::{Items, Text};
+use plain_types::{Fault, Items, Text};
 use property_store::{Field, Property, Stores, Unwritten};
-use plain_types::Fault;
 use std::alloc::{AllocError, Global};
 use std::marker::Model;
 use term_core::Expr;
@@ -72,7 +71,7 @@ impl BoundStores {
         ensures room { OnOk result (1 ≤ self.new.shelves.table.room) }
         ensures free { OnOk result (1 ≤ self.new.graphs.room) }
     {
-        binding_graph::openings();
+        binding_graph::law_openings();
         self.stores.ready()?;
         self.bindings.ready()
     }
@@ -85,7 +84,7 @@ impl BoundStores {
         ensures table { Opens self.old.shelves.table [] self.new.shelves.table result }
         ensures graphs { self.new.graphs ≡ opened self.old.graphs no_graph }
     {
-        binding_graph::openings();
+        binding_graph::law_openings();
         self.bindings.open();
         self.stores.open()
     }
@@ -113,7 +112,12 @@ impl BoundStores {
 
     /// Gives a declared property a value of its kind, which is bound no longer then, and returns what has
     /// changed by it. Where nothing is bound and no group is open this takes no memory.
-    pub fn write(&mut self, place: usize, at: Property, value: Value) -> Result<Changed, AllocError>
+    pub fn write(
+        &mut self,
+        place: usize,
+        at: Property,
+        value: Value,
+    ) -> Result<WriteChanges, AllocError>
         requires place { IsPlace self.old.shelves.table place }
         requires graph { IsPlace self.old.graphs place }
         requires fits { fitting (stored_at self.old place) at.object at.number value ≡ Some value }
@@ -134,7 +138,7 @@ impl BoundStores {
         object: u32,
         name: &str,
         value: Value,
-    ) -> Result<Result<(usize, Changed), Unwritten>, AllocError>
+    ) -> Result<Result<(usize, WriteChanges), Unwritten>, AllocError>
         requires place { IsPlace self.old.shelves.table place }
         requires graph { IsPlace self.old.graphs place }
         requires short { IsShort value }
@@ -168,7 +172,7 @@ impl BoundStores {
             ≡ with_bound self.old place (changed (with_dynamic name value) object (stored_at self.old place)) (bound_at self.old place)) }
         ensures err { OnErr result (self.new ≡ self.old) }
     {
-        binding_graph::steps();
+        binding_graph::law_steps();
         self.stores.set_dynamic(place, object, name, value)
     }
 
@@ -177,7 +181,7 @@ impl BoundStores {
         requires { IsPlace self.old.shelves.table place }
         ensures { self.new ≡ with_bound self.old place (changed (without_dynamic name.now) object (stored_at self.old place)) (bound_at self.old place) }
     {
-        binding_graph::steps();
+        binding_graph::law_steps();
         self.stores.remove_dynamic(place, object, name);
     }
 

@@ -12,16 +12,15 @@ ghost use Rattle.binding_values.specs.Stored.{is_bindable};
 ghost use Rattle.binding_graph.specs.Table.{graph_at};
 ghost use Rattle.session_model.specs.State.{closed};
 ghost use Rattle.bound_stores.specs.Bound.{bound_at, without_marks, with_bound};
-ghost use Rattle.bound_stores.specs.Changed.{alone, told_at};
+ghost use Rattle.bound_stores.specs.WriteChanges.{alone, told_at};
 ghost use Rattle.bound_stores.specs.Named.{TellsWritten, WritesNamed, with_written};
 ghost use Rattle.bound_stores.specs.Settled.{AllSettled, IsReady, StaysSettled, is_idle};
 
-use crate::changed::Changed;
 use crate::settling;
-use binding_graph::{Bindings, Change, steps};
-use plain_types::Items;
+use crate::write_changes::WriteChanges;
+use binding_graph::{Bindings, Change, law_steps};
+use plain_types::{Code, Fault, Items};
 use property_store::{Property, Stores, Unwritten};
-use plain_types::{Code, Fault};
 use std::alloc::{AllocError, Global};
 use term_core::Expr;
 use variant_value::Value;
@@ -37,14 +36,14 @@ fn is_idle(stores: &Stores, bindings: &Bindings, place: usize) -> bool
     bindings.count(place) == 0 && bindings.depth(place) == 0
 }
 
-/// What a write changes where nothing is bound and no group is open.
-fn alone(is_change: bool) -> Changed
+/// Returns the changes of a write where nothing is bound and no group is open.
+fn alone(is_change: bool) -> WriteChanges
     ensures { result ≡ alone is_change }
 {
     if is_change {
-        Changed::Written
+        WriteChanges::Written
     } else {
-        Changed::Nothing
+        WriteChanges::Nothing
     }
 }
 
@@ -54,7 +53,7 @@ pub(crate) fn clear(stores: &mut Stores, bindings: &mut Bindings, place: usize)
     ensures new { without_marks stores.new bindings.new ≡ with_bound (without_marks stores.old bindings.old) place [] no_graph }
     ensures all { AllSettled stores.new bindings.new }
 {
-    steps();
+    law_steps();
     stores.clear(place);
     bindings.clear(place);
 }
@@ -73,7 +72,7 @@ pub(crate) fn add_object(
         (added (store_at stores.old.shelves place) object (fields_of stores.old.shelves class)) (bound_at (without_marks stores.old bindings.old) place)) }
     ensures stays { StaysSettled place stores.old stores.new bindings.old bindings.new }
 {
-    steps();
+    law_steps();
     stores.add_object(place, object, class)?;
     if bindings.count(place) == 0 {
         return Ok(());
@@ -93,7 +92,7 @@ pub(crate) fn write(
     place: usize,
     at: Property,
     value: Value,
-) -> Result<Changed, AllocError>
+) -> Result<WriteChanges, AllocError>
     requires ready { IsReady place stores.old bindings.old }
     requires fits { fitting (store_at stores.old.shelves place) at.object at.number value ≡ Some value }
     requires short { IsShort value }
@@ -102,13 +101,13 @@ pub(crate) fn write(
     ensures idle { OnErr result (IsFalse (is_idle (graph_at bindings.old.graphs place))) }
     ensures stays { StaysSettled place stores.old stores.new bindings.old bindings.new }
 {
-    steps();
+    law_steps();
     if is_idle(stores, bindings, place) {
         let is_change = stores.write(place, at.object, at.number, value);
         return Ok(alone(is_change.unwrap_or(false)));
     }
     match settling::write(stores, bindings, place, at, value) {
-        Ok(told) => Ok(Changed::Several(told)),
+        Ok(told) => Ok(WriteChanges::Several(told)),
         Err(error) => {
             bindings.clear(place);
             Err(error)
@@ -124,7 +123,7 @@ pub(crate) fn write_named(
     object: u32,
     name: &str,
     value: Value,
-) -> Result<Result<(usize, Changed), Unwritten>, AllocError>
+) -> Result<Result<(usize, WriteChanges), Unwritten>, AllocError>
     requires ready { IsReady place stores.old bindings.old }
     requires short { IsShort value }
     ensures writes { IfOk result (λ answer.
@@ -132,7 +131,7 @@ pub(crate) fn write_named(
     ensures idle { OnErr result (IsFalse (is_idle (graph_at bindings.old.graphs place))) }
     ensures stays { StaysSettled place stores.old stores.new bindings.old bindings.new }
 {
-    steps();
+    law_steps();
     if is_idle(stores, bindings, place) {
         return match stores.write_named(place, object, name, value) {
             Ok((number, is_change)) => Ok(Ok((number, alone(is_change)))),
@@ -165,7 +164,7 @@ pub(crate) fn remove(
     ensures idle { OnErr result (IsFalse (is_idle (graph_at bindings.old.graphs place))) }
     ensures stays { StaysSettled place stores.old stores.new bindings.old bindings.new }
 {
-    steps();
+    law_steps();
     if is_idle(stores, bindings, place) {
         stores.drop_object(place, object);
         return Ok(Items::new(alloc));

@@ -1,4 +1,4 @@
-//! What is stored at a place, shown there and bound.
+//! These calls read what is stored at a place, shown there and bound.
 ghost use Rattle.std.specs.Prelude.{◌≡◌, ◌≤◌, IfOk, IfSome, IsFalse, length, option_and_then};
 ghost use Rattle.std.specs.Option.{option_map, option_map_or};
 ghost use Rattle.shared_rows.specs.Table.{IsPlace};
@@ -69,8 +69,8 @@ impl BoundStores {
         binding_values::is_bindable(&self.stores, place, at)
     }
 
-    /// What a declared property shows, and the error for which it is the default of its kind; `Invalid`
-    /// where it is not there.
+    /// Returns the value that a declared property shows, and the error for which it is the default of its kind;
+    /// `Invalid` where it is not there.
     pub fn shown(
         &self,
         place: usize,
@@ -142,7 +142,7 @@ impl BoundStores {
         }
     }
 
-    /// What a declared property shows that is not bound: its value.
+    /// Returns the value that a declared property shows that is not bound: its stored one.
     fn stored(&self, place: usize, at: Property) -> Option<&Value>
         requires place { IsPlace self.now.shelves.table place }
         requires unbound { IsFalse (is_bound (bound_at self.now place).bindings at) }

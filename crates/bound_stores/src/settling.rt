@@ -6,19 +6,18 @@ ghost use Rattle.plain_types.specs.Answers.{RefusedBy};
 ghost use Rattle.term_core.specs.Forms.{is_within_limits};
 ghost use Rattle.property_store.specs.Store.{Store, fitting, without, written};
 ghost use Rattle.variant_value.specs.Values.{IsShort};
-ghost use Rattle.property_store.specs.Table.{Stock, store_at, with_store};
+ghost use Rattle.property_store.specs.Table.{StoresView, store_at, with_store};
 ghost use Rattle.binding_graph.specs.Graph.{Graph, bind_refusal, bound, end_refusal, ended, no_graph};
 ghost use Rattle.binding_graph.specs.Graph.{settled_changes, settled_graph, taken, unbound, without_object};
 ghost use Rattle.binding_graph.specs.Step.{InStep};
 ghost use Rattle.binding_values.specs.Stored.{is_bindable};
 ghost use Rattle.binding_graph.specs.Table.{graph_at, with_graph};
-ghost use Rattle.bound_stores.specs.Changed.{told_of};
+ghost use Rattle.bound_stores.specs.WriteChanges.{told_of};
 ghost use Rattle.bound_stores.specs.Settled.{ChangesInStep, IsInStepAt, IsSettledAt, LeavesStores, settled_in};
 
-use binding_graph::{BINDINGS, Bindings, Change, steps};
-use plain_types::Items;
+use binding_graph::{BINDINGS, Bindings, Change, law_steps};
+use plain_types::{Code, Fault, Items};
 use property_store::{Property, Stores};
-use plain_types::{Code, Fault};
 use std::alloc::AllocError;
 use term_core::Expr;
 use variant_value::Value;
@@ -28,7 +27,7 @@ fn tidy(bindings: &mut Bindings, place: usize)
     requires { IsPlace bindings.old.graphs place }
     ensures tidied { (store : Store) (graph : Graph) → graph_at bindings.old.graphs place ≡ settled_graph store graph
         → bindings.new.graphs ≡ with_graph bindings.old.graphs place (settled_in store graph) }
-    ensures step { (stores : Stock) → InStep stores bindings.old → InStep stores bindings.new }
+    ensures step { (stores : StoresView) → InStep stores bindings.old → InStep stores bindings.new }
 {
     if bindings.count(place) == 0 && bindings.depth(place) == 0 {
         bindings.clear(place);
@@ -151,7 +150,7 @@ pub(crate) fn write(
         ≡ with_store stores.old.shelves place (written (store_at stores.old.shelves place) at.object at.number value)) }
     ensures stays { ChangesInStep place stores.old stores.new bindings.old bindings.new }
 {
-    steps();
+    law_steps();
     note(stores, bindings, place)?;
     bindings.take(place, stores, at)?;
     let _ = stores.write(place, at.object, at.number, value);

@@ -26,7 +26,7 @@ pub struct Method {
     /// The normal text of the signature.
     pub text: Text,
     pub is_signal: bool,
-    /// What a slot does; that of a signal is empty.
+    /// A slot's body says what it does; that of a signal is empty.
     pub body: Body,
 }
 

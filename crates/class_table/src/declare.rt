@@ -1,4 +1,4 @@
-//! What a written class declares, and the first fault in it.
+//! These functions read what a written class declares, and find the first fault in it.
 ghost use Rattle.std.specs.Prelude.{◌≡◌, None, Ok, ◌++◌, ◌+◌, ◌<◌, ◌≤◌, IfOk, IfSome, IsTrue, length, map, position, bytes_eq, is_none};
 ghost use Rattle.std.specs.Option.{ok_or};
 ghost use Rattle.std.specs.List.{All, list_all};
@@ -19,8 +19,7 @@ use crate::class::{Class, METHODS, Method, PROPERTIES, Property, is_same, normal
 use crate::fault::{ClassFaultKind, Stop};
 use crate::form::{ClassForm, MethodForm, PropertyForm};
 use crate::table::ClassTable;
-use plain_types::{Items, Text};
-use plain_types::{Code, Fault};
+use plain_types::{Code, Fault, Items, Text};
 use serde_json::Value;
 use signature_core::{Kind, Signature};
 use std::alloc::Global;
@@ -31,7 +30,7 @@ use term_core::Body;
 #[derive(Drop)]
 pub(crate) struct Signed<'j> {
     pub(crate) signature: Signature,
-    /// What a slot does; a signal has none.
+    /// A slot has a body; a signal has none.
     pub(crate) body: Option<&'j Value>,
 }
 

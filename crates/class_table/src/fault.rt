@@ -1,4 +1,4 @@
-//! What may be wrong with a class file.
+//! A class file may have these faults.
 ghost use Rattle.std.specs.Prelude.{◌≡◌};
 ghost use Rattle.class_table.specs.Faults.{error_at, kind_text};
 
@@ -21,8 +21,8 @@ pub enum ClassFaultKind {
     BadSignature,
     /// A method or a property is there already, in the class or in a superclass.
     DeclaredTwice,
-    /// What a property is to send is no signal of the class or a superclass, or takes something else
-    /// than nothing or the property's value.
+    /// A property's `notify` is no signal of the class or a superclass, or takes something else than nothing or
+    /// the property's value.
     BadNotify,
     /// A slot's body is none.
     BadBody,

@@ -24,7 +24,7 @@ const BAD_FORM: Stop = Stop::Fault(ClassFaultKind::BadForm);
 #[derive(Drop)]
 pub(crate) struct MethodForm<'j> {
     pub(crate) signature: &'j str,
-    /// What a slot does; a signal has none.
+    /// A slot has a body; a signal has none.
     pub(crate) body: Option<&'j Value>,
 }
 
@@ -207,7 +207,7 @@ fn is_among(key: &str, known: &[&str]) -> bool
     known.iter().any(|one| key == *one)
 }
 
-/// What stands behind a key that must be there.
+/// Returns the value at a key that must be there.
 pub(crate) fn member<'j>(json: &'j Value, key: &str) -> Result<&'j Value, Stop>
     ensures { Gives (λ v. view v.now) result (at_key key.now (view json.now)) }
 {

@@ -1,9 +1,9 @@
-//! What a run of the program begins with.
+//! A run of the program begins with its options and classes.
 
 use class_table::ClassTable;
 use plain_types::Text;
 
-/// What a run of the program begins with.
+/// A run of the program begins with these.
 #[derive(Drop)]
 pub struct Beginning {
     /// The classes that its objects can be of.

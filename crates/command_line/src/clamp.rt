@@ -102,7 +102,7 @@ pub fn clamped(
     alone(alloc, action)
 }
 
-/// What `clamp` does with its argument.
+/// Makes the body of `clamp`, which says what it does with its argument.
 pub fn clamp_body(alloc: Global, least: i32, most: i32) -> Result<Body, AllocError>
     ensures { IfOk result (λ body. body ≡ clamp_body least most) }
 {
@@ -114,7 +114,7 @@ pub fn clamp_body(alloc: Global, least: i32, most: i32) -> Result<Body, AllocErr
     })
 }
 
-/// What gives `clamp` its next state: the state itself.
+/// Makes the expression that gives `clamp` its next state: the state itself.
 pub(crate) fn clamp_next() -> Expr
     ensures { result ≡ term.state }
 {
@@ -143,7 +143,7 @@ fn clamp_actions(
     clamped(alloc, least, most, &Expr { node })
 }
 
-/// What `clamp` answers over a state to the number that it is given.
+/// Returns the answer of `clamp` over a state to the number that it is given.
 pub fn clamp_answer(
     alloc: Global,
     least: i32,

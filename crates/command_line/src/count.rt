@@ -39,7 +39,7 @@ fn counted(alloc: Global, number: Expr) -> Result<Vec<Action>, AllocError>
     Ok(vec![in alloc; Action { step }]?)
 }
 
-/// What `count` does over a state.
+/// Makes the actions of `count` over a state.
 fn count_actions(alloc: Global, state: u64) -> Result<Vec<Action>, AllocError>
     ensures { IfOk result (λ actions. (args : List ValueSeen) → actions.items ≡ unfolded_body args (with_state state count_body)) }
 {
@@ -55,7 +55,7 @@ fn count_state(state: u64) -> u64
     state.saturating_add(1)
 }
 
-/// What `count` answers over a state, whatever number it is given.
+/// Returns the answer of `count` over a state, whatever number it is given.
 pub fn count_answer(
     alloc: Global,
     found: u64,
@@ -68,7 +68,7 @@ pub fn count_answer(
     Ok((actions, count_state(found)))
 }
 
-/// What `count` does with its state.
+/// Makes the body of `count`, which says what it does with its state.
 pub(crate) fn count_body(alloc: Global) -> Result<Body, AllocError>
     ensures { IfOk result (λ body. body ≡ count_body) }
 {
@@ -79,7 +79,7 @@ pub(crate) fn count_body(alloc: Global) -> Result<Body, AllocError>
     })
 }
 
-/// What gives `count` its next state.
+/// Makes the expression that gives `count` its next state.
 pub(crate) fn count_next(alloc: Global) -> Result<Expr, AllocError>
     ensures { IfOk result (λ next. next ≡ one_more term.state) }
 {

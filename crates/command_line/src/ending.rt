@@ -31,7 +31,7 @@ pub struct Ending {
     pub text: CowStr<'static, Global>,
 }
 
-/// What is said of a command line that is no text, as it is said of other mistakes.
+/// The program prints this of a command line that is no text, in the form of its other mistakes.
 const NO_UTF_8: &str = "error: invalid UTF-8 was detected in one or more arguments
 
 Usage: metad [OPTIONS] [CLASSES]
@@ -139,7 +139,7 @@ impl Ending {
     }
 }
 
-/// What is said of a class file that is refused, without the end of the line: by its fault, or none
+/// Returns the text about a class file that is refused, without the end of the line: by its fault, or none
 /// where it could not be read.
 pub fn class_text(alloc: Global, fault: Option<&ClassFault>) -> Result<String, AllocError>
     ensures { IfOk result (λ text. string_bytes text ≡ class_text (option_copied fault.entry)) }
@@ -153,7 +153,7 @@ pub fn class_text(alloc: Global, fault: Option<&ClassFault>) -> Result<String, A
     }
 }
 
-/// The same with the end of the line.
+/// Returns the line about a class file that is refused, with its end.
 fn class_line(alloc: Global, fault: Option<&ClassFault>) -> Result<String, AllocError>
     ensures { IfOk result (λ text. string_bytes text ≡ line (class_text (option_copied fault.entry))) }
 {

@@ -9,8 +9,7 @@ ghost use Rattle.command_line.specs.Count.{count, count_body, one_more};
 
 use crate::clamp::{clamp_body, clamp_next};
 use crate::count::{count_body, count_next};
-use plain_types::{Items, Text};
-use plain_types::Fault;
+use plain_types::{Fault, Items, Text};
 use signature_core::Kind;
 use std::alloc::{AllocError, Global};
 use stored_slots::{Closure, Functors};

@@ -13,7 +13,7 @@ use std::convert::AsStr;
 /// How many turns each command has for the calls that it causes, where the words do not say.
 pub const DEFAULT_TURNS: u32 = 10_000;
 
-/// What the program is told to do.
+/// The options say what the program is to do.
 #[derive(Drop)]
 pub struct Options {
     /// The path of the class file, as it was written; none stands for the demonstration classes.

@@ -15,8 +15,8 @@ use std::env;
 use std::env::Env;
 use std::io::ErrorKind;
 
-/// What the program is to run with, or how it ends where there is no run: by the command line, and then by
-/// the class file that it names.
+/// Finds what the program is to run with, or how it ends where there is no run: by the command line, and then
+/// by the class file that it names.
 pub fn start<R: ClassFiles + CommandLine + AllocGlobal>(rt: &R) -> Result<Beginning, Ending>
     ensures { StartsByProcess (R.given rt.now) (files (R.holds rt.now) (R.readable rt.now)) result }
 {
@@ -41,7 +41,7 @@ pub fn words_of<R: Env + AllocGlobal>(rt: &R) -> Result<Vec<String>, Ending>
     }
 }
 
-/// What the program is to run with, or how it ends, by these words of a command line.
+/// Finds what the program is to run with, or how it ends, by these words of a command line.
 pub fn start_with<R: ClassFiles + AllocGlobal, S: AsStr>(
     rt: &R,
     words: &[S],

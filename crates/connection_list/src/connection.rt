@@ -31,7 +31,7 @@ pub struct Connection {
     pub mode: ConnectionType,
     /// Taken out before its callee is first called (`Qt::SingleShotConnection`).
     pub single: bool,
-    /// What a functor keeps from one of its calls to the next, 0 at first. It is 0 where the callee is a
+    /// A functor keeps this number from one of its calls to the next, 0 at first. It is 0 where the callee is a
     /// method.
     pub state: u64,
 }

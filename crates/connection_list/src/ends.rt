@@ -1,4 +1,4 @@
-//! What is asked of a connection's two ends.
+//! These functions ask about a connection's two ends.
 ghost use Rattle.std.specs.Prelude.{◌≡◌};
 ghost use Rattle.connection_list.specs.Ends.{allows, allows_method, allows_receiver, same_ends, matches, calls_functor};
 

@@ -21,7 +21,7 @@ use shared_rows::{Links, SharedRows};
 use std::alloc::{AllocError, Global};
 use std::marker::Model;
 
-/// What a place keeps beside its connections.
+/// A place keeps these lists besides its connections.
 #[derive(Drop)]
 pub(crate) struct Routes {
     pub(crate) last_number: u32,
@@ -32,7 +32,7 @@ pub(crate) struct Routes {
 }
 
 impl Routes {
-    /// What a place keeps where nothing was ever connected.
+    /// Makes the lists of a place where nothing was ever connected.
     fn new(alloc: Global) -> Routes
         ensures { AreSame no_routes result }
     {

@@ -12,9 +12,8 @@ use crate::ends::calls_functor;
 use crate::limit::CONNECTIONS;
 use crate::pattern::Pattern;
 use crate::routes::LazyRoutes;
-use shared_rows::Places;
 use plain_types::{Code, Fault};
-use shared_rows::SharedRows;
+use shared_rows::{Places, SharedRows};
 use std::alloc::{AllocError, Global};
 use std::marker::Model;
 

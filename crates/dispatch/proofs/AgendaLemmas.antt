@@ -33,7 +33,7 @@ use Rattle.class_table.specs.declared.class.Class.{Class}
 use Rattle.publish_board.specs.declared.publication.Publication.{Publication}
 use Rattle.publish_board.specs.Rows.{publishes}
 use Rattle.session_model.specs.Arriving.{kinds_of, post_of, posts_of}
-use Rattle.session_model.specs.Doing.{Doing, in_state, posting, shot, line_told, turn_taken, used_up}
+use Rattle.session_model.specs.Execution.{Execution, in_state, posting, single_shot_broken, line_told, turn_taken, used_up}
 use Rattle.session_model.specs.Items.{Call, Emit, Item, Next, Warn, puts}
 use Rattle.session_model.specs.Run.{longest_functor, run}
 use Rattle.session_model.specs.Settings.{Settings}
@@ -45,16 +45,16 @@ use Rattle.session_tables.specs.Refused.{OnRefused}
 use Rattle.session_tables.specs.Tables.{IsPlaced, state_at, with_state}
 use Rattle.session_tables.proofs.ForCallers.{state_with}
 use Rattle.session_effects.specs.declared.slot.Slot.{Slot}
-use Rattle.dispatch.specs.declared.telling.Telling.{Telling}
+use Rattle.dispatch.specs.declared.command_output.CommandOutput.{CommandOutput}
 use Rattle.session_effects.specs.Actions.{KeepsOthers, Tries, act_of}
 use Rattle.session_effects.proofs.ForCallers.{keeps_same, keeps_with, item_at}
-use Rattle.session_effects.specs.declared.caller.Caller.{Caller}
+use Rattle.session_effects.specs.declared.session_context.SessionContext.{SessionContext}
 use Rattle.session_effects.specs.Setup.{settings_of}
-use Rattle.dispatch.specs.Telling.{Warns, doing_at, spent, with_line}
+use Rattle.dispatch.specs.CommandOutput.{Warns, doing_at, spent, with_line}
 
 -- how many calls and deletions there can still be
-abbrev pub left_at : ℕ → Tables → Telling → ℕ
-left_at place tables telling = telling.turns + living_rows (state_at tables place).forest.rows
+abbrev pub left_at : ℕ → Tables → CommandOutput → ℕ
+left_at place tables output = output.turns + living_rows (state_at tables place).forest.rows
 
 -- what each of them counts for, where the longest body of a functor has so many actions
 unfoldable pub rounds : ℕ → ℕ → ℕ
@@ -72,16 +72,16 @@ rounds_one_less longest new old less =
     omega (arith, one, fewer)
 
 -- how many actions the longest body of the functors has
-abbrev pub longest_of : Caller → ℕ
+abbrev pub longest_of : SessionContext → ℕ
 longest_of caller = longest_functor (settings_of caller.setup.now).functors
 
 -- how much is left to do: each way round the calls takes a turn or an object that lives, which counts for
 -- more than any rank
-abbrev pub left_to_do : Caller → Tables → Telling → ℕ → ℕ
-left_to_do caller tables telling rank = rounds (longest_of caller) (left_at caller.place tables telling) + rank
+abbrev pub left_to_do : SessionContext → Tables → CommandOutput → ℕ → ℕ
+left_to_do caller tables output rank = rounds (longest_of caller) (left_at caller.place tables output) + rank
 
 -- with as much left it is the rank that falls, and with less any rank may rise by what one counts for
-module _ (caller : Caller) (old new : Tables) (before after : Telling) (rank next : ℕ) where
+module _ (caller : SessionContext) (old new : Tables) (before after : CommandOutput) (rank next : ℕ) where
   pub rank_falls : left_at caller.place new after ≤ left_at caller.place old before → next < rank → left_to_do caller new after next < left_to_do caller old before rank
   rank_falls fewer less = let rounds = rounds_fewer (longest_of caller) (left_at caller.place new after) (left_at caller.place old before) fewer in omega (arith, rounds, less)
 
@@ -89,21 +89,21 @@ module _ (caller : Caller) (old new : Tables) (before after : Telling) (rank nex
   round_falls one_less within = let rounds = rounds_one_less (longest_of caller) (left_at caller.place new after) (left_at caller.place old before) one_less in omega (arith, rounds, within)
 
 -- no call gives turns back, or makes an object
-pub left_falls : (settings : Settings) (agenda : List Item) (place : ℕ) (old new : Tables) (before after : Telling) (earlier posts : List Post) → run settings agenda (doing_at place old before earlier) ≡ doing_at place new after posts → left_at place new after ≤ left_at place old before
+pub left_falls : (settings : Settings) (agenda : List Item) (place : ℕ) (old new : Tables) (before after : CommandOutput) (earlier posts : List Post) → run settings agenda (doing_at place old before earlier) ≡ doing_at place new after posts → left_at place new after ≤ left_at place old before
 left_falls settings agenda place old new before after earlier posts does =
     let shrinks : Shrinks (doing_at place old before earlier) (doing_at place new after posts) = subst (Shrinks (doing_at place old before earlier)) does (run_shrinks settings agenda (doing_at place old before earlier)) in
     omega (arith, shrinks.turns, shrinks.living)
 
 -- nor does an item that is done, whatever it puts in front
-pub left_stepped : (settings : Settings) (item : Item) (items : List Item) (place : ℕ) (old new : Tables) (telling : Telling) (earlier : List Post) → step settings item (doing_at place old telling earlier) ≡ puts items (doing_at place new telling earlier) → left_at place new telling ≤ left_at place old telling
-left_stepped settings item items place old new telling earlier is =
-    let shrinks : Shrinks (doing_at place old telling earlier) (doing_at place new telling earlier) = subst (λ (next : Next). Shrinks (doing_at place old telling earlier) next.doing) is (falls settings item (doing_at place old telling earlier)).shrinks in
+pub left_stepped : (settings : Settings) (item : Item) (items : List Item) (place : ℕ) (old new : Tables) (output : CommandOutput) (earlier : List Post) → step settings item (doing_at place old output earlier) ≡ puts items (doing_at place new output earlier) → left_at place new output ≤ left_at place old output
+left_stepped settings item items place old new output earlier is =
+    let shrinks : Shrinks (doing_at place old output earlier) (doing_at place new output earlier) = subst (λ (next : Next). Shrinks (doing_at place old output earlier) next.doing) is (falls settings item (doing_at place old output earlier)).shrinks in
     omega (arith, shrinks.turns, shrinks.living)
 
 -- a single-shot connection that goes leaves as much
-pub left_shot : (place : ℕ) (connection : Connection) (old new : Tables) (telling : Telling) → IsPlaced old place
-    → new ≡ with_state old place (if connection.single then without_connections (state_at old place) (has_number connection.number) else state_at old place) → left_at place new telling ≤ left_at place old telling
-left_shot place connection old new telling placed e =
+pub left_shot : (place : ℕ) (connection : Connection) (old new : Tables) (output : CommandOutput) → IsPlaced old place
+    → new ≡ with_state old place (if connection.single then without_connections (state_at old place) (has_number connection.number) else state_at old place) → left_at place new output ≤ left_at place old output
+left_shot place connection old new output placed e =
     let there : living_rows (state_at new place).forest.rows ≡ living_rows (if connection.single then without_connections (state_at old place) (has_number connection.number) else state_at old place).forest.rows =
     ap (λ (state : State). living_rows state.forest.rows) (state_with old new place _ placed e) in
     omega (arith, there, as_many connection.single)
@@ -171,35 +171,35 @@ posts_none classes state target signal args none = ap (map (post_of (kinds_of cl
         one false none rest = rest none
 
 -- a session that posts nothing more is as it was
-posting_none : (doing : Doing) → posting doing [] ≡ doing
+posting_none : (doing : Execution) → posting doing [] ≡ doing
 unfolding posting
 posting_none doing = ap (λ posts. record doing { posts = posts }) (append-nil doing.posts)
 
 -- and one whose posts were delivered has them behind the others
-pub posting_is : (place : ℕ) (old new : Tables) (before after : Telling) (earlier more : List Post) → state_at new place ≡ state_at old place → after ≡ record before { failing = after.failing }
+pub posting_is : (place : ℕ) (old new : Tables) (before after : CommandOutput) (earlier more : List Post) → state_at new place ≡ state_at old place → after ≡ record before { failing = after.failing }
     → posting (doing_at place old before earlier) more ≡ doing_at place new after (earlier ++ more)
 unfolding posting
 posting_is place old new before after earlier more own same =
     ap (λ (state : State). record { state = state; turns = before.turns; spent = before.spent; taken = before.taken; lines = before.lines; posts = earlier ++ more }) (sym own)
-    ∙ ap (λ (telling : Telling). doing_at place new telling (earlier ++ more)) (sym same)
+    ∙ ap (λ (output : CommandOutput). doing_at place new output (earlier ++ more)) (sym same)
 
 module _ (settings : Settings) (target signal : ℕ) (args : List Value) (depth : ℕ) where
   -- an object that has gone sends nothing
-  pub emission_absent : (doing : Doing) → None ≡ row_of doing.state.forest.rows target → run settings (Emit target signal args depth ∷ []) doing ≡ doing
+  pub emission_absent : (doing : Execution) → None ≡ row_of doing.state.forest.rows target → run settings (Emit target signal args depth ∷ []) doing ≡ doing
   emission_absent doing none = by_change settings (Emit target signal args depth) doing doing (rule.emit_absent settings target signal args depth doing (ap is_some (sym none)))
 
-  module _ (doing : Doing) (row : Row) (there : Some row ≡ row_of doing.state.forest.rows target) where
+  module _ (doing : Execution) (row : Row) (there : Some row ≡ row_of doing.state.forest.rows target) where
     -- a signal of a blocked object is not sent
     pub emission_held_back : is_held_back signal row ≡ true → run settings (Emit target signal args depth ∷ []) doing ≡ doing
     emission_held_back held = by_change settings (Emit target signal args depth) doing doing (rule.emit_held_back settings target signal args depth doing row (sym there) held)
 
     module _ (sent : is_held_back signal row ≡ false) where
       -- one that is nested too deep is warned of
-      pub emission_deep : (new : Doing) → NESTED_SIGNALS ≤ depth → run settings (Warn Limit (Some target) ∷ []) doing ≡ new → run settings (Emit target signal args depth ∷ []) doing ≡ new
+      pub emission_deep : (new : Execution) → NESTED_SIGNALS ≤ depth → run settings (Warn Limit (Some target) ∷ []) doing ≡ new → run settings (Emit target signal args depth ∷ []) doing ≡ new
       emission_deep new deep does = by_step settings (Emit target signal args depth) doing _ (rule.emit_deep settings target signal args depth doing row (sym there) sent deep) ∙ does
 
       -- an emission that begins is posted, and has all connections of the signal before it
-      pub emission_begins : depth < NESTED_SIGNALS → IsSound doing.state.connections → (new : Doing) → posting doing (posts_of settings.classes doing.state target signal args) ≡ new
+      pub emission_begins : depth < NESTED_SIGNALS → IsSound doing.state.connections → (new : Execution) → posting doing (posts_of settings.classes doing.state target signal args) ≡ new
           → run settings (calls_to settings args depth (remaining target signal doing.state.connections.last_number 0 doing.state.connections.rows)) new ≡ run settings (Emit target signal args depth ∷ []) doing
       emission_begins shallow sound new posts =
           sym (by_step settings (Emit target signal args depth) doing _ (rule.emit_calls settings target signal args depth doing row (sym there) sent shallow)
@@ -207,7 +207,7 @@ module _ (settings : Settings) (target signal : ℕ) (args : List Value) (depth 
           ∙ ap (run settings (calls_to settings args depth (remaining target signal doing.state.connections.last_number 0 doing.state.connections.rows))) posts)
 
   -- a signal that is not published and that nothing is connected to comes to nothing, whether its object is there or not, blocked or not
-  pub emission_unheard : (doing : Doing) → depth < NESTED_SIGNALS → IsSound doing.state.connections → posts_of settings.classes doing.state target signal args ≡ [] → is_some (find (is_next target signal 0 doing.state.connections.last_number) doing.state.connections.rows) ≡ false
+  pub emission_unheard : (doing : Execution) → depth < NESTED_SIGNALS → IsSound doing.state.connections → posts_of settings.classes doing.state target signal args ≡ [] → is_some (find (is_next target signal 0 doing.state.connections.last_number) doing.state.connections.rows) ≡ false
       → run settings (Emit target signal args depth ∷ []) doing ≡ doing
   emission_unheard doing shallow sound unpublished unheard = by_row (row_of doing.state.forest.rows target) refl
     where
@@ -226,31 +226,31 @@ module _ (settings : Settings) (target signal : ℕ) (args : List Value) (depth 
       by_row (Some row) e = sent row (sym e) (is_held_back signal row) refl
 
   -- the next connection is called, and those behind it are left
-  pub emission_goes_on : (up_to after : ℕ) (old middle new : Doing) (next : Connection) → IsSound middle.state.connections → up_to ≤ middle.state.connections.last_number
+  pub emission_goes_on : (up_to after : ℕ) (old middle new : Execution) (next : Connection) → IsSound middle.state.connections → up_to ≤ middle.state.connections.last_number
       → find (is_next target signal after up_to) middle.state.connections.rows ≡ Some next
       → run settings (Call next.number args depth ∷ []) middle ≡ new
       → run settings (calls_to settings args depth (remaining target signal up_to after middle.state.connections.rows)) middle ≡ old
       → run settings (calls_to settings args depth (remaining target signal up_to next.number new.state.connections.rows)) new ≡ old
   emission_goes_on up_to after old middle new next sound most found called before =
-      sym (ap (λ (done : Doing). run settings (calls_to settings args depth (remaining target signal up_to next.number done.state.connections.rows)) done) called)
+      sym (ap (λ (done : Execution). run settings (calls_to settings args depth (remaining target signal up_to next.number done.state.connections.rows)) done) called)
       ∙ sym (emission_next settings target signal args depth up_to after middle next sound most found)
       ∙ before
 
   -- the numbers of connections do not fall
-  pub last_stays : (up_to : ℕ) (middle new : Doing) (next : Connection) → up_to ≤ middle.state.connections.last_number → run settings (Call next.number args depth ∷ []) middle ≡ new → up_to ≤ new.state.connections.last_number
+  pub last_stays : (up_to : ℕ) (middle new : Execution) (next : Connection) → up_to ≤ middle.state.connections.last_number → run settings (Call next.number args depth ∷ []) middle ≡ new → up_to ≤ new.state.connections.last_number
   last_stays up_to middle new next most called =
-      subst (λ (doing : Doing). up_to ≤ doing.state.connections.last_number) called
+      subst (λ (doing : Execution). up_to ≤ doing.state.connections.last_number) called
       (let later = (run_later settings (Call next.number args depth ∷ []) middle).last in omega (arith, later, most))
 
 -- what was told
-pub told_is : (place : ℕ) (tables : Tables) (before after : Telling) (earlier : List Post) (line : Line) → after ≡ with_line before line → line_told (doing_at place tables before earlier) line ≡ doing_at place tables after earlier
+pub told_is : (place : ℕ) (tables : Tables) (before after : CommandOutput) (earlier : List Post) (line : Line) → after ≡ with_line before line → line_told (doing_at place tables before earlier) line ≡ doing_at place tables after earlier
 unfolding line_told
-told_is place tables before after earlier line e = ap (λ (telling : Telling). doing_at place tables telling earlier) (sym e)
+told_is place tables before after earlier line e = ap (λ (output : CommandOutput). doing_at place tables output earlier) (sym e)
 
 -- that no turn is left is told once
-pub spent_is : (place : ℕ) (tables : Tables) (before after : Telling) (earlier : List Post) → after ≡ spent before → used_up (doing_at place tables before earlier) ≡ doing_at place tables after earlier
+pub spent_is : (place : ℕ) (tables : Tables) (before after : CommandOutput) (earlier : List Post) → after ≡ spent before → used_up (doing_at place tables before earlier) ≡ doing_at place tables after earlier
 unfolding used_up
-spent_is place tables before after earlier e = by before.spent ∙ ap (λ (telling : Telling). doing_at place tables telling earlier) (sym e)
+spent_is place tables before after earlier e = by before.spent ∙ ap (λ (output : CommandOutput). doing_at place tables output earlier) (sym e)
   where
     by : (b : Bool) → (if b then doing_at place tables before earlier else record (doing_at place tables before earlier) { spent = true; lines = before.lines ++ Warning TurnsUsedUp None ∷ [] })
         ≡ doing_at place tables (if b then before else record { lines = before.lines ++ Warning TurnsUsedUp None ∷ []; turns = before.turns; spent = true; taken = before.taken; failing = before.failing }) earlier
@@ -258,12 +258,12 @@ spent_is place tables before after earlier e = by before.spent ∙ ap (λ (telli
     by false = refl
 
 -- a warning is told
-pub warn_done : (settings : Settings) (place : ℕ) (tables : Tables) (before after : Telling) (earlier : List Post) (code : Code) (object : Option ℕ) → after ≡ with_line before (Warning code object)
+pub warn_done : (settings : Settings) (place : ℕ) (tables : Tables) (before after : CommandOutput) (earlier : List Post) (code : Code) (object : Option ℕ) → after ≡ with_line before (Warning code object)
     → run settings (Warn code object ∷ []) (doing_at place tables before earlier) ≡ doing_at place tables after earlier
 warn_done settings place tables before after earlier code object e =
     by_change settings (Warn code object) (doing_at place tables before earlier) _ (rule.warn_told settings (doing_at place tables before earlier) code object) ∙ told_is place tables before after earlier (Warning code object) e
 
-module _ (settings : Settings) (slot : Slot) (place : ℕ) (tables : Tables) (before after : Telling) (earlier : List Post) where
+module _ (settings : Settings) (slot : Slot) (place : ℕ) (tables : Tables) (before after : CommandOutput) (earlier : List Post) where
   -- a refused action warns
   pub warned : (item : Item) (code : Code) → step settings item (doing_at place tables before earlier) ≡ puts (Warn code (Some slot.object) ∷ []) (doing_at place tables before earlier) → after ≡ with_line before (Warning code (Some slot.object))
       → run settings (item ∷ []) (doing_at place tables before earlier) ≡ doing_at place tables after earlier
@@ -276,31 +276,31 @@ module _ (settings : Settings) (slot : Slot) (place : ℕ) (tables : Tables) (be
   test_warned test held failed Memory why e = absurd e
 
 -- so a single action that is refused
-pub effect_warned : {T : Type 0} (caller : Caller) (slot : Slot) (plain : SingleAction) (tables : Tables) (items : T → List Item) (new : Tables) (before after : Telling) (earlier : List Post) (fault : Fault) → Tries caller slot plain tables items new (Err fault) → Warns fault slot.object before after
+pub effect_warned : {T : Type 0} (caller : SessionContext) (slot : Slot) (plain : SingleAction) (tables : Tables) (items : T → List Item) (new : Tables) (before after : CommandOutput) (earlier : List Post) (fault : Fault) → Tries caller slot plain tables items new (Err fault) → Warns fault slot.object before after
     → run (settings_of caller.setup.now) (act_of slot (single_action plain) ∷ []) (doing_at caller.place tables before earlier) ≡ doing_at caller.place tables after earlier
 effect_warned caller slot plain tables items new before after earlier (Refused code) tried e = warned (settings_of caller.setup.now) slot caller.place tables before after earlier (act_of slot (single_action plain)) code (tried (doing_at caller.place tables before earlier)) e
 effect_warned caller slot plain tables items new before after earlier Memory tried e = absurd e
 
 -- the same of one that may have changed the session before memory was wanted
-pub effect_refused : {T : Type 0} (caller : Caller) (slot : Slot) (plain : SingleAction) (old : Tables) (items : T → List Item) (new : Tables) (before after : Telling) (earlier : List Post) (fault : Fault) → Tries caller slot plain old items new (Err fault) → OnRefused {T = T} (Err fault) (new ≡ old)
+pub effect_refused : {T : Type 0} (caller : SessionContext) (slot : Slot) (plain : SingleAction) (old : Tables) (items : T → List Item) (new : Tables) (before after : CommandOutput) (earlier : List Post) (fault : Fault) → Tries caller slot plain old items new (Err fault) → OnRefused {T = T} (Err fault) (new ≡ old)
     → Warns fault slot.object before after → run (settings_of caller.setup.now) (act_of slot (single_action plain) ∷ []) (doing_at caller.place old before earlier) ≡ doing_at caller.place new after earlier
 effect_refused caller slot plain old items new before after earlier (Refused code) tried same e =
     warned (settings_of caller.setup.now) slot caller.place old before after earlier (act_of slot (single_action plain)) code (tried (doing_at caller.place old before earlier)) e ∙ ap (λ tables. doing_at caller.place tables after earlier) (sym same)
 effect_refused caller slot plain old items new before after earlier Memory tried same e = absurd e
 
-module _ (settings : Settings) (slot : Slot) (doing : Doing) (test : Term) (held failed : Acts) where
+module _ (settings : Settings) (slot : Slot) (doing : Execution) (test : Term) (held failed : Acts) where
   abbrev its_acts : Acts → List Item
   its_acts branch = model.acts branch slot.args.now slot.object slot.sender slot.depth
 
   -- the branch that is chosen is done
-  pub held_done : (new : Doing) → truth_evaluated doing.state slot.object slot.sender slot.args.now test ≡ Ok true → run settings (its_acts held) doing ≡ new → run settings (act_of slot (when test held failed) ∷ []) doing ≡ new
+  pub held_done : (new : Execution) → truth_evaluated doing.state slot.object slot.sender slot.args.now test ≡ Ok true → run settings (its_acts held) doing ≡ new → run settings (act_of slot (when test held failed) ∷ []) doing ≡ new
   held_done new is does = by_step settings (act_of slot (when test held failed)) doing _ (rule.when_held settings slot.object slot.sender slot.args.now slot.depth doing test held failed is) ∙ does
 
-  pub failed_done : (new : Doing) → truth_evaluated doing.state slot.object slot.sender slot.args.now test ≡ Ok false → run settings (its_acts failed) doing ≡ new → run settings (act_of slot (when test held failed) ∷ []) doing ≡ new
+  pub failed_done : (new : Execution) → truth_evaluated doing.state slot.object slot.sender slot.args.now test ≡ Ok false → run settings (its_acts failed) doing ≡ new → run settings (act_of slot (when test held failed) ∷ []) doing ≡ new
   failed_done new is does = by_step settings (act_of slot (when test held failed)) doing _ (rule.when_failed settings slot.object slot.sender slot.args.now slot.depth doing test held failed is) ∙ does
 
 -- an action is done, and then those behind it
-pub acts_go_on : (settings : Settings) (slot : Slot) (old middle new : Doing) (i : ℕ) (actions : List Act) (act : Act) → i < length actions → act ≡ get_or actions i act
+pub acts_go_on : (settings : Settings) (slot : Slot) (old middle new : Execution) (i : ℕ) (actions : List Act) (act : Act) → i < length actions → act ≡ get_or actions i act
     → run settings (act_of slot act ∷ []) middle ≡ new
     → run settings (model.acts (acts_of (drop i actions)) slot.args.now slot.object slot.sender slot.depth) middle ≡ old
     → run settings (model.acts (acts_of (drop (i + 1) actions)) slot.args.now slot.object slot.sender slot.depth) new ≡ old
@@ -311,31 +311,31 @@ acts_go_on settings slot old middle new i actions act within is does before =
     ∙ before
 
 -- with no action left all is done
-pub acts_end : (settings : Settings) (slot : Slot) (old new : Doing) (i : ℕ) (actions : List Act) → length actions ≤ i
+pub acts_end : (settings : Settings) (slot : Slot) (old new : Execution) (i : ℕ) (actions : List Act) → length actions ≤ i
     → run settings (model.acts (acts_of (drop i actions)) slot.args.now slot.object slot.sender slot.depth) new ≡ old → old ≡ new
 acts_end settings slot old new i actions past before =
     sym before ∙ ap (λ (acts : List Act). run settings (model.acts (acts_of acts) slot.args.now slot.object slot.sender slot.depth) new) (drop_all i actions past) ∙ at_end settings new
 
 -- a call takes a turn, and a single-shot connection goes
-module _ (caller : Caller) (connection : Connection) (args : List Value) (depth : ℕ) (old new : Tables) (before : Telling) where
+module _ (caller : SessionContext) (connection : Connection) (args : List Value) (depth : ℕ) (old new : Tables) (before : CommandOutput) where
   abbrev its_settings : Settings
   its_settings = settings_of caller.setup.now
 
-  abbrev pub taken : Telling
+  abbrev pub taken : CommandOutput
   taken = record { lines = before.lines; turns = before.turns - 1; spent = before.spent; taken = before.taken; failing = before.failing }
 
   abbrev pub shot_state : State
   shot_state = if connection.single then without_connections (state_at old caller.place) (has_number connection.number) else state_at old caller.place
 
   module _ (earlier : List Post) (placed : IsPlaced old caller.place) (standing : connection_of (doing_at caller.place old before earlier) connection.number ≡ Some connection) where
-    pub call_spent : (after : Telling) → before.turns ≡ 0 → after ≡ spent before → run its_settings (Call connection.number args depth ∷ []) (doing_at caller.place old before earlier) ≡ doing_at caller.place old after earlier
+    pub call_spent : (after : CommandOutput) → before.turns ≡ 0 → after ≡ spent before → run its_settings (Call connection.number args depth ∷ []) (doing_at caller.place old before earlier) ≡ doing_at caller.place old after earlier
     call_spent after none e =
         by_change its_settings (Call connection.number args depth) (doing_at caller.place old before earlier) _ (rule.call_spent its_settings connection.number args depth (doing_at caller.place old before earlier) connection standing none)
         ∙ spent_is caller.place old before after earlier e
 
     module _ (e : new ≡ with_state old caller.place shot_state) (some : 0 < before.turns) where
-      is_shot : shot (turn_taken (doing_at caller.place old before earlier)) connection ≡ doing_at caller.place new taken earlier
-      unfolding shot turn_taken
+      is_shot : single_shot_broken (turn_taken (doing_at caller.place old before earlier)) connection ≡ doing_at caller.place new taken earlier
+      unfolding single_shot_broken turn_taken
       is_shot = by connection.single ∙ ap (λ (state : State). in_state (doing_at caller.place old taken earlier) state) (sym (state_with old new caller.place shot_state placed e))
         where
           by : (b : Bool) → (if b then in_state (doing_at caller.place old taken earlier) (without_connections (state_at old caller.place) (has_number connection.number)) else doing_at caller.place old taken earlier)
@@ -344,13 +344,13 @@ module _ (caller : Caller) (connection : Connection) (args : List Value) (depth 
           by false = refl
 
       -- what it calls is called then
-      pub call_taken : (called : Callee) → connection.callee ≡ called → (done : Doing)
+      pub call_taken : (called : Callee) → connection.callee ≡ called → (done : Execution)
           → (let next = callee_called its_settings connection args depth (doing_at caller.place new taken earlier) called in run its_settings next.items next.doing) ≡ done
           → run its_settings (Call connection.number args depth ∷ []) (doing_at caller.place old before earlier) ≡ done
       call_taken called is done does =
           by_step its_settings (Call connection.number args depth) (doing_at caller.place old before earlier) _ (rule.call_taken its_settings connection.number args depth (doing_at caller.place old before earlier) connection standing some)
-          ∙ ap (λ (called : Callee). let next = callee_called its_settings connection args depth (shot (turn_taken (doing_at caller.place old before earlier)) connection) called in run its_settings next.items next.doing) is
-          ∙ ap (λ (doing : Doing). let next = callee_called its_settings connection args depth doing called in run its_settings next.items next.doing) is_shot
+          ∙ ap (λ (called : Callee). let next = callee_called its_settings connection args depth (single_shot_broken (turn_taken (doing_at caller.place old before earlier)) connection) called in run its_settings next.items next.doing) is
+          ∙ ap (λ (doing : Execution). let next = callee_called its_settings connection args depth doing called in run its_settings next.items next.doing) is_shot
           ∙ does
 
 -- the next connection is above the last one that was called, and not above the last of all
@@ -375,7 +375,7 @@ next_smaller target signal after up_to rows row found =
     omega (arith, within.0, within.1)
 
 -- a single action that is not refused is done by what it comes to
-pub effect_done : (caller : Caller) (slot : Slot) (plain : SingleAction) (old : Tables) (agenda : List Item) (between : Tables) (before : Telling) (earlier : List Post) (done : Doing)
+pub effect_done : (caller : SessionContext) (slot : Slot) (plain : SingleAction) (old : Tables) (agenda : List Item) (between : Tables) (before : CommandOutput) (earlier : List Post) (done : Execution)
     → step (settings_of caller.setup.now) (act_of slot (single_action plain)) (doing_at caller.place old before earlier) ≡ puts agenda (doing_at caller.place between before earlier)
     → run (settings_of caller.setup.now) agenda (doing_at caller.place between before earlier) ≡ done
     → run (settings_of caller.setup.now) (act_of slot (single_action plain) ∷ []) (doing_at caller.place old before earlier) ≡ done

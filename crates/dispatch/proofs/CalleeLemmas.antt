@@ -18,7 +18,7 @@ use Rattle.stored_slots.specs.declared.functor.Functor as stored
 use Rattle.session_model.specs.Acts as model
 use Rattle.session_model.specs.Agenda.{callee_called, functor_called, functor_line, queued, call_line, method_called, method_items}
 use Rattle.session_model.specs.declared.post.Post.{Post}
-use Rattle.session_model.specs.Doing.{Doing, in_state, lost, posted, stepped, line_told}
+use Rattle.session_model.specs.Execution.{Execution, in_state, lost, enqueued, stepped, line_told}
 use Rattle.session_model.specs.Functors.{functor_at}
 use Rattle.session_model.specs.Items.{Item, Next, RunFunctor, puts, Run}
 use Rattle.session_model.specs.Posting.{is_queued}
@@ -31,37 +31,37 @@ use Rattle.session_tables.specs.declared.tables.Tables.{Tables}
 use Rattle.session_tables.specs.Tables as tables
 use Rattle.session_tables.specs.Tables.{IsPlaced, state_at}
 use Rattle.session_tables.proofs.ForCallers.{state_with}
-use Rattle.dispatch.specs.declared.telling.Telling.{Telling}
-use Rattle.dispatch.specs.Telling.{doing_at}
+use Rattle.dispatch.specs.declared.command_output.CommandOutput.{CommandOutput}
+use Rattle.dispatch.specs.CommandOutput.{doing_at}
 use Rattle.dispatch.proofs.AgendaLemmas.{left_at}
-use Rattle.dispatch.proofs.FrontLemmas.{PostsBehind, front_same}
+use Rattle.dispatch.proofs.PrefixLemmas.{PostsBehind, front_same}
 use Rattle.class_table.specs.declared.class.Method as class
 use Rattle.session_model.specs.Methods.{method_at}
 
 -- a call that is posted, or lost where there is no room for it
-pub queued_is : (place : ℕ) (old new : Tables) (telling : Telling) (earlier : List Post) (call : QueuedCall) → IsPlaced old place → new ≡ tables.with_state old place (with_call (state_at old place) call) → queued (doing_at place old telling earlier) call ≡ doing_at place new telling earlier
-unfolding posted lost
-queued_is place old new telling earlier call placed e =
+pub queued_is : (place : ℕ) (old new : Tables) (output : CommandOutput) (earlier : List Post) (call : QueuedCall) → IsPlaced old place → new ≡ tables.with_state old place (with_call (state_at old place) call) → queued (doing_at place old output earlier) call ≡ doing_at place new output earlier
+unfolding enqueued lost
+queued_is place old new output earlier call placed e =
     by (has_room (state_at old place).queue)
-    ∙ ap (λ (state : State). in_state (doing_at place old telling earlier) state) (sym (state_with old new place (with_call (state_at old place) call) placed e))
+    ∙ ap (λ (state : State). in_state (doing_at place old output earlier) state) (sym (state_with old new place (with_call (state_at old place) call) placed e))
   where
-    by : (room : Bool) → cond room (posted (doing_at place old telling earlier) (event.Call call)) (lost (doing_at place old telling earlier))
-        ≡ in_state (doing_at place old telling earlier) (cond room (with_event (state_at old place) (event.Call call)) (with_lost (state_at old place)))
+    by : (room : Bool) → cond room (enqueued (doing_at place old output earlier) (event.Call call)) (lost (doing_at place old output earlier))
+        ≡ in_state (doing_at place old output earlier) (cond room (with_event (state_at old place) (event.Call call)) (with_lost (state_at old place)))
     by true = refl
     by false = refl
 
-module _ (settings : Settings) (connection : Connection) (args : List Value) (depth : ℕ) (doing : Doing) where
-  abbrev ran : Next → Doing
+module _ (settings : Settings) (connection : Connection) (args : List Value) (depth : ℕ) (doing : Execution) where
+  abbrev ran : Next → Execution
   ran next = run settings next.items next.doing
 
-  abbrev calls : Callee → Doing
+  abbrev calls : Callee → Execution
   calls called = ran (callee_called settings connection args depth doing called)
 
   abbrev later_call : Callee → List Value → QueuedCall
   later_call called values = record { object = connection.receiver; callee = called; sender = connection.sender; connection = connection.number; priority = Normal; args = values }
 
   -- with these values it is called later; or at once, and this is to be done
-  abbrev by_mode : Callee → List Value → List Item → Doing
+  abbrev by_mode : Callee → List Value → List Item → Execution
   by_mode called values items = ran (cond (is_queued connection.mode) (puts [] (queued doing (later_call called values))) (puts items doing))
 
   module _ (index : ℕ) where
@@ -81,15 +81,15 @@ module _ (settings : Settings) (connection : Connection) (args : List Value) (de
     -- and one that is there goes by the mode
     pub method_there : (method : class.Method) → Some method ≡ method_at settings doing.state connection.receiver index → (given : List Value) → given ≡ take (length method.signature.kinds) args
         → calls (Method index) ≡ by_mode (Method index) given (method_items connection.receiver index connection.sender given (depth + 1) depth method)
-    method_there method has given cut = by_method (Some method) has
-        ∙ ap (λ given. by_mode (Method index) given (method_items connection.receiver index connection.sender given (depth + 1) depth method)) (sym cut)
+    method_there method has given detach = by_method (Some method) has
+        ∙ ap (λ given. by_mode (Method index) given (method_items connection.receiver index connection.sender given (depth + 1) depth method)) (sym detach)
 
     pub functor_there : (functor : stored.Functor) → Some functor ≡ functor_at settings index → (given : List Value) → given ≡ take (length functor.params) args
         → calls (Functor index) ≡ by_mode (Functor index) given (RunFunctor connection.receiver index connection.sender connection.number given depth ∷ [])
-    functor_there functor has given cut = by_functor (Some functor) has
-        ∙ ap (λ given. by_mode (Functor index) given (RunFunctor connection.receiver index connection.sender connection.number given depth ∷ [])) (sym cut)
+    functor_there functor has given detach = by_functor (Some functor) has
+        ∙ ap (λ given. by_mode (Functor index) given (RunFunctor connection.receiver index connection.sender connection.number given depth ∷ [])) (sym detach)
 
-  module _ (called : Callee) (given : List Value) (items : List Item) (there : calls called ≡ by_mode called given items) (done : Doing) where
+  module _ (called : Callee) (given : List Value) (items : List Item) (there : calls called ≡ by_mode called given items) (done : Execution) where
     pub called_later : connection.callee ≡ called → is_queued connection.mode ≡ true → queued doing (later_call connection.callee given) ≡ done → calls called ≡ done
     called_later is later does =
         there
@@ -106,7 +106,7 @@ pub one_less : (depth : ℕ) → depth + 1 - 1 ≡ depth
 one_less depth = omega arith
 
 -- a slot that is called is run
-pub runs_slot : (settings : Settings) (target index sender : ℕ) (args : List Value) (depth : ℕ) (doing : Doing) (method : class.Method) → Some method ≡ method_at settings doing.state target index → (deeper : ℕ) → deeper ≡ depth + 1 → (done : Doing)
+pub runs_slot : (settings : Settings) (target index sender : ℕ) (args : List Value) (depth : ℕ) (doing : Execution) (method : class.Method) → Some method ≡ method_at settings doing.state target index → (deeper : ℕ) → deeper ≡ depth + 1 → (done : Execution)
     → run settings (model.acts (acts_of method.body.actions) args target sender deeper) (line_told doing (call_line method target sender args)) ≡ done → run settings (Run target index sender args depth ∷ []) doing ≡ done
 runs_slot settings target index sender args depth doing method has deeper is done does =
     by_step settings (Run target index sender args depth) doing _ (rule.run_slot settings target index sender args depth doing method (sym has))
@@ -114,18 +114,18 @@ runs_slot settings target index sender args depth doing method has deeper is don
     ∙ does
 
 -- what a functor comes to, where its actions are done at this depth
-abbrev pub ran_at : Doing → ℕ → ℕ → ℕ → List Value → ℕ → stored.Functor → Next
+abbrev pub ran_at : Execution → ℕ → ℕ → ℕ → List Value → ℕ → stored.Functor → Next
 ran_at doing target sender connection args depth functor =
     let state = functor_state doing.state connection in
     puts (model.acts (acts_of (with_state state functor.body).actions) args target sender depth)
     (stepped (line_told doing (functor_line functor target sender args)) connection (after functor.next state args))
 
 -- what a functor's run comes to
-module _ (settings : Settings) (target index sender connection : ℕ) (args : List Value) (depth : ℕ) (doing : Doing) where
+module _ (settings : Settings) (target index sender connection : ℕ) (args : List Value) (depth : ℕ) (doing : Execution) where
   pub runs_none : None ≡ functor_at settings index → run settings (RunFunctor target index sender connection args depth ∷ []) doing ≡ doing
   runs_none has = by_change settings (RunFunctor target index sender connection args depth) doing doing (rule.run_functor_absent settings target index sender connection args depth doing (sym has))
 
-  pub runs_functor : (functor : stored.Functor) → Some functor ≡ functor_at settings index → (deeper : ℕ) → deeper ≡ depth + 1 → (done : Doing)
+  pub runs_functor : (functor : stored.Functor) → Some functor ≡ functor_at settings index → (deeper : ℕ) → deeper ≡ depth + 1 → (done : Execution)
       → (let next = ran_at doing target sender connection args deeper functor in run settings next.items next.doing) ≡ done
       → run settings (RunFunctor target index sender connection args depth ∷ []) doing ≡ done
   runs_functor functor has deeper is done does =
@@ -134,10 +134,10 @@ module _ (settings : Settings) (target index sender connection : ℕ) (args : Li
       ∙ does
 
 -- it posts nothing to other sessions before that is run
-module _ (settings : Settings) (connection : Connection) (index : ℕ) (args : List Value) (depth : ℕ) (doing : Doing) where
+module _ (settings : Settings) (connection : Connection) (index : ℕ) (args : List Value) (depth : ℕ) (doing : Execution) where
   queued_front : (call : QueuedCall) → PostsBehind doing (queued doing call)
-  unfolding posted lost
-  queued_front call = cond_both (has_room doing.state.queue) (posted doing (event.Call call)) (lost doing) (PostsBehind doing) (λ room. front_same doing.posts) (λ full. front_same doing.posts)
+  unfolding enqueued lost
+  queued_front call = cond_both (has_room doing.state.queue) (enqueued doing (event.Call call)) (lost doing) (PostsBehind doing) (λ room. front_same doing.posts) (λ full. front_same doing.posts)
 
   called_front : (later : Bool) (call : QueuedCall) (items : List Item) → PostsBehind doing (cond later (puts [] (queued doing call)) (puts items doing)).doing
   called_front true call items = queued_front call
@@ -160,7 +160,7 @@ module _ (settings : Settings) (index : ℕ) (functor : stored.Functor) (has : S
     answered_short = ap (λ (actions : List Act). counts (acts_of actions)) is ∙ actions_kept (with_state state functor.body) args ∙ state_counts functor.body state
 
     -- so its actions do what the body does over the arguments
-    pub answered_does : (target sender depth : ℕ) (doing done : Doing) → run settings (model.acts (acts_of answered) [] target sender depth) doing ≡ done
+    pub answered_does : (target sender depth : ℕ) (doing done : Execution) → run settings (model.acts (acts_of answered) [] target sender depth) doing ≡ done
         → run settings (model.acts (acts_of (with_state state functor.body).actions) args target sender depth) doing ≡ done
     answered_does target sender depth doing done does =
         acts-put_in settings target sender args (acts_of (with_state state functor.body).actions) depth doing
@@ -169,21 +169,21 @@ module _ (settings : Settings) (index : ℕ) (functor : stored.Functor) (has : S
         ∙ does
 
 -- a functor is told of, and its connection has another state
-pub stepped_is : (place : ℕ) (old new : Tables) (telling : Telling) (earlier : List Post) (number next : ℕ) → IsPlaced old place → new ≡ tables.with_state old place (with_functor_state (state_at old place) number next)
-    → stepped (doing_at place old telling earlier) number next ≡ doing_at place new telling earlier
+pub stepped_is : (place : ℕ) (old new : Tables) (output : CommandOutput) (earlier : List Post) (number next : ℕ) → IsPlaced old place → new ≡ tables.with_state old place (with_functor_state (state_at old place) number next)
+    → stepped (doing_at place old output earlier) number next ≡ doing_at place new output earlier
 unfolding stepped
-stepped_is place old new telling earlier number next placed e =
-    ap (λ (state : State). in_state (doing_at place old telling earlier) state) (sym (state_with old new place (with_functor_state (state_at old place) number next) placed e))
+stepped_is place old new output earlier number next placed e =
+    ap (λ (state : State). in_state (doing_at place old output earlier) state) (sym (state_with old new place (with_functor_state (state_at old place) number next) placed e))
 
 -- that leaves as much to do
-pub left_functor : (place : ℕ) (old new : Tables) (telling : Telling) (number next : ℕ) → IsPlaced old place → new ≡ tables.with_state old place (with_functor_state (state_at old place) number next) → left_at place new telling ≤ left_at place old telling
-left_functor place old new telling number next placed e =
+pub left_functor : (place : ℕ) (old new : Tables) (output : CommandOutput) (number next : ℕ) → IsPlaced old place → new ≡ tables.with_state old place (with_functor_state (state_at old place) number next) → left_at place new output ≤ left_at place old output
+left_functor place old new output number next placed e =
     let there : living_rows (state_at new place).forest.rows ≡ living_rows (state_at old place).forest.rows = ap (λ (state : State). living_rows state.forest.rows) (state_with old new place (with_functor_state (state_at old place) number next) placed e) in
     omega (arith, there)
 
 -- what a functor answers over the state of its connection, done behind the change of that, is what it comes to
 module _ (settings : Settings) (index : ℕ) (functor : stored.Functor) (has : Some functor ≡ functor_at settings index) (target sender connection : ℕ) (args : List Value) (depth : ℕ) where
-  pub functor_does : (doing middle done : Doing) (state next : ℕ) (answered : List Act) → state ≡ functor_state doing.state connection → answered ≡ unfolded_body args (with_state state functor.body) → next ≡ after functor.next state args
+  pub functor_does : (doing middle done : Execution) (state next : ℕ) (answered : List Act) → state ≡ functor_state doing.state connection → answered ≡ unfolded_body args (with_state state functor.body) → next ≡ after functor.next state args
       → stepped (line_told doing (functor_line functor target sender args)) connection next ≡ middle → run settings (model.acts (acts_of answered) [] target sender depth) middle ≡ done
       → (let its = ran_at doing target sender connection args depth functor in run settings its.items its.doing) ≡ done
   functor_does doing middle done state next answered state_is answered_is next_is middle_is does =

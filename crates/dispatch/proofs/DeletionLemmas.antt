@@ -5,10 +5,10 @@ use Rattle.binding_graph.specs.declared.change.Change.{Change}
 use Rattle.object_tree.specs.Changes.{marked}
 use Rattle.object_tree.specs.Rows.{children}
 use Rattle.session_model.specs.declared.call.TheConstants.{DESTROYED}
-use Rattle.session_model.specs.Agenda.{kins, lives, lives_below, step}
+use Rattle.session_model.specs.Agenda.{delete_children, lives, lives_below, step}
 use Rattle.session_model.specs.declared.post.Post.{Post}
-use Rattle.session_model.specs.Doing.{Doing, dying, in_state, severed}
-use Rattle.session_model.specs.Items.{Cut, Delete, Emit, Gone, Item, Kin, puts}
+use Rattle.session_model.specs.Execution.{Execution, dying, in_state, severed}
+use Rattle.session_model.specs.Items.{Detach, Delete, Emit, Remove, Item, DeleteChild, puts}
 use Rattle.session_model.specs.Run.{run}
 use Rattle.session_model.specs.Settings.{Settings}
 use Rattle.session_model.specs.Showing.{changes}
@@ -18,109 +18,109 @@ use Rattle.session_model.proofs.ForCallers.{living_rows, after_first, at_end, by
 use Rattle.session_tables.specs.declared.tables.Tables.{Tables}
 use Rattle.session_tables.specs.Tables.{IsPlaced, state_at, with_state}
 use Rattle.session_tables.proofs.ForCallers.{state_with}
-use Rattle.dispatch.specs.declared.telling.Telling.{Telling}
-use Rattle.dispatch.specs.Agenda.{DoesNext}
-use Rattle.dispatch.specs.Telling.{doing_at}
-use Rattle.session_effects.specs.declared.caller.Caller.{Caller}
+use Rattle.dispatch.specs.declared.command_output.CommandOutput.{CommandOutput}
+use Rattle.dispatch.specs.Agenda.{RunsNext}
+use Rattle.dispatch.specs.CommandOutput.{doing_at}
+use Rattle.session_effects.specs.declared.session_context.SessionContext.{SessionContext}
 use Rattle.session_effects.specs.Setup.{settings_of}
 use Rattle.session_effects.specs.Writing.{told_items}
 use Rattle.session_effects.proofs.ForCallers.{keeps_with}
 use Rattle.dispatch.proofs.AgendaLemmas.{left_at}
-use Rattle.dispatch.proofs.DoesLemmas.{SoFar, far_item, far_none, here}
+use Rattle.dispatch.proofs.RunsLemmas.{SoFar, far_item, far_none, here}
 
 -- the state with an object that is dying
 abbrev pub dying_in : State → ℕ → State
 dying_in state target = record state { forest = marked state.forest target }
 
 -- a session in which another state was put
-module _ (place target : ℕ) (old new : Tables) (telling : Telling) (earlier : List Post) (placed : IsPlaced old place) where
-  put_there : (state : State) → new ≡ with_state old place state → doing_at place new telling earlier ≡ in_state (doing_at place old telling earlier) state
-  put_there state e = ap (λ (state : State). in_state (doing_at place old telling earlier) state) (state_with old new place state placed e)
+module _ (place target : ℕ) (old new : Tables) (output : CommandOutput) (earlier : List Post) (placed : IsPlaced old place) where
+  put_there : (state : State) → new ≡ with_state old place state → doing_at place new output earlier ≡ in_state (doing_at place old output earlier) state
+  put_there state e = ap (λ (state : State). in_state (doing_at place old output earlier) state) (state_with old new place state placed e)
 
-  marked_is : new ≡ with_state old place (dying_in (state_at old place) target) → doing_at place new telling earlier ≡ dying (doing_at place old telling earlier) target
+  marked_is : new ≡ with_state old place (dying_in (state_at old place) target) → doing_at place new output earlier ≡ dying (doing_at place old output earlier) target
   unfolding dying
   marked_is e = put_there (dying_in (state_at old place) target) e
 
-  severed_is : new ≡ with_state old place (without_ties (state_at old place) target) → doing_at place new telling earlier ≡ severed (doing_at place old telling earlier) target
+  severed_is : new ≡ with_state old place (without_ties (state_at old place) target) → doing_at place new output earlier ≡ severed (doing_at place old output earlier) target
   unfolding severed
   severed_is e = put_there (without_ties (state_at old place) target) e
 
   -- an object that goes is told of by these changes
   pub gone_told : (settings : Settings) (depth : ℕ) (told : List Change) → told ≡ changes (state_at old place) (state_at new place) None → new ≡ with_state old place (without_object (state_at old place) target)
-      → step settings (Gone target depth) (doing_at place old telling earlier) ≡ puts (told_items settings (state_at new place) depth told) (doing_at place new telling earlier)
+      → step settings (Remove target depth) (doing_at place old output earlier) ≡ puts (told_items settings (state_at new place) depth told) (doing_at place new output earlier)
   gone_told settings depth told e f =
       let there : state_at new place ≡ without_object (state_at old place) target = state_with old new place _ placed f in
-      rule.gone_now settings target depth (doing_at place old telling earlier)
-      ∙ ap (λ (state : State). puts (told_items settings state depth (changes (state_at old place) state None)) (in_state (doing_at place old telling earlier) state)) (sym there)
-      ∙ ap (λ (told : List Change). puts (told_items settings (state_at new place) depth told) (doing_at place new telling earlier)) (sym e)
+      rule.gone_now settings target depth (doing_at place old output earlier)
+      ∙ ap (λ (state : State). puts (told_items settings state depth (changes (state_at old place) state None)) (in_state (doing_at place old output earlier) state)) (sym there)
+      ∙ ap (λ (told : List Change). puts (told_items settings (state_at new place) depth told) (doing_at place new output earlier)) (sym e)
 
   -- marking a living object leaves less to do
-  pub left_marked : lives (doing_at place old telling earlier) target ≡ true → new ≡ with_state old place (dying_in (state_at old place) target) → left_at place new telling < left_at place old telling
+  pub left_marked : lives (doing_at place old output earlier) target ≡ true → new ≡ with_state old place (dying_in (state_at old place) target) → left_at place new output < left_at place old output
   left_marked living e =
-      let less = dying_less (doing_at place old telling earlier) target living in
-      let same : living_rows (state_at new place).forest.rows ≡ living_rows (dying (doing_at place old telling earlier) target).state.forest.rows = ap (λ (doing : Doing). living_rows doing.state.forest.rows) (marked_is e) in
+      let less = dying_less (doing_at place old output earlier) target living in
+      let same : living_rows (state_at new place).forest.rows ≡ living_rows (dying (doing_at place old output earlier) target).state.forest.rows = ap (λ (doing : Execution). living_rows doing.state.forest.rows) (marked_is e) in
       omega (arith, less, same)
 
   -- what breaks its ties leaves as much
-  pub left_severed : new ≡ with_state old place (without_ties (state_at old place) target) → left_at place new telling ≤ left_at place old telling
+  pub left_severed : new ≡ with_state old place (without_ties (state_at old place) target) → left_at place new output ≤ left_at place old output
   left_severed e =
-      let less = (severed_shrinks (doing_at place old telling earlier) target).living in
-      let same : living_rows (state_at new place).forest.rows ≡ living_rows (severed (doing_at place old telling earlier) target).state.forest.rows = ap (λ (doing : Doing). living_rows doing.state.forest.rows) (severed_is e) in
+      let less = (severed_shrinks (doing_at place old output earlier) target).living in
+      let same : living_rows (state_at new place).forest.rows ≡ living_rows (severed (doing_at place old output earlier) target).state.forest.rows = ap (λ (doing : Execution). living_rows doing.state.forest.rows) (severed_is e) in
       omega (arith, less, same)
 
 module _ (settings : Settings) (target depth : ℕ) where
   -- the children that are still to be deleted
-  abbrev pub kins_from : List ℕ → List Item
-  kins_from found = map (λ child. Kin target child depth) found
+  abbrev pub delete_children_from : List ℕ → List Item
+  delete_children_from found = map (λ child. DeleteChild target child depth) found
 
-  pub delete_none : (doing : Doing) → lives doing target ≡ false → run settings (Delete target depth ∷ []) doing ≡ doing
+  pub delete_none : (doing : Execution) → lives doing target ≡ false → run settings (Delete target depth ∷ []) doing ≡ doing
   delete_none doing dead = by_change settings (Delete target depth) doing doing (rule.delete_none settings target depth doing dead)
 
   -- what ties a dying object to others is broken, and then there are its children
-  pub cut_first : (place : ℕ) (old new : Tables) (telling : Telling) (earlier : List Post) → IsPlaced old place → (found : List ℕ) → found ≡ children (state_at old place).forest.rows (Some target)
+  pub detach_first : (place : ℕ) (old new : Tables) (output : CommandOutput) (earlier : List Post) → IsPlaced old place → (found : List ℕ) → found ≡ children (state_at old place).forest.rows (Some target)
       → new ≡ with_state old place (without_ties (state_at old place) target)
-      → run settings (kins_from found) (doing_at place new telling earlier) ≡ run settings (Cut target depth ∷ []) (doing_at place old telling earlier)
-  unfolding kins
-  cut_first place old new telling earlier placed found e f =
-      ap (run settings (kins_from found)) (severed_is place target old new telling earlier placed f)
-      ∙ ap (λ numbers. run settings (kins_from numbers) (severed (doing_at place old telling earlier) target)) e
-      ∙ sym (by_step settings (Cut target depth) (doing_at place old telling earlier) _ (rule.cut_kins settings target depth (doing_at place old telling earlier)))
+      → run settings (delete_children_from found) (doing_at place new output earlier) ≡ run settings (Detach target depth ∷ []) (doing_at place old output earlier)
+  unfolding delete_children
+  detach_first place old new output earlier placed found e f =
+      ap (run settings (delete_children_from found)) (severed_is place target old new output earlier placed f)
+      ∙ ap (λ numbers. run settings (delete_children_from numbers) (severed (doing_at place old output earlier) target)) e
+      ∙ sym (by_step settings (Detach target depth) (doing_at place old output earlier) _ (rule.detach_delete_children settings target depth (doing_at place old output earlier)))
 
   -- one child is deleted, and then those behind it
-  pub cut_next : (i : ℕ) (found : List ℕ) (old middle new : Doing) → i < length found → run settings (Kin target (get_or found i 0) depth ∷ []) middle ≡ new
-      → run settings (kins_from (drop i found)) middle ≡ old → run settings (kins_from (drop (i + 1) found)) new ≡ old
-  cut_next i found old middle new within does before =
-      ap (run settings (kins_from (drop (i + 1) found))) (sym does)
-      ∙ sym (after_first settings (Kin target (get_or found i 0) depth) (kins_from (drop (i + 1) found)) middle)
-      ∙ ap (λ numbers. run settings (kins_from numbers) middle) (sym (drop_more found i 0 within))
+  pub detach_next : (i : ℕ) (found : List ℕ) (old middle new : Execution) → i < length found → run settings (DeleteChild target (get_or found i 0) depth ∷ []) middle ≡ new
+      → run settings (delete_children_from (drop i found)) middle ≡ old → run settings (delete_children_from (drop (i + 1) found)) new ≡ old
+  detach_next i found old middle new within does before =
+      ap (run settings (delete_children_from (drop (i + 1) found))) (sym does)
+      ∙ sym (after_first settings (DeleteChild target (get_or found i 0) depth) (delete_children_from (drop (i + 1) found)) middle)
+      ∙ ap (λ numbers. run settings (delete_children_from numbers) middle) (sym (drop_more found i 0 within))
       ∙ before
 
   -- with no child left all is done
-  pub cut_last : (i : ℕ) (found : List ℕ) (old new : Doing) → length found ≤ i → run settings (kins_from (drop i found)) new ≡ old → old ≡ new
-  cut_last i found old new past before = sym before ∙ ap (λ numbers. run settings (kins_from numbers) new) (drop_all i found past) ∙ at_end settings new
+  pub detach_last : (i : ℕ) (found : List ℕ) (old new : Execution) → length found ≤ i → run settings (delete_children_from (drop i found)) new ≡ old → old ≡ new
+  detach_last i found old new past before = sym before ∙ ap (λ numbers. run settings (delete_children_from numbers) new) (drop_all i found past) ∙ at_end settings new
 
-  pub kin_none : (child : ℕ) (doing : Doing) → lives_below doing target child ≡ false → run settings (Kin target child depth ∷ []) doing ≡ doing
-  kin_none child doing other = by_change settings (Kin target child depth) doing doing (rule.kin_none settings target child depth doing other)
+  pub delete_child_none : (child : ℕ) (doing : Execution) → lives_below doing target child ≡ false → run settings (DeleteChild target child depth ∷ []) doing ≡ doing
+  delete_child_none child doing other = by_change settings (DeleteChild target child depth) doing doing (rule.delete_child_none settings target child depth doing other)
 
-  pub kin_some : (child : ℕ) (doing new : Doing) → lives_below doing target child ≡ true → run settings (Delete child depth ∷ []) doing ≡ new → run settings (Kin target child depth ∷ []) doing ≡ new
-  kin_some child doing new living does = by_step settings (Kin target child depth) doing _ (rule.kin_some settings target child depth doing living) ∙ does
+  pub delete_child_some : (child : ℕ) (doing new : Execution) → lives_below doing target child ≡ true → run settings (Delete child depth ∷ []) doing ≡ new → run settings (DeleteChild target child depth ∷ []) doing ≡ new
+  delete_child_some child doing new living does = by_step settings (DeleteChild target child depth) doing _ (rule.delete_child_some settings target child depth doing living) ∙ does
 
 -- a living object is marked, and then it says that it goes, what ties it is cut, and it goes
-pub delete_begins : (caller : Caller) (target depth : ℕ) (old dead : Tables) (before : Telling) → IsPlaced old caller.place → lives (doing_at caller.place old before []) target ≡ true → dead ≡ with_state old caller.place (dying_in (state_at old caller.place) target)
-    → SoFar caller (here caller (Delete target depth ∷ []) old before) (here caller (Emit target DESTROYED [] depth ∷ Cut target depth ∷ Gone target depth ∷ []) dead before) old dead before before
+pub delete_begins : (caller : SessionContext) (target depth : ℕ) (old dead : Tables) (before : CommandOutput) → IsPlaced old caller.place → lives (doing_at caller.place old before []) target ≡ true → dead ≡ with_state old caller.place (dying_in (state_at old caller.place) target)
+    → SoFar caller (here caller (Delete target depth ∷ []) old before) (here caller (Emit target DESTROYED [] depth ∷ Detach target depth ∷ Remove target depth ∷ []) dead before) old dead before before
 delete_begins caller target depth old dead before placed living marked =
     let settings = settings_of caller.setup.now in
-    far_none caller (here caller (Delete target depth ∷ []) old before) old before placed (here caller (Emit target DESTROYED [] depth ∷ Cut target depth ∷ Gone target depth ∷ []) dead before) dead before (keeps_with old dead caller.place _ placed marked) refl
+    far_none caller (here caller (Delete target depth ∷ []) old before) old before placed (here caller (Emit target DESTROYED [] depth ∷ Detach target depth ∷ Remove target depth ∷ []) dead before) dead before (keeps_with old dead caller.place _ placed marked) refl
     (λ earlier.
-    ap (run settings (Emit target DESTROYED [] depth ∷ Cut target depth ∷ Gone target depth ∷ [])) (marked_is caller.place target old dead before earlier placed marked)
+    ap (run settings (Emit target DESTROYED [] depth ∷ Detach target depth ∷ Remove target depth ∷ [])) (marked_is caller.place target old dead before earlier placed marked)
     ∙ sym (by_step settings (Delete target depth) (doing_at caller.place old before earlier) _ (rule.delete_some settings target depth (doing_at caller.place old before earlier) living)))
 
 -- so far it has said so, and what ties it was cut
-pub delete_loose : (caller : Caller) (target depth : ℕ) (old dead sent loose : Tables) (before between after : Telling) {T E T' E' : Type 0} (said : T) (cut : T') → IsPlaced old caller.place → lives (doing_at caller.place old before []) target ≡ true → dead ≡ with_state old caller.place (dying_in (state_at old caller.place) target)
-    → DoesNext {E = E} caller (here caller (Emit target DESTROYED [] depth ∷ []) dead before) dead sent before between (Ok said)
-    → DoesNext {E = E'} caller (here caller (Cut target depth ∷ []) sent between) sent loose between after (Ok cut)
-    → SoFar caller (here caller (Delete target depth ∷ []) old before) (here caller (Gone target depth ∷ []) loose after) old loose before after
-delete_loose caller target depth old dead sent loose before between after said cut placed living marked says cuts =
-    far_item caller (here caller (Delete target depth ∷ []) old before) old before placed (Cut target depth) (Gone target depth ∷ []) sent loose between after cut
-    (far_item caller (here caller (Delete target depth ∷ []) old before) old before placed (Emit target DESTROYED [] depth) (Cut target depth ∷ Gone target depth ∷ []) dead sent before between said
+pub delete_loose : (caller : SessionContext) (target depth : ℕ) (old dead sent loose : Tables) (before between after : CommandOutput) {T E T' E' : Type 0} (said : T) (detach : T') → IsPlaced old caller.place → lives (doing_at caller.place old before []) target ≡ true → dead ≡ with_state old caller.place (dying_in (state_at old caller.place) target)
+    → RunsNext {E = E} caller (here caller (Emit target DESTROYED [] depth ∷ []) dead before) dead sent before between (Ok said)
+    → RunsNext {E = E'} caller (here caller (Detach target depth ∷ []) sent between) sent loose between after (Ok detach)
+    → SoFar caller (here caller (Delete target depth ∷ []) old before) (here caller (Remove target depth ∷ []) loose after) old loose before after
+delete_loose caller target depth old dead sent loose before between after said detach placed living marked says cuts =
+    far_item caller (here caller (Delete target depth ∷ []) old before) old before placed (Detach target depth) (Remove target depth ∷ []) sent loose between after detach
+    (far_item caller (here caller (Delete target depth ∷ []) old before) old before placed (Emit target DESTROYED [] depth) (Detach target depth ∷ Remove target depth ∷ []) dead sent before between said
     (delete_begins caller target depth old dead before placed living marked) says) cuts

@@ -1,7 +1,7 @@
-pub mod FrontLemmas
-pub mod DoesLemmas
+pub mod PrefixLemmas
+pub mod RunsLemmas
 pub mod DeletionLemmas
-pub mod NewsLemmas
+pub mod NotifyingLemmas
 pub mod AgendaLemmas
 pub mod CalleeLemmas
 pub mod ForCallers

@@ -1,3 +1,3 @@
-pub mod Telling
-pub mod Front
+pub mod CommandOutput
+pub mod Prefix
 pub mod Agenda

@@ -17,35 +17,37 @@ ghost use Rattle.session_tables.specs.Tables as session;
 ghost use Rattle.session_tables.specs.Tables.{IsPlaced, state_at};
 ghost use Rattle.session_effects.specs.Actions.{act_of};
 ghost use Rattle.session_effects.specs.Setup.{settings_of};
-ghost use Rattle.dispatch.specs.Agenda.{Does, DoesNext};
-ghost use Rattle.dispatch.specs.Telling.{doing_at};
+ghost use Rattle.dispatch.specs.Agenda.{RunsItems, RunsNext};
+ghost use Rattle.dispatch.specs.CommandOutput.{doing_at};
 
-use crate::actor::{Actor, answered};
-use crate::answering::Answering;
+use crate::call_context::{CallContext, answered};
+use crate::command_output::CommandOutput;
 use crate::deletion::delete;
-use crate::news::notify;
+use crate::functor_table::FunctorTable;
+use crate::notifying::notify;
 use crate::posts::post;
-use crate::telling::Telling;
 use class_table::Method;
 use connection_list::Connection;
-use plain_types::{Callee, ConnectionType};
 use event_queue::{Priority, QueuedCall};
-use plain_types::Code;
-use session_effects::{Caller, Slot, change, deleted, functor_at, method_at, sent, set, truth};
+use plain_types::{Callee, Code, ConnectionType};
+use session_effects::{
+    SessionContext, Slot, apply_action, evaluate_test, functor_at, method_at, resolve_delete,
+    resolve_emit, set,
+};
+use session_model::{DESTROYED, NESTED_SIGNALS};
 use session_tables::Tables;
 use std::alloc::AllocError;
 use term_core::{Action, SingleAction, Step};
-use session_model::{DESTROYED, NESTED_SIGNALS};
 use variant_value::{Args, Value};
 
 /// Sends a signal, unless the signals of its object are blocked: calls its connections one after another,
 /// as they stand by then, up to the last that was made when the sending began. `destroyed()` cannot be
 /// blocked.
 #[cycle(agenda)]
-pub(crate) fn emit<F: Answering>(
-    actor: &Actor<F>,
+pub(crate) fn emit<F: FunctorTable>(
+    actor: &CallContext<F>,
     tables: &mut Tables,
-    telling: &mut Telling,
+    output: &mut CommandOutput,
     target: u32,
     signal: u32,
     args: &[Value],
@@ -53,7 +55,7 @@ pub(crate) fn emit<F: Answering>(
 ) -> Result<(), AllocError>
     requires placed { IsPlaced tables.old actor.now.caller.place }
     requires depth { depth ≤ NESTED_SIGNALS }
-    ensures { Does actor.now.caller (Emit target signal args.now depth ∷ []) tables.old tables.new telling.old telling.new result }
+    ensures { RunsItems actor.now.caller (Emit target signal args.now depth ∷ []) tables.old tables.new output.old output.new result }
 {
     let Some(row) = tables.forests.row(actor.caller.place, target) else {
         return Ok(());
@@ -62,9 +64,9 @@ pub(crate) fn emit<F: Answering>(
         return Ok(());
     }
     if depth >= NESTED_SIGNALS {
-        return telling.warn(Code::Limit, Some(target));
+        return output.warn(Code::Limit, Some(target));
     }
-    telling.failing = post(&actor.caller, tables, target, signal, args, telling.failing);
+    output.failing = post(&actor.caller, tables, target, signal, args, output.failing);
     let up_to = tables.connections.last_number(actor.caller.place);
     let mut after = 0;
     let mut near = 0;
@@ -76,7 +78,7 @@ pub(crate) fn emit<F: Answering>(
         up_to,
         &mut near,
     ) {
-        call(actor, tables, telling, &connection, args, depth)?;
+        call(actor, tables, output, &connection, args, depth)?;
         after = connection.number;
     }
     Ok(())
@@ -85,28 +87,28 @@ pub(crate) fn emit<F: Answering>(
 /// Calls what a connection calls, which stands: later, by an event, or at once. A single-shot connection
 /// goes first.
 #[cycle(agenda)]
-fn call<F: Answering>(
-    actor: &Actor<F>,
+fn call<F: FunctorTable>(
+    actor: &CallContext<F>,
     tables: &mut Tables,
-    telling: &mut Telling,
+    output: &mut CommandOutput,
     connection: &Connection,
     args: &[Value],
     depth: u32,
 ) -> Result<(), AllocError>
     requires placed { IsPlaced tables.old actor.now.caller.place }
     requires depth { depth < NESTED_SIGNALS }
-    requires stands { connection_of (doing_at actor.now.caller.place tables.old telling.old []) connection.now.number ≡ Some connection.now }
-    ensures { Does actor.now.caller (Call connection.now.number args.now depth ∷ []) tables.old tables.new telling.old telling.new result }
+    requires stands { connection_of (doing_at actor.now.caller.place tables.old output.old []) connection.now.number ≡ Some connection.now }
+    ensures { RunsItems actor.now.caller (Call connection.now.number args.now depth ∷ []) tables.old tables.new output.old output.new result }
 {
-    if telling.turns == 0 {
-        return telling.use_up();
+    if output.turns == 0 {
+        return output.use_up();
     }
-    telling.turns -= 1;
-    tables.shoot(actor.caller.place, connection);
+    output.turns -= 1;
+    tables.break_single_shot(actor.caller.place, connection);
     let index = match connection.callee {
         Callee::Method(index) => index,
         Callee::Functor(index) => {
-            return call_functor(actor, tables, telling, connection, index, args, depth);
+            return call_functor(actor, tables, output, connection, index, args, depth);
         }
     };
     let Some(method) = method_at(&actor.caller, tables, connection.receiver, index) else {
@@ -122,15 +124,15 @@ fn call<F: Answering>(
         args: given,
         depth: depth + 1,
     };
-    run_method(actor, tables, telling, index, method, &slot, depth + 1)
+    run_method(actor, tables, output, index, method, &slot, depth + 1)
 }
 
 /// Calls the functor of a connection whose turn is taken: later, by an event, or at once.
 #[cycle(agenda)]
-fn call_functor<F: Answering>(
-    actor: &Actor<F>,
+fn call_functor<F: FunctorTable>(
+    actor: &CallContext<F>,
     tables: &mut Tables,
-    telling: &mut Telling,
+    output: &mut CommandOutput,
     connection: &Connection,
     index: u32,
     args: &[Value],
@@ -139,8 +141,8 @@ fn call_functor<F: Answering>(
     requires placed { IsPlaced tables.old actor.now.caller.place }
     requires depth { depth < NESTED_SIGNALS }
     requires callee { connection.now.callee ≡ callee.Functor index }
-    ensures { DoesNext actor.now.caller (λ earlier. callee_called (settings_of actor.now.caller.setup.now) connection.now args.now depth
-        (doing_at actor.now.caller.place tables.old telling.old earlier) (callee.Functor index)) tables.old tables.new telling.old telling.new result }
+    ensures { RunsNext actor.now.caller (λ earlier. callee_called (settings_of actor.now.caller.setup.now) connection.now args.now depth
+        (doing_at actor.now.caller.place tables.old output.old earlier) (callee.Functor index)) tables.old tables.new output.old output.new result }
 {
     let Some(functor) = functor_at(&actor.caller, index) else {
         return Ok(());
@@ -155,12 +157,12 @@ fn call_functor<F: Answering>(
         args: given,
         depth: depth + 1,
     };
-    run_functor(actor, tables, telling, index, connection.number, &slot)
+    run_functor(actor, tables, output, index, connection.number, &slot)
 }
 
 /// Posts the call of what a connection calls, or counts it as lost where the queue is full.
 fn call_later(
-    caller: &Caller,
+    caller: &SessionContext,
     tables: &mut Tables,
     connection: &Connection,
     args: &[Value],
@@ -185,16 +187,16 @@ fn call_later(
         priority: Priority::Normal,
         args: Args::copied(caller.setup.alloc, args)?,
     };
-    tables.post_call(caller.place, call)
+    tables.enqueue_call(caller.place, call)
 }
 
 /// Calls a method of an object, which is this one: sends it on at its own depth, where it is a signal, and else
 /// tells of the slot and does what its body says.
 #[cycle(agenda)]
-pub fn run_method<F: Answering>(
-    actor: &Actor<F>,
+pub fn run_method<F: FunctorTable>(
+    actor: &CallContext<F>,
     tables: &mut Tables,
-    telling: &mut Telling,
+    output: &mut CommandOutput,
     index: u32,
     method: &Method,
     slot: &Slot,
@@ -206,33 +208,33 @@ pub fn run_method<F: Answering>(
     requires nested { 1 ≤ slot.now.depth }
     requires found { Some method.now ≡ method_at (settings_of actor.now.caller.setup.now) (state_at tables.old actor.now.caller.place) slot.now.object index }
     requires sound { IsMethod method.now }
-    ensures { Does actor.now.caller
+    ensures { RunsItems actor.now.caller
         (method_items slot.now.object index slot.now.sender slot.now.args.now sent_at (slot.now.depth - 1) method.now)
-        tables.old tables.new telling.old telling.new result }
+        tables.old tables.new output.old output.new result }
 {
     if method.is_signal {
         return emit(
             actor,
             tables,
-            telling,
+            output,
             slot.object,
             index,
             slot.args,
             sent_at,
         );
     }
-    telling.call(actor.caller.setup.alloc, &method.text, slot)?;
-    acts(actor, tables, telling, slot, method.body.actions.as_slice())
+    output.call(actor.caller.setup.alloc, &method.text, slot)?;
+    acts(actor, tables, output, slot, method.body.actions.as_slice())
 }
 
 /// Tells of a functor that is called, and does what it answers over the state that its connection keeps. The
 /// state that follows is kept there before that. Where the connection has gone, the state is 0, and the
 /// one that follows is kept nowhere.
 #[cycle(agenda)]
-pub fn run_functor<F: Answering>(
-    actor: &Actor<F>,
+pub fn run_functor<F: FunctorTable>(
+    actor: &CallContext<F>,
     tables: &mut Tables,
-    telling: &mut Telling,
+    output: &mut CommandOutput,
     index: u32,
     connection: u32,
     slot: &Slot,
@@ -240,14 +242,14 @@ pub fn run_functor<F: Answering>(
     requires placed { IsPlaced tables.old actor.now.caller.place }
     requires depth { slot.now.depth ≤ NESTED_SIGNALS }
     requires nested { 1 ≤ slot.now.depth }
-    ensures { Does actor.now.caller
+    ensures { RunsItems actor.now.caller
         (RunFunctor slot.now.object index slot.now.sender connection slot.now.args.now (slot.now.depth - 1) ∷ [])
-        tables.old tables.new telling.old telling.new result }
+        tables.old tables.new output.old output.new result }
 {
     let Some(functor) = functor_at(&actor.caller, index) else {
         return Ok(());
     };
-    telling.call(actor.caller.setup.alloc, &functor.name, slot)?;
+    output.call(actor.caller.setup.alloc, &functor.name, slot)?;
     let state = tables.functor_state(actor.caller.place, connection);
     let (actions, next) = answered(actor, index, functor, state, slot.args)?;
     tables.step_functor(actor.caller.place, connection, next);
@@ -257,48 +259,48 @@ pub fn run_functor<F: Answering>(
         args: &[],
         depth: slot.depth,
     };
-    acts(actor, tables, telling, &put_in, actions.as_slice())
+    acts(actor, tables, output, &put_in, actions.as_slice())
 }
 
 /// Does actions, one after another.
 #[cycle(agenda)]
-fn acts<F: Answering>(
-    actor: &Actor<F>,
+fn acts<F: FunctorTable>(
+    actor: &CallContext<F>,
     tables: &mut Tables,
-    telling: &mut Telling,
+    output: &mut CommandOutput,
     slot: &Slot,
     actions: &[Action],
 ) -> Result<(), AllocError>
     requires placed { IsPlaced tables.old actor.now.caller.place }
     requires depth { slot.now.depth ≤ NESTED_SIGNALS }
-    ensures { Does actor.now.caller (model.acts (acts_of actions.now) slot.now.args.now slot.now.object slot.now.sender slot.now.depth)
-        tables.old tables.new telling.old telling.new result }
+    ensures { RunsItems actor.now.caller (model.acts (acts_of actions.now) slot.now.args.now slot.now.object slot.now.sender slot.now.depth)
+        tables.old tables.new output.old output.new result }
 {
     'actions: for action in actions {
-        act(actor, tables, telling, slot, action)?;
+        act(actor, tables, output, slot, action)?;
     }
     Ok(())
 }
 
 /// Does an action: a single one, or the branch that its test chooses.
 #[cycle(agenda)]
-fn act<F: Answering>(
-    actor: &Actor<F>,
+fn act<F: FunctorTable>(
+    actor: &CallContext<F>,
     tables: &mut Tables,
-    telling: &mut Telling,
+    output: &mut CommandOutput,
     slot: &Slot,
     action: &Action,
 ) -> Result<(), AllocError>
     requires placed { IsPlaced tables.old actor.now.caller.place }
     requires depth { slot.now.depth ≤ NESTED_SIGNALS }
-    ensures { Does actor.now.caller (act_of slot.now action.now ∷ []) tables.old tables.new telling.old telling.new result }
+    ensures { RunsItems actor.now.caller (act_of slot.now action.now ∷ []) tables.old tables.new output.old output.new result }
 {
     match &action.step {
-        Step::Single(plain) => single_action(actor, tables, telling, slot, plain),
-        Step::When(test, held, failed) => match truth(&actor.caller, tables, slot, test) {
-            Ok(true) => acts(actor, tables, telling, slot, held),
-            Ok(false) => acts(actor, tables, telling, slot, failed),
-            Err(fault) => telling.warn_of(fault, slot.object),
+        Step::Single(plain) => single_action(actor, tables, output, slot, plain),
+        Step::When(test, held, failed) => match evaluate_test(&actor.caller, tables, slot, test) {
+            Ok(true) => acts(actor, tables, output, slot, held),
+            Ok(false) => acts(actor, tables, output, slot, failed),
+            Err(fault) => output.warn_of(fault, slot.object),
         },
     }
 }
@@ -307,47 +309,47 @@ fn act<F: Answering>(
 /// nothing of it on the stack.
 #[cycle(agenda)]
 #[inline(never)]
-fn single_action<F: Answering>(
-    actor: &Actor<F>,
+fn single_action<F: FunctorTable>(
+    actor: &CallContext<F>,
     tables: &mut Tables,
-    telling: &mut Telling,
+    output: &mut CommandOutput,
     slot: &Slot,
     plain: &SingleAction,
 ) -> Result<(), AllocError>
     requires placed { IsPlaced tables.old actor.now.caller.place }
     requires depth { slot.now.depth ≤ NESTED_SIGNALS }
-    ensures { Does actor.now.caller (act_of slot.now (single_action plain.now) ∷ []) tables.old tables.new telling.old telling.new result }
+    ensures { RunsItems actor.now.caller (act_of slot.now (single_action plain.now) ∷ []) tables.old tables.new output.old output.new result }
 {
     match plain {
         SingleAction::Emit { of, signal, args } => {
-            match sent(&actor.caller, tables, slot, of, signal, args.as_slice()) {
+            match resolve_emit(&actor.caller, tables, slot, of, signal, args.as_slice()) {
                 Ok(sent) => emit(
                     actor,
                     tables,
-                    telling,
+                    output,
                     sent.object,
                     sent.signal,
                     sent.args.as_slice(),
                     slot.depth,
                 ),
-                Err(fault) => telling.warn_of(fault, slot.object),
+                Err(fault) => output.warn_of(fault, slot.object),
             }
         }
-        SingleAction::Delete(target) => match deleted(&actor.caller, tables, slot, target) {
-            Ok(object) => delete(actor, tables, telling, object, slot.depth),
-            Err(fault) => telling.warn_of(fault, slot.object),
+        SingleAction::Delete(target) => match resolve_delete(&actor.caller, tables, slot, target) {
+            Ok(object) => delete(actor, tables, output, object, slot.depth),
+            Err(fault) => output.warn_of(fault, slot.object),
         },
         SingleAction::Set {
             of,
             property,
             value,
         } => match set(&actor.caller, tables, slot, of, property, value) {
-            Ok(told) => notify(actor, tables, telling, told, slot.depth),
-            Err(fault) => telling.warn_of(fault, slot.object),
+            Ok(told) => notify(actor, tables, output, told, slot.depth),
+            Err(fault) => output.warn_of(fault, slot.object),
         },
-        _ => match change(&actor.caller, tables, slot, plain) {
+        _ => match apply_action(&actor.caller, tables, slot, plain) {
             Ok(()) => Ok(()),
-            Err(fault) => telling.warn_of(fault, slot.object),
+            Err(fault) => output.warn_of(fault, slot.object),
         },
     }
 }

@@ -3,82 +3,82 @@
 //! then it says so by `destroyed()`, whose slots may do anything.
 ghost use Rattle.std.specs.Prelude.{◌∷◌, [], ◌≤◌, OnOk};
 ghost use Rattle.session_model.specs.declared.call.TheConstants.{NESTED_SIGNALS};
-ghost use Rattle.session_model.specs.Items.{Cut, Delete, Kin};
+ghost use Rattle.session_model.specs.Items.{Detach, Delete, DeleteChild};
 ghost use Rattle.session_tables.specs.Tables.{IsPlaced};
 ghost use Rattle.session_effects.specs.Actions.{KeepsOthers};
-ghost use Rattle.dispatch.specs.Agenda.{Does};
-ghost use Rattle.dispatch.specs.Telling.{doing_at};
+ghost use Rattle.dispatch.specs.Agenda.{RunsItems};
+ghost use Rattle.dispatch.specs.CommandOutput.{doing_at};
 
-use crate::actor::Actor;
 use crate::agenda::emit;
-use crate::answering::Answering;
-use crate::news::tell;
-use crate::telling::Telling;
+use crate::call_context::CallContext;
+use crate::command_output::CommandOutput;
+use crate::functor_table::FunctorTable;
+use crate::notifying::tell;
+use session_model::DESTROYED;
 use session_tables::Tables;
 use std::alloc::AllocError;
-use session_model::DESTROYED;
 
 /// Deletes an object, unless it is gone or dying.
 #[cycle(agenda)]
-pub fn delete<F: Answering>(
-    actor: &Actor<F>,
+pub fn delete<F: FunctorTable>(
+    actor: &CallContext<F>,
     tables: &mut Tables,
-    telling: &mut Telling,
+    output: &mut CommandOutput,
     target: u32,
     depth: u32,
 ) -> Result<(), AllocError>
     requires placed { IsPlaced tables.old actor.now.caller.place }
     requires depth { depth ≤ NESTED_SIGNALS }
-    ensures { Does actor.now.caller (Delete target depth ∷ []) tables.old tables.new telling.old telling.new result }
+    ensures { RunsItems actor.now.caller (Delete target depth ∷ []) tables.old tables.new output.old output.new result }
 {
     if !tables.forests.lives(actor.caller.place, target) {
         return Ok(());
     }
     tables.mark_dying(actor.caller.place, target);
-    emit(actor, tables, telling, target, DESTROYED, &[], depth)?;
-    cut(actor, tables, telling, target, depth)?;
+    emit(actor, tables, output, target, DESTROYED, &[], depth)?;
+    detach(actor, tables, output, target, depth)?;
     let changes = tables.remove(actor.caller.place, target)?;
-    tell(actor, tables, telling, changes, depth)
+    tell(actor, tables, output, changes, depth)
 }
 
 /// Breaks what ties a dying object to others, and deletes its children.
 #[cycle(agenda)]
-fn cut<F: Answering>(
-    actor: &Actor<F>,
+fn detach<F: FunctorTable>(
+    actor: &CallContext<F>,
     tables: &mut Tables,
-    telling: &mut Telling,
+    output: &mut CommandOutput,
     target: u32,
     depth: u32,
 ) -> Result<(), AllocError>
     requires placed { IsPlaced tables.old actor.now.caller.place }
     requires depth { depth ≤ NESTED_SIGNALS }
-    ensures { Does actor.now.caller (Cut target depth ∷ []) tables.old tables.new telling.old telling.new result }
+    ensures { RunsItems actor.now.caller (Detach target depth ∷ []) tables.old tables.new output.old output.new result }
 {
     let children = tables.forests.children(actor.caller.place, Some(target))?;
     tables.sever(actor.caller.place, target);
     'children: for child in children.as_slice() {
-        kin(actor, tables, telling, target, *child, depth)?;
+        delete_child(actor, tables, output, target, *child, depth)?;
     }
     Ok(())
 }
 
 /// Deletes a child, unless it has gone, is dying or has another parent by now.
 #[cycle(agenda)]
-fn kin<F: Answering>(
-    actor: &Actor<F>,
+fn delete_child<F: FunctorTable>(
+    actor: &CallContext<F>,
     tables: &mut Tables,
-    telling: &mut Telling,
+    output: &mut CommandOutput,
     parent: u32,
     child: u32,
     depth: u32,
 ) -> Result<(), AllocError>
     requires placed { IsPlaced tables.old actor.now.caller.place }
     requires depth { depth ≤ NESTED_SIGNALS }
-    ensures { Does actor.now.caller (Kin parent child depth ∷ []) tables.old tables.new telling.old telling.new result }
+    ensures { RunsItems actor.now.caller (DeleteChild parent child depth ∷ []) tables.old tables.new output.old output.new result }
 {
     let place = actor.caller.place;
     if !tables.forests.lives_below(place, parent, child) {
         return Ok(());
     }
-    delete(actor, tables, telling, child, depth)
+    delete(actor, tables, output, child, depth)
 }

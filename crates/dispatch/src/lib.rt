@@ -2,17 +2,17 @@
 //! that run, actions that are done, objects that are deleted.
 #![tactic(auto)]
 
-mod actor;
 mod agenda;
-mod answering;
+mod call_context;
+mod command_output;
 mod deletion;
-mod news;
+mod functor_table;
+mod notifying;
 mod posts;
-mod telling;
 
-pub use actor::Actor;
 pub use agenda::{is_queued, run_functor, run_method};
-pub use answering::Answering;
+pub use call_context::CallContext;
+pub use command_output::CommandOutput;
 pub use deletion::delete;
-pub use news::{notify, tell};
-pub use telling::Telling;
+pub use functor_table::FunctorTable;
+pub use notifying::{notify, tell};

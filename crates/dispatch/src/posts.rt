@@ -1,17 +1,17 @@
-//! What a session posts to those that join it.
+//! A session posts to those that join it.
 ghost use Rattle.std.specs.Prelude.{◌≡◌};
 ghost use Rattle.session_model.specs.Arriving.{posts_of};
 ghost use Rattle.session_tables.specs.Reaching.{Reaches};
 ghost use Rattle.session_tables.specs.Tables.{IsPlaced, state_at};
 
-use session_effects::{Caller, kinds_at};
+use session_effects::{SessionContext, kinds_at};
 use session_tables::{Sending, Tables};
 use variant_value::Value;
 
 /// Posts a signal that is sent to the sessions that join it, where it is published, and returns whether any
 /// session has failed by a post of this command.
 pub fn post(
-    caller: &Caller,
+    caller: &SessionContext,
     tables: &mut Tables,
     object: u32,
     signal: u32,

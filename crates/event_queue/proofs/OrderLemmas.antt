@@ -11,7 +11,7 @@ use Rattle.shared_rows.specs.Table.{ChangesAt, IsPlace, Table, with_place}
 use Rattle.shared_rows.proofs.ForCallers.{changes_open, changes_twice, with_there}
 use Rattle.shared_rows.specs.Rows.{IsAtPosition, Keyed, row_under, rows_at, without}
 use Rattle.event_queue.specs.declared.event.Event.{Event}
-use Rattle.event_queue.specs.declared.event.Posted.{Posted}
+use Rattle.event_queue.specs.declared.event.QueuedEvent.{QueuedEvent}
 use Rattle.event_queue.specs.declared.object_counts.ObjectCounts.{ObjectCounts}
 use Rattle.event_queue.specs.Queue.{object_of}
 use Rattle.event_queue.specs.Inside.{AreCounted, HasEvents, HasWaiting, IsCounted, KeepsMarks, count_of, events_at, events_of, is_dropped, waiting, waits}
@@ -64,28 +64,28 @@ module _ {R X : Type 0} (f : R → X) where
       rw other (ap (λ rest. f first.row ∷ rest) (shown_without rows (λ i j d lt inner. apart (suc i) (suc j) d (omega arith) (omega arith)) at key row (omega arith) is))
 
 -- a place with other rows has their events
-pub has_events : (old new : Table (List (Keyed Posted))) (place : ℕ) (rows : List (Keyed Posted)) (events : List Event) → IsPlace old place → new ≡ with_place old place rows → events_of rows ≡ events → HasEvents old new place events
+pub has_events : (old new : Table (List (Keyed QueuedEvent))) (place : ℕ) (rows : List (Keyed QueuedEvent)) (events : List Event) → IsPlace old place → new ≡ with_place old place rows → events_of rows ≡ events → HasEvents old new place events
 has_events old new place rows events is_place is shown = grind (arith, common_steps)
 
 -- the row that is found under the key of the first has the first event
-pub first_event : (rows : List (Keyed Posted)) (key : ℕ) (row found : Posted) → 0 < length rows → IsAtPosition rows 0 key row → row_under rows key ≡ Some found → Some found.event ≡ slice_get (events_of rows) 0
+pub first_event : (rows : List (Keyed QueuedEvent)) (key : ℕ) (row found : QueuedEvent) → 0 < length rows → IsAtPosition rows 0 key row → row_under rows key ≡ Some found → Some found.event ≡ slice_get (events_of rows) 0
 first_event [] key row found some is under = absurd (omega arith)
 first_event (first ∷ rows) key row found some is under = search (rules, is first, eq-eqb)
 
 -- from the last event down to here those that do not wait are swept out
-pub record IsSweeping (old now : Table (List (Keyed Posted))) (place : ℕ) (before after : ObjectCounts) (left : ℕ) : Type 0 where
+pub record IsSweeping (old now : Table (List (Keyed QueuedEvent))) (place : ℕ) (before after : ObjectCounts) (left : ℕ) : Type 0 where
   pub within : left ≤ length (events_at old place)
   pub apart : AllPairs (λ earlier later. earlier.key ≢ later.key) (rows_at now place)
   pub has : HasEvents old now place (sifted (waits before) (events_at old place) left)
   pub going : IsGoing before after (events_at now place)
 
 -- a place after rows went, and what waits there now
-pub has_waiting : (old now : Table (List (Keyed Posted))) (place : ℕ) (before after : ObjectCounts) (events : List Event) → ChangesAt [] place old now → IsGoing before after (events_at now place)
+pub has_waiting : (old now : Table (List (Keyed QueuedEvent))) (place : ℕ) (before after : ObjectCounts) (events : List Event) → ChangesAt [] place old now → IsGoing before after (events_at now place)
     → waiting before (events_at now place) ≡ events → length (events_at now place) + length (waiting before (events_at old place)) ≤ length (events_at old place) + length events → HasWaiting old now place before after events
 has_waiting old now place before after events changed going waits fewer = search (rules, same_waiting)
 
-module _ {old : Table (List (Keyed Posted))} {place : ℕ} {before : ObjectCounts} where
-  module _ {now : Table (List (Keyed Posted))} {after : ObjectCounts} where
+module _ {old : Table (List (Keyed QueuedEvent))} {place : ℕ} {before : ObjectCounts} where
+  module _ {now : Table (List (Keyed QueuedEvent))} {after : ObjectCounts} where
     module _ {left : ℕ} (under : IsSweeping old now place before after left) (none : left ≡ 0) where
       pub sweep_ends : HasWaiting old now place before after (waiting before (events_at old place))
       sweep_ends = search (rules, has_waiting, filter_even (waits before) (waits before) true, length-filter, count_by-le-length)
@@ -106,11 +106,11 @@ module _ {old : Table (List (Keyed Posted))} {place : ℕ} {before : ObjectCount
       pub row_there : position < length (rows_at now place)
       row_there = search (rules, event_there, length-map)
 
-      module _ {key : ℕ} {row : Posted} (at : IsAtPosition (rows_at now place) position key row) where
+      module _ {key : ℕ} {row : QueuedEvent} (at : IsAtPosition (rows_at now place) position key row) where
         event_is : get_or (events_at now place) position row.event ≡ row.event
         event_is =
             get_or-map (λ keyed. keyed.row.event) (rows_at now place) position (record { key = key; row = row }) row.event row_there
-            ∙ ap (λ (keyed : Keyed Posted). keyed.row.event) (at (record { key = key; row = row }))
+            ∙ ap (λ (keyed : Keyed QueuedEvent). keyed.row.event) (at (record { key = key; row = row }))
 
         event_was : get_or (events_at old place) position row.event ≡ row.event
         event_was = search (rules, sifted_at, event_is)
@@ -123,27 +123,27 @@ module _ {old : Table (List (Keyed Posted))} {place : ℕ} {before : ObjectCount
         sweep_passes waits_yet = grind (arith, nat_tests, sifted_kept (waits before) (events_at old place) position row.event inside (waited false waits_yet), waited false waits_yet)
 
         -- and one that was dropped goes
-        pub sweep_drops : {now' : Table (List (Keyed Posted))} (next : ObjectCounts) → is_dropped after (object_of row.event) ≡ true → now' ≡ with_place now place (without (rows_at now place) key)
+        pub sweep_drops : {now' : Table (List (Keyed QueuedEvent))} (next : ObjectCounts) → is_dropped after (object_of row.event) ≡ true → now' ≡ with_place now place (without (rows_at now place) key)
             → IsCounted after next (object_of row.event) (count_of after (object_of row.event) - 1) → KeepsMarks after next → IsSweeping old now' place before next position
         sweep_drops {now'} next gone is counted keeps =
-            let shown = shown_without (λ (posted : Posted). posted.event) (rows_at now place) under.apart position key row row_there at in
+            let shown = shown_without (λ (posted : QueuedEvent). posted.event) (rows_at now place) under.apart position key row row_there at in
             let without_it = has_events now now' place (without (rows_at now place) key) (without_at (events_at now place) position) place_there is shown in
             let left : rows_at now' place ≡ without (rows_at now place) key = ap (λ t. rows_at t place) is ∙ with_there [] now place (without (rows_at now place) key) place_there in
-            let apart = AllPairs-filter (λ (earlier later : Keyed Posted). earlier.key ≢ later.key) (λ keyed. not (keyed.key == key)) (rows_at now place) under.apart in
+            let apart = AllPairs-filter (λ (earlier later : Keyed QueuedEvent). earlier.key ≢ later.key) (λ keyed. not (keyed.key == key)) (rows_at now place) under.apart in
             let goes = row_goes before after next (events_at now place) under.going position row.event event_there event_is counted keeps in
             let sifts = sifted_gone (waits before) (events_at old place) position row.event inside (waited true gone) in
             grind (arith, common_steps, changes_twice, without_it, left, apart, goes, sifts, under.has)
 
 -- the rows before the first event that waits are taken out
-pub record IsTaking (old now : Table (List (Keyed Posted))) (place : ℕ) (before after : ObjectCounts) : Type 0 where
+pub record IsTaking (old now : Table (List (Keyed QueuedEvent))) (place : ℕ) (before after : ObjectCounts) : Type 0 where
   pub changed : ChangesAt [] place old now
   pub going : IsGoing before after (events_at now place)
   pub waits : waiting before (events_at now place) ≡ waiting before (events_at old place)
   pub fewer : length (events_at now place) ≤ length (events_at old place)
 
-module _ {old : Table (List (Keyed Posted))} {place : ℕ} {before : ObjectCounts} where
-  module _ {now : Table (List (Keyed Posted))} {after : ObjectCounts} (under : IsTaking old now place before after) where
-    module _ {now' : Table (List (Keyed Posted))} (has : HasEvents now now' place (drop 1 (events_at now place))) where
+module _ {old : Table (List (Keyed QueuedEvent))} {place : ℕ} {before : ObjectCounts} where
+  module _ {now : Table (List (Keyed QueuedEvent))} {after : ObjectCounts} (under : IsTaking old now place before after) where
+    module _ {now' : Table (List (Keyed QueuedEvent))} (has : HasEvents now now' place (drop 1 (events_at now place))) where
       changed_on : ChangesAt [] place old now'
       changed_on = search (rules, changes_twice)
 

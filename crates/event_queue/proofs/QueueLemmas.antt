@@ -10,11 +10,11 @@ use Rattle.shared_rows.specs.Table.{ChangesAt, IsPlace, Table, opened, with_plac
 use Rattle.shared_rows.proofs.ForCallers.{paired_at, paired_push, paired_set, length-paired, changes_length, changes_same, changes_twice, with_same}
 use Rattle.shared_rows.specs.Rows.{Keyed, rows_at}
 use Rattle.event_queue.specs.declared.event.Event.{Event}
-use Rattle.event_queue.specs.declared.event.Posted.{Posted}
+use Rattle.event_queue.specs.declared.event.QueuedEvent.{QueuedEvent}
 use Rattle.event_queue.specs.declared.object_counts.ObjectCounts.{ObjectCounts}
 use Rattle.event_queue.specs.declared.table.Log.{Log}
 use Rattle.event_queue.specs.declared.table.TheConstants.{EVENTS}
-use Rattle.event_queue.specs.Queue.{IsSound, Queue, counts_of, dropped, empty_queue, has_room, noted, object_of, others, placed, posted, taken, with_lost, with_mismatched}
+use Rattle.event_queue.specs.Queue.{IsSound, Queue, counts_of, dropped, empty_queue, has_room, noted, object_of, others, placed, enqueued, taken, with_lost, with_mismatched}
 use Rattle.event_queue.specs.Table.{queue_at, with_queue}
 use Rattle.event_queue.specs.Inside.{AreCounted, AreLogged, HasEvents, HasWaiting, IsCounted, IsLogged, KeepsMarks, count_at, count_of, events_at, events_of, is_dropped, queue_of, waiting}
 use Rattle.event_queue.proofs.OrderLemmas.{has_waiting}
@@ -22,8 +22,8 @@ use Rattle.event_queue.proofs.PlacedLemmas.{length_placed}
 use Rattle.event_queue.proofs.WaitLemmas.{back_going, counted_yet, dropped_length, dropped_waiting, few_counted, placed_counted, placed_waiting}
 
 -- one change of a place after another
-module _ {old middle : Table (List (Keyed Posted))} {place : ℕ} {before between : ObjectCounts} {events : List Event} (one : HasWaiting old middle place before between events) where
-  pub waits_twice : {new : Table (List (Keyed Posted))} {after : ObjectCounts} {events' : List Event} → HasWaiting middle new place between after events' → HasWaiting old new place before after events'
+module _ {old middle : Table (List (Keyed QueuedEvent))} {place : ℕ} {before between : ObjectCounts} {events : List Event} (one : HasWaiting old middle place before between events) where
+  pub waits_twice : {new : Table (List (Keyed QueuedEvent))} {after : ObjectCounts} {events' : List Event} → HasWaiting middle new place between after events' → HasWaiting old new place before after events'
   waits_twice {new} two = search (rules, changes_twice)
 
   -- no more is counted, as memory was short
@@ -32,7 +32,7 @@ module _ {old middle : Table (List (Keyed Posted))} {place : ℕ} {before betwee
 
   -- one more event has its place
   module _ (after : ObjectCounts) (object : ℕ) (way : 0 < count_of between object → is_dropped between object ≡ false) (added : IsCounted between after object (count_of between object + 1)) (marks : (other : ℕ) → is_dropped after other ≡ cond (object == other) false (is_dropped between other)) where
-    pub waits_placed : {new : Table (List (Keyed Posted))} (event : Event) → object_of event ≡ object → HasEvents middle new place (placed event (events_at middle place)) → HasWaiting old new place before after (placed event events)
+    pub waits_placed : {new : Table (List (Keyed QueuedEvent))} (event : Event) → object_of event ≡ object → HasEvents middle new place (placed event (events_at middle place)) → HasWaiting old new place before after (placed event events)
     waits_placed {new} event is has = grind (arith, nat_tests, changes_twice, placed_counted between after (events_at middle place) one.counted object way added marks event is, placed_waiting between after (events_at middle place) one.counted object way added marks event is, length_placed event (events_at middle place), length_placed event events)
 
     -- or there is no memory for it, and one fewer is counted again
@@ -41,7 +41,7 @@ module _ {old middle : Table (List (Keyed Posted))} {place : ℕ} {before betwee
         waits_twice (has_waiting middle middle place between back events (changes_same [] middle middle place refl)
         (back_going between after (events_at middle place) one.counted object way added marks back subtracted keeps) one.waits (omega (arith, ap length one.waits)))
 
-module _ {rows : Table (List (Keyed Posted))} {logs : Table Log} (are : AreLogged rows logs) {table : Table Queue} (view_is : paired_tables queue_of rows logs ≡ table) {place : ℕ} (is_place : IsPlace table place) where
+module _ {rows : Table (List (Keyed QueuedEvent))} {logs : Table Log} (are : AreLogged rows logs) {table : Table Queue} (view_is : paired_tables queue_of rows logs ≡ table) {place : ℕ} (is_place : IsPlace table place) where
   pub of_rows : IsPlace rows place
   of_rows = search (rules, length-paired)
 
@@ -64,11 +64,11 @@ module _ {rows : Table (List (Keyed Posted))} {logs : Table Log} (are : AreLogge
   same_events = grind (arith, common_steps)
 
   -- rows and logs after a change at the place
-  pub record IsAfter (rows' : Table (List (Keyed Posted))) (logs' : Table Log) (queue : Queue) : Type 0 where
+  pub record IsAfter (rows' : Table (List (Keyed QueuedEvent))) (logs' : Table Log) (queue : Queue) : Type 0 where
     pub kept : AreLogged rows' logs'
     pub view : paired_tables queue_of rows' logs' ≡ with_queue table place queue
 
-  module _ (rows' : Table (List (Keyed Posted))) (events : List Event) (has : HasEvents rows rows' place events) (log : Log) (holds : IsLogged events log) (queue : Queue) (is : record { events = waiting log.objects events; lost = log.lost; mismatched = log.mismatched } ≡ queue) where
+  module _ (rows' : Table (List (Keyed QueuedEvent))) (events : List Event) (has : HasEvents rows rows' place events) (log : Log) (holds : IsLogged events log) (queue : Queue) (is : record { events = waiting log.objects events; lost = log.lost; mismatched = log.mismatched } ≡ queue) where
     pub after : IsAfter rows' (with_place logs place log) queue
     after = record { kept = kept; view = view }
       where
@@ -108,11 +108,11 @@ module _ {rows : Table (List (Keyed Posted))} {logs : Table Log} (are : AreLogge
         (with_mismatched (queue_at table place))
         (ap (λ n. record { events = waiting log.objects (events_at rows place); lost = log.lost; mismatched = n }) is ∙ ap with_mismatched (sym (seen stood)))
 
-    pub all_cleared : {rows' : Table (List (Keyed Posted))} → HasEvents rows rows' place [] → {new : Log} → new.lost ≡ 0 → new.mismatched ≡ 0 → IsLogged [] new → IsAfter rows' (with_place logs place new) empty_queue
+    pub all_cleared : {rows' : Table (List (Keyed QueuedEvent))} → HasEvents rows rows' place [] → {new : Log} → new.lost ≡ 0 → new.mismatched ≡ 0 → IsLogged [] new → IsAfter rows' (with_place logs place new) empty_queue
     all_cleared {rows'} has {new} lost mismatched holds = after rows' [] has new holds empty_queue (rw (lost, mismatched) refl)
 
     -- a log of other counts, by which these events wait
-    module _ (rows' : Table (List (Keyed Posted))) (changed : ChangesAt [] place rows rows') (objects : ObjectCounts) (counted : AreCounted objects (events_at rows' place)) (events : List Event) (waits : waiting objects (events_at rows' place) ≡ events) where
+    module _ (rows' : Table (List (Keyed QueuedEvent))) (changed : ChangesAt [] place rows rows') (objects : ObjectCounts) (counted : AreCounted objects (events_at rows' place)) (events : List Event) (waits : waiting objects (events_at rows' place) ≡ events) where
       after_counts : (queued : ℕ) → queued ≡ length events → queued ≤ EVENTS → length (events_at rows' place) ≤ queued + EVENTS → (queue : Queue) → record { events = events; lost = log.lost; mismatched = log.mismatched } ≡ queue
           → IsAfter rows' (with_place logs place (record log { queued = queued; objects = objects })) queue
       after_counts queued is few few_rows queue same =
@@ -124,13 +124,13 @@ module _ {rows : Table (List (Keyed Posted))} {logs : Table Log} (are : AreLogge
     abbrev now_waiting : List Event
     now_waiting = waiting log.objects (events_at rows place)
 
-    module _ (rows' : Table (List (Keyed Posted))) (objects : ObjectCounts) (events : List Event) (has : HasWaiting rows rows' place log.objects objects events) where
+    module _ (rows' : Table (List (Keyed QueuedEvent))) (objects : ObjectCounts) (events : List Event) (has : HasWaiting rows rows' place log.objects objects events) where
       after_waiting : (queued : ℕ) → queued ≡ length events → queued ≤ EVENTS → (queue : Queue) → record { events = events; lost = log.lost; mismatched = log.mismatched } ≡ queue
           → IsAfter rows' (with_place logs place (record log { queued = queued; objects = objects })) queue
       after_waiting queued is few = search (rules, logged, after_counts)
 
     -- the first event that waits is taken, if there is any
-    module _ {rows' : Table (List (Keyed Posted))} {objects : ObjectCounts} (has : HasWaiting rows rows' place log.objects objects (drop 1 now_waiting)) where
+    module _ {rows' : Table (List (Keyed QueuedEvent))} {objects : ObjectCounts} (has : HasWaiting rows rows' place log.objects objects (drop 1 now_waiting)) where
       pub first_taken : {event : Event} → Some event ≡ slice_get now_waiting 0 → (0 < log.queued) × IsAfter rows' (with_place logs place (record log { queued = log.queued - 1; objects = objects })) (taken (queue_at table place))
       first_taken {event} first =
           let holds = logged stood in (
@@ -173,14 +173,14 @@ module _ {rows : Table (List (Keyed Posted))} {logs : Table Log} (are : AreLogge
           (omega (arith, most, (logged stood).few, length-map (rows_at rows place) (λ keyed. keyed.row.event))) (dropped object (queue_at table place)) (ap (dropped object) (sym (seen stood)))
 
       -- or were swept out
-      pub all_swept : {rows' : Table (List (Keyed Posted))} {objects' : ObjectCounts} → HasWaiting rows rows' place objects objects' (waiting objects (events_at rows place)) → events_at rows' place ≡ waiting objects (events_at rows place)
+      pub all_swept : {rows' : Table (List (Keyed QueuedEvent))} {objects' : ObjectCounts} → HasWaiting rows rows' place objects objects' (waiting objects (events_at rows place)) → events_at rows' place ≡ waiting objects (events_at rows place)
           → IsAfter rows' (with_place logs place (record log { queued = log.queued - waited; objects = objects' })) (dropped object (queue_at table place))
       all_swept {rows'} {objects'} has all =
           after_counts rows' has.changed objects' has.counted (others object now_waiting) (has.waits ∙ left_waiting) (log.queued - waited) (omega (arith, left)) (omega (arith, (logged stood).few))
           (omega (arith, ap length all, ap length left_waiting, left)) (dropped object (queue_at table place)) (ap (dropped object) (sym (seen stood)))
 
     -- there is a way for one more event
-    module _ {rows' : Table (List (Keyed Posted))} {objects : ObjectCounts} (has : HasWaiting rows rows' place log.objects objects now_waiting) where
+    module _ {rows' : Table (List (Keyed QueuedEvent))} {objects : ObjectCounts} (has : HasWaiting rows rows' place log.objects objects now_waiting) where
       pub unposted : IsAfter rows' (with_place logs place (record log { objects = objects })) (queue_at table place)
       unposted = search (rules, logged, after_waiting, seen)
 
@@ -191,15 +191,15 @@ module _ {rows : Table (List (Keyed Posted))} {logs : Table Log} (are : AreLogge
     pub takes_more : log.queued < EVENTS → has_room (queue_at table place) ≡ true
     takes_more room = grind (arith, common_steps, seen, logged)
 
-    pub one_posted : {rows' : Table (List (Keyed Posted))} {objects : ObjectCounts} (event : Event) → log.queued < EVENTS → HasWaiting rows rows' place log.objects objects (placed event now_waiting)
-        → IsAfter rows' (with_place logs place (record log { queued = log.queued + 1; objects = objects })) (posted (queue_at table place) event)
+    pub one_posted : {rows' : Table (List (Keyed QueuedEvent))} {objects : ObjectCounts} (event : Event) → log.queued < EVENTS → HasWaiting rows rows' place log.objects objects (placed event now_waiting)
+        → IsAfter rows' (with_place logs place (record log { queued = log.queued + 1; objects = objects })) (enqueued (queue_at table place) event)
     one_posted {rows'} {objects} event room has = search (rules, after_waiting, logged, length_placed, takes_more, seen)
 
     pub back_again : with_queue table place (queue_at table place) ≡ table
     back_again = with_same empty_queue table place
 
     -- where the place is full all stays
-    pub full_stays : (event : Event) → EVENTS ≤ log.queued → (has_room (queue_at table place) ≡ false) × (paired_tables queue_of rows (with_place logs place log) ≡ with_queue table place (posted (queue_at table place) event))
+    pub full_stays : (event : Event) → EVENTS ≤ log.queued → (has_room (queue_at table place) ≡ false) × (paired_tables queue_of rows (with_place logs place log) ≡ with_queue table place (enqueued (queue_at table place) event))
     full_stays event full =
         let long = (logged stood).queued in
         let none : has_room (queue_at table place) ≡ false = ap has_room (seen stood) ∙ grind (arith, nat_tests, long, full) in
@@ -213,13 +213,13 @@ module _ {rows : Table (List (Keyed Posted))} {logs : Table Log} (are : AreLogge
     sound_at = grind (arith, nat_tests, logged stood, seen stood)
 
 -- one more place, with no event
-pub record IsOpened (rows rows' : Table (List (Keyed Posted))) (logs' : Table Log) (table : Table Queue) : Type 0 where
+pub record IsOpened (rows rows' : Table (List (Keyed QueuedEvent))) (logs' : Table Log) (table : Table Queue) : Type 0 where
   pub kept : AreLogged rows' logs'
   pub view : paired_tables queue_of rows' logs' ≡ opened table empty_queue
   pub place : (result : ℕ) → result ≡ length rows.places → result ≡ length table.places
 
-module _ {rows : Table (List (Keyed Posted))} {logs : Table Log} (are : AreLogged rows logs) (table : Table Queue) (view_is : paired_tables queue_of rows logs ≡ table) (new : Log) (lost : new.lost ≡ 0) (mismatched : new.mismatched ≡ 0) (holds : IsLogged [] new) where
-  pub opened_by : (rows' : Table (List (Keyed Posted))) (logs' : Table Log) → rows' ≡ opened rows [] → logs' ≡ opened logs new → IsOpened rows rows' logs' table
+module _ {rows : Table (List (Keyed QueuedEvent))} {logs : Table Log} (are : AreLogged rows logs) (table : Table Queue) (view_is : paired_tables queue_of rows logs ≡ table) (new : Log) (lost : new.lost ≡ 0) (mismatched : new.mismatched ≡ 0) (holds : IsLogged [] new) where
+  pub opened_by : (rows' : Table (List (Keyed QueuedEvent))) (logs' : Table Log) → rows' ≡ opened rows [] → logs' ≡ opened logs new → IsOpened rows rows' logs' table
   opened_by rows' logs' rows_are logs_are = rw (rows_are, logs_are) (record { kept = kept; view = view; place = place })
     where
       kept : AreLogged (opened rows []) (opened logs new)

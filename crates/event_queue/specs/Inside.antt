@@ -8,7 +8,7 @@ use Rattle.std.specs.BTreeMap.{get}
 use Rattle.shared_rows.specs.Table.{ChangesAt, Table}
 use Rattle.shared_rows.specs.Rows.{Keyed, rows_at}
 use Rattle.event_queue.specs.declared.event.Event.{Event}
-use Rattle.event_queue.specs.declared.event.Posted.{Posted}
+use Rattle.event_queue.specs.declared.event.QueuedEvent.{QueuedEvent}
 use Rattle.event_queue.specs.declared.object_counts.Count.{Count}
 use Rattle.event_queue.specs.declared.object_counts.ObjectCounts.{ObjectCounts}
 use Rattle.event_queue.specs.declared.table.Log.{Log}
@@ -48,39 +48,39 @@ abbrev pub AreCounted : ObjectCounts → List Event → Type 0
 AreCounted objects held = (object : ℕ) → count_of objects object ≡ count_by (λ event. object_of event == object) held
 
 -- the number of an event among all of its place: those of a priority follow those of all above it
-abbrev pub number_of : Posted → ℕ
+abbrev pub number_of : QueuedEvent → ℕ
 number_of posted = rank_of (priority_of posted.event) * 2 ^ 62 + posted.number % 2 ^ 62
 
 -- so many rows, the first ones, are below a number
-pub record IsCountBelow (rows : List (Keyed Posted)) (number count : ℕ) : Type 0 where
+pub record IsCountBelow (rows : List (Keyed QueuedEvent)) (number count : ℕ) : Type 0 where
   pub in_range : count ≤ length rows
   pub below : AllWithin (λ keyed. number_of keyed.row < number) rows 0 count
   pub above : AllWithin (λ keyed. number ≤ number_of keyed.row) rows count (length rows)
 
 -- each row is below a number, or not below an end
-abbrev pub IsSeat : List (Keyed Posted) → ℕ → ℕ → Type 0
+abbrev pub IsSeat : List (Keyed QueuedEvent) → ℕ → ℕ → Type 0
 IsSeat rows number end = All (λ keyed. (number_of keyed.row < number) ⊎ (end ≤ number_of keyed.row)) rows
 
-abbrev pub events_of : List (Keyed Posted) → List Event
+abbrev pub events_of : List (Keyed QueuedEvent) → List Event
 events_of rows = map (λ keyed. keyed.row.event) rows
 
-abbrev pub events_at : Table (List (Keyed Posted)) → ℕ → List Event
+abbrev pub events_at : Table (List (Keyed QueuedEvent)) → ℕ → List Event
 events_at rows place = events_of (rows_at rows place)
 
 -- a place has these events, and other places have what they had
-pub record HasEvents (old new : Table (List (Keyed Posted))) (place : ℕ) (events : List Event) : Type 0 where
+pub record HasEvents (old new : Table (List (Keyed QueuedEvent))) (place : ℕ) (events : List Event) : Type 0 where
   pub changed : ChangesAt [] place old new
   pub now : events_at new place ≡ events
 
 -- at a place these events wait now and no more rows than before are of dropped ones; other places have what they had
-pub record HasWaiting (old new : Table (List (Keyed Posted))) (place : ℕ) (before after : ObjectCounts) (events : List Event) : Type 0 where
+pub record HasWaiting (old new : Table (List (Keyed QueuedEvent))) (place : ℕ) (before after : ObjectCounts) (events : List Event) : Type 0 where
   pub changed : ChangesAt [] place old new
   pub counted : AreCounted after (events_at new place)
   pub waits : waiting after (events_at new place) ≡ events
   pub fewer : length (events_at new place) + length (waiting before (events_at old place)) ≤ length (events_at old place) + length events
 
 -- what contracts see of a place
-abbrev pub queue_of : List (Keyed Posted) → Log → Queue
+abbrev pub queue_of : List (Keyed QueuedEvent) → Log → Queue
 queue_of rows log = record { events = waiting log.objects (events_of rows); lost = log.lost; mismatched = log.mismatched }
 
 -- the log belongs to the rows of these events
@@ -93,6 +93,6 @@ pub record IsLogged (held : List Event) (log : Log) : Type 0 where
   pub mismatched : log.mismatched < 2 ^ 64
 
 -- each place has its log
-pub record AreLogged (rows : Table (List (Keyed Posted))) (logs : Table Log) : Type 0 where
+pub record AreLogged (rows : Table (List (Keyed QueuedEvent))) (logs : Table Log) : Type 0 where
   pub same : length rows.places ≡ length logs.places
   pub each : (place : ℕ) (default : Log) → place < length rows.places → IsLogged (events_at rows place) (slice_index_or logs.places place default)

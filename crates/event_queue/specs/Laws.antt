@@ -3,7 +3,7 @@ use Rattle.std.specs.Prelude.{◌≡◌, ℕ, ◌==◌, Bool, true, List, [], �
 use Rattle.event_queue.specs.declared.event.Event.{Event}
 use Rattle.event_queue.specs.declared.event.Priority.{Priority}
 use Rattle.event_queue.specs.declared.event.Priority.TheVariants.{Low, Normal, High}
-use Rattle.event_queue.specs.Queue.{Queue, dropped, has_room, others, posted, priority_of, rank_of, taken}
+use Rattle.event_queue.specs.Queue.{Queue, dropped, has_room, others, enqueued, priority_of, rank_of, taken}
 
 -- is an event of this priority
 abbrev pub has : Priority → Event → Bool
@@ -28,7 +28,7 @@ without_one priority (event ∷ events) = if has priority event then events else
 
 -- a queue that has some events by priority has them so after each change; `posts` are in the order of posting
 pub record IsByPriority (posts : List Event) (queue : Queue) : Type 0 where
-  pub by_posted : (event : Event) → has_room queue ≡ true → (posted queue event).events ≡ by_priority (posts ++ event ∷ [])
+  pub by_posted : (event : Event) → has_room queue ≡ true → (enqueued queue event).events ≡ by_priority (posts ++ event ∷ [])
   pub first : slice_get queue.events 0 ≡ first_of posts
   pub by_taken : (taken queue).events ≡ by_priority (without_one (highest posts) posts)
   pub by_dropped : (object : ℕ) → (dropped object queue).events ≡ by_priority (others object posts)

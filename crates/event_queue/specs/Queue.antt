@@ -59,8 +59,8 @@ abbrev pub has_room : Queue → Bool
 has_room queue = nat_lt (length queue.events) EVENTS
 
 -- with an event in its place, where it takes one
-abbrev pub posted : Queue → Event → Queue
-posted queue event = if has_room queue then record queue { events = placed event queue.events } else queue
+abbrev pub enqueued : Queue → Event → Queue
+enqueued queue event = if has_room queue then record queue { events = placed event queue.events } else queue
 
 -- without its first event
 abbrev pub taken : Queue → Queue

@@ -59,7 +59,7 @@ impl Drop for QueuedCall {
     }
 }
 
-/// What an event loop delivers to an object.
+/// An event loop delivers a call to an object, or its deletion.
 pub enum Event {
     Call(QueuedCall),
     /// The deletion of this object, which was asked for later (`QEvent::DeferredDelete`).
@@ -101,14 +101,14 @@ pub(crate) const NUMBERS: u64 = 1 << 62;
 
 /// An event as it stands in its queue.
 #[derive(Drop)]
-pub(crate) struct Posted {
+pub(crate) struct QueuedEvent {
     /// Less than `NUMBERS`, and above those of all events of its priority that were posted before it and
     /// are still queued.
     pub(crate) number: u64,
     pub(crate) event: Event,
 }
 
-impl Numbered for Posted {
+impl Numbered for QueuedEvent {
     type Number = u64;
 
     ghost number = { number_of };

@@ -1,4 +1,4 @@
-//! What is proved of queues beyond single calls.
+//! These laws hold of queues beyond single calls.
 ghost use Rattle.std.specs.Prelude.{◌≡◌, List};
 ghost use Rattle.event_queue.specs.declared.event.Event.{Event};
 ghost use Rattle.event_queue.specs.Queue.{Queue};

@@ -5,7 +5,7 @@ ghost use Rattle.event_queue.specs.Inside.{IsCounted, KeepsMarks, count_at, coun
 use std::alloc::{AllocError, Global};
 use std::collections::BTreeMap;
 
-/// What is known of the rows that name an object.
+/// A count tells how many rows name an object.
 #[derive(Clone, Copy)]
 pub(crate) struct Count {
     pub(crate) rows: u32,

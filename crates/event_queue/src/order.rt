@@ -6,14 +6,14 @@ ghost use Rattle.shared_rows.specs.Rows.{IsSound, rows_at};
 ghost use Rattle.event_queue.specs.Queue.{placed};
 ghost use Rattle.event_queue.specs.Inside.{AreCounted, HasEvents, HasWaiting, IsCountBelow, IsSeat, count_of, events_at, is_dropped, number_of, waiting};
 
-use crate::event::{Event, NUMBERS, Posted};
+use crate::event::{Event, NUMBERS, QueuedEvent};
 use crate::object_counts::ObjectCounts;
 use shared_rows::{Numbered, SharedRows};
 use std::alloc::AllocError;
 
 /// Puts an event behind those of its priority and above, and before those below.
 pub(crate) fn place_event(
-    rows: &mut SharedRows<Posted>,
+    rows: &mut SharedRows<QueuedEvent>,
     place: usize,
     event: Event,
 ) -> Result<(), AllocError>
@@ -24,7 +24,7 @@ pub(crate) fn place_event(
     let start = event.priority().rank() * NUMBERS;
     let before = count_below(rows, place, start + NUMBERS);
     let number = next_number(rows, place, before, start)?;
-    let posted = Posted { number, event };
+    let posted = QueuedEvent { number, event };
     if before == rows.len(place) {
         rows.push(place, posted)?;
     } else {
@@ -34,7 +34,7 @@ pub(crate) fn place_event(
 }
 
 /// How many events of the place have a number below this one; they stand before the others.
-fn count_below(rows: &SharedRows<Posted>, place: usize, number: u64) -> usize
+fn count_below(rows: &SharedRows<QueuedEvent>, place: usize, number: u64) -> usize
     requires { IsPlace rows.now place }
     ensures count { IsCountBelow (rows_at rows.now place) number result }
     ensures sound { IsSound number_of (rows_at rows.now place) }
@@ -58,7 +58,7 @@ fn count_below(rows: &SharedRows<Posted>, place: usize, number: u64) -> usize
 /// A number of the priority whose numbers begin at `start`, less `start`: it is above those of the events
 /// of that priority, of which the last one stands before this position, if there are any.
 fn next_number(
-    rows: &SharedRows<Posted>,
+    rows: &SharedRows<QueuedEvent>,
     place: usize,
     before: usize,
     start: u64,
@@ -83,7 +83,7 @@ fn next_number(
 
 /// Takes out the first event of the place that waits, and the rows of dropped ones before it.
 pub(crate) fn take_first(
-    rows: &mut SharedRows<Posted>,
+    rows: &mut SharedRows<QueuedEvent>,
     objects: &mut ObjectCounts,
     place: usize,
 ) -> Option<Event>
@@ -102,7 +102,7 @@ pub(crate) fn take_first(
 }
 
 /// Takes out the event of the first row.
-fn take_row(rows: &mut SharedRows<Posted>, place: usize) -> Option<Event>
+fn take_row(rows: &mut SharedRows<QueuedEvent>, place: usize) -> Option<Event>
     requires { IsPlace rows.old place }
     ensures first { result ≡ slice_get (events_at rows.old place) 0 }
     ensures rest { HasEvents rows.old rows.new place (drop 1 (events_at rows.old place)) }
@@ -117,7 +117,7 @@ fn take_row(rows: &mut SharedRows<Posted>, place: usize) -> Option<Event>
 /// Sweeps where rows of the object are of dropped events, so that another of its events can wait. So
 /// many events wait; where as many rows stand, no object has to be looked up.
 pub(crate) fn make_way(
-    rows: &mut SharedRows<Posted>,
+    rows: &mut SharedRows<QueuedEvent>,
     objects: &mut ObjectCounts,
     place: usize,
     object: u32,
@@ -135,7 +135,7 @@ pub(crate) fn make_way(
 }
 
 /// Takes out the rows of all dropped events, from the last row to the first.
-pub(crate) fn sweep(rows: &mut SharedRows<Posted>, objects: &mut ObjectCounts, place: usize)
+pub(crate) fn sweep(rows: &mut SharedRows<QueuedEvent>, objects: &mut ObjectCounts, place: usize)
     requires place { IsPlace rows.old place }
     requires counted { AreCounted objects.old (events_at rows.old place) }
     ensures rest { HasWaiting rows.old rows.new place objects.old objects.new (waiting objects.old (events_at rows.old place)) }

@@ -2,22 +2,21 @@
 ghost use Rattle.std.specs.Prelude.{◌≡◌, ◌≤◌, [], IfOk, OnOk, OnErr};
 ghost use Rattle.std.specs.List.{slice_get};
 ghost use Rattle.shared_rows.specs.Table.{IsPlace, MakesRoom, Opens};
-ghost use Rattle.event_queue.specs.Queue.{IsSound, counts_of, dropped, empty_queue, has_room, posted, taken, with_lost, with_mismatched};
+ghost use Rattle.event_queue.specs.Queue.{IsSound, counts_of, dropped, empty_queue, has_room, enqueued, taken, with_lost, with_mismatched};
 ghost use Rattle.event_queue.specs.Table.{queue_at, with_queue};
 ghost use Rattle.event_queue.specs.Inside.{IsLogged};
 
-use crate::event::{Event, Posted};
+use crate::event::{Event, QueuedEvent};
 use crate::object_counts::ObjectCounts;
 use crate::order::{make_way, place_event, sweep, take_first};
-use shared_rows::Places;
-use shared_rows::SharedRows;
+use shared_rows::{Places, SharedRows};
 use std::alloc::{AllocError, Global};
 use std::marker::Model;
 
 /// How many events a place holds at most.
 pub const EVENTS: usize = 16384;
 
-/// What is told of a queue.
+/// Clients are told these counts of a queue.
 #[derive(Clone, Copy)]
 pub struct Counts {
     /// How many events wait.
@@ -28,9 +27,9 @@ pub struct Counts {
     pub mismatched: u64,
 }
 
-/// What a place keeps besides the rows of its events. The events of an object are dropped by a mark, and
-/// their rows stay where they are, so that it takes a look-up and no walk. Once they are more than the
-/// events that wait, one walk sweeps them all out; each post pays for one look of it.
+/// A place keeps a log besides the rows of its events. The events of an object are dropped by a mark, and their
+/// rows stay where they are, so that it takes a look-up and no walk. Once they are more than the events that
+/// wait, one walk sweeps them all out; each event that is put in pays for one look of it.
 #[derive(Drop)]
 struct Log {
     /// How many events wait. All other rows are of dropped ones.
@@ -58,7 +57,7 @@ impl Log {
 /// The queue of each place. A place is opened by `ready` and then `open`, and is never closed.
 #[derive(Drop)]
 pub struct Queues {
-    rows: SharedRows<Posted>,
+    rows: SharedRows<QueuedEvent>,
     logs: Places<Log>,
     alloc: Global,
 }
@@ -121,7 +120,7 @@ impl Queues {
     pub fn post(&mut self, place: usize, event: Event) -> Result<bool, AllocError>
         requires { IsPlace self.old place }
         ensures answer { IfOk result (λ answer. answer ≡ has_room (queue_at self.old place)) }
-        ensures ok { OnOk result (self.new ≡ with_queue self.old place (posted (queue_at self.old place) event)) }
+        ensures ok { OnOk result (self.new ≡ with_queue self.old place (enqueued (queue_at self.old place) event)) }
         ensures err { OnErr result (self.new ≡ self.old) }
     {
         let log = self.logs.get_mut(place);

@@ -1,4 +1,4 @@
-//! What holds of the sessions of a server, proved once for every machine.
+//! These laws hold of the sessions of a server, proved once for every machine.
 //!
 //! A machine says what a session does with a command, what arrives at the others, and whom a join
 //! names. It is lawful where a session passes over the posts of a session that none of its joins

@@ -1,4 +1,4 @@
-//! What is read at a key.
+//! These functions read the text or the name at a key.
 ghost use Rattle.std.specs.Prelude.{◌≡◌, option_map};
 ghost use Rattle.serde_json.specs.Data.{object};
 ghost use Rattle.json_reading.specs.Fields.{text_at, name_at};

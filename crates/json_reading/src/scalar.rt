@@ -50,7 +50,7 @@ fn plain_end(bytes: &[u8], from: usize) -> usize
     last_plain_end(bytes, end)
 }
 
-/// The same, byte by byte: for the last bytes.
+/// Finds the end of plain bytes one by one: for the last bytes of a text.
 fn last_plain_end(bytes: &[u8], from: usize) -> usize
     requires { from ≤ length bytes.now }
     ensures value { result ≡ from + prefix_len is_plain (drop from bytes.now) }

@@ -177,7 +177,7 @@ fn count_from(children: &GapBuffer<Child>, parent: u64, guess: usize, second: us
     count_from_second(children, parent, second)
 }
 
-/// The same, with the second guess.
+/// Counts the children that have this parent or a later one, with the second guess.
 #[inline(never)]
 fn count_from_second(children: &GapBuffer<Child>, parent: u64, guess: usize) -> usize
     requires { IsInOrder child_cmp children.now.items }

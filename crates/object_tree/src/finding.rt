@@ -86,7 +86,7 @@ impl Forests {
             → IfOk result (λ found. IsNearest (forest_at self.now place).rows object passes found) }
     {
         // For the proof: in a sound forest the first by levels is the nearest.
-        self.sound(place);
+        self.law_sound(place);
         self.find_below(place, object, &test)
     }
 

@@ -8,12 +8,11 @@ ghost use Rattle.object_tree.specs.Table.{forest_at, with_forest};
 
 use crate::child::Child;
 use crate::row::Row;
-use shared_rows::Places;
-use shared_rows::{Links, SharedRows};
+use shared_rows::{Links, Places, SharedRows};
 use std::alloc::{AllocError, Global};
 use std::marker::Model;
 
-/// What a place has beside its rows.
+/// A place keeps these lists besides its rows.
 #[derive(Drop)]
 pub(crate) struct Kinship {
     pub(crate) last_number: u32,
@@ -122,7 +121,7 @@ impl Forests {
         }
     }
 
-    /// What a place has beside its rows.
+    /// A place keeps these lists besides its rows.
     pub(crate) fn kinship(&self, place: usize) -> &Kinship
         requires { IsPlace self.now place }
         ensures number { result.now.last_number ≡ (forest_at self.now place).last_number }
@@ -131,8 +130,8 @@ impl Forests {
         self.kinships.get(place)
     }
 
-    /// What holds of every forest. There is nothing to run: the clause is for the proofs of callers.
-    pub fn sound(&self, place: usize)
+    /// Every forest is sound. There is nothing to run: the clause is for the proofs of callers.
+    pub fn law_sound(&self, place: usize)
         requires { IsPlace self.now place }
         ensures { IsSound (forest_at self.now place) }
     {

@@ -1,8 +1,8 @@
-//! What is proved of forests beyond single calls.
+//! These laws hold of forests beyond single calls.
 ghost use Rattle.object_tree.specs.Laws.{KeepsNumbers, KeepsSound};
 
-/// What changes leave of every forest. There is nothing to run: the clauses are laws over the
-/// definitions by which the calls of [`Forests`](crate::Forests) are described.
+/// Changes leave every forest sound and its numbers as they are. There is nothing to run: the clauses are laws
+/// over the definitions by which the calls of [`Forests`](crate::Forests) are described.
 pub fn changes_keep_forests_sound()
     ensures sound { KeepsSound }
     ensures numbers { KeepsNumbers }

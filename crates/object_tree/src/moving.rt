@@ -75,7 +75,7 @@ impl Forests {
     {
         self.check_cycle(place, object, parent)?;
         // For the proof: a sound forest is small enough for the sum.
-        self.sound(place);
+        self.law_sound(place);
         if self.depth_at(place, parent) + self.height(place, object) > DEPTH {
             return Err(Code::Limit);
         }

@@ -23,7 +23,7 @@ impl Forests {
         }
     }
 
-    /// The same where one is named.
+    /// Checks that an object is there, where one is named.
     pub fn check_named(&self, place: usize, object: Option<u32>) -> Result<(), Code>
         requires { IsPlace self.now place }
         ensures { result_err result ≡ option_map_or (λ object.
@@ -46,7 +46,7 @@ impl Forests {
         }
     }
 
-    /// The same of a parent, where there is to be one.
+    /// Refuses a parent that is not there or is being deleted, where there is to be one.
     pub fn check_parent(&self, place: usize, parent: Option<u32>) -> Result<(), Code>
         requires { IsPlace self.now place }
         ensures { result_err result ≡ parent_refusal (forest_at self.now place).rows parent }

@@ -1,6 +1,6 @@
-//! What is called.
+//! A connection has a callee.
 
-/// What a connection calls at its receiver.
+/// A connection calls this at its receiver.
 #[derive(Clone, Copy, PartialEq, Eq)]
 pub enum Callee {
     /// The method of the receiver's class with this index.

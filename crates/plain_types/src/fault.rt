@@ -3,7 +3,7 @@ use crate::code::Code;
 use std::alloc::{AllocError, AllocFailed};
 use thiserror::Error;
 
-/// What a call answers that did not do what was asked.
+/// A call that did not do what was asked answers one of these.
 #[derive(Clone, Copy, Debug, Error)]
 pub enum Fault {
     /// The call was refused, and has changed nothing.

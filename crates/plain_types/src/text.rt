@@ -48,7 +48,7 @@ impl Text {
         }
     }
 
-    /// The same text in a value of its own.
+    /// Copies a text into a value of its own.
     pub fn from_str(alloc: Global, text: &str) -> Result<Text, AllocError>
         ensures { IfOk result (λ t. t ≡ text.now) }
     {

@@ -20,7 +20,7 @@ use Rattle.property_store.specs.Inside.{AreChained, AreKept, AreRows, IsKept, he
 use Rattle.property_store.specs.Marks.{AreMarked, HasMarks, Marks, all_marks, is_marked, is_new, marks_at, no_marks}
 use Rattle.property_store.specs.Store.{AreSound, Properties, Store, fields_in}
 use Rattle.property_store.specs.Store as store
-use Rattle.property_store.specs.Table.{Stock, fields_of, store_at, with_store}
+use Rattle.property_store.specs.Table.{StoresView, fields_of, store_at, with_store}
 use Rattle.property_store.proofs.ChainLemmas.{linked_nothing}
 use Rattle.property_store.proofs.HeadLemmas.{AreMoved, has_moved, kept_moved, limited_moved, marked_moved, marks_there}
 use Rattle.property_store.proofs.LinkLemmas.{link_absent, link_before, link_new, link_past, new_linked, new_unlinked, unlinked_without}
@@ -28,7 +28,7 @@ use Rattle.property_store.proofs.MarkLemmas.{among_linked, each_none, marked_lin
 use Rattle.property_store.proofs.PlaceLemmas.{after, inserted_all, kept_with, marks_seen, shelves_seen, without_sound}
 use Rattle.property_store.proofs.StoreLemmas.{IsRowOf, absent_kept, number, removed_shown}
 
-module _ {layouts : List (List Field)} {rows : Table (List (Keyed Row))} {heads : Table Head} (kept : IsKept layouts rows heads) {seen : Stock} (view_is : stock_of layouts rows heads ≡ seen) where
+module _ {layouts : List (List Field)} {rows : Table (List (Keyed Row))} {heads : Table Head} (kept : IsKept layouts rows heads) {seen : StoresView} (view_is : stock_of layouts rows heads ≡ seen) where
   -- a place is opened
   pub opened_kept : (rows' : Table (List (Keyed Row))) (heads' : Table Head) → rows' ≡ opened rows [] → heads' ≡ opened heads head.None → IsKept layouts rows' heads'
   opened_kept rows' heads' rows_are heads_are = record {

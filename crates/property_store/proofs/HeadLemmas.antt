@@ -22,7 +22,7 @@ use Rattle.property_store.specs.Inside.{AreChained, AreKept, IsKept, head_at, li
 use Rattle.property_store.specs.Marks.{AreMarked, HasMarks, Marks, is_marked, marks_at, no_marks}
 use Rattle.property_store.specs.Store.{fields_in}
 use Rattle.property_store.specs.Storing.{AreAsMany}
-use Rattle.property_store.specs.Table.{Stock}
+use Rattle.property_store.specs.Table.{StoresView}
 use Rattle.property_store.proofs.ChainLemmas.{linked_more, linked_same, same_property}
 use Rattle.property_store.proofs.LinkLemmas.{link_elsewhere, link_here, link_of_old, link_within, links_same, same_properties}
 use Rattle.property_store.proofs.MarkLemmas.{each_same, marked_linked}
@@ -42,7 +42,7 @@ pub record AreMoved (rows : Table (List (Keyed Row))) (heads : Table Head) (rows
   pub rows_are : rows' ≡ with_place rows place list
   pub heads_are : heads' ≡ with_place heads place first
 
-module _ {layouts : List (List Field)} {rows : Table (List (Keyed Row))} {heads : Table Head} (kept : IsKept layouts rows heads) {seen : Stock} (view_is : stock_of layouts rows heads ≡ seen) (place : ℕ) where
+module _ {layouts : List (List Field)} {rows : Table (List (Keyed Row))} {heads : Table Head} (kept : IsKept layouts rows heads) {seen : StoresView} (view_is : stock_of layouts rows heads ≡ seen) (place : ℕ) where
   pub marks_there : marks_at seen.marks place ≡ marks_of (rows_at rows place) (head_at heads place)
   marks_there = search (rules, marks_seen, joined_marks)
 
@@ -140,7 +140,7 @@ module _ (rows : List (Keyed Row)) (key n : ℕ) (old row : Row) (is : IsRowOf r
           (cases_Bool (is_all first))
 
 -- the row of a number is lent to a call, which changes it where it stands, and the head is another
-pub record IsRowChanged (layouts : List (List Field)) (rows : Table (List (Keyed Row))) (heads : Table Head) (rows' : Table (List (Keyed Row))) (heads' : Table Head) (seen : Stock) (place key n : ℕ) (old row : Row) (first : Head) : Type 0 where
+pub record IsRowChanged (layouts : List (List Field)) (rows : Table (List (Keyed Row))) (heads : Table Head) (rows' : Table (List (Keyed Row))) (heads' : Table Head) (seen : StoresView) (place key n : ℕ) (old row : Row) (first : Head) : Type 0 where
   pub kept : IsKept layouts rows heads
   pub view_is : stock_of layouts rows heads ≡ seen
   pub is_place : IsPlace seen.shelves.table place
@@ -154,7 +154,7 @@ pub record IsRowChanged (layouts : List (List Field)) (rows : Table (List (Keyed
   pub rows_are : rows' ≡ with_place rows place (with_row (rows_at rows place) key left)
   pub heads_are : heads' ≡ with_place heads place first
 
-module _ {layouts : List (List Field)} {rows : Table (List (Keyed Row))} {heads : Table Head} {rows' : Table (List (Keyed Row))} {heads' : Table Head} {seen : Stock} {place key n : ℕ} {old row : Row} {first : Head} (it : IsRowChanged layouts rows heads rows' heads' seen place key n old row first) where
+module _ {layouts : List (List Field)} {rows : Table (List (Keyed Row))} {heads : Table Head} {rows' : Table (List (Keyed Row))} {heads' : Table Head} {seen : StoresView} {place key n : ℕ} {old row : Row} {first : Head} (it : IsRowChanged layouts rows heads rows' heads' seen place key n old row first) where
   pub in_rows : IsPlace rows place
   in_rows = grind (arith, common_steps)
 

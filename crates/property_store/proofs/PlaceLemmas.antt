@@ -15,12 +15,12 @@ use Rattle.property_store.specs.declared.row.Row.{Row}
 use Rattle.property_store.specs.Inside.{AreKept, AreRows, row_of, shelves_of, shown, store_of}
 use Rattle.property_store.specs.Store.{AreSound, Properties, Store, added, changed, fields_in, fresh, properties_of}
 use Rattle.property_store.specs.Store as store
-use Rattle.property_store.specs.Table.{Shelves, Stock, store_at, with_store}
+use Rattle.property_store.specs.Table.{StoreTable, StoresView, store_at, with_store}
 use Rattle.property_store.proofs.ListLemmas.{found, map_same, mapped, unmapped}
 use Rattle.property_store.proofs.KindLemmas.{fresh_sound}
 use Rattle.property_store.proofs.StoreLemmas.{IsRowOf, absent_none, absent_unchanged, added_shown, changed_shown, number, properties_shown, row_stands, there}
 
-module _ {layouts : List (List Field)} (rows : Table (List (Keyed Row))) {seen : Shelves} (view_is : shelves_of layouts rows ≡ seen) (place : ℕ) where
+module _ {layouts : List (List Field)} (rows : Table (List (Keyed Row))) {seen : StoreTable} (view_is : shelves_of layouts rows ≡ seen) (place : ℕ) where
   pub rows_open : IsPlace seen.table place → IsPlace rows place
   rows_open is_place = search (rules, length-map)
 
@@ -36,7 +36,7 @@ module _ {layouts : List (List Field)} (rows : Table (List (Keyed Row))) {seen :
   pub after : (new : Table (List (Keyed Row))) (list : List (Keyed Row)) (store : Store) → new ≡ with_place rows place list → store_of layouts list ≡ store → shelves_of layouts new ≡ with_store seen place store
   after new list store e is = search (rules, map-set)
 
-pub unchanged_store : (seen : Shelves) (place : ℕ) (store : Store) → store ≡ store_at seen place → seen ≡ with_store seen place store
+pub unchanged_store : (seen : StoreTable) (place : ℕ) (store : Store) → store ≡ store_at seen place → seen ≡ with_store seen place store
 unchanged_store seen place store is = search (rules, with_same)
 
 -- what holds of all rows and of one that comes
@@ -80,7 +80,7 @@ store_sound layouts rows sound each = record { rising = rising rows sound; each 
         omega (arith, rise, at_i, at_j)
 
 -- what is read of a place
-module _ {layouts : List (List Field)} (rows : Table (List (Keyed Row))) {seen : Shelves} (view_is : shelves_of layouts rows ≡ seen) (place : ℕ) (is_place : IsPlace seen.table place) (n : ℕ) where
+module _ {layouts : List (List Field)} (rows : Table (List (Keyed Row))) {seen : StoreTable} (view_is : shelves_of layouts rows ≡ seen) (place : ℕ) (is_place : IsPlace seen.table place) (n : ℕ) where
   properties_there : properties_of (store_at seen place) n ≡ option_map (shown layouts) (row_of (rows_at rows place) n)
   properties_there = grind (arith, common_steps, store_there, properties_shown)
 
@@ -99,7 +99,7 @@ module _ {layouts : List (List Field)} (rows : Table (List (Keyed Row))) {seen :
     nothing_changed change = grind (arith, common_steps, store_there, unchanged_store, absent_unchanged)
 
 -- the row of a number is lent to a call, which changes it where it stands
-pub record IsChanged (layouts : List (List Field)) (rows new : Table (List (Keyed Row))) (seen : Shelves) (place key n : ℕ) (old row : Row) : Type 0 where
+pub record IsChanged (layouts : List (List Field)) (rows new : Table (List (Keyed Row))) (seen : StoreTable) (place key n : ℕ) (old row : Row) : Type 0 where
   pub kept : AreKept layouts rows
   pub view_is : shelves_of layouts rows ≡ seen
   pub is_place : IsPlace seen.table place
@@ -112,7 +112,7 @@ pub record IsChanged (layouts : List (List Field)) (rows new : Table (List (Keye
   pub leaves : row ≡ left
   pub new_is : new ≡ with_place rows place (with_row (rows_at rows place) key left)
 
-module _ {layouts : List (List Field)} {rows new : Table (List (Keyed Row))} {seen : Shelves} {place key n : ℕ} {old row : Row} (it : IsChanged layouts rows new seen place key n old row) where
+module _ {layouts : List (List Field)} {rows new : Table (List (Keyed Row))} {seen : StoreTable} {place key n : ℕ} {old row : Row} (it : IsChanged layouts rows new seen place key n old row) where
   under_old : row_under (rows_at rows place) key ≡ Some old
   under_old = it.under ∙ ap Some (sym it.lends)
 
@@ -150,7 +150,7 @@ found_sound layouts rows sound n row e =
     subst (λ (r : Row). AreSound (shown layouts r)) there.gives (subst (λ (keyed : Keyed Row). AreSound (shown layouts keyed.row)) (is.is there.x) (sound is.at there.x is.within))
 
 -- an object that comes
-module _ {layouts : List (List Field)} (rows : Table (List (Keyed Row))) {seen : Shelves} (view_is : shelves_of layouts rows ≡ seen) (place : ℕ) (is_place : IsPlace seen.table place) (n : ℕ) where
+module _ {layouts : List (List Field)} (rows : Table (List (Keyed Row))) {seen : StoreTable} (view_is : shelves_of layouts rows ≡ seen) (place : ℕ) (is_place : IsPlace seen.table place) (n : ℕ) where
   pub no_key : properties_of (store_at seen place) n ≡ None → key_of number (rows_at rows place) n ≡ None
   no_key none = grind (arith, nat_tests, unmapped (shown layouts) (row_of (rows_at rows place) n) (sym (properties_there rows view_is place is_place n) ∙ none), properties_there rows view_is place is_place n, unmapped (λ (keyed : Keyed Row). keyed.row) (find (λ keyed. keyed.row.object == n) (rows_at rows place)))
 
@@ -167,11 +167,11 @@ pub on_err : {T E : Type 0} {A B : Type 0} (result : Result T E) → (A → B) �
 on_err (Ok value) f h = tt
 on_err (Err error) f h = f h
 
-pub shelves_seen : {inside seen : Stock} → inside ≡ seen → inside.shelves ≡ seen.shelves
-shelves_seen view_is = ap (λ (s : Stock). s.shelves) view_is
+pub shelves_seen : {inside seen : StoresView} → inside ≡ seen → inside.shelves ≡ seen.shelves
+shelves_seen view_is = ap (λ (s : StoresView). s.shelves) view_is
 
-pub marks_seen : {inside seen : Stock} → inside ≡ seen → inside.marks ≡ seen.marks
-marks_seen view_is = ap (λ (s : Stock). s.marks) view_is
+pub marks_seen : {inside seen : StoresView} → inside ≡ seen → inside.marks ≡ seen.marks
+marks_seen view_is = ap (λ (s : StoresView). s.marks) view_is
 
-pub stock_same : {a b : Stock} → a.shelves ≡ b.shelves → a.marks ≡ b.marks → a ≡ b
+pub stock_same : {a b : StoresView} → a.shelves ≡ b.shelves → a.marks ≡ b.marks → a ≡ b
 stock_same shelves marks = λ i. record { shelves = shelves i; marks = marks i }

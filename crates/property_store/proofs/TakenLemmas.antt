@@ -22,7 +22,7 @@ use Rattle.property_store.specs.Chain.{AreLinked, first_of, head_of, is_all, is_
 use Rattle.property_store.specs.Inside.{AreChained, AreRows, IsKept, head_at, limited, link_at, marks_of, shelves_of, shown, stock_of, store_of, unlinked, without_link}
 use Rattle.property_store.specs.Marks.{IsTaken, Marks, has_marks, marks_at}
 use Rattle.property_store.specs.Store.{AreSound}
-use Rattle.property_store.specs.Table.{Stock, store_at}
+use Rattle.property_store.specs.Table.{StoresView, store_at}
 use Rattle.property_store.proofs.ChainLemmas.{first_linked, linked_less}
 use Rattle.property_store.proofs.HeadLemmas.{AreMoved, beside_moved, here_moved, kept_moved, limited_moved, marks_there}
 use Rattle.property_store.proofs.LinkLemmas.{link_freed, link_kept, properties_freed}
@@ -31,12 +31,12 @@ use Rattle.property_store.proofs.MarkLemmas.{each_less, first_marked, none_marke
 use Rattle.property_store.proofs.PlaceLemmas.{after, kept_with, shelves_seen, store_there, unchanged_store}
 
 -- what holds after a mark is taken
-pub record IsLeft (layouts : List (List Field)) (rows : Table (List (Keyed Row))) (heads : Table Head) (seen : Stock) (place : ℕ) : Type 0 where
+pub record IsLeft (layouts : List (List Field)) (rows : Table (List (Keyed Row))) (heads : Table Head) (seen : StoresView) (place : ℕ) : Type 0 where
   pub kept : IsKept layouts rows heads
   pub shelves : shelves_of layouts (limited rows heads.room) ≡ seen.shelves
   pub others : (other : ℕ) → other ≢ place → marks_at (paired marks_of rows.places heads.places) other ≡ marks_at seen.marks other
 
-module _ {layouts : List (List Field)} {rows : Table (List (Keyed Row))} {heads : Table Head} (kept : IsKept layouts rows heads) {seen : Stock} (view_is : stock_of layouts rows heads ≡ seen) (place : ℕ) (is_place : IsPlace seen.shelves.table place) where
+module _ {layouts : List (List Field)} {rows : Table (List (Keyed Row))} {heads : Table Head} (kept : IsKept layouts rows heads) {seen : StoresView} (view_is : stock_of layouts rows heads ≡ seen) (place : ℕ) (is_place : IsPlace seen.shelves.table place) where
   abbrev here : List (Keyed Row)
   here = rows_at rows place
 

@@ -25,32 +25,32 @@ use Rattle.property_store.specs.Inside.{AreKept, shelves_of, shown}
 use Rattle.property_store.specs.Named.{answer_named, declared_at, written_named}
 use Rattle.property_store.specs.Store.{AreSound, Properties, Store, changed, dynamic_refusal, field_number, fields_in, is_change, properties_of, with_dynamic, with_value, without_dynamic, write_refusal, written}
 use Rattle.property_store.specs.Storing.{IsNamed, IsNumbered, IsRemoved, IsSet, IsStored, fit_in, numbered, refusal_as, refusal_in, with_fit}
-use Rattle.property_store.specs.Table.{Shelves, store_at, with_store}
+use Rattle.property_store.specs.Table.{StoreTable, store_at, with_store}
 use Rattle.property_store.proofs.DynamicLemmas.{either_sound, without_dynamic_sound}
 use Rattle.property_store.proofs.KindLemmas.{stored_sound}
 use Rattle.property_store.proofs.PlaceLemmas.{IsChanged, kept_under, old_sound, old_there, unchanged_store, view_same, view_under}
 
 -- a value was written to the property of a number
-pub record IsWritten (seen new : Shelves) (place n number : ℕ) (value : Value) (result : Result Bool Code) : Type 0 where
+pub record IsWritten (seen new : StoreTable) (place n number : ℕ) (value : Value) (result : Result Bool Code) : Type 0 where
   pub refused : result_err result ≡ write_refusal (store_at seen place) n number value
   pub answer : IfOk result (λ answer. answer ≡ is_change (store_at seen place) n number value)
   pub new_is : new ≡ with_store seen place (written (store_at seen place) n number value)
   pub err : OnErr result (new ≡ seen)
 
 -- and of a name
-pub record IsWrittenNamed (seen new : Shelves) (place n : ℕ) (name : List ℕ) (value : Value) (result : Result (ℕ × Bool) Unwritten) : Type 0 where
+pub record IsWrittenNamed (seen new : StoreTable) (place n : ℕ) (name : List ℕ) (value : Value) (result : Result (ℕ × Bool) Unwritten) : Type 0 where
   pub answer : result ≡ answer_named (store_at seen place) n name value
   pub new_is : new ≡ with_store seen place (written_named (store_at seen place) n name value)
   pub err : OnErr result (new ≡ seen)
 
 -- a value was given to the dynamic property of a name
-pub record IsDynamicSet (seen new : Shelves) (place n : ℕ) (name : List ℕ) (value : Value) (result : Result (Unit {0}) Fault) : Type 0 where
+pub record IsDynamicSet (seen new : StoreTable) (place n : ℕ) (name : List ℕ) (value : Value) (result : Result (Unit {0}) Fault) : Type 0 where
   pub refused : RefusedBy (dynamic_refusal (store_at seen place) n name) result
   pub ok : OnOk result (new ≡ with_store seen place (changed (with_dynamic name value) n (store_at seen place)))
   pub err : OnErr result (new ≡ seen)
 
 -- where there is no object
-module _ (seen : Shelves) (place n : ℕ) (value : Value) (none : properties_of (store_at seen place) n ≡ None) where
+module _ (seen : StoreTable) (place n : ℕ) (value : Value) (none : properties_of (store_at seen place) n ≡ None) where
   pub nothing_written : (number : ℕ) → IsWritten seen seen place n number value (Ok false)
   nothing_written number = grind (arith, common_steps)
 
@@ -83,7 +83,7 @@ numbered_err : (number : ℕ) (P : Type 0) (done : Result Stored Code) → OnErr
 numbered_err number P (Ok stored) h = tt
 numbered_err number P (Err code) h = h
 
-module _ {layouts : List (List Field)} {rows new : Table (List (Keyed Row))} {seen : Shelves} {place key n : ℕ} {old row : Row} (it : IsChanged layouts rows new seen place key n old row) where
+module _ {layouts : List (List Field)} {rows new : Table (List (Keyed Row))} {seen : StoreTable} {place key n : ℕ} {old row : Row} (it : IsChanged layouts rows new seen place key n old row) where
   abbrev store : Store
   store = store_at seen place
 

@@ -25,7 +25,7 @@ use Rattle.property_store.specs.Marks.{AreMarked, Marks, is_marked, is_written, 
 use Rattle.property_store.specs.Named.{declared_at}
 use Rattle.property_store.specs.Store.{Store, field_number, fields_in, fitting, properties_of}
 use Rattle.property_store.specs.Storing.{IsMarkedWith, IsNamed, IsNumbered, IsStored, fit_in, numbered, was_linked}
-use Rattle.property_store.specs.Table.{Stock, store_at}
+use Rattle.property_store.specs.Table.{StoresView, store_at}
 use Rattle.property_store.proofs.HeadLemmas.{IsRowChanged, as_changed, as_moved, chained_marked, chained_same, in_rows, kept_moved, marked_marked, marked_moved, marks_kept, marks_same}
 use Rattle.property_store.proofs.PlaceLemmas.{is_row, old_there, stock_same, under_all}
 use Rattle.property_store.proofs.StoreLemmas.{IsRowOf}
@@ -66,7 +66,7 @@ nothing_marked place n store marks none number value = record { here = λ q. rw 
 pub no_name_marked : (place n : ℕ) (store : Store) (marks : List Marks) → properties_of store n ≡ None → (name : List ℕ) (value : Value) → AreMarked place (is_written_named store n name value) marks marks
 no_name_marked place n store marks none name value = record { here = λ q. rw none refl; others = λ other differ. refl }
 
-module _ {layouts : List (List Field)} {rows : Table (List (Keyed Row))} {heads : Table Head} {rows' : Table (List (Keyed Row))} {heads' : Table Head} {seen : Stock} {place key n : ℕ} {old row : Row} {first : Head} (it : IsRowChanged layouts rows heads rows' heads' seen place key n old row first) where
+module _ {layouts : List (List Field)} {rows : Table (List (Keyed Row))} {heads : Table Head} {rows' : Table (List (Keyed Row))} {heads' : Table Head} {seen : StoresView} {place key n : ℕ} {old row : Row} {first : Head} (it : IsRowChanged layouts rows heads rows' heads' seen place key n old row first) where
   abbrev before : Head
   before = head_at heads place
 

@@ -15,7 +15,7 @@ use Rattle.property_store.specs.declared.row.Row.{Row}
 use Rattle.property_store.specs.Chain.{AreLinked, first_of, is_all, is_linked}
 use Rattle.property_store.specs.Marks.{Marks}
 use Rattle.property_store.specs.Store.{AreSound, Properties, Store, fields_in}
-use Rattle.property_store.specs.Table.{Shelves, Stock}
+use Rattle.property_store.specs.Table.{StoreTable, StoresView}
 
 -- the row of an object
 abbrev pub row_of : List (Keyed Row) → ℕ → Option Row
@@ -74,7 +74,7 @@ module _ (layouts : List (List Field)) where
   abbrev pub store_of : List (Keyed Row) → Store
   store_of rows = map (λ keyed. shown keyed.row) rows
 
-  abbrev pub shelves_of : Table (List (Keyed Row)) → Shelves
+  abbrev pub shelves_of : Table (List (Keyed Row)) → StoreTable
   shelves_of rows = record { layouts = layouts; table = record { places = map store_of rows.places; room = rows.room } }
 
   -- the rows of a place are sound
@@ -91,5 +91,5 @@ module _ (layouts : List (List Field)) where
     pub chained : (place : ℕ) → AreChained (rows_at rows place) (head_at heads place)
 
   -- what contracts see
-  abbrev pub stock_of : Table (List (Keyed Row)) → Table Head → Stock
+  abbrev pub stock_of : Table (List (Keyed Row)) → Table Head → StoresView
   stock_of rows heads = record { shelves = shelves_of (limited rows heads.room); marks = paired marks_of rows.places heads.places }

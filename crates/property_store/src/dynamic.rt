@@ -4,8 +4,7 @@ ghost use Rattle.std.specs.Option.{option_map};
 ghost use Rattle.plain_types.specs.Answers.{RefusedBy};
 ghost use Rattle.property_store.specs.Store.{AreDistinct, dynamic_number, dynamic_value, refusal_of_name, with_name, without_name};
 
-use plain_types::{Items, Text};
-use plain_types::{Code, Fault};
+use plain_types::{Code, Fault, Items, Text};
 use std::alloc::{AllocError, Global};
 use variant_value::Value;
 

@@ -6,8 +6,7 @@ ghost use Rattle.variant_value.specs.Values.{converted};
 ghost use Rattle.property_store.specs.Store.{declared_in, default_of, field_number, fields_in};
 ghost use Rattle.property_store.specs.Storing.{fit_in, is_other, refusal_as, refusal_in, with_fit};
 
-use plain_types::{Items, Text};
-use plain_types::Code;
+use plain_types::{Code, Items, Text};
 use signature_core::Kind;
 use std::alloc::{AllocError, Global};
 use variant_value::{Args, Value};
@@ -58,7 +57,7 @@ pub(crate) fn declared_in(fields: &[Field], name: &str) -> Option<(usize, Kind)>
     Some((number, field.kind))
 }
 
-/// What each property of a new object is.
+/// Returns the default of each property of a new object.
 pub(crate) fn defaults(alloc: Global, fields: &[Field]) -> Result<Args, AllocError>
     ensures { IfOk result (λ values. values ≡ map (λ field. default_of field.kind) fields.now) }
 {
@@ -78,7 +77,7 @@ fn all_defaults(alloc: Global, fields: &[Field]) -> Result<Vec<Value>, AllocErro
     Ok(values)
 }
 
-/// What a property of a kind is until it is written. This takes no memory.
+/// Returns the value that a property of a kind has until it is written. This takes no memory.
 pub fn default_of(kind: Kind) -> Value
     ensures { result ≡ default_of kind }
 {

@@ -15,7 +15,7 @@ mod written;
 
 pub use dynamic::DYNAMIC;
 pub use field::{Field, default_of};
-pub use laws::drains;
+pub use laws::law_drains;
 pub use property::{Property, is_property};
 pub use stores::Stores;
 pub use unwritten::Unwritten;

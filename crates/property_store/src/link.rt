@@ -1,4 +1,4 @@
-//! What leads from one property that was written to the next.
+//! Links lead from one property that was written to the next.
 use crate::property::Property;
 
 /// Whether a property is marked, and the one that was marked before it.

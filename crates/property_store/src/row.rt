@@ -13,8 +13,7 @@ use crate::link::{Head, Link};
 use crate::links::Links;
 use crate::property::Property;
 use crate::unwritten::Unwritten;
-use plain_types::Items;
-use plain_types::Code;
+use plain_types::{Code, Items};
 use shared_rows::{Numbered, SharedRows};
 use variant_value::{Args, Value};
 
@@ -26,13 +25,13 @@ pub(crate) struct Row {
     pub(crate) class: u32,
     /// The values of the declared properties, by their numbers.
     pub(crate) values: Args,
-    /// As many: which of them were written.
+    /// There are as many links as values; they tell which of the properties were written.
     pub(crate) links: Links,
     /// The dynamic properties, that first set first.
     pub(crate) dynamic: Vec<Named>,
 }
 
-/// What came of a write.
+/// A write answers what it has changed.
 #[derive(Clone, Copy)]
 pub(crate) struct Stored {
     /// Whether another value stands now.
@@ -66,7 +65,8 @@ impl Row {
         })
     }
 
-    /// The same to the property of a name.
+    /// Stores a value as that of the property of a name, as one of its kind, and marks the property where it
+    /// does.
     #[inline(always)]
     pub(crate) fn write_named(
         &mut self,

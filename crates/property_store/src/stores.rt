@@ -25,10 +25,8 @@ use crate::property::Property;
 use crate::row::{Row, Stored, first_above, row_of, unlink, write_under};
 use crate::unwritten::Unwritten;
 use crate::written::Written;
-use shared_rows::Places;
-use plain_types::{Items, Text};
-use plain_types::{Code, Fault};
-use shared_rows::SharedRows;
+use plain_types::{Code, Fault, Items, Text};
+use shared_rows::{Places, SharedRows};
 use signature_core::Kind;
 use std::alloc::{AllocError, Global};
 use std::marker::Model;
@@ -45,10 +43,10 @@ pub struct Stores {
 }
 
 impl Model for Stores {
-    ghost use Rattle.property_store.specs.Table.{Stock};
+    ghost use Rattle.property_store.specs.Table.{StoresView};
     ghost use Rattle.property_store.specs.Inside.{IsKept, stock_of};
 
-    ghost Value = { Stock };
+    ghost Value = { StoresView };
 
     ghost view = { λ stores. stock_of stores.layouts stores.rows stores.heads };
 

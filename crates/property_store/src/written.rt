@@ -1,7 +1,7 @@
 //! Which properties were written.
 use crate::property::Property;
 
-/// What was written, one mark at a time.
+/// A mark tells of one thing that was written.
 #[derive(Clone, Copy)]
 pub enum Written {
     /// Nothing that was not told.

@@ -14,16 +14,15 @@ use crate::join::{Going, Join, listening};
 use crate::joiners::Joiners;
 use crate::lazy_desk::{Counts, LazyDesk};
 use crate::publication::{Publication, names_of};
+use plain_types::{Fault, Items, Text};
 use shared_rows::Places;
-use plain_types::{Items, Text};
-use plain_types::Fault;
 use signature_core::Kind;
 use std::alloc::{AllocError, Global};
 use std::hash::RandomState;
 use std::marker::Model;
 
-/// What the session of each place publishes and what it joins. A place is opened by `ready` and then
-/// `open`, and is never closed.
+/// The board holds the publications and the joins of the session of each place. A place is opened by `ready`
+/// and then `open`, and is never closed.
 #[derive(Drop)]
 pub struct Board {
     desks: Places<LazyDesk>,
@@ -122,7 +121,7 @@ impl Board {
         Ok(())
     }
 
-    /// The same where nothing refuses it. Where the place cannot be listed, the join is taken out again.
+    /// Adds a join that nothing refuses. Where the place cannot be listed, the join is taken out again.
     fn add(&mut self, place: usize, join: Join) -> Result<(), AllocError>
         requires place { IsPlace self.old place }
         requires room { length (desk_at self.old place).joins < 1024 }
@@ -209,7 +208,7 @@ impl Board {
         self.desks.get(place).counts()
     }
 
-    /// What a place publishes, in the order of making.
+    /// Returns the publications of a place, in the order of making.
     pub fn publications(&self, place: usize) -> &[Publication]
         requires { IsPlace self.now place }
         ensures { result.now ≡ (desk_at self.now place).publications }
@@ -217,7 +216,7 @@ impl Board {
         self.desks.get(place).publications()
     }
 
-    /// What a place joins, in the order of making.
+    /// Returns the joins of a place, in the order of making.
     pub fn joins(&self, place: usize) -> &[Join]
         requires { IsPlace self.now place }
         ensures { result.now ≡ (desk_at self.now place).joins }

@@ -8,7 +8,7 @@ use plain_types::{Items, Text};
 use signature_core::Kind;
 use std::alloc::{AllocError, Global};
 
-/// What a session listens to: what the session of the name `from` publishes under `name`, with these
+/// A session listens by a join: whatever the session of the name `from` publishes under `name`, with these
 /// kinds of parameters, calls a method of an object.
 #[derive(Drop)]
 pub struct Join {

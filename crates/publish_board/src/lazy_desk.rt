@@ -10,8 +10,7 @@ ghost use Rattle.publish_board.specs.Inside.{desk_of, without_join, without_publ
 use crate::join::Join;
 use crate::publication::{Publication, is_taken};
 use crate::rows::Rows;
-use plain_types::Text;
-use plain_types::{Code, Fault};
+use plain_types::{Code, Fault, Text};
 use signature_core::{Kind, fits};
 use std::alloc::{AllocError, Global};
 use std::marker::Model;
@@ -22,7 +21,7 @@ pub const PUBLICATIONS: usize = 1024;
 /// How many joins a place holds at most.
 pub const JOINS: usize = 1024;
 
-/// What is told of a desk.
+/// Clients are told these counts of a desk.
 #[derive(Clone, Copy)]
 pub struct Counts {
     pub publications: usize,

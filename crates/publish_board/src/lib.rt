@@ -1,6 +1,6 @@
-//! What sessions publish and what they join: for each place the rows of its own session, in the order of
-//! making, and beside them which places join a session of a name. Sessions, objects, signals and methods
-//! are names and numbers here; whether they are there is not known.
+//! This crate keeps the publications and the joins of sessions: for each place the rows of its own session, in
+//! the order of making, and besides them which places join a session of a name. Sessions, objects, signals and
+//! methods are names and numbers here; whether they are there is not known.
 #![tactic(auto)]
 
 mod board;

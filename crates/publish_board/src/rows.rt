@@ -8,7 +8,7 @@ use crate::publication::Publication;
 use plain_types::Text;
 use std::alloc::{AllocError, Global};
 
-/// What a session publishes and what it joins, each in the order of making.
+/// The rows hold a session's publications and its joins, each in the order of making.
 #[derive(Drop)]
 pub(crate) struct Rows {
     pub(crate) publications: Vec<Publication>,

@@ -15,7 +15,7 @@ use Rattle.session_model.specs.Named.{AreNamed}
 use Rattle.session_model.specs.State.{empty}
 use Rattle.session_model.specs.Thread.{Settings, joins_name}
 use Rattle.session_tables.specs.Session.{Session, fresh}
-use Rattle.session_tables.proofs.ForCallers.{heard-none, stays_failed}
+use Rattle.session_tables.proofs.ForCallers.{after_posts-none, stays_failed}
 use Rattle.session_tables.specs.Tables.{session_at}
 use Rattle.session_engine.specs.Core as engine
 use Rattle.session_engine.specs.Core.{EngineState, place}
@@ -86,7 +86,7 @@ step_out old new name asked out well sound =
       posts = [];
       posted = tt;
       front = λ none. (_, refl);
-      others = λ other elsewhere. inl (ap (λ sessions. sessions other) out.sessions ∙ sym (heard-none (engine.settings old.engine).classes name (engine.sessions old.engine other)));
+      others = λ other elsewhere. inl (ap (λ sessions. sessions other) out.sessions ∙ sym (after_posts-none (engine.settings old.engine).classes name (engine.sessions old.engine other)));
       settings = out.settings;
       kept = λ was. refused;
       memory = λ none. refused;
@@ -146,7 +146,7 @@ failed_kept old new name asked told step lost other was = ⊎_elim
     own : (told : Option (List Line)) → IsStep (seen_by_name old) (seen_by_name new) name asked told → IfNone told (IsLost old new name) → is_reset asked ≡ false → IsTrue (failed old name) → IsTrue (failed new name)
     own (Some lines) step lost plain was = ap (λ session. session.failed) step.leaves ∙ ap (λ failed. failed && not (is_reset asked)) was ∙ ap not plain
     own None step lost plain was = ⊎_elim
-        (λ gone. ap (λ session. session.failed) gone)
+        (λ failed_session. ap (λ session. session.failed) failed_session)
         (λ out. ap (λ sessions. (sessions name).failed) out.sessions ∙ was)
         lost
 

@@ -21,7 +21,7 @@ use Rattle.session_model.specs.Refusing.{refusal}
 use Rattle.session_model.specs.State.{State}
 use Rattle.session_model.specs.Thread.{Settings, does, performs}
 use Rattle.session_model.proofs.ForCallers.{arrive_all-is, lawful}
-use Rattle.session_tables.specs.Reaching.{Hears, heard}
+use Rattle.session_tables.specs.Reaching.{ReceivesPosts, after_posts}
 use Rattle.session_tables.specs.Session.{Session}
 use Rattle.session_engine.specs.Sessions.{is_reset, is_shut, session_does}
 use Rattle.server_world.specs.declared.report.Entry.{Entry}
@@ -41,15 +41,15 @@ begins_anew settings s one other _ e = absurd (cc)
 abbrev mortal_of : Session → Mortal State
 mortal_of session = record { state = session.state; failed = session.failed }
 
-heard_is : (settings : Settings) (from : List ℕ) (posts : List Post) (state : State) (failed : Bool)
-    → mortal_of (heard settings.classes from posts (record { state = state; failed = failed })) ≡ theory.heard (machine settings) is_reset from posts (record { state = state; failed = failed })
-heard_is settings from posts state true = refl
-heard_is settings from posts state false = ap (λ state. record { state = state; failed = false }) (sym (arrive_all-is settings state from posts))
+after_posts_is : (settings : Settings) (from : List ℕ) (posts : List Post) (state : State) (failed : Bool)
+    → mortal_of (after_posts settings.classes from posts (record { state = state; failed = failed })) ≡ theory.heard (machine settings) is_reset from posts (record { state = state; failed = failed })
+after_posts_is settings from posts state true = refl
+after_posts_is settings from posts state false = ap (λ state. record { state = state; failed = false }) (sym (arrive_all-is settings state from posts))
 
-heard_mortal : (settings : Settings) (from : List ℕ) (posts : List Post) (one other : Session) → Hears settings.classes from posts one other
+after_posts_mortal : (settings : Settings) (from : List ℕ) (posts : List Post) (one other : Session) → ReceivesPosts settings.classes from posts one other
     → (mortal_of other ≡ theory.heard (machine settings) is_reset from posts (mortal_of one)) ⊎ ((mortal_of other).failed ≡ true)
-heard_mortal settings from posts one other (inl heard) = inl (ap mortal_of heard ∙ heard_is settings from posts one.state one.failed)
-heard_mortal settings from posts one other (inr fails) = inr (ap (λ (session : Session). session.failed) fails.2)
+after_posts_mortal settings from posts one other (inl after_posts) = inl (ap mortal_of after_posts ∙ after_posts_is settings from posts one.state one.failed)
+after_posts_mortal settings from posts one other (inr fails) = inr (ap (λ (session : Session). session.failed) fails.2)
 
 if_some : {T : Type 0} (value : Option T) (P : T → Type 0) (x : T) → value ≡ Some x → IfSome value P → P x
 if_some (Some y) P x e h = subst P (some_is y x e) h
@@ -86,7 +86,7 @@ is_lossy old new t entry is =
           ∙ ap₂ (λ (state : State) (failed : Bool). record { state = state; failed = failed }) (ap (λ effect. effect.state) (does_ajar (settings old) t.session (sessions old t.session) t.command ajar)) ajar;
       posts = step.posts;
       posted = λ lines some ajar. on_some (entry_lines entry) lines some step.posted ∙ ap (λ effect. effect.posts) (does_ajar (settings old) t.session (sessions old t.session) t.command ajar);
-      others = λ other elsewhere. heard_mortal (settings old) t.session step.posts (sessions old other) (sessions new other) (step.others other elsewhere);
+      others = λ other elsewhere. after_posts_mortal (settings old) t.session step.posts (sessions old other) (sessions new other) (step.others other elsewhere);
     }
 
 -- what is told along a run

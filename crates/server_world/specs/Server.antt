@@ -4,7 +4,7 @@ use Rattle.isolation.specs.Influence.{KnowsAll}
 use Rattle.session_model.specs.State.{State}
 use Rattle.session_model.specs.Thread.{Settings}
 use Rattle.session_model.specs.Machine.{machine}
-use Rattle.session_tables.specs.Session.{Session, gone}
+use Rattle.session_tables.specs.Session.{Session, failed_session}
 use Rattle.server_world.specs.declared.server.Server as code
 use Rattle.session_engine.specs.Core as engine
 use Rattle.session_engine.specs.Core.{EngineState, place}
@@ -59,7 +59,7 @@ pub record StaysOut (old new : EngineState) (name : List ℕ) : Type 0 where
 
 -- where memory was wanted and not found: the session of the name has failed, or could not be entered
 abbrev pub IsLost : Server → Server → List ℕ → Type 0
-IsLost old new name = (sessions new name ≡ gone) ⊎ StaysOut old.engine new.engine name
+IsLost old new name = (sessions new name ≡ failed_session) ⊎ StaysOut old.engine new.engine name
 
 -- the names stay, or this one is known too
 abbrev pub KnowsAtMost : Server → Server → List ℕ → Type 0

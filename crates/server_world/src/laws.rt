@@ -1,4 +1,4 @@
-//! What holds of the sessions of every server, whatever the commands.
+//! These laws hold of the sessions of every server, whatever the commands.
 ghost use Rattle.isolation.specs.Laws.{LeavingOut, FinalStates, InfluencedStates, InfluenceIsLeast, SliceLaw, SliceFromMembers, SliceWithinInfluence};
 ghost use Rattle.session_model.specs.Machine.{machine};
 ghost use Rattle.session_model.specs.Thread.{Settings};

@@ -1,4 +1,4 @@
-//! What is noted of commands, one after another, for the slice of a session.
+//! A server notes commands, one after another, for the slice of a session.
 ghost use Rattle.std.specs.Prelude.{◌≡◌, ◌<◌, ◌≤◌, ◌++◌, ◌∷◌, ◌||◌, ℕ, [], All, IfOk, OnOk, OnErr, length, false, slice_index_or};
 ghost use Rattle.std.specs.List.{list_any};
 ghost use Rattle.isolation.specs.Slice.{back};

@@ -1,17 +1,17 @@
 use plain_types::Items;
 use session_model::Line;
 
-/// What a run tells of one of its commands.
+/// A run reports one entry for each of its commands.
 #[derive(Drop)]
 pub enum Entry {
-    /// What its session is told, in order. A refusal is one line.
+    /// The session of the command is told these lines, in order. A refusal is one line.
     Lines(Items<Line>),
     /// Memory was wanted for the command and not found. Its session has failed, or could not be
     /// entered.
     OutOfMemory,
 }
 
-/// What a run returns.
+/// A run returns a report.
 #[derive(Drop)]
 pub struct Report {
     /// One entry for each command, in their order; or none at all, where the room for the list

@@ -24,10 +24,10 @@ use crate::report::{Entry, Report};
 use class_table::ClassTable;
 use plain_types::{Items, Text};
 use session_engine::Engine;
+use session_model::{Line, Tagged};
 use std::alloc::{AllocError, Global};
 use std::hash::RandomState;
 use stored_slots::Functors;
-use session_model::{Line, Tagged};
 
 /// A server of sessions, each with a name. A session is there from its first command on.
 pub struct Server {
@@ -108,7 +108,7 @@ impl Server {
     {
         let Ok(mut entries) = Vec::with_capacity(self.alloc, list.len()) else {
             self.note_memory_refused();
-            self.engine.sound();
+            self.engine.law_sound();
             return Report {
                 lines: Items::new(self.alloc),
                 memory_refused: true,
@@ -117,7 +117,7 @@ impl Server {
         for given in list {
             entries.push_reserved(self.entry(given));
         }
-        self.engine.sound();
+        self.engine.law_sound();
         Report {
             lines: Items::from_vec(entries),
             memory_refused: self.memory_refused(),
@@ -182,18 +182,19 @@ impl Server {
     {
         match self.run_noted(list, session) {
             Ok(told) => {
-                self.engine.sound();
+                self.engine.law_sound();
                 Ok(told)
             }
             Err(AllocError) => {
                 self.note_memory_refused();
-                self.engine.sound();
+                self.engine.law_sound();
                 Err(AllocError)
             }
         }
     }
 
-    /// As `run_kept`, but that memory was refused for the report or for what is noted is not noted.
+    /// Runs the commands as `run_kept` does, but does not note that memory was refused for the report or for
+    /// the notes.
     fn run_noted(
         &mut self,
         list: &[Tagged],
@@ -242,17 +243,17 @@ impl Server {
         ensures anew { BeginsAnew (seen_by_name (seen_as self.old)) (seen_by_name (seen_as self.new)) session.now }
         ensures names { names (seen_as self.new) ≡ names (seen_as self.old) }
     {
-        self.engine.sound();
+        self.engine.law_sound();
         if let Some(place) = self.engine.find(session) {
             self.engine.reset(place);
         }
     }
 
-    /// What holds of every session. There is nothing to run: the clause is for the proofs of callers.
-    pub fn sound(&self)
+    /// Every session is sound. There is nothing to run: the clause is for the proofs of callers.
+    pub fn law_sound(&self)
         ensures { AreSound (seen_by_name (seen_as self.now)) }
     {
-        self.engine.sound();
+        self.engine.law_sound();
     }
 
     /// Whether memory was wanted and not found in any call of this server so far, or was noted so.
@@ -283,7 +284,7 @@ fn enter(sessions: &mut Engine, name: &Text) -> Result<usize, AllocError>
     ensures well { AreWell (engine.seen_by_name (seen_engine sessions.old)) }
     ensures sound { AreSound (engine.seen_by_name (seen_engine sessions.old)) }
 {
-    sessions.sound();
+    sessions.law_sound();
     match sessions.find(name) {
         Some(place) => Ok(place),
         None => sessions.open(name),

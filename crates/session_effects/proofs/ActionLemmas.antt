@@ -1,7 +1,7 @@
 -- What actions come to, and what becomes of the tables by them.
 use Rattle.std.proofs.Common.{◌≡◌, ℕ, Bool, true, false, Some, None, [], ◌∙◌, sym, ap, refl, if◌then◌else◌}
 use Rattle.plain_types.specs.declared.code.Code.TheVariants.{NoSuchObject}
-use Rattle.session_model.specs.Doing.{Doing, in_state}
+use Rattle.session_model.specs.Execution.{Execution, in_state}
 use Rattle.session_model.specs.Items.{puts}
 use Rattle.session_model.specs.State.{State}
 use Rattle.session_tables.specs.declared.tables.Tables.{Tables}
@@ -10,7 +10,7 @@ use Rattle.session_tables.proofs.ForCallers.{changes_same, changes_twice, change
 use Rattle.session_effects.specs.Actions.{KeepsOthers}
 
 -- where another state was put, the session is in it
-pub put_at : (old new : Tables) (place : ℕ) (state : State) (doing : Doing) → IsPlaced old place → new ≡ with_state old place state → puts [] (in_state doing state) ≡ puts [] (in_state doing (state_at new place))
+pub put_at : (old new : Tables) (place : ℕ) (state : State) (doing : Execution) → IsPlaced old place → new ≡ with_state old place state → puts [] (in_state doing state) ≡ puts [] (in_state doing (state_at new place))
 put_at old new place state doing placed e = ap (λ (state : State). puts [] (in_state doing state)) (sym (state_with old new place state placed e))
 
 -- what is not absent is there

@@ -22,10 +22,10 @@ use Rattle.term_core.specs.declared.target.Target.{Target}
 use Rattle.term_core.specs.Term.{Term}
 use Rattle.binding_graph.specs.declared.change.Change.{Change}
 use Rattle.property_store.specs.declared.property.Property.{Property as At}
-use Rattle.bound_stores.specs.declared.changed.Changed.{Changed}
-use Rattle.bound_stores.specs.declared.changed.Changed.TheVariants.{Written}
-use Rattle.bound_stores.specs.Changed.{changes_in}
-use Rattle.session_model.specs.Doing.{Doing, in_state}
+use Rattle.bound_stores.specs.declared.write_changes.WriteChanges.{WriteChanges}
+use Rattle.bound_stores.specs.declared.write_changes.WriteChanges.TheVariants.{Written}
+use Rattle.bound_stores.specs.WriteChanges.{changes_in}
+use Rattle.session_model.specs.Execution.{Execution, in_state}
 use Rattle.session_model.specs.Items.{Emit, Item, puts}
 use Rattle.session_model.specs.Methods.{Found, ◌>>=◌}
 use Rattle.session_model.specs.Settings.{Settings}
@@ -40,10 +40,10 @@ use Rattle.session_tables.specs.Named.{Tells, WritesDeclared}
 use Rattle.session_tables.specs.Refused.{OnRefused}
 use Rattle.session_tables.specs.Tables.{IsPlaced, state_at, with_state}
 use Rattle.session_tables.proofs.ForCallers.{state_with}
-use Rattle.session_effects.specs.declared.announcing.News.{News}
-use Rattle.session_effects.specs.declared.announcing.News.TheVariants.{Nothing, One}
-use Rattle.session_effects.specs.declared.announcing.Notice.{Notice}
-use Rattle.session_effects.specs.declared.caller.Caller.{Caller}
+use Rattle.session_effects.specs.declared.announcing.PendingAnnouncements.{PendingAnnouncements}
+use Rattle.session_effects.specs.declared.announcing.PendingAnnouncements.TheVariants.{Nothing, One}
+use Rattle.session_effects.specs.declared.announcing.NotifySignal.{NotifySignal}
+use Rattle.session_effects.specs.declared.session_context.SessionContext.{SessionContext}
 use Rattle.session_effects.specs.Actions.{KeepsOthers, Tries}
 use Rattle.session_effects.specs.declared.slot.Slot.{Slot}
 use Rattle.session_effects.specs.Setup.{settings_of}
@@ -67,7 +67,7 @@ signal_by_class settings state object class number has = ap (option_and_then (λ
     by (Some row) e = let same : row.class ≡ class = cc in ap (λ class. slice_get (properties settings.classes class) number) same
 
 -- where a class names a signal for a property, its value is told by that
-pub told_one : (settings : Settings) (state : State) (object class number : ℕ) → HasClass state object class → (depth : ℕ) (notice : Notice)
+pub told_one : (settings : Settings) (state : State) (object class number : ℕ) → HasClass state object class → (depth : ℕ) (notice : NotifySignal)
     → Some notice ≡ option_map (λ signal. record { object = object; property = number; signal = signal }) (signal_in settings class number)
     → items_of settings state depth (One notice) ≡ told_items settings state depth (changes_in (record { object = object; number = number }) (shown state object number).0 Written)
 told_one settings state object class number has depth notice e = by (signal_in settings class number) e ∙ ap sent (sym (signal_by_class settings state object class number has))
@@ -80,15 +80,15 @@ told_one settings state object class number has depth notice e = by (signal_in s
     by (Some signal) e = let same : notice ≡ record { object = object; property = number; signal = signal } = cc in ap (λ notice. items_of settings state depth (One notice)) same
 
 -- what is told of changes, as news that say the same at every depth
-abbrev pub IsNews : Settings → State → List Change → News → Type 0
+abbrev pub IsNews : Settings → State → List Change → PendingAnnouncements → Type 0
 IsNews settings state changes news = (depth : ℕ) → items_of settings state depth news ≡ told_items settings state depth changes
 
-module _ (caller : Caller) (object : ℕ) (old new : Tables) (placed : IsPlaced old caller.place) where
+module _ (caller : SessionContext) (object : ℕ) (old new : Tables) (placed : IsPlaced old caller.place) where
   abbrev before : State
   before = state_at old caller.place
 
   -- a writing that tells nothing
-  pub writes_silently : (writing : Writing) → ((depth : ℕ) (doing : Doing) → written (settings_of caller.setup.now) (in_state doing before) object depth writing ≡ puts [] (in_state doing (with_writing before object writing)))
+  pub writes_silently : (writing : Writing) → ((depth : ℕ) (doing : Execution) → written (settings_of caller.setup.now) (in_state doing before) object depth writing ≡ puts [] (in_state doing (with_writing before object writing)))
       → new ≡ with_state old caller.place (with_writing before object writing) → Writes caller object writing old Nothing new
   writes_silently writing silent e = λ depth doing. silent depth doing ∙ put_at old new caller.place (with_writing before object writing) doing placed e
 
@@ -113,7 +113,7 @@ module _ (caller : Caller) (object : ℕ) (old new : Tables) (placed : IsPlaced 
     class_kept class has = subst (λ (state : State). HasClass state object class) (sym is_after) has
 
     -- a write to a declared property tells of all that it changes
-    pub writes_declared : (changed : Changed) (news : News) → Tells at before (state_at new caller.place) changed
+    pub writes_declared : (changed : WriteChanges) (news : PendingAnnouncements) → Tells at before (state_at new caller.place) changed
         → IsNews (settings_of caller.setup.now) (state_at new caller.place) (changes_in at (shown (state_at new caller.place) object number).0 changed) news
         → Writes caller object (Declared number value) old news new
     writes_declared changed news tells is = λ depth doing.
@@ -134,7 +134,7 @@ dynamic_valid state object name (v.Ulonglong n) other = refl
 dynamic_valid state object name (v.Text text) other = refl
 
 -- a dynamic property was set, or is refused
-pub writes_dynamic : (caller : Caller) (object : ℕ) (name : List ℕ) (value : Value) (old new : Tables) (result : Result (Unit {0}) Fault) → IsPlaced old caller.place → (value ≡ v.Invalid → ⊥)
+pub writes_dynamic : (caller : SessionContext) (object : ℕ) (name : List ℕ) (value : Value) (old new : Tables) (result : Result (Unit {0}) Fault) → IsPlaced old caller.place → (value ≡ v.Invalid → ⊥)
     → RefusedBy (dynamic_refusal (state_at old caller.place).store object name) result
     → OnOk result (new ≡ with_state old caller.place (with_writing (state_at old caller.place) object (Dynamic name value)))
     → TriesToWrite caller object (dynamic_writing (state_at old caller.place) object name value) old (λ done. Nothing) new result
@@ -186,9 +186,9 @@ module _ (state : State) (object : ℕ) (name : List ℕ) (given : Value) (is_sh
   pub acted_dynamic : declared state object name ≡ None → acted_writing state object name given ≡ dynamic_writing state object name given
   acted_dynamic none = acted_at None none ∙ ap (λ (found : Found Value). found >>= dynamic_writing state object name) (short_kept given is_short)
 
-module _ (caller : Caller) (object : ℕ) (name : List ℕ) (value : Value) (old middle : Tables) (placed : IsPlaced old caller.place) (is_short : IsShort value) where
+module _ (caller : SessionContext) (object : ℕ) (name : List ℕ) (value : Value) (old middle : Tables) (placed : IsPlaced old caller.place) (is_short : IsShort value) where
   -- a declared property of the name was written, and there is news of what has changed
-  pub named_declared : (number : ℕ) (changed : Changed) → WritesDeclared caller.place object name value old number changed middle → (class : ℕ) → HasClass (state_at old caller.place) object class → (news : News)
+  pub named_declared : (number : ℕ) (changed : WriteChanges) → WritesDeclared caller.place object name value old number changed middle → (class : ℕ) → HasClass (state_at old caller.place) object class → (news : PendingAnnouncements)
       → ((state : State) → HasClass state object class → IsNews (settings_of caller.setup.now) state (changes_in (record { object = object; number = number }) (shown state object number).0 changed) news)
       → TriesToWrite caller object (acted_writing (state_at old caller.place) object name value) old (λ told. told) middle (Ok news)
   named_declared number changed done class has news told = (
@@ -214,7 +214,7 @@ set_keeps place old new state (Ok value) placed ok err = keeps_with old new plac
 set_keeps place old new state (Err error) placed ok err = keeps_same old new place err
 
 -- an action that writes comes to what is written
-pub sets_property : (caller : Caller) (slot : Slot) (of : Target) (property : List ℕ) (term : Term) (old new : Tables) (result : Result News Fault) (object : ℕ) (value : Value)
+pub sets_property : (caller : SessionContext) (slot : Slot) (of : Target) (property : List ℕ) (term : Term) (old new : Tables) (result : Result PendingAnnouncements Fault) (object : ℕ) (value : Value)
     → object ≡ object_of (state_at old caller.place) slot.object slot.sender of
     → is_there (state_at old caller.place).forest.rows object ≡ true
     → evaluated (state_at old caller.place) slot.object slot.sender slot.args.now term ≡ Ok value

@@ -7,16 +7,16 @@ use Rattle.term_core.specs.declared.action.SingleAction.{SingleAction}
 use Rattle.term_core.specs.declared.action.SingleAction.TheVariants as e
 use Rattle.term_core.specs.Act as term
 use Rattle.term_core.specs.Act.{single_action}
-use Rattle.session_model.specs.declared.deed.Deed.{Deed}
-use Rattle.session_model.specs.Acts.{act_deed}
+use Rattle.session_model.specs.declared.operation.Operation.{Operation}
+use Rattle.session_model.specs.Acts.{act_operation}
 use Rattle.session_model.specs.Agenda.{step}
-use Rattle.session_model.specs.Deeds.{HasEnds}
-use Rattle.session_model.specs.Doing.{Doing, in_state}
+use Rattle.session_model.specs.Operations.{HasEnds}
+use Rattle.session_model.specs.Execution.{Execution, in_state}
 use Rattle.session_model.specs.Items.{Act, Item, Warn, puts}
 use Rattle.session_model.specs.Methods.{Found}
 use Rattle.session_tables.specs.declared.tables.Tables.{Tables}
 use Rattle.session_tables.specs.Tables.{ChangesOnly, state_at}
-use Rattle.session_effects.specs.declared.caller.Caller.{Caller}
+use Rattle.session_effects.specs.declared.session_context.SessionContext.{SessionContext}
 use Rattle.session_effects.specs.declared.effects.Emission.{Emission}
 use Rattle.session_effects.specs.declared.slot.Slot.{Slot}
 use Rattle.session_effects.specs.Setup.{settings_of}
@@ -37,23 +37,23 @@ is_nested (e.Emit of signal args) = true
 is_nested (e.Delete target) = true
 is_nested _ = false
 
--- the call has found exactly the deed that an action is, with its ends, or is refused as it is, unless memory
+-- the call has found exactly the operation that an action is, with its ends, or is refused as it is, unless memory
 -- was wanted
-abbrev pub FindsDeed : Caller → Slot → SingleAction → Tables → Result Deed Fault → Type 0
-FindsDeed caller slot plain tables (Ok deed) =
-    (act_deed (settings_of caller.setup.now) (state_at tables caller.place) slot.object slot.sender plain ≡ Some (Ok deed))
-    × HasEnds (state_at tables caller.place) deed
-FindsDeed caller slot plain tables (Err (Refused code)) =
-    act_deed (settings_of caller.setup.now) (state_at tables caller.place) slot.object slot.sender plain ≡ Some (Err code)
-FindsDeed caller slot plain tables (Err Memory) = Unit {0}
+abbrev pub FindsOperation : SessionContext → Slot → SingleAction → Tables → Result Operation Fault → Type 0
+FindsOperation caller slot plain tables (Ok operation) =
+    (act_operation (settings_of caller.setup.now) (state_at tables caller.place) slot.object slot.sender plain ≡ Some (Ok operation))
+    × HasEnds (state_at tables caller.place) operation
+FindsOperation caller slot plain tables (Err (Refused code)) =
+    act_operation (settings_of caller.setup.now) (state_at tables caller.place) slot.object slot.sender plain ≡ Some (Err code)
+FindsOperation caller slot plain tables (Err Memory) = Unit {0}
 
 -- an action comes to these items and these tables by what the call returns, or to a warning where it is refused,
 -- whatever was told before and however many turns are left
-abbrev pub Tries : {T : Type 0} → Caller → Slot → SingleAction → Tables → (T → List Item) → Tables → Result T Fault → Type 0
-Tries caller slot plain old items new (Ok value) = (doing : Doing) →
+abbrev pub Tries : {T : Type 0} → SessionContext → Slot → SingleAction → Tables → (T → List Item) → Tables → Result T Fault → Type 0
+Tries caller slot plain old items new (Ok value) = (doing : Execution) →
     step (settings_of caller.setup.now) (act_of slot (single_action plain)) (in_state doing (state_at old caller.place))
     ≡ puts (items value) (in_state doing (state_at new caller.place))
-Tries caller slot plain old items new (Err (Refused code)) = (doing : Doing) →
+Tries caller slot plain old items new (Err (Refused code)) = (doing : Execution) →
     step (settings_of caller.setup.now) (act_of slot (single_action plain)) (in_state doing (state_at old caller.place))
     ≡ puts (Warn code (Some slot.object) ∷ []) (in_state doing (state_at old caller.place))
 Tries caller slot plain old items new (Err Memory) = Unit {0}

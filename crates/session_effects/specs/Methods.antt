@@ -5,10 +5,10 @@ use Rattle.class_table.specs.Lookup.{method_number}
 use Rattle.session_model.specs.Methods.{Found, ◌>>=◌, methods_of, signature_in}
 use Rattle.session_tables.specs.declared.tables.Tables.{Tables}
 use Rattle.session_tables.specs.Tables.{state_at}
-use Rattle.session_effects.specs.declared.caller.Caller.{Caller}
+use Rattle.session_effects.specs.declared.session_context.SessionContext.{SessionContext}
 use Rattle.session_effects.specs.Setup.{settings_of}
 
-abbrev pub its_methods : Caller → Tables → ℕ → List Method
+abbrev pub its_methods : SessionContext → Tables → ℕ → List Method
 its_methods caller tables object = methods_of (settings_of caller.setup.now) (state_at tables caller.place) object
 
 -- the index of the method that a text names, where it is one of these

@@ -7,7 +7,7 @@ use Rattle.plain_types.specs.declared.fault.Fault.TheVariants.{Refused, Memory}
 use Rattle.variant_value.specs.declared.value.Value.{Value}
 use Rattle.binding_graph.specs.declared.change.Change.{Change}
 use Rattle.property_store.specs.declared.property.Property.{Property}
-use Rattle.session_model.specs.Doing.{Doing, in_state}
+use Rattle.session_model.specs.Execution.{Execution, in_state}
 use Rattle.session_model.specs.Items.{Emit, Item, WarnOf, puts}
 use Rattle.session_model.specs.Methods.{Found}
 use Rattle.session_model.specs.Settings.{Settings}
@@ -18,15 +18,15 @@ use Rattle.session_tables.specs.declared.tables.Tables.{Tables}
 use Rattle.session_tables.specs.Tables.{state_at}
 use Rattle.session_effects.specs.declared.announcing.Announcement.{Announcement}
 use Rattle.session_effects.specs.declared.announcing.Announcement.TheVariants.{Warning, Signal}
-use Rattle.session_effects.specs.declared.announcing.News.{News}
-use Rattle.session_effects.specs.declared.announcing.News.TheVariants.{Nothing, One, Several}
-use Rattle.session_effects.specs.declared.announcing.Notice.{Notice}
-use Rattle.session_effects.specs.declared.caller.Caller.{Caller}
+use Rattle.session_effects.specs.declared.announcing.PendingAnnouncements.{PendingAnnouncements}
+use Rattle.session_effects.specs.declared.announcing.PendingAnnouncements.TheVariants.{Nothing, One, Several}
+use Rattle.session_effects.specs.declared.announcing.NotifySignal.{NotifySignal}
+use Rattle.session_effects.specs.declared.session_context.SessionContext.{SessionContext}
 use Rattle.session_effects.specs.Setup.{settings_of}
 
 module _ (settings : Settings) (state : State) where
   -- what a notice is sent with: the value that its property shows, where the signal takes one
-  abbrev pub notice_args : Notice → List Value
+  abbrev pub notice_args : NotifySignal → List Value
   notice_args notice = told_value settings state notice.object (shown state notice.object notice.property).0 notice.signal
 
   -- changes, as they are told at a depth
@@ -34,7 +34,7 @@ module _ (settings : Settings) (state : State) where
   told_items depth changes = filter_map (λ change. told_as settings state depth change.at change.told) changes
 
   -- what there is to tell, as it is told at a depth
-  abbrev pub items_of : ℕ → News → List Item
+  abbrev pub items_of : ℕ → PendingAnnouncements → List Item
   items_of depth Nothing = []
   items_of depth (One notice) = Emit notice.object notice.signal (notice_args notice) depth ∷ []
   items_of depth (Several changes) = told_items depth changes
@@ -49,13 +49,13 @@ announced depth (Warning at error) = WarnOf at error
 announced depth (Signal sent) = Emit sent.object sent.signal sent.args depth
 
 -- writing comes to this news and these tables, at every depth, whatever was told before and however many turns are left
-abbrev pub Writes : Caller → ℕ → Writing → Tables → News → Tables → Type 0
-Writes caller object writing old told new = (depth : ℕ) (doing : Doing) →
+abbrev pub Writes : SessionContext → ℕ → Writing → Tables → PendingAnnouncements → Tables → Type 0
+Writes caller object writing old told new = (depth : ℕ) (doing : Execution) →
     written (settings_of caller.setup.now) (in_state doing (state_at old caller.place)) object depth writing
     ≡ puts (items_of (settings_of caller.setup.now) (state_at new caller.place) depth told) (in_state doing (state_at new caller.place))
 
 -- what was to be written was written, or is refused as it is, unless memory was wanted
-abbrev pub TriesToWrite : {T : Type 0} → Caller → ℕ → Found Writing → Tables → (T → News) → Tables → Result T Fault → Type 0
+abbrev pub TriesToWrite : {T : Type 0} → SessionContext → ℕ → Found Writing → Tables → (T → PendingAnnouncements) → Tables → Result T Fault → Type 0
 TriesToWrite caller object wanted old told new (Ok value) = (writing : Writing) × (wanted ≡ Ok writing) × Writes caller object writing old (told value) new
 TriesToWrite caller object wanted old told new (Err (Refused code)) = wanted ≡ Err code
 TriesToWrite caller object wanted old told new (Err Memory) = Unit {0}

@@ -1,34 +1,34 @@
-//! What is told of changes: warnings, and the signals of properties.
+//! Changes are told by warnings, and by the signals of properties.
 ghost use Rattle.std.specs.Prelude.{◌≡◌, IfOk, map, option_and_then, option_map, slice_get, ℕ};
 ghost use Rattle.std.specs.Option.{option_copied};
 ghost use Rattle.class_table.specs.Lookup.{properties};
-ghost use Rattle.binding_graph.specs.declared.change.Message.TheVariants as t;
+ghost use Rattle.binding_graph.specs.declared.change.ChangeKind.TheVariants as t;
 ghost use Rattle.session_model.specs.Showing.{property_at, told_as};
 ghost use Rattle.session_model.specs.State.{State, shown};
-ghost use Rattle.bound_stores.specs.Changed.{changes_in};
+ghost use Rattle.bound_stores.specs.WriteChanges.{changes_in};
 ghost use Rattle.session_tables.specs.Classes.{HasClass};
 ghost use Rattle.session_tables.specs.Tables.{IsPlaced, state_at};
 ghost use Rattle.session_effects.specs.Setup.{settings_of};
 ghost use Rattle.session_effects.specs.Writing.{announced, items_of, name_of, notice_args, told_items};
 
-use crate::caller::Caller;
 use crate::effects::Emission;
 use crate::methods::kinds_at;
-use binding_graph::{Change, Message};
+use crate::session_context::SessionContext;
+use binding_graph::{Change, ChangeKind};
 use binding_values::BindingError;
 use class_table::Property;
 use plain_types::{Items, Text};
 use property_store::Property as At;
-use session_tables::{Changed, Tables};
+use session_tables::{Tables, WriteChanges};
 use std::alloc::AllocError;
 use variant_value::{Args, Value};
 
-/// What there is to tell of a write.
+/// A write leaves this to be told.
 #[derive(Drop)]
-pub enum News {
+pub enum PendingAnnouncements {
     Nothing,
     /// The value of one property alone is another one, and there is a signal that tells of it.
-    One(Notice),
+    One(NotifySignal),
     /// All of these, in order.
     Several(Items<Change>),
 }
@@ -36,7 +36,7 @@ pub enum News {
 /// A signal that is to be sent since it tells that a declared property has another value (NOTIFY). What
 /// it is sent with is read of the property when it is sent, before anything else is done.
 #[derive(Clone, Copy)]
-pub struct Notice {
+pub struct NotifySignal {
     pub object: u32,
     /// The number of the property among those that the object's class declares.
     pub property: usize,
@@ -54,36 +54,41 @@ pub enum Announcement {
     Signal(Emission),
 }
 
-/// What there is to tell of a write to a property that the class of its object declares.
+/// Returns what there is to tell of a write to a property that the class of its object declares.
 pub(crate) fn news_of(
-    caller: &Caller,
+    caller: &SessionContext,
     object: u32,
     class: u32,
     number: usize,
-    changed: Changed,
-) -> News
+    changed: WriteChanges,
+) -> PendingAnnouncements
     ensures { (state : State) → HasClass state object class → (depth : ℕ)
         → items_of (settings_of caller.now.setup.now) state depth result
         ≡ told_items (settings_of caller.now.setup.now) state depth
         (changes_in (record { object = object; number = number }) (shown state object number).0 changed) }
 {
     match changed {
-        Changed::Nothing => News::Nothing,
-        Changed::Written => match notice_of(caller, object, class, number) {
-            Some(notice) => News::One(notice),
-            None => News::Nothing,
+        WriteChanges::Nothing => PendingAnnouncements::Nothing,
+        WriteChanges::Written => match notice_of(caller, object, class, number) {
+            Some(notice) => PendingAnnouncements::One(notice),
+            None => PendingAnnouncements::Nothing,
         },
-        Changed::Several(changes) => News::Several(changes),
+        WriteChanges::Several(changes) => PendingAnnouncements::Several(changes),
     }
 }
 
 /// The signal of an object that tells that a declared property has changed, where its class names one.
-fn notice_of(caller: &Caller, object: u32, class: u32, number: usize) -> Option<Notice>
+fn notice_of(
+    caller: &SessionContext,
+    object: u32,
+    class: u32,
+    number: usize,
+) -> Option<NotifySignal>
     ensures { result ≡ option_map (λ signal. record { object = object; property = number; signal = signal })
         (option_and_then (λ property. property.notify) (slice_get (properties (settings_of caller.now.setup.now).classes class) number)) }
 {
     let signal = property_row(caller, class, number)?.notify?;
-    Some(Notice {
+    Some(NotifySignal {
         object,
         property: number,
         signal,
@@ -91,7 +96,7 @@ fn notice_of(caller: &Caller, object: u32, class: u32, number: usize) -> Option<
 }
 
 /// The property of this number that a class declares.
-fn property_row<'a>(caller: &Caller<'a>, class: u32, number: usize) -> Option<&'a Property>
+fn property_row<'a>(caller: &SessionContext<'a>, class: u32, number: usize) -> Option<&'a Property>
     ensures { option_copied result ≡ slice_get (properties (settings_of caller.now.setup.now).classes class) number }
 {
     let classes = &caller.setup.classes;
@@ -104,7 +109,7 @@ fn property_row<'a>(caller: &Caller<'a>, class: u32, number: usize) -> Option<&'
 }
 
 /// The declared property of an object.
-fn property_at<'a>(caller: &Caller<'a>, tables: &Tables, at: At) -> Option<&'a Property>
+fn property_at<'a>(caller: &SessionContext<'a>, tables: &Tables, at: At) -> Option<&'a Property>
     requires { IsPlaced tables.now caller.now.place }
     ensures { option_copied result ≡ property_at (settings_of caller.now.setup.now) (state_at tables.now caller.now.place) at.object at.number }
 {
@@ -112,8 +117,12 @@ fn property_at<'a>(caller: &Caller<'a>, tables: &Tables, at: At) -> Option<&'a P
     property_row(caller, row.class, at.number)
 }
 
-/// What a notice is sent with: the value that its property shows, where the signal takes one.
-pub fn told_args(caller: &Caller, tables: &Tables, notice: Notice) -> Result<Args, AllocError>
+/// Returns the arguments of a notification: the value that its property shows, where the signal takes one.
+pub fn told_args(
+    caller: &SessionContext,
+    tables: &Tables,
+    notice: NotifySignal,
+) -> Result<Args, AllocError>
     requires { IsPlaced tables.now caller.now.place }
     ensures { IfOk result (λ args. args ≡ notice_args (settings_of caller.now.setup.now) (state_at tables.now caller.now.place) notice) }
 {
@@ -128,9 +137,9 @@ pub fn told_args(caller: &Caller, tables: &Tables, notice: Notice) -> Result<Arg
     Ok(Args::one(value))
 }
 
-/// What is told of changes.
+/// Returns the announcements of changes, in their order.
 pub fn announcements(
-    caller: &Caller,
+    caller: &SessionContext,
     tables: &Tables,
     changes: Items<Change>,
 ) -> Result<Items<Announcement>, AllocError>
@@ -147,9 +156,9 @@ pub fn announcements(
     Ok(told)
 }
 
-/// What is told of a change, where it is told.
+/// Returns the announcement of a change, where it is told.
 fn announcement_of(
-    caller: &Caller,
+    caller: &SessionContext,
     tables: &Tables,
     change: &Change,
 ) -> Result<Option<Announcement>, AllocError>
@@ -158,14 +167,14 @@ fn announcement_of(
         ≡ told_as (settings_of caller.now.setup.now) (state_at tables.now caller.now.place) depth change.now.at change.now.told) }
 {
     match &change.told {
-        Message::Error(error) => Ok(Some(Announcement::Warning(change.at, *error))),
-        Message::Value(value) => notification(caller, tables, change.at, value),
+        ChangeKind::Error(error) => Ok(Some(Announcement::Warning(change.at, *error))),
+        ChangeKind::Value(value) => notification(caller, tables, change.at, value),
     }
 }
 
 /// The signal that tells that a property has this value now, where there is one.
 fn notification(
-    caller: &Caller,
+    caller: &SessionContext,
     tables: &Tables,
     at: At,
     value: &Value,
@@ -192,7 +201,7 @@ fn notification(
 }
 
 /// The name of a declared property of an object; an empty one where the object or the property is not there.
-pub fn property_name(caller: &Caller, tables: &Tables, at: At) -> Result<Text, AllocError>
+pub fn property_name(caller: &SessionContext, tables: &Tables, at: At) -> Result<Text, AllocError>
     requires { IsPlaced tables.now caller.now.place }
     ensures { IfOk result (λ name. name ≡ name_of (settings_of caller.now.setup.now) (state_at tables.now caller.now.place) at) }
 {

@@ -13,13 +13,11 @@ ghost use Rattle.session_tables.specs.Tables.{IsPlaced, state_at};
 ghost use Rattle.session_effects.specs.Methods.{its_methods};
 ghost use Rattle.session_effects.specs.Setup.{settings_of};
 
-use crate::caller::Caller;
 use crate::functors::{functor_named, params_at};
 use crate::methods::{kinds_at, method_named, method_with, signal_named, signal_with};
+use crate::session_context::SessionContext;
 use connection_list::{NewConnection, Pattern, Receiver};
-use plain_types::{Callee, ConnectionType};
-use plain_types::Text;
-use plain_types::{Code, Fault};
+use plain_types::{Callee, Code, ConnectionType, Fault, Text};
 use session_tables::Tables;
 use signature_core::{Signature, fits};
 
@@ -33,7 +31,7 @@ pub struct Options {
 
 /// The connection that a command asks for.
 pub fn asked_connection(
-    caller: &Caller,
+    caller: &SessionContext,
     tables: &Tables,
     sender: u32,
     signal: &Text,
@@ -53,7 +51,7 @@ pub fn asked_connection(
 
 /// The connection to a functor that a command asks for.
 pub fn asked_functor_connection(
-    caller: &Caller,
+    caller: &SessionContext,
     tables: &Tables,
     sender: u32,
     signal: &Text,
@@ -85,7 +83,7 @@ pub fn asked_functor_connection(
 
 /// The connection that an action asks for.
 pub fn connection(
-    caller: &Caller,
+    caller: &SessionContext,
     tables: &Tables,
     sender: u32,
     signal: &Signature,
@@ -105,7 +103,7 @@ pub fn connection(
 
 /// Refuses a signal whose parameters do not fit those of the method.
 fn check_fits(
-    caller: &Caller,
+    caller: &SessionContext,
     tables: &Tables,
     sender: u32,
     signal: u32,
@@ -146,7 +144,7 @@ fn to_method(
 
 /// The connections that a command asks to be broken.
 pub fn asked_pattern(
-    caller: &Caller,
+    caller: &SessionContext,
     tables: &Tables,
     sender: u32,
     signal: &Option<Text>,
@@ -169,7 +167,7 @@ pub fn asked_pattern(
 }
 
 fn asked_receiver(
-    caller: &Caller,
+    caller: &SessionContext,
     tables: &Tables,
     receiver: Option<u32>,
     method: &Option<Text>,
@@ -189,7 +187,7 @@ fn asked_receiver(
 
 /// The connections that an action asks to be broken.
 pub fn pattern(
-    caller: &Caller,
+    caller: &SessionContext,
     tables: &Tables,
     sender: u32,
     signal: &Option<Signature>,
@@ -212,7 +210,7 @@ pub fn pattern(
 }
 
 fn given_receiver(
-    caller: &Caller,
+    caller: &SessionContext,
     tables: &Tables,
     receiver: Option<u32>,
     method: &Option<Signature>,

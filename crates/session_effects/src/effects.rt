@@ -1,4 +1,5 @@
-//! What actions do that neither send signals nor delete objects, and what those that do come to.
+//! Actions that neither send signals nor delete objects are done here; for those that do, the signal or the
+//! object is looked up.
 ghost use Rattle.std.specs.Prelude.{◌≡◌, ◌∷◌, [], IfOk, OnErr, IsFalse, IsTrue, Some};
 ghost use Rattle.plain_types.specs.Answers.{Answers};
 ghost use Rattle.term_core.specs.declared.action.SingleAction.TheVariants as e;
@@ -6,23 +7,22 @@ ghost use Rattle.session_model.specs.Acts.{emission};
 ghost use Rattle.session_model.specs.Items.{Delete, Emit};
 ghost use Rattle.session_model.specs.Targets.{truth_evaluated};
 ghost use Rattle.session_tables.specs.Tables.{IsPlaced, state_at};
-ghost use Rattle.session_effects.specs.Actions.{FindsDeed, IsSent, KeepsOthers, Tries, is_nested};
+ghost use Rattle.session_effects.specs.Actions.{FindsOperation, IsSent, KeepsOthers, Tries, is_nested};
 ghost use Rattle.session_effects.specs.Setup.{settings_of};
 
-use crate::caller::Caller;
 use crate::connections::{Options, connection, pattern};
-use crate::deeds::do_found;
 use crate::evaluation::{
     Reader, all_converted, all_evaluated, named_object_of, object_of, truth_evaluated,
 };
 use crate::methods::{kinds_at, signal_with};
+use crate::operations::do_found;
+use crate::session_context::SessionContext;
 use crate::slot::Slot;
-use plain_types::Items;
-use plain_types::Fault;
+use plain_types::{Fault, Items};
+use session_model::Operation;
 use session_tables::Tables;
 use signature_core::Signature;
 use term_core::{Expr, SingleAction, Target};
-use session_model::Deed;
 use variant_value::Value;
 
 /// A signal that an action sends.
@@ -34,7 +34,7 @@ pub struct Emission {
 }
 
 /// Where the expressions of a slot's body are evaluated.
-pub fn reader<'a>(caller: &Caller, tables: &'a Tables, slot: &Slot) -> Reader<'a>
+pub fn reader<'a>(caller: &SessionContext, tables: &'a Tables, slot: &Slot) -> Reader<'a>
     requires { IsPlaced tables.now caller.now.place }
     ensures tables { result.tables.now ≡ tables.now }
     ensures place { result.place ≡ caller.now.place }
@@ -50,8 +50,8 @@ pub fn reader<'a>(caller: &Caller, tables: &'a Tables, slot: &Slot) -> Reader<'a
 }
 
 /// The signal that an action sends.
-pub fn sent(
-    caller: &Caller,
+pub fn resolve_emit(
+    caller: &SessionContext,
     tables: &Tables,
     slot: &Slot,
     of: &Target,
@@ -70,7 +70,7 @@ pub fn sent(
 
 /// The signal of an object that an action sends.
 fn emission_of(
-    caller: &Caller,
+    caller: &SessionContext,
     reader: &Reader,
     slot: &Slot,
     object: u32,
@@ -94,7 +94,12 @@ fn emission_of(
 }
 
 /// The object that an action deletes.
-pub fn deleted(caller: &Caller, tables: &Tables, slot: &Slot, target: &Target) -> Result<u32, Fault>
+pub fn resolve_delete(
+    caller: &SessionContext,
+    tables: &Tables,
+    slot: &Slot,
+    target: &Target,
+) -> Result<u32, Fault>
     requires { IsPlaced tables.now caller.now.place }
     ensures { Tries caller.now slot.now (e.Delete target.now) tables.now (λ object. Delete object slot.now.depth ∷ []) tables.now result }
 {
@@ -103,9 +108,9 @@ pub fn deleted(caller: &Caller, tables: &Tables, slot: &Slot, target: &Target) -
     Ok(object)
 }
 
-/// Does an action that is a deed.
-pub fn change(
-    caller: &Caller,
+/// Does an action that is an operation.
+pub fn apply_action(
+    caller: &SessionContext,
     tables: &mut Tables,
     slot: &Slot,
     effect: &SingleAction,
@@ -116,21 +121,21 @@ pub fn change(
     ensures err { OnErr result (tables.new ≡ tables.old) }
     ensures keeps { KeepsOthers caller.now.place tables.old tables.new }
 {
-    let deed = deed_of(caller, tables, slot, effect)?;
-    do_found(tables, caller.place, deed)?;
+    let operation = operation_of(caller, tables, slot, effect)?;
+    do_found(tables, caller.place, operation)?;
     Ok(())
 }
 
-/// The deed that an action is.
-fn deed_of(
-    caller: &Caller,
+/// The operation that an action is.
+fn operation_of(
+    caller: &SessionContext,
     tables: &Tables,
     slot: &Slot,
     effect: &SingleAction,
-) -> Result<Deed, Fault>
+) -> Result<Operation, Fault>
     requires placed { IsPlaced tables.now caller.now.place }
     requires simple { IsFalse (is_nested effect.now) }
-    ensures { FindsDeed caller.now slot.now effect.now tables.now result }
+    ensures { FindsOperation caller.now slot.now effect.now tables.now result }
 {
     let reader = reader(caller, tables, slot);
     match effect {
@@ -148,22 +153,22 @@ fn deed_of(
                 unique: *unique,
                 single: *single,
             };
-            connect_deed(caller, tables, slot, of, signal, to, method, options)
+            connect_operation(caller, tables, slot, of, signal, to, method, options)
         }
         SingleAction::Disconnect {
             of,
             signal,
             to,
             method,
-        } => disconnect_deed(caller, tables, slot, of, signal, to, method),
-        SingleAction::DeleteLater(target) => Ok(Deed::DeleteLater {
+        } => disconnect_operation(caller, tables, slot, of, signal, to, method),
+        SingleAction::DeleteLater(target) => Ok(Operation::DeleteLater {
             object: object_of(&reader, target)?,
         }),
-        SingleAction::Block { of, on } => Ok(Deed::Block {
+        SingleAction::Block { of, on } => Ok(Operation::Block {
             object: object_of(&reader, of)?,
             on: *on,
         }),
-        SingleAction::SetParent { of, parent } => Ok(Deed::SetParent {
+        SingleAction::SetParent { of, parent } => Ok(Operation::SetParent {
             object: object_of(&reader, of)?,
             parent: named_object_of(&reader, parent)?,
         }),
@@ -172,8 +177,8 @@ fn deed_of(
 }
 
 /// The connection of a signal to a method.
-fn connect_deed(
-    caller: &Caller,
+fn connect_operation(
+    caller: &SessionContext,
     tables: &Tables,
     slot: &Slot,
     of: &Target,
@@ -181,9 +186,9 @@ fn connect_deed(
     to: &Target,
     method: &Signature,
     options: Options,
-) -> Result<Deed, Fault>
+) -> Result<Operation, Fault>
     requires { IsPlaced tables.now caller.now.place }
-    ensures { FindsDeed caller.now slot.now (e.Connect of.now signal.now to.now method.now options.mode options.unique options.single) tables.now result }
+    ensures { FindsOperation caller.now slot.now (e.Connect of.now signal.now to.now method.now options.mode options.unique options.single) tables.now result }
 {
     let reader = reader(caller, tables, slot);
     let sender = object_of(&reader, of)?;
@@ -191,24 +196,24 @@ fn connect_deed(
     tables.forests.check_living(caller.place, sender)?;
     tables.forests.check_living(caller.place, receiver)?;
     let new = connection(caller, tables, sender, signal, receiver, method, options)?;
-    Ok(Deed::Connect {
+    Ok(Operation::Connect {
         new,
         unique: options.unique,
     })
 }
 
 /// The connections that are to be broken.
-fn disconnect_deed(
-    caller: &Caller,
+fn disconnect_operation(
+    caller: &SessionContext,
     tables: &Tables,
     slot: &Slot,
     of: &Target,
     signal: &Option<Signature>,
     to: &Option<Target>,
     method: &Option<Signature>,
-) -> Result<Deed, Fault>
+) -> Result<Operation, Fault>
     requires { IsPlaced tables.now caller.now.place }
-    ensures { FindsDeed caller.now slot.now (e.Disconnect of.now signal.now to.now method.now) tables.now result }
+    ensures { FindsOperation caller.now slot.now (e.Disconnect of.now signal.now to.now method.now) tables.now result }
 {
     let reader = reader(caller, tables, slot);
     let sender = object_of(&reader, of)?;
@@ -216,11 +221,16 @@ fn disconnect_deed(
     tables.forests.check_object(caller.place, sender)?;
     tables.forests.check_named(caller.place, receiver)?;
     let pattern = pattern(caller, tables, sender, signal, receiver, method)?;
-    Ok(Deed::Disconnect { pattern })
+    Ok(Operation::Disconnect { pattern })
 }
 
 /// The truth that the test of a choice is.
-pub fn truth(caller: &Caller, tables: &Tables, slot: &Slot, test: &Expr) -> Result<bool, Fault>
+pub fn evaluate_test(
+    caller: &SessionContext,
+    tables: &Tables,
+    slot: &Slot,
+    test: &Expr,
+) -> Result<bool, Fault>
     requires { IsPlaced tables.now caller.now.place }
     ensures { Answers result (truth_evaluated (state_at tables.now caller.now.place) slot.now.object slot.now.sender slot.now.args.now test.now) }
 {

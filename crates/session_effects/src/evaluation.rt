@@ -7,8 +7,7 @@ ghost use Rattle.session_model.specs.Targets.{all_converted, all_evaluated, eval
 ghost use Rattle.session_tables.specs.Tables.{IsPlaced, state_at};
 ghost use Rattle.variant_value.specs.Values.{converted};
 
-use plain_types::{Items, Text};
-use plain_types::{Code, Fault};
+use plain_types::{Code, Fault, Items, Text};
 use session_tables::Tables;
 use signature_core::Kind;
 use std::alloc::{AllocError, Global};
@@ -65,7 +64,7 @@ pub fn object_of(reader: &Reader, target: &Target) -> Result<u32, AllocError>
     }
 }
 
-/// The same of a target that need not be named.
+/// Returns the object of a target, which need not be named.
 pub fn named_object_of(reader: &Reader, target: &Option<Target>) -> Result<Option<u32>, AllocError>
     ensures { IfOk result (λ object.
         object ≡ named_object_of (state_at reader.now.tables.now reader.now.place) reader.now.object reader.now.sender target.now) }
@@ -127,7 +126,7 @@ pub fn truth_evaluated(
     }
 }
 
-/// As many values as there are kinds, each as one of its kind.
+/// Converts values to these kinds. There are as many values as kinds, and each becomes one of its kind.
 pub fn all_converted(
     alloc: Global,
     kinds: &[Kind],

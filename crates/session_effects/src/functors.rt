@@ -6,22 +6,21 @@ ghost use Rattle.stored_slots.specs.Functors.{AreArguments, index_of};
 ghost use Rattle.session_model.specs.Functors.{functor_at, functor_named, params_at};
 ghost use Rattle.session_effects.specs.Setup.{settings_of};
 
-use crate::caller::Caller;
-use plain_types::Text;
-use plain_types::Code;
+use crate::session_context::SessionContext;
+use plain_types::{Code, Text};
 use signature_core::Kind;
 use stored_slots::Functor;
 use variant_value::{TEXT_BYTES, Value};
 
 /// The functor with this index.
-pub fn functor_at<'a>(caller: &Caller<'a>, index: u32) -> Option<&'a Functor>
+pub fn functor_at<'a>(caller: &SessionContext<'a>, index: u32) -> Option<&'a Functor>
     ensures { option_copied result ≡ functor_at (settings_of caller.now.setup.now) index }
 {
     caller.setup.functors.get(index as usize)
 }
 
 /// The kinds of the parameters of the functor with this index.
-pub fn params_at<'a>(caller: &Caller<'a>, index: u32) -> &'a [Kind]
+pub fn params_at<'a>(caller: &SessionContext<'a>, index: u32) -> &'a [Kind]
     ensures { result.now ≡ params_at (settings_of caller.now.setup.now) index }
 {
     match functor_at(caller, index) {
@@ -31,7 +30,7 @@ pub fn params_at<'a>(caller: &Caller<'a>, index: u32) -> &'a [Kind]
 }
 
 /// The index of the functor of this name.
-pub fn functor_named(caller: &Caller, name: &Text) -> Result<u32, Code>
+pub fn functor_named(caller: &SessionContext, name: &Text) -> Result<u32, Code>
     ensures { result ≡ functor_named (settings_of caller.now.setup.now) name.now }
 {
     let functors = caller.setup.functors.as_slice();

@@ -5,27 +5,29 @@
 #![tactic(auto)]
 
 mod announcing;
-mod caller;
 mod class_layouts;
 mod connections;
-mod deeds;
 mod effects;
 mod evaluation;
 mod functors;
 mod methods;
+mod operations;
+mod session_context;
 mod setup;
 mod slot;
 mod values;
 mod writing;
 
-pub use announcing::{Announcement, News, Notice, announcements, property_name, told_args};
-pub use caller::Caller;
+pub use announcing::{
+    Announcement, NotifySignal, PendingAnnouncements, announcements, property_name, told_args,
+};
 pub use class_layouts::layouts;
 pub use connections::{Options, asked_connection, asked_functor_connection, asked_pattern};
-pub use deeds::{do_deed, do_found};
-pub use effects::{Emission, change, deleted, sent, truth};
+pub use effects::{Emission, apply_action, evaluate_test, resolve_delete, resolve_emit};
 pub use functors::{are_arguments, functor_at};
 pub use methods::{kinds_at, method_at, method_in, method_named, method_with, signal_named};
+pub use operations::{do_found, do_operation};
+pub use session_context::SessionContext;
 pub use setup::Setup;
 pub use slot::Slot;
 pub use values::values_of;

@@ -10,16 +10,15 @@ ghost use Rattle.session_tables.specs.Tables.{IsPlaced, state_at};
 ghost use Rattle.session_effects.specs.Methods.{its_methods, number_named};
 ghost use Rattle.session_effects.specs.Setup.{settings_of};
 
-use crate::caller::Caller;
+use crate::session_context::SessionContext;
 use class_table::Method;
-use plain_types::Text;
-use plain_types::{Code, Fault};
+use plain_types::{Code, Fault, Text};
 use session_tables::Tables;
 use signature_core::{Kind, Signature};
 
 /// The method of an object with this index.
 pub fn method_at<'a>(
-    caller: &Caller<'a>,
+    caller: &SessionContext<'a>,
     tables: &Tables,
     object: u32,
     index: u32,
@@ -33,7 +32,12 @@ pub fn method_at<'a>(
 }
 
 /// The kinds of the parameters of the method of an object with this index.
-pub fn kinds_at<'a>(caller: &Caller<'a>, tables: &Tables, object: u32, index: u32) -> &'a [Kind]
+pub fn kinds_at<'a>(
+    caller: &SessionContext<'a>,
+    tables: &Tables,
+    object: u32,
+    index: u32,
+) -> &'a [Kind]
     requires { IsPlaced tables.now caller.now.place }
     ensures { result.now ≡ kinds_at (its_methods caller.now tables.now object) index }
 {
@@ -45,7 +49,7 @@ pub fn kinds_at<'a>(caller: &Caller<'a>, tables: &Tables, object: u32, index: u3
 
 /// The index of the method of an object with this signature.
 pub fn method_with(
-    caller: &Caller,
+    caller: &SessionContext,
     tables: &Tables,
     object: u32,
     signature: &Signature,
@@ -64,7 +68,7 @@ pub fn method_with(
 
 /// The index of the signal of an object with this signature; a slot is no signal.
 pub fn signal_with(
-    caller: &Caller,
+    caller: &SessionContext,
     tables: &Tables,
     object: u32,
     signature: &Signature,
@@ -77,7 +81,7 @@ pub fn signal_with(
 }
 
 /// The index itself, where the method of an object with this index is a signal.
-fn signal_at(caller: &Caller, tables: &Tables, object: u32, index: u32) -> Result<u32, Code>
+fn signal_at(caller: &SessionContext, tables: &Tables, object: u32, index: u32) -> Result<u32, Code>
     requires { IsPlaced tables.now caller.now.place }
     ensures { result ≡ (if is_signal_at (its_methods caller.now tables.now object) index then Ok index else Err NoSuchMethod) }
 {
@@ -89,7 +93,7 @@ fn signal_at(caller: &Caller, tables: &Tables, object: u32, index: u32) -> Resul
 }
 
 /// Whether the method of an object with this index is a signal.
-pub fn is_signal(caller: &Caller, tables: &Tables, object: u32, index: u32) -> bool
+pub fn is_signal(caller: &SessionContext, tables: &Tables, object: u32, index: u32) -> bool
     requires { IsPlaced tables.now caller.now.place }
     ensures { result ≡ is_signal_at (its_methods caller.now tables.now object) index }
 {
@@ -101,7 +105,7 @@ pub fn is_signal(caller: &Caller, tables: &Tables, object: u32, index: u32) -> b
 
 /// The index of the method of an object that a text names.
 pub fn method_named(
-    caller: &Caller,
+    caller: &SessionContext,
     tables: &Tables,
     object: u32,
     text: &Text,
@@ -121,7 +125,7 @@ pub fn method_named(
 
 /// The index of the method that a text names, where a class has it. Most texts are the normal text of
 /// one.
-pub fn method_in(caller: &Caller, class: u32, text: &Text) -> Result<Option<u32>, Fault>
+pub fn method_in(caller: &SessionContext, class: u32, text: &Text) -> Result<Option<u32>, Fault>
     ensures { Answers result (number_named (methods (settings_of caller.now.setup.now).classes class) text.now) }
 {
     let found = caller.setup.classes.method_of_text(class, text.as_str());
@@ -131,10 +135,10 @@ pub fn method_in(caller: &Caller, class: u32, text: &Text) -> Result<Option<u32>
     method_spelled(caller, class, text)
 }
 
-/// The same of any text.
+/// Returns the index of the method that any text names, where a class has it.
 #[cold]
 #[inline(never)]
-fn method_spelled(caller: &Caller, class: u32, text: &Text) -> Result<Option<u32>, Fault>
+fn method_spelled(caller: &SessionContext, class: u32, text: &Text) -> Result<Option<u32>, Fault>
     ensures { Answers result (number_named (methods (settings_of caller.now.setup.now).classes class) text.now) }
 {
     let signature = Signature::normalise(caller.setup.alloc, text.as_str())?;
@@ -143,7 +147,7 @@ fn method_spelled(caller: &Caller, class: u32, text: &Text) -> Result<Option<u32
 
 /// The index of the signal of an object that a text names.
 pub fn signal_named(
-    caller: &Caller,
+    caller: &SessionContext,
     tables: &Tables,
     object: u32,
     text: &Text,

@@ -1,4 +1,4 @@
-//! What is fixed for the whole life of an engine.
+//! A setup is fixed for the whole life of an engine.
 ghost use Rattle.std.specs.Prelude.{◌≡◌, ◌≤◌, IfOk, length, map, option_map};
 ghost use Rattle.stored_slots.specs.declared.limit.TheConstants.{FUNCTORS};
 ghost use Rattle.std.specs.Result.{result_err};
@@ -6,12 +6,11 @@ ghost use Rattle.class_table.specs.Lookup.{method_text, methods, names, properti
 ghost use Rattle.session_model.specs.Classes.{class_index, class_refusal, named_class_refusal};
 
 use class_table::ClassTable;
-use plain_types::{Items, Text};
-use plain_types::Code;
+use plain_types::{Code, Items, Text};
 use std::alloc::{AllocError, Global};
 use stored_slots::Functor;
 
-/// What is fixed for the whole life of an engine, and the same for all of its sessions.
+/// A setup is fixed for the whole life of an engine, and the same for all of its sessions.
 #[derive(Drop)]
 pub struct Setup {
     pub alloc: Global,

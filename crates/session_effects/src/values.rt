@@ -5,14 +5,13 @@ ghost use Rattle.plain_types.specs.Answers.{Answers};
 ghost use Rattle.session_model.specs.Signals.{values_of};
 ghost use Rattle.session_effects.specs.Values.{is_limit};
 
-use plain_types::Items;
-use plain_types::{Code, Fault};
+use plain_types::{Code, Fault, Items};
 use signature_core::Kind;
 use std::alloc::Global;
 use variant_value::Value;
 
-/// As many values as there are kinds, each as one of its kind. Of two faults one that is no value comes
-/// before a text that is too long.
+/// Converts values to these kinds. There are as many values as kinds, and each becomes one of its kind. Of two
+/// faults one that is no value comes before a text that is too long.
 pub fn values_of(
     alloc: Global,
     kinds: &[Kind],

@@ -10,16 +10,15 @@ ghost use Rattle.session_tables.specs.Refused.{OnRefused};
 ghost use Rattle.session_tables.specs.Tables.{IsPlaced, state_at};
 ghost use Rattle.session_effects.specs.Actions.{KeepsOthers, Tries};
 ghost use Rattle.session_effects.specs.Setup.{settings_of};
-ghost use Rattle.session_effects.specs.declared.announcing.News.TheVariants.{Nothing};
+ghost use Rattle.session_effects.specs.declared.announcing.PendingAnnouncements.TheVariants.{Nothing};
 ghost use Rattle.session_effects.specs.Writing.{TriesToWrite, Writes, items_of};
 
-use crate::announcing::{News, news_of};
-use crate::caller::Caller;
+use crate::announcing::{PendingAnnouncements, news_of};
 use crate::effects::reader;
 use crate::evaluation::{evaluated, object_of};
+use crate::session_context::SessionContext;
 use crate::slot::Slot;
-use plain_types::Text;
-use plain_types::{Code, Fault};
+use plain_types::{Code, Fault, Text};
 use session_tables::{NamedWrite, Tables};
 use signature_core::Kind;
 use std::alloc::AllocError;
@@ -28,13 +27,13 @@ use variant_value::{TEXT_BYTES, Value};
 
 /// Does an action that writes a property, and returns what there is to tell of it.
 pub fn set(
-    caller: &Caller,
+    caller: &SessionContext,
     tables: &mut Tables,
     slot: &Slot,
     of: &Target,
     property: &Text,
     value: &Expr,
-) -> Result<News, Fault>
+) -> Result<PendingAnnouncements, Fault>
     requires { IsPlaced tables.old caller.now.place }
     ensures tries { Tries caller.now slot.now (e.Set of.now property.now value.now) tables.old
         (items_of (settings_of caller.now.setup.now) (state_at tables.new caller.now.place) slot.now.depth) tables.new result }
@@ -51,13 +50,13 @@ pub fn set(
 /// Writes the value of an expression to a property: to a declared one as a value of its kind, and else to
 /// a dynamic one.
 fn write(
-    caller: &Caller,
+    caller: &SessionContext,
     tables: &mut Tables,
     object: u32,
     class: u32,
     property: &Text,
     value: Value,
-) -> Result<News, Fault>
+) -> Result<PendingAnnouncements, Fault>
     requires placed { IsPlaced tables.old caller.now.place }
     requires class { HasClass (state_at tables.old caller.now.place) object class }
     ensures writes { TriesToWrite caller.now object
@@ -77,13 +76,13 @@ fn write(
         }
         NamedWrite::Undeclared(value) => {
             write_dynamic(caller, tables, object, property, value)?;
-            Ok(News::Nothing)
+            Ok(PendingAnnouncements::Nothing)
         }
     }
 }
 
 /// Why a text that is too long is not written: it does not fit a declared property of another kind.
-fn refusal_of_long(caller: &Caller, tables: &Tables, object: u32, property: &Text) -> Code
+fn refusal_of_long(caller: &SessionContext, tables: &Tables, object: u32, property: &Text) -> Code
     requires { IsPlaced tables.now caller.now.place }
     ensures { (text : List ℕ) → TEXT_BYTES < length text
         → acted_writing (state_at tables.now caller.now.place) object property.now (v.Text text) ≡ Err result }
@@ -96,13 +95,13 @@ fn refusal_of_long(caller: &Caller, tables: &Tables, object: u32, property: &Tex
 
 /// Gives a declared property a value of its kind, and returns what there is to tell of it.
 pub fn write_declared(
-    caller: &Caller,
+    caller: &SessionContext,
     tables: &mut Tables,
     object: u32,
     class: u32,
     number: usize,
     value: Value,
-) -> Result<News, AllocError>
+) -> Result<PendingAnnouncements, AllocError>
     requires placed { IsPlaced tables.old caller.now.place }
     requires class { HasClass (state_at tables.old caller.now.place) object class }
     requires short { IsShort value }
@@ -117,7 +116,7 @@ pub fn write_declared(
 /// Gives a dynamic property a value, or takes it away where the value is invalid. More than `DYNAMIC` of
 /// one object are `Limit`.
 pub fn write_dynamic(
-    caller: &Caller,
+    caller: &SessionContext,
     tables: &mut Tables,
     object: u32,
     name: &Text,

@@ -17,8 +17,8 @@ use Rattle.binding_graph.specs.Graph as graph
 use Rattle.binding_graph.specs.Graph.{is_open}
 use Rattle.binding_values.specs.Stored.{meant}
 use Rattle.session_model.specs.Binding.{Bound, asked_binding, bindable_property, reads_refusal, refusal_of}
-use Rattle.session_model.specs.Deeds.{behind}
-use Rattle.session_model.specs.Doing.{begun, in_state}
+use Rattle.session_model.specs.Operations.{behind}
+use Rattle.session_model.specs.Execution.{begun, in_state}
 use Rattle.session_model.specs.Items.{Next, puts}
 use Rattle.session_model.specs.Methods.{Found, ◌>>=◌}
 use Rattle.session_model.specs.Settings.{Settings}
@@ -27,7 +27,7 @@ use Rattle.session_model.specs.State.{State}
 use Rattle.session_model.proofs.ForCallers.{tells}
 use Rattle.session_tables.specs.declared.tables.Tables.{Tables}
 use Rattle.session_tables.specs.Tables.{state_at}
-use Rattle.session_effects.specs.declared.caller.Caller.{Caller}
+use Rattle.session_effects.specs.declared.session_context.SessionContext.{SessionContext}
 use Rattle.session_effects.specs.Setup.{settings_of}
 use Rattle.session_effects.specs.Writing.{told_items}
 use Rattle.session_engine.proofs.CommandsLemmas.{or_first, or_second}
@@ -82,7 +82,7 @@ pub read_passed : (state : State) (target : ℕ) (read : Read) (rest : List Read
 read_passed state target read rest is = reads_first state target read rest ∙ or_second _ (reads_refusal state target rest) is
 
 -- the changes that were found are those that are told
-pub comes_found : (caller : Caller) (old middle : Tables) (after : State) (written : Option Property) (found : List Change) → state_at middle caller.place ≡ after → found ≡ changes (state_at old caller.place) (state_at middle caller.place) written
+pub comes_found : (caller : SessionContext) (old middle : Tables) (after : State) (written : Option Property) (found : List Change) → state_at middle caller.place ≡ after → found ≡ changes (state_at old caller.place) (state_at middle caller.place) written
     → comes_to (settings_of caller.setup.now) (begun (settings_of caller.setup.now) (state_at old caller.place)) 0 after written ≡ comes caller old middle (told_items (settings_of caller.setup.now) (state_at middle caller.place) 0 found)
 comes_found caller old middle after written found is all =
     ap (λ after. comes_to (settings_of caller.setup.now) (begun (settings_of caller.setup.now) (state_at old caller.place)) 0 after written) (sym is)
@@ -96,7 +96,7 @@ changes_of_group before after = cond (is_open after.graph) [] (graph.changes bef
 abbrev pub group_ends : Settings → State → State → Next
 group_ends settings before after = puts (cond (is_open after.graph) [] (tells settings after 0 (graph.changes before.graph.last (showing after) None))) (in_state (begun settings before) after)
 
-pub comes_at_end : (caller : Caller) (old middle : Tables) (after : State) (found : List Change) → state_at middle caller.place ≡ after → found ≡ changes_of_group (state_at old caller.place) (state_at middle caller.place)
+pub comes_at_end : (caller : SessionContext) (old middle : Tables) (after : State) (found : List Change) → state_at middle caller.place ≡ after → found ≡ changes_of_group (state_at old caller.place) (state_at middle caller.place)
     → group_ends (settings_of caller.setup.now) (state_at old caller.place) after ≡ comes caller old middle (told_items (settings_of caller.setup.now) (state_at middle caller.place) 0 found)
 comes_at_end caller old middle after found is all =
     let settings = settings_of caller.setup.now in

@@ -11,15 +11,15 @@ use Rattle.property_store.specs.Store.{fields_in}
 use Rattle.session_model.specs.declared.post.Post.{Post}
 use Rattle.session_model.specs.Fitting.{IsRightPost}
 use Rattle.session_tables.specs.declared.tables.Tables.{Tables}
-use Rattle.session_tables.specs.Reaching.{AreShaped, FailsBy, heard, takes_some}
-use Rattle.session_tables.specs.Session.{Session, fresh, gone}
+use Rattle.session_tables.specs.Reaching.{AreShaped, FailsBy, after_posts, takes_some}
+use Rattle.session_tables.specs.Session.{Session, fresh, failed_session}
 use Rattle.session_tables.specs.Tables.{ChangesOnly, session_at, with_session}
 use Rattle.session_tables.proofs.ForCallers.{changes_session, session_unchanged, shaped_changed, session_there}
 use Rattle.session_engine.specs.Core.{EngineState, IsKept, IsWhole, place, seen_by_name, sessions}
 use Rattle.session_engine.specs.Items.{BeginsAnew, HasArrived}
 use Rattle.session_engine.specs.Sessions.{Fails}
 use Rattle.session_engine.proofs.EngineLemmas.{one_name, placed, sessions-place, sound_by_name}
-use Rattle.session_engine.proofs.SessionLemmas.{heard_state, kept_fresh, kept_gone, kept_heard}
+use Rattle.session_engine.proofs.SessionLemmas.{after_posts_state, kept_fresh, kept_gone, kept_after_posts}
 
 -- with these tables, and this mark that memory was refused
 abbrev pub changed : EngineState → Tables → Bool → EngineState
@@ -62,7 +62,7 @@ module _ (engine : EngineState) (new : Tables) (refused : Bool) (at : ℕ) (name
 
 -- a post has come to the session at a place
 module _ {T E : Type 0} (engine : EngineState) (new : Tables) (refused : Bool) (at : ℕ) (name from : List ℕ) (post : Post) (result : Result T E) (whole : IsWhole engine) (right : IsRightPost post) (there : place engine name ≡ Some at) (changes : ChangesOnly at engine.tables new)
-    (ok : OnOk result (session_at new at ≡ heard engine.settings.classes from (post ∷ []) (session_at engine.tables at))) (err : OnErr result (FailsBy from (post ∷ []) (session_at engine.tables at) (session_at new at)))
+    (ok : OnOk result (session_at new at ≡ after_posts engine.settings.classes from (post ∷ []) (session_at engine.tables at))) (err : OnErr result (FailsBy from (post ∷ []) (session_at engine.tables at) (session_at new at)))
     (found : OnOk result (refused ≡ engine.memory_refused)) (memory : OnErr result (IsTrue refused)) where
   found_before : IsFalse refused → IsFalse engine.memory_refused
   found_before fine = by result found memory
@@ -74,9 +74,9 @@ module _ {T E : Type 0} (engine : EngineState) (new : Tables) (refused : Bool) (
   kept_arrived : IsKept engine.settings refused (session_at new at)
   kept_arrived = by result ok err memory
     where
-      by : (result : Result T E) → OnOk result (session_at new at ≡ heard engine.settings.classes from (post ∷ []) (session_at engine.tables at)) → OnErr result (FailsBy from (post ∷ []) (session_at engine.tables at) (session_at new at)) → OnErr result (IsTrue refused)
+      by : (result : Result T E) → OnOk result (session_at new at ≡ after_posts engine.settings.classes from (post ∷ []) (session_at engine.tables at)) → OnErr result (FailsBy from (post ∷ []) (session_at engine.tables at) (session_at new at)) → OnErr result (IsTrue refused)
           → IsKept engine.settings refused (session_at new at)
-      by (Ok done) ok err memory = subst (IsKept engine.settings refused) (sym ok) (kept_heard engine.settings engine.memory_refused refused from (post ∷ []) (session_at engine.tables at) found_before (All-cons IsRightPost post [] right (All-nil IsRightPost)) (whole.kept at))
+      by (Ok done) ok err memory = subst (IsKept engine.settings refused) (sym ok) (kept_after_posts engine.settings engine.memory_refused refused from (post ∷ []) (session_at engine.tables at) found_before (All-cons IsRightPost post [] right (All-nil IsRightPost)) (whole.kept at))
       by (Err error) ok err memory = subst (λ mark. IsKept engine.settings mark (session_at new at)) (sym memory) (subst (IsKept engine.settings true) (sym err.2) (kept_gone engine.settings))
 
   pub whole_arrived : IsWhole (changed engine new refused)
@@ -91,14 +91,14 @@ module _ {T E : Type 0} (engine : EngineState) (new : Tables) (refused : Bool) (
       now : sessions (changed engine new refused) name ≡ session_at new at
       now = own_changed engine new refused at name whole there changes
 
-      by : (result : Result T E) → OnOk result (session_at new at ≡ heard engine.settings.classes from (post ∷ []) (session_at engine.tables at)) → OnErr result (FailsBy from (post ∷ []) (session_at engine.tables at) (session_at new at)) → OnOk result (refused ≡ engine.memory_refused)
+      by : (result : Result T E) → OnOk result (session_at new at ≡ after_posts engine.settings.classes from (post ∷ []) (session_at engine.tables at)) → OnErr result (FailsBy from (post ∷ []) (session_at engine.tables at) (session_at new at)) → OnOk result (refused ≡ engine.memory_refused)
           → OnErr result (IsTrue refused) → HasArrived (seen_by_name engine) (seen_by_name (changed engine new refused)) name from post (result_ok result)
       by (Ok done) ok err found memory =
-          let heard_it : sessions (changed engine new refused) name ≡ heard engine.settings.classes from (post ∷ []) (sessions engine name) = now ∙ ok ∙ ap (heard engine.settings.classes from (post ∷ [])) (sym own) in
+          let after_posts_it : sessions (changed engine new refused) name ≡ after_posts engine.settings.classes from (post ∷ []) (sessions engine name) = now ∙ ok ∙ ap (after_posts engine.settings.classes from (post ∷ [])) (sym own) in
           record {
-            state = λ fine. ap (λ (session : Session). session.state) heard_it
-                ∙ heard_state engine.settings from (post ∷ []) (sessions engine name) (ap (λ (session : Session). session.failed) own ∙ (whole.kept at).well (found_before fine));
-            hears = heard_it;
+            state = λ fine. ap (λ (session : Session). session.state) after_posts_it
+                ∙ after_posts_state engine.settings from (post ∷ []) (sessions engine name) (ap (λ (session : Session). session.failed) own ∙ (whole.kept at).well (found_before fine));
+            hears = after_posts_it;
             fails = tt;
             others = others_changed engine new refused at name whole there changes;
             settings = refl;
@@ -149,14 +149,14 @@ module _ (engine : EngineState) (new : Tables) (at : ℕ) (name : List ℕ) (who
   }
 
 -- the session at a place has failed for memory that was refused
-module _ (engine : EngineState) (new : Tables) (at : ℕ) (name : List ℕ) (whole : IsWhole engine) (there : place engine name ≡ Some at) (is : new ≡ with_session engine.tables at gone) where
+module _ (engine : EngineState) (new : Tables) (at : ℕ) (name : List ℕ) (whole : IsWhole engine) (there : place engine name ≡ Some at) (is : new ≡ with_session engine.tables at failed_session) where
   pub whole_failed : IsWhole (changed engine new true)
-  whole_failed = whole_put engine new at name gone whole there is true (λ found. absurd (true≢false found)) (kept_gone engine.settings)
+  whole_failed = whole_put engine new at name failed_session whole there is true (λ found. absurd (true≢false found)) (kept_gone engine.settings)
 
   pub fails_now : Fails (seen_by_name engine) (seen_by_name (changed engine new true)) name
   fails_now = record {
-    fails = own_put engine new at name gone whole there is true;
-    others = others_put engine new at name gone whole there is true;
+    fails = own_put engine new at name failed_session whole there is true;
+    others = others_put engine new at name failed_session whole there is true;
     settings = refl;
     memory = refl;
     sound = sound_by_name (changed engine new true) whole_failed;

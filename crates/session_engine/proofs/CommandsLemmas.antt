@@ -18,10 +18,10 @@ use Rattle.session_model.specs.declared.command.Command.{Command}
 use Rattle.session_model.specs.declared.command.Command.TheVariants as c
 use Rattle.session_model.specs.declared.query.Query.{Query}
 use Rattle.session_model.specs.Asked.{Ask, Asked, Reset, asked}
-use Rattle.session_model.specs.declared.deed.Deed.{Deed}
-use Rattle.session_model.specs.Deeds.{behind, deed_answer, deed_refusal, found_refusal, with_deed}
+use Rattle.session_model.specs.declared.operation.Operation.{Operation}
+use Rattle.session_model.specs.Operations.{behind, operation_answer, operation_refusal, found_refusal, with_operation}
 use Rattle.session_model.specs.Signals.{does_found}
-use Rattle.session_model.specs.Doing as doing
+use Rattle.session_model.specs.Execution as doing
 use Rattle.session_model.specs.Effects.{ended, replies, unless}
 use Rattle.session_model.specs.Fitting.{IsFittingAsked}
 use Rattle.session_model.specs.Methods.{Found}
@@ -34,15 +34,15 @@ use Rattle.session_model.specs.Thread as thread
 use Rattle.session_model.specs.Thread.{performs}
 use Rattle.session_tables.specs.declared.tables.Tables.{Tables}
 use Rattle.session_tables.specs.Refused.{OnRefused}
-use Rattle.session_tables.specs.Session.{Session, fresh, gone}
+use Rattle.session_tables.specs.Session.{Session, fresh, failed_session}
 use Rattle.session_tables.specs.Tables.{ChangesOnly, IsPlaced, failed_at, session_at, state_at, with_session, with_state}
-use Rattle.session_tables.specs.Reaching.{Hears, Reaches, heard}
-use Rattle.session_tables.proofs.ForCallers.{changes_same, changes_twice, changes_with, session_there, state_with, changes_session, heard-none, placed_shaped, session_unchanged, shaped_changed, shaped_twice}
-use Rattle.session_effects.specs.declared.caller.Caller.{Caller}
-use Rattle.dispatch.specs.declared.telling.Telling.{Telling}
+use Rattle.session_tables.specs.Reaching.{ReceivesPosts, Reaches, after_posts}
+use Rattle.session_tables.proofs.ForCallers.{changes_same, changes_twice, changes_with, session_there, state_with, changes_session, after_posts-none, placed_shaped, session_unchanged, shaped_changed, shaped_twice}
+use Rattle.session_effects.specs.declared.session_context.SessionContext.{SessionContext}
+use Rattle.dispatch.specs.declared.command_output.CommandOutput.{CommandOutput}
 use Rattle.session_engine.specs.Commands.{Obeys, OthersHear, Performs, Reads, its_effect, its_refusal, reply_after, reply_lines}
-use Rattle.dispatch.specs.Front.{IsFront}
-use Rattle.dispatch.specs.Telling.{doing_at, fresh_telling}
+use Rattle.dispatch.specs.Prefix.{IsPrefix}
+use Rattle.dispatch.specs.CommandOutput.{doing_at, fresh_output}
 use Rattle.dispatch.proofs.ForCallers.{front_none, front_same}
 use Rattle.session_engine.specs.Core.{EngineState, IsWhole, engine_state, place, seen_by_name, sessions, states}
 use Rattle.session_engine.specs.Returning.{IsAnswered, Returns, answer_lines, wants_memory}
@@ -55,8 +55,8 @@ use Rattle.session_engine.proofs.StepLemmas.{Ended, GaveUp, Loud, Marks, Own, Qu
 -- what changes one session alone is not heard by the others
 pub others_changed : (classes : List Class) (from : List ℕ) (old new : Tables) (place : ℕ) → ChangesOnly place old new → OthersHear classes from place [] old new false
 others_changed classes from old new place changes =
-    let unchanged : (at : ℕ) → IsFalse (eqb at place) → IsPlaced old at → session_at new at ≡ heard classes from [] (session_at old at) =
-    λ at apart placed. session_unchanged old new place at changes apart ∙ sym (heard-none classes from (session_at old at)) in
+    let unchanged : (at : ℕ) → IsFalse (eqb at place) → IsPlaced old at → session_at new at ≡ after_posts classes from [] (session_at old at) =
+    λ at apart placed. session_unchanged old new place at changes apart ∙ sym (after_posts-none classes from (session_at old at)) in
     record { shape = shaped_changed old new place changes; hear = λ at apart placed. inl (unchanged at apart placed); all = λ none. unchanged; one = λ some. absurd (true≢false (sym some)) }
 
 -- what they have heard of nested calls
@@ -67,7 +67,7 @@ others_reached classes from old new place posts failing reaches = record { shape
 others_then : (classes : List Class) (from : List ℕ) (old middle new : Tables) (place : ℕ) (posts : List Post) (failing : Bool) → OthersHear classes from place posts old middle failing → ChangesOnly place middle new → OthersHear classes from place posts old new failing
 others_then classes from old middle new place posts failing others changes = record {
   shape = shaped_twice old middle new others.shape (shaped_changed middle new place changes);
-  hear = λ at apart placed. subst (Hears classes from posts (session_at old at)) (sym (session_unchanged middle new place at changes apart)) (others.hear at apart placed);
+  hear = λ at apart placed. subst (ReceivesPosts classes from posts (session_at old at)) (sym (session_unchanged middle new place at changes apart)) (others.hear at apart placed);
   all = λ none at apart placed. session_unchanged middle new place at changes apart ∙ others.all none at apart placed;
   one = λ some. let it = others.one some in (it.0, it.1, it.2, it.3, ap (λ (session : Session). session.failed) (session_unchanged middle new place it.0 changes it.1) ∙ it.4);
 }
@@ -79,7 +79,7 @@ or_first a b code e = sym (ap (λ a. option_or a b) e)
 pub or_second : (a b : Option Code) → None ≡ a → option_or a b ≡ b
 or_second a b e = sym (ap (λ a. option_or a b) e)
 
-module _ (caller : Caller) (asked : Asked) (old new : Tables) where
+module _ (caller : SessionContext) (asked : Asked) (old new : Tables) where
   -- a command that is refused has changed nothing
   pub stopped : {T : Type 0} (lines : T → List Line) (code : Code) (result : Result T Fault) → IsErrAnd result (λ fault. fault ≡ Refused code) → its_refusal caller asked old ≡ Some code → new ≡ old → Performs caller asked old new false lines result
   stopped lines code (Ok value) h refused same = absurd h
@@ -99,20 +99,20 @@ module _ (caller : Caller) (asked : Asked) (old new : Tables) where
   passed_does passed = ap (λ refusal. unless refusal (state_at old caller.place) (its_effect caller asked old)) passed
 
   -- where memory was wanted in what it sets off, other sessions have heard the first of its posts
-  pub starved_last : {T : Type 0} (telling : Telling) (posts : List Post) (done : doing.Doing) (last : Line) (lines : T → List Line) (result : Result T Fault) → IsErrAnd result (λ fault. fault ≡ Memory) → its_refusal caller asked old ≡ None
-      → its_effect caller asked old ≡ ended (doing.line_told done last) → IsFront posts done.posts → Reaches caller.setup.now.classes caller.name.now caller.place posts old new false telling.failing → Performs caller asked old new telling.failing lines result
+  pub starved_last : {T : Type 0} (output : CommandOutput) (posts : List Post) (done : doing.Execution) (last : Line) (lines : T → List Line) (result : Result T Fault) → IsErrAnd result (λ fault. fault ≡ Memory) → its_refusal caller asked old ≡ None
+      → its_effect caller asked old ≡ ended (doing.line_told done last) → IsPrefix posts done.posts → Reaches caller.setup.now.classes caller.name.now caller.place posts old new false output.failing → Performs caller asked old new output.failing lines result
   unfolding doing.line_told
-  starved_last telling posts done last lines (Ok value) h passed effect front reaches = absurd h
-  starved_last telling posts done last lines (Err fault) h passed effect front reaches =
-      subst (λ fault. Performs caller asked old new telling.failing lines (Err fault)) (sym h)
+  starved_last output posts done last lines (Ok value) h passed effect front reaches = absurd h
+  starved_last output posts done last lines (Err fault) h passed effect front reaches =
+      subst (λ fault. Performs caller asked old new output.failing lines (Err fault)) (sym h)
       (record {
         returns = tt;
         posts = posts;
-        front = subst (λ (effect : Effect State Line Post). IsFront posts effect.posts) (sym (passed_does passed ∙ effect)) front;
+        front = subst (λ (effect : Effect State Line Post). IsPrefix posts effect.posts) (sym (passed_does passed ∙ effect)) front;
         posted = tt;
         done = tt;
         refused = tt;
-        others = others_reached caller.setup.now.classes caller.name.now old new caller.place posts telling.failing reaches;
+        others = others_reached caller.setup.now.classes caller.name.now old new caller.place posts output.failing reaches;
       })
 
   -- a fault of a call that is refused by the rest of its refusal
@@ -139,26 +139,26 @@ module _ (caller : Caller) (asked : Asked) (old new : Tables) where
   }
 
   -- so it does behind what was told by what it set off
-  pub replied_last : (telling : Telling) (answer : Answer) (posts : List Post) → its_refusal caller asked old ≡ None → its_effect caller asked old ≡ ended (doing.line_told (doing_at caller.place new telling posts) (Reply answer)) → Reaches caller.setup.now.classes caller.name.now caller.place posts old new false telling.failing
-      → Performs caller asked old new telling.failing (reply_after telling.lines) (Ok answer)
+  pub replied_last : (output : CommandOutput) (answer : Answer) (posts : List Post) → its_refusal caller asked old ≡ None → its_effect caller asked old ≡ ended (doing.line_told (doing_at caller.place new output posts) (Reply answer)) → Reaches caller.setup.now.classes caller.name.now caller.place posts old new false output.failing
+      → Performs caller asked old new output.failing (reply_after output.lines) (Ok answer)
   unfolding doing.line_told
-  replied_last telling answer posts passed effect reaches = record {
+  replied_last output answer posts passed effect reaches = record {
     returns = (passed, ap (λ effect. effect.lines) effect);
     posts = posts;
     front = tt;
     posted = sym (ap (λ effect. effect.posts) effect);
     done = left_as (state_at new caller.place) (ap (λ effect. effect.state) effect) refl reaches.own;
     refused = tt;
-    others = others_reached caller.setup.now.classes caller.name.now old new caller.place posts telling.failing reaches;
+    others = others_reached caller.setup.now.classes caller.name.now old new caller.place posts output.failing reaches;
   }
 
 -- where a command begins no session has failed by its posts
-pub at_first_reaches : (caller : Caller) (old new : Tables) (before after : Telling) (posts : List Post) → before ≡ fresh_telling caller.setup.now.turns → Reaches caller.setup.now.classes caller.name.now caller.place posts old new before.failing after.failing
+pub at_first_reaches : (caller : SessionContext) (old new : Tables) (before after : CommandOutput) (posts : List Post) → before ≡ fresh_output caller.setup.now.turns → Reaches caller.setup.now.classes caller.name.now caller.place posts old new before.failing after.failing
     → Reaches caller.setup.now.classes caller.name.now caller.place posts old new false after.failing
-at_first_reaches caller old new before after posts fresh reaches = subst (λ (telling : Telling). Reaches caller.setup.now.classes caller.name.now caller.place posts old new telling.failing after.failing) fresh reaches
+at_first_reaches caller old new before after posts fresh reaches = subst (λ (output : CommandOutput). Reaches caller.setup.now.classes caller.name.now caller.place posts old new output.failing after.failing) fresh reaches
 
 -- where what is looked for is not found
-pub found_fault : {T A : Type 0} (caller : Caller) (asked : Asked) (tables : Tables) (lines : T → List Line) (rest : Found A → Option Code) (found : Found A) (fault : Fault) (result : Result T Fault) → IsErrAnd result (λ other. other ≡ fault)
+pub found_fault : {T A : Type 0} (caller : SessionContext) (asked : Asked) (tables : Tables) (lines : T → List Line) (rest : Found A → Option Code) (found : Found A) (fault : Fault) (result : Result T Fault) → IsErrAnd result (λ other. other ≡ fault)
     → its_refusal caller asked tables ≡ rest found → ((code : Code) → rest (Err code) ≡ Some code) → Answers {T = A} (Err fault) found → Performs caller asked tables tables false lines result
 found_fault caller asked tables lines rest found (Refused code) result h is law why = stopped caller asked tables tables lines code result h (is ∙ ap rest why ∙ law code) refl
 found_fault caller asked tables lines rest found Memory result h is law why = starved caller asked tables tables lines result h (changes_same tables tables caller.place refl)
@@ -169,45 +169,63 @@ on_refused (Refused code) h = h
 on_refused Memory h = tt
 
 -- a query that is refused
-pub refused_reading : (caller : Caller) (query : Query) (tables : Tables) (code : Code) (result : Result Answer Fault) → IsErrAnd result (λ fault. fault ≡ Refused code)
+pub refused_reading : (caller : SessionContext) (query : Query) (tables : Tables) (code : Code) (result : Result Answer Fault) → IsErrAnd result (λ fault. fault ≡ Refused code)
     → query_answer caller.setup.now.classes (state_at tables caller.place) query ≡ Err code → Reads caller query tables result
 refused_reading caller query tables code (Ok answer) h refused = absurd h
 refused_reading caller query tables code (Err fault) h refused = subst (λ fault. Reads caller query tables (Err fault)) (sym h) (record { returns = refused })
 
 -- and one for which memory was wanted
-pub starved_reading : (caller : Caller) (query : Query) (tables : Tables) (result : Result Answer Fault) → IsErrAnd result (λ fault. fault ≡ Memory) → Reads caller query tables result
+pub starved_reading : (caller : SessionContext) (query : Query) (tables : Tables) (result : Result Answer Fault) → IsErrAnd result (λ fault. fault ≡ Memory) → Reads caller query tables result
 starved_reading caller query tables (Ok answer) h = absurd h
 starved_reading caller query tables (Err fault) h = subst (λ fault. Reads caller query tables (Err fault)) (sym h) (record { returns = tt })
 
--- where a deed is looked for, the first of two refusals, or what stands behind it
+-- where an operation is looked for, the first of two refusals, or what stands behind it
 pub behind_first : {A : Type 0} (a : Option Code) (found : Found A) (code : Code) → Some code ≡ a → behind a found ≡ Err code
 behind_first a found code e = sym (ap (λ a. behind a found) e)
 
 pub behind_second : {A : Type 0} (a : Option Code) (found : Found A) → None ≡ a → behind a found ≡ found
 behind_second a found e = sym (ap (λ a. behind a found) e)
 
--- a command does the deed that was found
-pub deed_performed : (caller : Caller) (asked : Asked) (found : Found Deed) (deed : Deed) (old new : Tables) (result : Result Answer Fault) → IsPlaced old caller.place
-    → its_refusal caller asked old ≡ found_refusal (state_at old caller.place) found → its_effect caller asked old ≡ does_found (state_at old caller.place) found → found ≡ Ok deed
-    → RefusedBy (deed_refusal (state_at old caller.place) deed) result → IfOk result (λ answer. answer ≡ deed_answer (state_at old caller.place) deed)
-    → OnOk result (new ≡ with_state old caller.place (with_deed (state_at old caller.place) deed)) → OnErr result (new ≡ old) → Performs caller asked old new false reply_lines result
-deed_performed caller asked found deed old new (Ok answer) placed refusal effect is passed answers done same =
-    replied caller asked old new (with_deed (state_at old caller.place) deed) answer placed (refusal ∙ ap (found_refusal (state_at old caller.place)) is ∙ passed)
-    (effect ∙ ap (does_found (state_at old caller.place)) is ∙ ap (replies (with_deed (state_at old caller.place) deed)) (sym answers)) done
-deed_performed caller asked found deed old new (Err (Refused code)) placed refusal effect is refused answers done same =
+-- a command does the operation that was found
+pub operation_performed : (caller : SessionContext) (asked : Asked) (found : Found Operation) (operation : Operation) (old new : Tables) (result : Result Answer Fault) → IsPlaced old caller.place
+    → its_refusal caller asked old ≡ found_refusal (state_at old caller.place) found → its_effect caller asked old ≡ does_found (state_at old caller.place) found → found ≡ Ok operation
+    → RefusedBy (operation_refusal (state_at old caller.place) operation) result → IfOk result (λ answer. answer ≡ operation_answer (state_at old caller.place) operation)
+    → OnOk result (new ≡ with_state old caller.place (with_operation (state_at old caller.place) operation)) → OnErr result (new ≡ old) → Performs caller asked old new false reply_lines result
+operation_performed caller asked found operation old new (Ok answer) placed refusal effect is passed answers done same =
+    replied caller asked old new (with_operation (state_at old caller.place) operation) answer placed (refusal ∙ ap (found_refusal (state_at old caller.place)) is ∙ passed)
+    (effect ∙ ap (does_found (state_at old caller.place)) is ∙ ap (replies (with_operation (state_at old caller.place) operation)) (sym answers)) done
+operation_performed caller asked found operation old new (Err (Refused code)) placed refusal effect is refused answers done same =
     stopped caller asked old new reply_lines code (Err (Refused code)) refl (refusal ∙ ap (found_refusal (state_at old caller.place)) is ∙ refused) same
-deed_performed caller asked found deed old new (Err Memory) placed refusal effect is passed answers done same =
+operation_performed caller asked found operation old new (Err Memory) placed refusal effect is passed answers done same =
     starved caller asked old new reply_lines (Err Memory) refl (changes_same old new caller.place same)
 
 -- a command that tells nothing before its reply
-pub silently : (caller : Caller) (asked : Asked) (old new : Tables) (telling : Telling) (result : Result Answer Fault) → telling ≡ fresh_telling caller.setup.now.turns
-    → Performs caller asked old new false reply_lines result → Performs caller asked old new telling.failing (reply_after telling.lines) result
-silently caller asked old new telling result fresh performed = subst (λ (telling : Telling). Performs caller asked old new telling.failing (reply_after telling.lines) result) (sym fresh) performed
+pub silently : (caller : SessionContext) (asked : Asked) (old new : Tables) (output : CommandOutput) (result : Result Answer Fault) → output ≡ fresh_output caller.setup.now.turns
+    → Performs caller asked old new false reply_lines result → Performs caller asked old new output.failing (reply_after output.lines) result
+silently caller asked old new output result fresh performed = subst (λ (output : CommandOutput). Performs caller asked old new output.failing (reply_after output.lines) result) (sym fresh) performed
 
--- nor does a query
-pub reads : (caller : Caller) (query : Query) (tables : Tables) (telling : Telling) (result : Result Answer Fault) → telling ≡ fresh_telling caller.setup.now.turns → Reads caller query tables result
-    → Performs caller (Ask query) tables tables telling.failing (reply_after telling.lines) result
-reads caller query tables telling result fresh read = silently caller (Ask query) tables tables telling result fresh (by result read.returns)
+-- nor does a command that leaves its session as it is, and replies
+pub replies_alone : (caller : SessionContext) (asked : Asked) (tables : Tables) (output : CommandOutput) (result : Result Answer Fault) → output ≡ fresh_output caller.setup.now.turns
+    → Returns (its_refusal caller asked tables) (λ answer. its_effect caller asked tables ≡ replies (state_at tables caller.place) answer) result → Performs caller asked tables tables output.failing (reply_after output.lines) result
+replies_alone caller asked tables output result fresh returns = silently caller asked tables tables output result fresh (by result returns)
+  where
+    by : (result : Result Answer Fault) → Returns (its_refusal caller asked tables) (λ answer. its_effect caller asked tables ≡ replies (state_at tables caller.place) answer) result → Performs caller asked tables tables false reply_lines result
+    by (Ok answer) (passed, effect) = record {
+      returns = (passed, ap (λ effect. effect.lines) effect);
+      posts = [];
+      front = tt;
+      posted = sym (ap (λ effect. effect.posts) effect);
+      done = left_as caller asked tables tables (state_at tables caller.place) (ap (λ effect. effect.state) effect) refl refl;
+      refused = tt;
+      others = others_changed caller.setup.now.classes caller.name.now tables tables caller.place (changes_same tables tables caller.place refl);
+    }
+    by (Err (Refused code)) refused = stopped caller asked tables tables reply_lines code (Err (Refused code)) refl refused refl
+    by (Err Memory) none = starved caller asked tables tables reply_lines (Err Memory) refl (changes_same tables tables caller.place refl)
+
+-- so does a query
+pub reads : (caller : SessionContext) (query : Query) (tables : Tables) (output : CommandOutput) (result : Result Answer Fault) → output ≡ fresh_output caller.setup.now.turns → Reads caller query tables result
+    → Performs caller (Ask query) tables tables output.failing (reply_after output.lines) result
+reads caller query tables output result fresh read = replies_alone caller (Ask query) tables output result fresh (by result read.returns)
   where
     settings : Settings
     settings = settings_of caller.setup.now
@@ -215,26 +233,15 @@ reads caller query tables telling result fresh read = silently caller (Ask query
     state : State
     state = state_at tables caller.place
 
-    by : (result : Result Answer Fault) → Answers result (query_answer settings.classes state query) → Performs caller (Ask query) tables tables false reply_lines result
-    by (Ok answer) read =
-        let effect = query_replies settings caller.name.now state query answer read in
-        record {
-          returns = (query_passed settings caller.name.now state query answer read, ap (λ effect. effect.lines) effect);
-          posts = [];
-          front = tt;
-          posted = sym (ap (λ effect. effect.posts) effect);
-          done = left_as caller (Ask query) tables tables state (ap (λ effect. effect.state) effect) refl refl;
-          refused = tt;
-          others = others_changed caller.setup.now.classes caller.name.now tables tables caller.place (changes_same tables tables caller.place refl);
-        }
-    by (Err (Refused code)) read =
-        stopped caller (Ask query) tables tables reply_lines code (Err (Refused code)) refl (query_refused settings caller.name.now state query code read) refl
-    by (Err Memory) read = starved caller (Ask query) tables tables reply_lines (Err Memory) refl (changes_same tables tables caller.place refl)
+    by : (result : Result Answer Fault) → Answers result (query_answer settings.classes state query) → Returns (its_refusal caller (Ask query) tables) (λ answer. its_effect caller (Ask query) tables ≡ replies state answer) result
+    by (Ok answer) read = (query_passed settings caller.name.now state query answer read, query_replies settings caller.name.now state query answer read)
+    by (Err (Refused code)) read = query_refused settings caller.name.now state query code read
+    by (Err Memory) read = tt
 
 -- one that is refused before it posts anything
-pub quietly : (caller : Caller) (asked : Asked) (old new : Tables) (telling : Telling) (lines : Answer → List Line) (result : Result Answer Fault) → telling ≡ fresh_telling caller.setup.now.turns
-    → Performs caller asked old new false lines result → Performs caller asked old new telling.failing lines result
-quietly caller asked old new telling lines result fresh performed = subst (λ (telling : Telling). Performs caller asked old new telling.failing lines result) (sym fresh) performed
+pub quietly : (caller : SessionContext) (asked : Asked) (old new : Tables) (output : CommandOutput) (lines : Answer → List Line) (result : Result Answer Fault) → output ≡ fresh_output caller.setup.now.turns
+    → Performs caller asked old new false lines result → Performs caller asked old new output.failing lines result
+quietly caller asked old new output lines result fresh performed = subst (λ (output : CommandOutput). Performs caller asked old new output.failing lines result) (sym fresh) performed
 
 -- every other command is no beginning anew
 pub not_reset : (command : Command) → (command ≡ c.Reset → ⊥) → is_reset (asked command) ≡ false
@@ -262,7 +269,7 @@ not_reset (c.Ask query) other = refl
 not_reset c.Reset other = absurd (other refl)
 
 -- a session that begins anew, whether it has failed or not
-module _ (caller : Caller) (old : Tables) (placed : IsPlaced old caller.place) where
+module _ (caller : SessionContext) (old : Tables) (placed : IsPlaced old caller.place) where
   open_to_reset : is_shut (session_at old caller.place) Reset ≡ false
   open_to_reset = by (failed_at old caller.place)
     where
@@ -298,7 +305,7 @@ module _ (caller : Caller) (old : Tables) (placed : IsPlaced old caller.place) w
   }
 
   -- it fails where its reply finds no memory
-  pub obeys_anew_wanting : (middle new : Tables) (was : Bool) → middle ≡ with_session old caller.place fresh → new ≡ with_session middle caller.place gone → Obeys caller Reset old new was true (Err Memory)
+  pub obeys_anew_wanting : (middle new : Tables) (was : Bool) → middle ≡ with_session old caller.place fresh → new ≡ with_session middle caller.place failed_session → Obeys caller Reset old new was true (Err Memory)
   obeys_anew_wanting middle new was e f =
       let first = changes_session old middle caller.place fresh placed e in
       let still = placed_shaped old middle caller.place (shaped_changed old middle caller.place first) placed in
@@ -308,9 +315,9 @@ module _ (caller : Caller) (old : Tables) (placed : IsPlaced old caller.place) w
         front = front_none _;
         done = tt;
         refused = tt;
-        fails = (ap (λ tables. session_at tables caller.place) f ∙ session_there middle caller.place gone still, open_to_reset);
+        fails = (ap (λ tables. session_at tables caller.place) f ∙ session_there middle caller.place failed_session still, open_to_reset);
         failing = false;
-        others = others_changed caller.setup.now.classes caller.name.now old new caller.place (changes_twice old middle new caller.place first (changes_session middle new caller.place gone still f));
+        others = others_changed caller.setup.now.classes caller.name.now old new caller.place (changes_twice old middle new caller.place first (changes_session middle new caller.place failed_session still f));
         mark = refl;
       }
 
@@ -322,7 +329,7 @@ marks_of was now true (Err (Refused code)) mark = Loud (inr refl) mark
 marks_of was now false (Err (Refused code)) mark = Quiet refl refl mark
 marks_of was now failing (Err Memory) mark = Loud (inl refl) mark
 
-module _ (caller : Caller) (asked : Asked) (old new : Tables) where
+module _ (caller : SessionContext) (asked : Asked) (old new : Tables) where
   -- what the session does with it
   abbrev session : Session
   session = session_at old caller.place
@@ -396,7 +403,7 @@ module _ (caller : Caller) (asked : Asked) (old new : Tables) where
     obeys_refusing code performed = obeys_refused was code (by_command ∙ performed.returns) performed.refused
 
     -- and where memory was wanted, for the command or for its reply, it has failed
-    pub obeys_wanting : (result : Result T Fault) (end : Tables) → IsPlaced old caller.place → Performs caller asked old new failing lines result → OnRefused result ⊥ → end ≡ with_session new caller.place gone → Obeys caller asked old end was true (Err Memory)
+    pub obeys_wanting : (result : Result T Fault) (end : Tables) → IsPlaced old caller.place → Performs caller asked old new failing lines result → OnRefused result ⊥ → end ≡ with_session new caller.place failed_session → Obeys caller asked old end was true (Err Memory)
     obeys_wanting result end placed performed unrefused e =
         let still = placed_shaped old new caller.place performed.others.shape placed in
         record {
@@ -405,16 +412,16 @@ module _ (caller : Caller) (asked : Asked) (old new : Tables) where
           front = posted result performed unrefused;
           done = tt;
           refused = tt;
-          fails = (ap (λ tables. session_at tables caller.place) e ∙ session_there new caller.place gone still, unshut);
+          fails = (ap (λ tables. session_at tables caller.place) e ∙ session_there new caller.place failed_session still, unshut);
           failing = failing;
-          others = others_then caller.setup.now.classes caller.name.now old new end caller.place performed.posts failing performed.others (changes_session new end caller.place gone still e);
+          others = others_then caller.setup.now.classes caller.name.now old new end caller.place performed.posts failing performed.others (changes_session new end caller.place failed_session still e);
           mark = refl;
         }
       where
-        posted : (result : Result T Fault) → (performed : Performs caller asked old new failing lines result) → OnRefused result ⊥ → IsFront performed.posts own_effect.posts
-        posted (Ok value) performed unrefused = subst (IsFront performed.posts) (performed.posted ∙ sym (ap (λ effect. effect.posts) (does_passed (by_command ∙ performed.returns.0)))) (front_same performed.posts)
+        posted : (result : Result T Fault) → (performed : Performs caller asked old new failing lines result) → OnRefused result ⊥ → IsPrefix performed.posts own_effect.posts
+        posted (Ok value) performed unrefused = subst (IsPrefix performed.posts) (performed.posted ∙ sym (ap (λ effect. effect.posts) (does_passed (by_command ∙ performed.returns.0)))) (front_same performed.posts)
         posted (Err (Refused code)) performed refused = absurd refused
-        posted (Err Memory) performed unrefused = subst (λ (effect : Effect State Line Post). IsFront performed.posts effect.posts) (sym (does_fine (settings_of caller.setup.now) caller.name.now session asked fine)) performed.front
+        posted (Err Memory) performed unrefused = subst (λ (effect : Effect State Line Post). IsPrefix performed.posts effect.posts) (sym (does_fine (settings_of caller.setup.now) caller.name.now session asked fine)) performed.front
 
   -- so it ends as a command does
   module _ (names : List (List ℕ)) (was now : Bool) where
@@ -441,7 +448,7 @@ module _ (caller : Caller) (asked : Asked) (old new : Tables) where
         stay (Err Memory) obeyed refused = tt
 
 -- an engine whose session at a place did a command
-module _ (caller : Caller) (asked : Asked) (old new : Tables) (was now : Bool) (result : Result (List Line) Fault) (obeyed : Obeys caller asked old new was now result)
+module _ (caller : SessionContext) (asked : Asked) (old new : Tables) (was now : Bool) (result : Result (List Line) Fault) (obeyed : Obeys caller asked old new was now result)
     (names : List (List ℕ)) (engine : EngineState) (whole : IsWhole (engine_state caller.setup.now names old was)) (fits : (state : State) → IsFittingAsked (settings_of caller.setup.now) state asked) (is : engine_state caller.setup.now names old was ≡ engine) (given : Some caller.name.now ≡ slice_get names caller.place) where
   module _ (name : List ℕ) (there : place engine name ≡ Some caller.place) where
     same : name ≡ caller.name.now
@@ -486,8 +493,8 @@ module _ (caller : Caller) (asked : Asked) (old new : Tables) (was now : Bool) (
         stays (Err (Refused code)) kept = ap (λ tables. sessions (engine_state caller.setup.now names tables now)) kept ∙ ap sessions is
         stays (Err Memory) kept = tt
 
-        ends_so : (result : Result (List Line) Fault) → OnMemory result ((session_at new caller.place ≡ gone) × IsFalse (is_shut (session_at old caller.place) asked))
-            → OnMemory result (sessions (engine_state caller.setup.now names new now) name ≡ gone) × OnMemory result (IsFalse (is_shut (sessions engine name) asked))
+        ends_so : (result : Result (List Line) Fault) → OnMemory result ((session_at new caller.place ≡ failed_session) × IsFalse (is_shut (session_at old caller.place) asked))
+            → OnMemory result (sessions (engine_state caller.setup.now names new now) name ≡ failed_session) × OnMemory result (IsFalse (is_shut (sessions engine name) asked))
         ends_so (Ok lines) fails = (tt, tt)
         ends_so (Err (Refused code)) fails = (tt, tt)
         ends_so (Err Memory) fails = (sessions-place (engine_state caller.setup.now names new now) name caller.place now_there ∙ fails.0, subst (λ (session : Session). IsFalse (is_shut session asked)) own fails.1)

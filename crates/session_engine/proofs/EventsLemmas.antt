@@ -15,7 +15,7 @@ use Rattle.session_model.specs.Asked as asked
 use Rattle.session_model.specs.Effects.{ended}
 use Rattle.session_model.specs.Posting.{spin_of}
 use Rattle.session_model.specs.Agenda.{call_items, event_items, method_items}
-use Rattle.session_model.specs.Doing.{Doing, first_taken, line_told, turn_taken}
+use Rattle.session_model.specs.Execution.{Execution, first_taken, line_told, turn_taken}
 use Rattle.session_model.specs.Items.{Item, Spin}
 use Rattle.session_model.specs.Methods.{method_at}
 use Rattle.session_model.specs.Run.{run}
@@ -26,14 +26,14 @@ use Rattle.session_model.proofs.ForCallers.{at_end, by_change, by_step, in_parts
 use Rattle.session_tables.specs.declared.tables.Tables.{Tables}
 use Rattle.session_tables.specs.Tables.{IsPlaced, state_at, with_state}
 use Rattle.session_tables.proofs.ForCallers.{state_with, reaches_twice}
-use Rattle.session_effects.specs.declared.caller.Caller.{Caller}
+use Rattle.session_effects.specs.declared.session_context.SessionContext.{SessionContext}
 use Rattle.session_effects.specs.Setup.{settings_of}
 use Rattle.session_engine.specs.Commands.{Performs, its_effect, reply_after}
-use Rattle.dispatch.specs.declared.telling.Telling.{Telling}
-use Rattle.dispatch.specs.Telling.{doing_at, fresh_telling, spent}
+use Rattle.dispatch.specs.declared.command_output.CommandOutput.{CommandOutput}
+use Rattle.dispatch.specs.CommandOutput.{doing_at, fresh_output, spent}
 use Rattle.dispatch.proofs.ForCallers.{spent_is, SoFar, here, reaches_none}
 use Rattle.session_engine.proofs.CommandsLemmas.{at_first_reaches, replied_last}
-use Rattle.dispatch.specs.Agenda.{Does}
+use Rattle.dispatch.specs.Agenda.{RunsItems}
 use Rattle.session_tables.specs.Reaching.{Reaches}
 use Rattle.session_effects.proofs.ForCallers.{keeps_with}
 use Rattle.std.proofs.lemmas.List.{append-nil}
@@ -60,10 +60,10 @@ items_without_first settings state (event.Call call) = by call.callee
     by (callee.Functor index) = refl
 
 -- an event more was taken, with a turn
-abbrev pub with_event_taken : Telling → Telling
-with_event_taken telling = record { lines = telling.lines; turns = telling.turns - 1; spent = telling.spent; taken = telling.taken + 1; failing = telling.failing }
+abbrev pub with_event_taken : CommandOutput → CommandOutput
+with_event_taken output = record { lines = output.lines; turns = output.turns - 1; spent = output.spent; taken = output.taken + 1; failing = output.failing }
 
-module _ (settings : Settings) (place : ℕ) (old middle : Tables) (before : Telling) (placed : IsPlaced old place) (e : middle ≡ with_state old place (without_first (state_at old place))) (earlier : List Post) where
+module _ (settings : Settings) (place : ℕ) (old middle : Tables) (before : CommandOutput) (placed : IsPlaced old place) (e : middle ≡ with_state old place (without_first (state_at old place))) (earlier : List Post) where
   -- the session with the first event taken
   taken_is : first_taken (turn_taken (doing_at place old before earlier)) ≡ doing_at place middle (with_event_taken before) earlier
   unfolding first_taken turn_taken
@@ -80,7 +80,7 @@ module _ (settings : Settings) (place : ℕ) (old middle : Tables) (before : Tel
       ∙ sym (by_step settings Spin doing _ (rule.spin_taken settings doing first _ (first_is _ first is) some))
 
 -- so far events were taken, and the next one is taken too
-pub event_taken : (caller : Caller) (start old middle : Tables) (at_first before : Telling) (placed : IsPlaced start caller.place) → IsPlaced old caller.place → SoFar caller (here caller (Spin ∷ []) start at_first) (here caller (Spin ∷ []) old before) start old at_first before
+pub event_taken : (caller : SessionContext) (start old middle : Tables) (at_first before : CommandOutput) (placed : IsPlaced start caller.place) → IsPlaced old caller.place → SoFar caller (here caller (Spin ∷ []) start at_first) (here caller (Spin ∷ []) old before) start old at_first before
     → middle ≡ with_state old caller.place (without_first (state_at old caller.place)) → (first : Event) → slice_get (state_at old caller.place).queue.events 0 ≡ Some first → 0 < before.turns
     → SoFar caller (here caller (Spin ∷ []) start at_first) (here caller (event_items (settings_of caller.setup.now) (state_at middle caller.place) first ++ Spin ∷ []) middle (with_event_taken before)) start middle at_first (with_event_taken before)
 event_taken caller start old middle at_first before placed still so e first is some = record {
@@ -91,15 +91,15 @@ event_taken caller start old middle at_first before placed still so e first is s
 }
 
 -- what it comes to is done, and then the next one is taken
-pub spin_goes_on : (settings : Settings) (items : List Item) (doing new done : Doing) → run settings items doing ≡ new → run settings (items ++ Spin ∷ []) doing ≡ done → run settings (Spin ∷ []) new ≡ done
+pub spin_goes_on : (settings : Settings) (items : List Item) (doing new done : Execution) → run settings items doing ≡ new → run settings (items ++ Spin ∷ []) doing ≡ done → run settings (Spin ∷ []) new ≡ done
 spin_goes_on settings items doing new done does begun = ap (run settings (Spin ∷ [])) (sym does) ∙ sym (in_parts settings items (Spin ∷ []) doing) ∙ begun
 
 -- with no event left all is done
-pub spin_ends : (settings : Settings) (doing : Doing) (start : Doing) → length doing.state.queue.events ≤ 0 → run settings (Spin ∷ []) doing ≡ start → start ≡ doing
+pub spin_ends : (settings : Settings) (doing : Execution) (start : Execution) → length doing.state.queue.events ≤ 0 → run settings (Spin ∷ []) doing ≡ start → start ≡ doing
 spin_ends settings doing start none begun = sym begun ∙ by_change settings Spin doing doing (rule.spin_empty settings doing (none_waits _ none))
 
 -- an event that finds no turn left is told of, and none is taken any more
-pub spin_spent : (settings : Settings) (place : ℕ) (tables : Tables) (before after : Telling) (earlier : List Post) → 0 < length (state_at tables place).queue.events → before.turns ≡ 0 → after ≡ spent before
+pub spin_spent : (settings : Settings) (place : ℕ) (tables : Tables) (before after : CommandOutput) (earlier : List Post) → 0 < length (state_at tables place).queue.events → before.turns ≡ 0 → after ≡ spent before
     → run settings (Spin ∷ []) (doing_at place tables before earlier) ≡ doing_at place tables after earlier
 spin_spent settings place tables before after earlier some none e = by (state_at tables place).queue.events refl
   where
@@ -110,9 +110,9 @@ spin_spent settings place tables before after earlier some none e = by (state_at
         ∙ spent_is place tables before after earlier e
 
 -- a call that was queued is made
-module _ (settings : Settings) (place : ℕ) (tables : Tables) (telling : Telling) (earlier : List Post) (call : QueuedCall) where
-  abbrev its_doing : Doing
-  its_doing = doing_at place tables telling earlier
+module _ (settings : Settings) (place : ℕ) (tables : Tables) (output : CommandOutput) (earlier : List Post) (call : QueuedCall) where
+  abbrev its_doing : Execution
+  its_doing = doing_at place tables output earlier
 
   abbrev its_items : List Item
   its_items = call_items settings (state_at tables place) call call.callee
@@ -121,7 +121,7 @@ module _ (settings : Settings) (place : ℕ) (tables : Tables) (telling : Tellin
   by_callee called is = ap (call_items settings (state_at tables place) call) is
 
   -- a functor is run
-  pub calls_functor : (index : ℕ) → call.callee ≡ callee.Functor index → (done : Doing) → run settings (call_items settings (state_at tables place) call (callee.Functor index)) its_doing ≡ done → run settings its_items its_doing ≡ done
+  pub calls_functor : (index : ℕ) → call.callee ≡ callee.Functor index → (done : Execution) → run settings (call_items settings (state_at tables place) call (callee.Functor index)) its_doing ≡ done → run settings its_items its_doing ≡ done
   calls_functor index is done does = ap (λ (items : List Item). run settings items its_doing) (by_callee (callee.Functor index) is) ∙ does
 
   module _ (index : ℕ) (is : call.callee ≡ callee.Method index) where
@@ -133,33 +133,33 @@ module _ (settings : Settings) (place : ℕ) (tables : Tables) (telling : Tellin
     calls_none has = ap (λ (items : List Item). run settings items its_doing) (by_method None has) ∙ at_end settings its_doing
 
     -- and one that is there is
-    pub calls_method : (method : Method) → Some method ≡ method_at settings (state_at tables place) call.object index → (done : Doing)
+    pub calls_method : (method : Method) → Some method ≡ method_at settings (state_at tables place) call.object index → (done : Execution)
         → run settings (method_items call.object index call.sender call.args 0 0 method) its_doing ≡ done → run settings its_items its_doing ≡ done
     calls_method method has done does = ap (λ (items : List Item). run settings items its_doing) (by_method (Some method) has) ∙ does
 
 -- no turn is given back
-pub turns_left : (settings : Settings) (agenda : List Item) (place : ℕ) (old new : Tables) (before after : Telling) (earlier posts : List Post) → run settings agenda (doing_at place old before earlier) ≡ doing_at place new after posts → after.turns ≤ before.turns
+pub turns_left : (settings : Settings) (agenda : List Item) (place : ℕ) (old new : Tables) (before after : CommandOutput) (earlier posts : List Post) → run settings agenda (doing_at place old before earlier) ≡ doing_at place new after posts → after.turns ≤ before.turns
 turns_left settings agenda place old new before after earlier posts does =
-    subst (λ (doing : Doing). doing.turns ≤ before.turns) does (run_shrinks settings agenda (doing_at place old before earlier)).turns
+    subst (λ (doing : Execution). doing.turns ≤ before.turns) does (run_shrinks settings agenda (doing_at place old before earlier)).turns
 
 -- turns and events that were taken do not grow together
-pub few_taken : (settings : Settings) (agenda : List Item) (place : ℕ) (old new : Tables) (before after : Telling) (earlier posts : List Post) → run settings agenda (doing_at place old before earlier) ≡ doing_at place new after posts → after.turns + after.taken ≤ before.turns + before.taken
+pub few_taken : (settings : Settings) (agenda : List Item) (place : ℕ) (old new : Tables) (before after : CommandOutput) (earlier posts : List Post) → run settings agenda (doing_at place old before earlier) ≡ doing_at place new after posts → after.turns + after.taken ≤ before.turns + before.taken
 few_taken settings agenda place old new before after earlier posts does =
-    subst (λ (doing : Doing). doing.turns + doing.taken ≤ before.turns + before.taken) does (run_shrinks settings agenda (doing_at place old before earlier)).taken
+    subst (λ (doing : Execution). doing.turns + doing.taken ≤ before.turns + before.taken) does (run_shrinks settings agenda (doing_at place old before earlier)).taken
 
 -- what came of it is replied last
-pub spin_runs : (caller : Caller) (old new : Tables) (before : Telling) → before ≡ fresh_telling caller.setup.now.turns
+pub spin_runs : (caller : SessionContext) (old new : Tables) (before : CommandOutput) → before ≡ fresh_output caller.setup.now.turns
     → let done = run (settings_of caller.setup.now) (Spin ∷ []) (doing_at caller.place old before []) in its_effect caller asked.Spin old ≡ ended (line_told done (line.Reply (a.Spun (spin_of done))))
 spin_runs caller old new before fresh =
     let settings = settings_of caller.setup.now in
     let state = state_at old caller.place in
     rule.performs_spin settings caller.name.now state
     ∙ spun_last settings state
-    ∙ ap (λ (doing : Doing). ended (line_told (run settings (Spin ∷ []) doing) (line.Reply (a.Spun (spin_of (run settings (Spin ∷ []) doing)))))) (sym (ap (λ (telling : Telling). doing_at caller.place old telling []) fresh))
+    ∙ ap (λ (doing : Execution). ended (line_told (run settings (Spin ∷ []) doing) (line.Reply (a.Spun (spin_of (run settings (Spin ∷ []) doing)))))) (sym (ap (λ (output : CommandOutput). doing_at caller.place old output []) fresh))
 
 -- so the command is performed
-pub performs_spun : {T E : Type 0} (caller : Caller) (old new : Tables) (before after : Telling) (value : T) (spin : Came) → before ≡ fresh_telling caller.setup.now.turns
-    → Does {E = E} caller (Spin ∷ []) old new before after (Ok value) → spin ≡ spin_after after.taken (state_at new caller.place).queue
+pub performs_spun : {T E : Type 0} (caller : SessionContext) (old new : Tables) (before after : CommandOutput) (value : T) (spin : Came) → before ≡ fresh_output caller.setup.now.turns
+    → RunsItems {E = E} caller (Spin ∷ []) old new before after (Ok value) → spin ≡ spin_after after.taken (state_at new caller.place).queue
     → Performs caller asked.Spin old new after.failing (reply_after after.lines) (Ok (a.Spun spin))
 performs_spun caller old new before after value spin fresh does is =
     let settings = settings_of caller.setup.now in
@@ -167,6 +167,6 @@ performs_spun caller old new before after value spin fresh does is =
     let end = doing_at caller.place new after does.posts in
     replied_last caller asked.Spin old new after (a.Spun spin) does.posts (rule.refusal_spin settings caller.name.now state)
     (spin_runs caller old new before fresh
-    ∙ ap (λ (done : Doing). ended (line_told done (line.Reply (a.Spun (spin_of done))))) (does.runs [])
+    ∙ ap (λ (done : Execution). ended (line_told done (line.Reply (a.Spun (spin_of done))))) (does.runs [])
     ∙ ap (λ (spin : Came). ended (line_told end (line.Reply (a.Spun spin)))) (sym is))
     (at_first_reaches caller old new before after does.posts fresh does.reaches)

@@ -23,14 +23,14 @@ use Rattle.session_model.specs.declared.line.Line.TheVariants as line
 use Rattle.session_model.specs.Absence.{absence}
 use Rattle.session_model.specs.Agenda.{method_items, with_turn}
 use Rattle.session_model.specs.Asked.{Invoke}
-use Rattle.session_model.specs.Doing.{Doing, line_told, turn_taken, used_up}
+use Rattle.session_model.specs.Execution.{Execution, line_told, turn_taken, used_up}
 use Rattle.session_model.specs.Effects.{does_next, ended}
 use Rattle.session_model.specs.Items.{Emit, Item, Next, Run, puts}
 use Rattle.session_model.specs.Methods.{Found, ◌>>=◌, is_signal_at, kinds_at, method_at, methods_of, signature_in}
 use Rattle.session_model.specs.Run.{run}
 use Rattle.session_model.specs.Settings.{Settings}
 use Rattle.plain_types.specs.declared.connection_type.ConnectionType.{ConnectionType}
-use Rattle.session_model.specs.Posting.{is_queued, post_refusal}
+use Rattle.session_model.specs.Posting.{is_queued, enqueue_refusal}
 use Rattle.session_model.specs.Refusing.{later_refusal, values_refusal}
 use Rattle.session_model.specs.Signals.{asked_method, asked_values, invoked, invoked_later, invokes}
 use Rattle.session_model.specs.Thread.{performs}
@@ -41,14 +41,14 @@ use Rattle.session_tables.specs.Classes.{HasClass}
 use Rattle.session_tables.specs.Tables.{state_at}
 use Rattle.session_effects.specs.Methods.{number_named}
 use Rattle.session_effects.proofs.ForCallers.{methods_by_class}
-use Rattle.session_effects.specs.declared.caller.Caller.{Caller}
-use Rattle.dispatch.specs.declared.telling.Telling.{Telling}
+use Rattle.session_effects.specs.declared.session_context.SessionContext.{SessionContext}
+use Rattle.dispatch.specs.declared.command_output.CommandOutput.{CommandOutput}
 use Rattle.session_engine.specs.Commands.{Performs, its_effect, its_refusal, reply_after}
 use Rattle.session_effects.specs.Setup.{settings_of}
-use Rattle.dispatch.specs.Telling.{doing_at, fresh_telling}
+use Rattle.dispatch.specs.CommandOutput.{doing_at, fresh_output}
 use Rattle.session_engine.proofs.CommandsLemmas.{at_first_reaches, or_second, replied_last}
-use Rattle.dispatch.specs.Agenda.{DoesNext}
-use Rattle.dispatch.specs.Front.{IsFront}
+use Rattle.dispatch.specs.Agenda.{RunsNext}
+use Rattle.dispatch.specs.Prefix.{IsPrefix}
 use Rattle.dispatch.proofs.ForCallers.{front_same}
 
 -- what a text names among the methods of an object's class
@@ -89,38 +89,38 @@ pub kinds_are : (settings : Settings) (state : State) (target index : ℕ) (meth
 kinds_are settings state target index method has = ap (λ (found : Option Method). option_map_or (λ method. method.signature.kinds) found []) has
 
 -- a method that is called at once: a slot takes a turn for that
-abbrev pub called_now : Bool → List Item → Doing → Next
+abbrev pub called_now : Bool → List Item → Execution → Next
 called_now signal items doing = if signal then puts items doing else with_turn doing (puts items)
 
-pub invoked_is : (settings : Settings) (place : ℕ) (tables : Tables) (telling : Telling) (object index : ℕ) (values : List Value) (method : Method) → telling ≡ fresh_telling settings.turns → Some method ≡ method_at settings (state_at tables place) object index
-    → called_now method.is_signal (method_items object index 0 values 0 0 method) (doing_at place tables telling []) ≡ invoked settings (state_at tables place) object index values
-invoked_is settings place tables telling object index values method fresh has =
-    by method.is_signal (doing_at place tables telling [])
-    ∙ ap (λ (found : Option Method). now (option_map_or (λ method. method.is_signal) found false) (doing_at place tables telling [])) has
-    ∙ ap (λ (telling : Telling). now (is_signal_at (methods_of settings (state_at tables place) object) index) (doing_at place tables telling [])) fresh
+pub invoked_is : (settings : Settings) (place : ℕ) (tables : Tables) (output : CommandOutput) (object index : ℕ) (values : List Value) (method : Method) → output ≡ fresh_output settings.turns → Some method ≡ method_at settings (state_at tables place) object index
+    → called_now method.is_signal (method_items object index 0 values 0 0 method) (doing_at place tables output []) ≡ invoked settings (state_at tables place) object index values
+invoked_is settings place tables output object index values method fresh has =
+    by method.is_signal (doing_at place tables output [])
+    ∙ ap (λ (found : Option Method). now (option_map_or (λ method. method.is_signal) found false) (doing_at place tables output [])) has
+    ∙ ap (λ (output : CommandOutput). now (is_signal_at (methods_of settings (state_at tables place) object) index) (doing_at place tables output [])) fresh
   where
-    now : Bool → Doing → Next
+    now : Bool → Execution → Next
     now signal doing = if signal then puts (Emit object index values 0 ∷ []) doing else with_turn doing (puts (Run object index 0 values 0 ∷ []))
 
-    by : (signal : Bool) (doing : Doing) → called_now signal (if signal then Emit object index values 0 ∷ [] else Run object index 0 values 0 ∷ []) doing ≡ now signal doing
+    by : (signal : Bool) (doing : Execution) → called_now signal (if signal then Emit object index values 0 ∷ [] else Run object index 0 values 0 ∷ []) doing ≡ now signal doing
     by true doing = refl
     by false doing = refl
 
 -- it goes by whether it is a signal, and by the turns that are left
-module _ (settings : Settings) (items : List Item) (doing : Doing) where
-  abbrev runs : Bool → Doing
+module _ (settings : Settings) (items : List Item) (doing : Execution) where
+  abbrev runs : Bool → Execution
   runs signal = let next = called_now signal items doing in run settings next.items next.doing
 
-  used_front : IsFront doing.posts (used_up doing).posts
+  used_front : IsPrefix doing.posts (used_up doing).posts
   unfolding used_up
-  used_front = cond_both doing.spent doing _ (λ (new : Doing). IsFront doing.posts new.posts) (λ spent. front_same doing.posts) (λ fresh. front_same doing.posts)
+  used_front = cond_both doing.spent doing _ (λ (new : Execution). IsPrefix doing.posts new.posts) (λ spent. front_same doing.posts) (λ fresh. front_same doing.posts)
 
-  pub now_front : (signal : Bool) → IsFront doing.posts (called_now signal items doing).doing.posts
+  pub now_front : (signal : Bool) → IsPrefix doing.posts (called_now signal items doing).doing.posts
   unfolding turn_taken
   now_front true = front_same doing.posts
   now_front false = by (doing.turns == 0)
     where
-      by : (none : Bool) → IsFront doing.posts (cond none (puts [] (used_up doing)) (puts items (turn_taken doing))).doing.posts
+      by : (none : Bool) → IsPrefix doing.posts (cond none (puts [] (used_up doing)) (puts items (turn_taken doing))).doing.posts
       by true = used_front
       by false = front_same doing.posts
 
@@ -129,17 +129,17 @@ module _ (settings : Settings) (items : List Item) (doing : Doing) where
       let is : (doing.turns == 0) ≡ true = grind (arith, nat_tests, none) in
       ap runs slot ∙ ap (λ (next : Next). run settings next.items next.doing) (cond-true (doing.turns == 0) _ _ is) ∙ at_end settings (used_up doing)
 
-  pub now_run : (signal : Bool) → signal ≡ false → 0 < doing.turns → (done : Doing) → run settings items (record doing { turns = doing.turns - 1 }) ≡ done → runs signal ≡ done
+  pub now_run : (signal : Bool) → signal ≡ false → 0 < doing.turns → (done : Execution) → run settings items (record doing { turns = doing.turns - 1 }) ≡ done → runs signal ≡ done
   unfolding turn_taken
   now_run signal slot some done does =
       let is : (doing.turns == 0) ≡ false = grind (arith, nat_tests, some) in
       ap runs slot ∙ ap (λ (next : Next). run settings next.items next.doing) (cond-false (doing.turns == 0) _ _ is) ∙ does
 
-  pub now_sent : (signal : Bool) → signal ≡ true → (done : Doing) → run settings items doing ≡ done → runs signal ≡ done
+  pub now_sent : (signal : Bool) → signal ≡ true → (done : Execution) → run settings items doing ≡ done → runs signal ≡ done
   now_sent signal sent done does = ap runs sent ∙ does
 
 -- why a method is not invoked, where the object is there and the signature spelled
-module _ (caller : Caller) (object : ℕ) (text : List ℕ) (args : List Data) (mode : ConnectionType) (priority : Priority) (old new : Tables) (signature : Signature)
+module _ (caller : SessionContext) (object : ℕ) (text : List ℕ) (args : List Data) (mode : ConnectionType) (priority : Priority) (old new : Tables) (signature : Signature)
     (there : None ≡ absence (state_at old caller.place) object) (spelled : ok_or (signature_of text) BadSignature ≡ Ok signature) where
   abbrev the_settings : Settings
   the_settings = settings_of caller.setup.now
@@ -161,7 +161,7 @@ module _ (caller : Caller) (object : ℕ) (text : List ℕ) (args : List Data) (
   pub refusal_absent : asked_method the_settings the_state object text ≡ None → the_refusal ≡ None
   refusal_absent asked = refusal_found None asked ∙ by (is_queued mode)
     where
-      by : (b : Bool) → cond (b && false) (post_refusal the_state.queue) None ≡ None
+      by : (b : Bool) → cond (b && false) (enqueue_refusal the_state.queue) None ≡ None
       by true = refl
       by false = refl
 
@@ -171,14 +171,14 @@ module _ (caller : Caller) (object : ℕ) (text : List ℕ) (args : List Data) (
 
     -- a call that is made at once is not refused any more
     pub refusal_now : is_queued mode ≡ false → the_refusal ≡ None
-    refusal_now at_once = refusal_given ∙ ap (λ (b : Bool). cond (b && true) (post_refusal the_state.queue) None) at_once
+    refusal_now at_once = refusal_given ∙ ap (λ (b : Bool). cond (b && true) (enqueue_refusal the_state.queue) None) at_once
 
     -- and one that is made later where it cannot be posted
-    pub refusal_later : is_queued mode ≡ true → the_refusal ≡ post_refusal the_state.queue
-    refusal_later later = refusal_given ∙ ap (λ (b : Bool). cond (b && true) (post_refusal the_state.queue) None) later
+    pub refusal_later : is_queued mode ≡ true → the_refusal ≡ enqueue_refusal the_state.queue
+    refusal_later later = refusal_given ∙ ap (λ (b : Bool). cond (b && true) (enqueue_refusal the_state.queue) None) later
 
 -- what is invoked at once tells its reply last
-pub invoke_runs : (caller : Caller) (object : ℕ) (text : List ℕ) (args : List Data) (mode : ConnectionType) (priority : Priority) (old : Tables) (before : Telling) (index : ℕ) (values : List Value) (method : Method) → before ≡ fresh_telling caller.setup.now.turns
+pub invoke_runs : (caller : SessionContext) (object : ℕ) (text : List ℕ) (args : List Data) (mode : ConnectionType) (priority : Priority) (old : Tables) (before : CommandOutput) (index : ℕ) (values : List Value) (method : Method) → before ≡ fresh_output caller.setup.now.turns
     → Some method ≡ method_at (settings_of caller.setup.now) (state_at old caller.place) object index
     → is_queued mode ≡ false → asked_method (settings_of caller.setup.now) (state_at old caller.place) object text ≡ Some index
     → asked_values (settings_of caller.setup.now) (state_at old caller.place) object index args ≡ Ok values
@@ -195,12 +195,12 @@ invoke_runs caller object text args mode priority old before index values method
     ∙ ap (λ (next : Next). ended (line_told (run settings next.items next.doing) (line.Reply (a.Truth true)))) (sym (invoked_is settings caller.place old before object index values method fresh has))
 
 -- so it is performed
-pub performs_invoked : {T E : Type 0} (caller : Caller) (object : ℕ) (text : List ℕ) (args : List Data) (mode : ConnectionType) (priority : Priority) (old new : Tables) (before after : Telling) (value : T) (index : ℕ) (values : List Value) (method : Method) → before ≡ fresh_telling caller.setup.now.turns
+pub performs_invoked : {T E : Type 0} (caller : SessionContext) (object : ℕ) (text : List ℕ) (args : List Data) (mode : ConnectionType) (priority : Priority) (old new : Tables) (before after : CommandOutput) (value : T) (index : ℕ) (values : List Value) (method : Method) → before ≡ fresh_output caller.setup.now.turns
     → Some method ≡ method_at (settings_of caller.setup.now) (state_at old caller.place) object index
     → is_queued mode ≡ false → its_refusal caller (Invoke object text args mode priority) old ≡ None
     → asked_method (settings_of caller.setup.now) (state_at old caller.place) object text ≡ Some index
     → asked_values (settings_of caller.setup.now) (state_at old caller.place) object index args ≡ Ok values
-    → DoesNext {E = E} caller (λ earlier. called_now method.is_signal (method_items object index 0 values 0 0 method) (doing_at caller.place old before earlier)) old new before after (Ok value)
+    → RunsNext {E = E} caller (λ earlier. called_now method.is_signal (method_items object index 0 values 0 0 method) (doing_at caller.place old before earlier)) old new before after (Ok value)
     → Performs caller (Invoke object text args mode priority) old new after.failing (reply_after after.lines) (Ok (a.Truth true))
 performs_invoked caller object text args mode priority old new before after value index values method fresh has at_once passed found given does =
     replied_last caller (Invoke object text args mode priority) old new after (a.Truth true) does.posts passed
@@ -209,7 +209,7 @@ performs_invoked caller object text args mode priority old new before after valu
     (at_first_reaches caller old new before after does.posts fresh does.reaches)
 
 -- what is invoked later is posted, and replied at once
-pub posts_invoked : (caller : Caller) (object : ℕ) (text : List ℕ) (args : List Data) (mode : ConnectionType) (priority : Priority) (state : State) (index : ℕ) (values : List Value)
+pub posts_invoked : (caller : SessionContext) (object : ℕ) (text : List ℕ) (args : List Data) (mode : ConnectionType) (priority : Priority) (state : State) (index : ℕ) (values : List Value)
     → is_queued mode ≡ true → asked_method (settings_of caller.setup.now) state object text ≡ Some index → asked_values (settings_of caller.setup.now) state object index args ≡ Ok values
     → performs (settings_of caller.setup.now) caller.name.now state (Invoke object text args mode priority) ≡ invoked_later state object index values priority
 posts_invoked caller object text args mode priority state index values later found given =

@@ -19,7 +19,7 @@ use Rattle.session_model.specs.Machine.{machine}
 use Rattle.session_model.specs.State.{State}
 use Rattle.session_model.specs.Thread.{Settings, arrive_all}
 use Rattle.session_model.proofs.ForCallers.{lawful}
-use Rattle.session_tables.specs.Reaching.{Hears, heard}
+use Rattle.session_tables.specs.Reaching.{ReceivesPosts, after_posts}
 use Rattle.session_tables.specs.Session.{Session}
 use Rattle.session_engine.specs.declared.item.Item.{Item}
 use Rattle.session_engine.specs.Items.{Coming, HasArrived, HasAdded, HasCome, HaveCome, RunsAlone, SparesItsSession, all_lines, item_of}
@@ -35,9 +35,9 @@ all_lines-append [] ys = refl
 all_lines-append (x ∷ xs) ys = ap (λ lines. x ++ lines) (all_lines-append xs ys) ∙ sym (append_assoc x (all_lines xs) (all_lines ys))
 
 -- a session that has failed hears nothing
-deaf : (classes : List Class) (from : List ℕ) (posts : List Post) (old new : Session) → IsTrue old.failed → Hears classes from posts old new → new ≡ old
-deaf classes from posts old new failed (inl heard) = heard ∙ cond-true old.failed old (record { state = arrive_all classes old.state from posts; failed = false }) failed
-deaf classes from posts old new failed (inr (fine, taken, gone)) = absurd (both_ways _ fine failed)
+deaf : (classes : List Class) (from : List ℕ) (posts : List Post) (old new : Session) → IsTrue old.failed → ReceivesPosts classes from posts old new → new ≡ old
+deaf classes from posts old new failed (inl after_posts) = after_posts ∙ cond-true old.failed old (record { state = arrive_all classes old.state from posts; failed = false }) failed
+deaf classes from posts old new failed (inr (fine, taken, failed_session)) = absurd (both_ways _ fine failed)
 
 -- what follows of items that have come, whatever they are: where memory was never refused, what a session alone
 -- is told and how it is left; who has failed, and why memory was refused

@@ -18,7 +18,7 @@ use Rattle.session_model.specs.declared.line.Answer.TheVariants as a
 use Rattle.session_model.specs.declared.line.Line.{Line}
 use Rattle.session_model.specs.Absence.{absence}
 use Rattle.session_model.specs.Asked.{Asked, Set}
-use Rattle.session_model.specs.Doing.{begun}
+use Rattle.session_model.specs.Execution.{begun}
 use Rattle.session_model.specs.Effects.{does_next}
 use Rattle.session_model.specs.Items.{Item}
 use Rattle.session_model.specs.Methods.{Found, ◌>>=◌}
@@ -30,16 +30,16 @@ use Rattle.session_tables.specs.declared.tables.Tables.{Tables}
 use Rattle.session_tables.specs.Refused.{OnRefused}
 use Rattle.session_tables.specs.Tables.{ChangesOnly, IsPlaced, state_at}
 use Rattle.session_effects.specs.Actions.{KeepsOthers}
-use Rattle.session_effects.specs.declared.caller.Caller.{Caller}
-use Rattle.session_effects.specs.declared.announcing.News.{News}
+use Rattle.session_effects.specs.declared.session_context.SessionContext.{SessionContext}
+use Rattle.session_effects.specs.declared.announcing.PendingAnnouncements.{PendingAnnouncements}
 use Rattle.session_effects.specs.Setup.{settings_of}
 use Rattle.session_effects.specs.Writing.{TriesToWrite, Writes, items_of}
-use Rattle.dispatch.specs.declared.telling.Telling.{Telling}
+use Rattle.dispatch.specs.declared.command_output.CommandOutput.{CommandOutput}
 use Rattle.session_engine.specs.Commands.{Performs, its_effect, its_refusal, reply_after}
-use Rattle.dispatch.specs.Telling.{doing_at, fresh_telling}
+use Rattle.dispatch.specs.CommandOutput.{doing_at, fresh_output}
 use Rattle.session_engine.proofs.CommandsLemmas.{or_second, starved, stopped}
 use Rattle.session_engine.proofs.ToldLemmas.{performs_told, starved_told}
-use Rattle.dispatch.specs.Agenda.{Does}
+use Rattle.dispatch.specs.Agenda.{RunsItems}
 use Rattle.dispatch.proofs.ForCallers.{does_none}
 use Rattle.session_effects.proofs.ForCallers.{keeps_same}
 use Rattle.std.specs.declared.alloc.AllocError.{AllocError}
@@ -104,14 +104,14 @@ dynamic_undeclared state object name value writing e = by value e
     by (v.Text text) e = given (dynamic_refusal state.store object name) (v.Text text) e
 
 -- a property's writing that is refused, or for which memory was wanted
-pub written_fault : {T U : Type 0} (caller : Caller) (asked : Asked) (old new : Tables) (lines : T → List Line) (object : ℕ) (wanted : Found Writing) (tell : U → News) (fault : Fault) (result : Result T Fault) → IsErrAnd result (λ other. other ≡ fault)
+pub written_fault : {T U : Type 0} (caller : SessionContext) (asked : Asked) (old new : Tables) (lines : T → List Line) (object : ℕ) (wanted : Found Writing) (tell : U → PendingAnnouncements) (fault : Fault) (result : Result T Fault) → IsErrAnd result (λ other. other ≡ fault)
     → its_refusal caller asked old ≡ result_err wanted → TriesToWrite caller object wanted old tell new (Err fault) → OnRefused {T = U} (Err fault) (new ≡ old) → ChangesOnly caller.place old new → Performs caller asked old new false lines result
 written_fault caller asked old new lines object wanted tell (Refused code) result h is why same only = stopped caller asked old new lines code result h (is ∙ ap result_err why) same
 written_fault caller asked old new lines object wanted tell Memory result h is why same only = starved caller asked old new lines result h only
 
 -- a command that writes what was found
-module _ (caller : Caller) (object : ℕ) (property : List ℕ) (json : Data) (old middle new : Tables) (before after : Telling) (writing : Writing) (replied : Bool) (news : News)
-    (is : is_declared writing ≡ replied) (there : None ≡ absence (state_at old caller.place) object) (fresh : before ≡ fresh_telling caller.setup.now.turns) (asked : asked_writing (state_at old caller.place) object property json ≡ Ok writing)
+module _ (caller : SessionContext) (object : ℕ) (property : List ℕ) (json : Data) (old middle new : Tables) (before after : CommandOutput) (writing : Writing) (replied : Bool) (news : PendingAnnouncements)
+    (is : is_declared writing ≡ replied) (there : None ≡ absence (state_at old caller.place) object) (fresh : before ≡ fresh_output caller.setup.now.turns) (asked : asked_writing (state_at old caller.place) object property json ≡ Ok writing)
     (writes : Writes caller object writing old news middle) (placed : IsPlaced old caller.place) (keeps : KeepsOthers caller.place old middle) where
   abbrev pub items : List Item
   items = items_of (settings_of caller.setup.now) (state_at middle caller.place) 0 news
@@ -126,14 +126,14 @@ module _ (caller : Caller) (object : ℕ) (property : List ℕ) (json : Data) (o
       set_written (settings_of caller.setup.now) caller.name.now (state_at old caller.place) object property json writing asked
       ∙ ap (λ truth. does_next (settings_of caller.setup.now) (written (settings_of caller.setup.now) (begun (settings_of caller.setup.now) (state_at old caller.place)) object 0 writing) (a.Truth truth)) is
 
-  pub performs_written : {T E : Type 0} (value : T) → Does {E = E} caller items middle new before after (Ok value) → Performs caller (Set object property json) old new after.failing (reply_after after.lines) (Ok (a.Truth replied))
+  pub performs_written : {T E : Type 0} (value : T) → RunsItems {E = E} caller items middle new before after (Ok value) → Performs caller (Set object property json) old new after.failing (reply_after after.lines) (Ok (a.Truth replied))
   performs_written value does =
       performs_told caller (Set object property json) old middle new before after items _ (a.Truth replied) placed fresh set_passed set_comes (writes 0 (begun (settings_of caller.setup.now) (state_at old caller.place))) keeps value does
 
-  pub starved_written : {T E U : Type 0} (error : E) (lines : U → List Line) (result : Result U Fault) → IsErrAnd result (λ fault. fault ≡ Memory) → Does {T = T} caller items middle new before after (Err error) → Performs caller (Set object property json) old new after.failing lines result
+  pub starved_written : {T E U : Type 0} (error : E) (lines : U → List Line) (result : Result U Fault) → IsErrAnd result (λ fault. fault ≡ Memory) → RunsItems {T = T} caller items middle new before after (Err error) → Performs caller (Set object property json) old new after.failing lines result
   starved_written error lines result wanted does =
       starved_told caller (Set object property json) old middle new before after items _ (a.Truth replied) placed fresh set_passed set_comes (writes 0 (begun (settings_of caller.setup.now) (state_at old caller.place))) keeps error lines result wanted does
 
 -- what is not told of comes to nothing
-pub tells_none : (caller : Caller) (tables : Tables) (telling : Telling) → Does {T = Unit {0}} {E = AllocError} caller [] tables tables telling telling (Ok tt)
-tells_none caller tables telling = does_none caller [] tables telling tables telling (Ok tt) (keeps_same tables tables caller.place refl) refl (λ earlier. at_end (settings_of caller.setup.now) (doing_at caller.place tables telling earlier))
+pub tells_none : (caller : SessionContext) (tables : Tables) (output : CommandOutput) → RunsItems {T = Unit {0}} {E = AllocError} caller [] tables tables output output (Ok tt)
+tells_none caller tables output = does_none caller [] tables output tables output (Ok tt) (keeps_same tables tables caller.place refl) refl (λ earlier. at_end (settings_of caller.setup.now) (doing_at caller.place tables output earlier))

@@ -18,9 +18,9 @@ use Rattle.session_model.specs.Refusing.{refusal}
 use Rattle.session_model.specs.State.{IsDeclared, IsSound, State}
 use Rattle.session_model.specs.Thread.{Settings, arrive_all, arrives, does, performs}
 use Rattle.session_model.proofs.ForCallers.{arrive_all-is, keeps_declared, keeps_fitting, keeps_sound, keeps_named}
-use Rattle.session_tables.specs.Session.{Session, fresh, gone}
-use Rattle.session_tables.specs.Reaching.{Hears, heard}
-use Rattle.dispatch.specs.Front.{IsFront}
+use Rattle.session_tables.specs.Session.{Session, fresh, failed_session}
+use Rattle.session_tables.specs.Reaching.{ReceivesPosts, after_posts}
+use Rattle.dispatch.specs.Prefix.{IsPrefix}
 use Rattle.session_engine.specs.Core.{IsKept}
 use Rattle.session_engine.specs.Sessions.{IsSoundSession, is_reset, is_shut, session_after, session_does, session_refusal}
 
@@ -101,7 +101,7 @@ module _ (settings : Settings) (name : List ℕ) (session : Session) (asked : As
     pub right_posts : All IsRightPost (session_does settings name session asked).posts
     right_posts = fitting_state.1
 
-    pub right_front : (posts : List Post) → IsFront posts (session_does settings name session asked).posts → All IsRightPost posts
+    pub right_front : (posts : List Post) → IsPrefix posts (session_does settings name session asked).posts → All IsRightPost posts
     right_front posts front = first_part posts front.0 (subst (All IsRightPost) front.1 right_posts)
       where
         first_part : (posts rest : List Post) → All IsRightPost (posts ++ rest) → All IsRightPost posts
@@ -111,17 +111,17 @@ module _ (settings : Settings) (name : List ℕ) (session : Session) (asked : As
 pub fresh_sound : (settings : Settings) → IsSoundSession settings fresh
 fresh_sound settings = record { sound = keeps_sound.at_first; declared = keeps_declared.at_first settings.classes; fitting = keeps_fitting.at_first settings; empty = λ failed. absurd (true≢false (sym failed)) }
 
-pub gone_sound : (settings : Settings) → IsSoundSession settings gone
+pub gone_sound : (settings : Settings) → IsSoundSession settings failed_session
 gone_sound settings = record { sound = keeps_sound.at_first; declared = keeps_declared.at_first settings.classes; fitting = keeps_fitting.at_first settings; empty = λ failed. refl }
 
 -- a session that has not failed is in the state that posts leave
-pub heard_state : (settings : Settings) (from : List ℕ) (posts : List Post) (session : Session) → session.failed ≡ false → (heard settings.classes from posts session).state ≡ all_arrive (machine settings) session.state from posts
-heard_state settings from posts session fine =
+pub after_posts_state : (settings : Settings) (from : List ℕ) (posts : List Post) (session : Session) → session.failed ≡ false → (after_posts settings.classes from posts session).state ≡ all_arrive (machine settings) session.state from posts
+after_posts_state settings from posts session fine =
     ap (λ (session : Session). session.state) (cond-false session.failed session (record { state = arrive_all settings.classes session.state from posts; failed = false }) fine) ∙ sym (arrive_all-is settings session.state from posts)
 
 -- a session is sound when it has heard right posts
-heard_sound : (settings : Settings) (from : List ℕ) (posts : List Post) (session : Session) → All IsRightPost posts → IsSoundSession settings session → IsSoundSession settings (heard settings.classes from posts session)
-heard_sound settings from posts session right sound = by session.failed refl
+after_posts_sound : (settings : Settings) (from : List ℕ) (posts : List Post) (session : Session) → All IsRightPost posts → IsSoundSession settings session → IsSoundSession settings (after_posts settings.classes from posts session)
+after_posts_sound settings from posts session right sound = by session.failed refl
   where
     arrived : (state : State) (posts : List Post) → IsSound state → IsSound (arrive_all settings.classes state from posts)
     arrived state [] sound = sound
@@ -149,7 +149,7 @@ named_after settings name session asked are is named = by (is_shut session asked
     by false = keeps_named.by_command settings name session.state asked are is named
 
 -- and so does what a session hears, or where it fails by it
-pub named_hears : (classes : List Class) (from : List ℕ) (posts : List Post) (old new : Session) → Hears classes from posts old new → AreNamed old.state → AreNamed new.state
+pub named_hears : (classes : List Class) (from : List ℕ) (posts : List Post) (old new : Session) → ReceivesPosts classes from posts old new → AreNamed old.state → AreNamed new.state
 named_hears classes from posts old new (inl is) named =
     subst (λ (session : Session). AreNamed session.state) (sym is)
     (cond_both old.failed old (record { state = arrive_all classes old.state from posts; failed = false }) (λ (session : Session). AreNamed session.state) (λ failed. named) (λ fine. arrived old.state posts named))
@@ -160,8 +160,8 @@ named_hears classes from posts old new (inl is) named =
 named_hears classes from posts old new (inr fails) named = subst (λ (session : Session). AreNamed session.state) (sym fails.2) keeps_named.at_first
 
 -- what holds of every session holds of it then too
-pub kept_heard : (settings : Settings) (was now : Bool) (from : List ℕ) (posts : List Post) (session : Session) → (IsFalse now → IsFalse was) → All IsRightPost posts → IsKept settings was session → IsKept settings now (heard settings.classes from posts session)
-kept_heard settings was now from posts session less right kept = record { well = by session.failed refl; sound = heard_sound settings from posts session right kept.sound }
+pub kept_after_posts : (settings : Settings) (was now : Bool) (from : List ℕ) (posts : List Post) (session : Session) → (IsFalse now → IsFalse was) → All IsRightPost posts → IsKept settings was session → IsKept settings now (after_posts settings.classes from posts session)
+kept_after_posts settings was now from posts session less right kept = record { well = by session.failed refl; sound = after_posts_sound settings from posts session right kept.sound }
   where
     by : (failed : Bool) → session.failed ≡ failed → IsFalse now → IsFalse (cond failed session (record { state = arrive_all settings.classes session.state from posts; failed = false })).failed
     by true e = λ none. kept.well (less none)
@@ -171,5 +171,5 @@ kept_heard settings was now from posts session less right kept = record { well =
 pub kept_fresh : (settings : Settings) (refused : Bool) → IsKept settings refused fresh
 kept_fresh settings refused = record { well = λ found. refl; sound = fresh_sound settings }
 
-pub kept_gone : (settings : Settings) → IsKept settings true gone
+pub kept_gone : (settings : Settings) → IsKept settings true failed_session
 kept_gone settings = record { well = λ none. absurd (true≢false none); sound = gone_sound settings }

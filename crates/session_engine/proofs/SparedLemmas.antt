@@ -15,9 +15,9 @@ use Rattle.session_model.specs.Machine.{machine}
 use Rattle.session_model.specs.Refusing.{refusal}
 use Rattle.session_model.specs.State.{State}
 use Rattle.session_model.specs.Thread.{Settings, arrives, does, performs}
-use Rattle.session_tables.specs.Reaching.{Hears, heard}
+use Rattle.session_tables.specs.Reaching.{ReceivesPosts, after_posts}
 use Rattle.session_tables.specs.Session.{Session}
-use Rattle.session_tables.proofs.ForCallers.{heard-append, heard-none}
+use Rattle.session_tables.proofs.ForCallers.{after_posts-append, after_posts-none}
 use Rattle.session_engine.specs.Items.{Coming, HasArrived, HasCome, HaveCome, SparesItsSession, all_lines}
 use Rattle.session_engine.specs.Sessions.{IsStep, Sessions, is_reset, is_shut, session_does, states_of}
 
@@ -37,7 +37,7 @@ posts_of settings name state (theory.Arrival from post) = []
 -- every other session has heard these posts, or has failed
 abbrev OthersHear : Sessions → Sessions → List ℕ → List Post → Type 0
 OthersHear old new name posts = (other : List ℕ) → IsFalse (bytes_eq other name)
-    → (new.session other ≡ heard old.settings.classes name posts (old.session other)) ⊎ IsTrue (new.session other).failed
+    → (new.session other ≡ after_posts old.settings.classes name posts (old.session other)) ⊎ IsTrue (new.session other).failed
 
 -- one item that found memory, in a session that had not failed
 record DoesOne (old new : Sessions) (name : List ℕ) (item : Coming) (told : List Line) : Type 0 where
@@ -56,8 +56,8 @@ does_ajar settings name session asked well =
     ap (λ b. unless (if b then Some SessionFailed else refusal settings name session.state asked) session.state (performs settings name session.state asked)) (ajar session asked well)
 
 -- a session that has failed by posts has failed
-hears_or_fails : (classes : List Class) (from : List ℕ) (posts : List Post) (one other : Session) → Hears classes from posts one other
-    → (other ≡ heard classes from posts one) ⊎ IsTrue other.failed
+hears_or_fails : (classes : List Class) (from : List ℕ) (posts : List Post) (one other : Session) → ReceivesPosts classes from posts one other
+    → (other ≡ after_posts classes from posts one) ⊎ IsTrue other.failed
 hears_or_fails classes from posts one other (inl hears) = inl hears
 hears_or_fails classes from posts one other (inr fails) = inr (ap (λ (session : Session). session.failed) fails.2)
 
@@ -69,20 +69,20 @@ does_own old new name asked told well step =
       own = step.leaves ∙ ap₂ (λ (state : State) (failed : Bool). record { state = state; failed = failed }) (ap (λ (effect : Effect State Line Post). effect.state) same) (ajar (old.session name) asked well);
       others = λ other elsewhere.
           hears_or_fails old.settings.classes name _ (old.session other) (new.session other)
-          (subst (λ posts. Hears old.settings.classes name posts (old.session other) (new.session other)) (step.posted ∙ ap (λ (effect : Effect State Line Post). effect.posts) same) (step.others other elsewhere));
+          (subst (λ posts. ReceivesPosts old.settings.classes name posts (old.session other) (new.session other)) (step.posted ∙ ap (λ (effect : Effect State Line Post). effect.posts) same) (step.others other elsewhere));
       settings = step.settings;
     }
 
-heard_well : (classes : List Class) (from : List ℕ) (post : Post) (state : State) (failed : Bool) → IsFalse failed
-    → heard classes from (post ∷ []) (record { state = state; failed = failed }) ≡ record { state = arrives classes state from post; failed = false }
-heard_well classes from post state true well = absurd (cc well)
-heard_well classes from post state false well = refl
+after_posts_well : (classes : List Class) (from : List ℕ) (post : Post) (state : State) (failed : Bool) → IsFalse failed
+    → after_posts classes from (post ∷ []) (record { state = state; failed = failed }) ≡ record { state = arrives classes state from post; failed = false }
+after_posts_well classes from post state true well = absurd (cc well)
+after_posts_well classes from post state false well = refl
 
 does_arrival : (old new : Sessions) (name from : List ℕ) (post : Post) (told : List Line) → IsFalse (old.session name).failed → HasArrived old new name from post (Some told) → told ≡ [] → DoesOne old new name (theory.Arrival from post) told
 does_arrival old new name from post told well has none = record {
   lines = none;
-  own = has.hears ∙ heard_well old.settings.classes from post (old.session name).state (old.session name).failed well;
-  others = λ other elsewhere. inl (has.others other elsewhere ∙ sym (heard-none old.settings.classes name (old.session other)));
+  own = has.hears ∙ after_posts_well old.settings.classes from post (old.session name).state (old.session name).failed well;
+  others = λ other elsewhere. inl (has.others other elsewhere ∙ sym (after_posts-none old.settings.classes name (old.session other)));
   settings = has.settings;
 }
 
@@ -97,13 +97,13 @@ others_then old middle new name posts more same first second = λ other elsewher
     classes : Settings → List Class
     classes settings = settings.classes
 
-    by : (other : List ℕ) → (middle.session other ≡ heard old.settings.classes name posts (old.session other)) ⊎ IsTrue (middle.session other).failed
-        → (new.session other ≡ heard middle.settings.classes name more (middle.session other)) ⊎ IsTrue (new.session other).failed
-        → (new.session other ≡ heard old.settings.classes name (posts ++ more) (old.session other)) ⊎ IsTrue (new.session other).failed
+    by : (other : List ℕ) → (middle.session other ≡ after_posts old.settings.classes name posts (old.session other)) ⊎ IsTrue (middle.session other).failed
+        → (new.session other ≡ after_posts middle.settings.classes name more (middle.session other)) ⊎ IsTrue (new.session other).failed
+        → (new.session other ≡ after_posts old.settings.classes name (posts ++ more) (old.session other)) ⊎ IsTrue (new.session other).failed
     by other one (inr fails) = inr fails
     by other (inl hears) (inl later) =
-        inl (later ∙ ap (λ (settings : Settings). heard settings.classes name more (middle.session other)) same ∙ ap (heard old.settings.classes name more) hears
-        ∙ sym (heard-append old.settings.classes name posts more (old.session other)))
+        inl (later ∙ ap (λ (settings : Settings). after_posts settings.classes name more (middle.session other)) same ∙ ap (after_posts old.settings.classes name more) hears
+        ∙ sym (after_posts-append old.settings.classes name posts more (old.session other)))
     by other (inr fails) (inl later) =
         inr (ap (λ (session : Session). session.failed) (later ∙ cond-true (middle.session other).failed (middle.session other) _ fails) ∙ fails)
 
@@ -139,7 +139,7 @@ spared_items old new name [] told lines well is (same, none) =
     record {
       lines = nothing;
       own = ap (λ (sessions : Sessions). sessions.session name) same ∙ session_is (old.session name) well;
-      others = λ other elsewhere. inl (ap (λ (sessions : Sessions). sessions.session other) same ∙ sym (heard-none old.settings.classes name (old.session other)));
+      others = λ other elsewhere. inl (ap (λ (sessions : Sessions). sessions.session other) same ∙ sym (after_posts-none old.settings.classes name (old.session other)));
     }
 spared_items old new name (item ∷ items) told lines well is (inl (came, none)) = absurd (cc)
 spared_items old new name (item ∷ items) told lines well is (inr (between, first, None, came, others, all)) = absurd (cc)

@@ -19,17 +19,17 @@ use Rattle.session_model.specs.declared.post.Post.{Post}
 use Rattle.session_model.specs.State.{State, fields_of}
 use Rattle.session_model.specs.Thread.{Settings}
 use Rattle.session_model.proofs.ForCallers.{lawful, keeps_named}
-use Rattle.session_tables.specs.Session.{Session, fresh, gone}
-use Rattle.session_tables.specs.Reaching.{Hears, heard}
+use Rattle.session_tables.specs.Session.{Session, fresh, failed_session}
+use Rattle.session_tables.specs.Reaching.{ReceivesPosts, after_posts}
 use Rattle.session_tables.specs.Tables.{AreEven, IsPlaced, session_at}
-use Rattle.session_tables.proofs.ForCallers.{heard_stranger, placed_by, session_past}
-use Rattle.dispatch.specs.Front.{IsFront}
+use Rattle.session_tables.proofs.ForCallers.{after_posts_stranger, placed_by, session_past}
+use Rattle.dispatch.specs.Prefix.{IsPrefix}
 use Rattle.dispatch.proofs.ForCallers.{front_same}
 use Rattle.session_engine.specs.Commands.{OthersHear}
 use Rattle.session_engine.specs.Core.{EngineState, IsKept, IsWhole, place, seen_by_name, sessions, states}
 use Rattle.session_engine.specs.Sessions.{AllAreNamed, AnotherFails, Fails, IsStep, Sessions, given_by, session_after, session_does, session_refusal}
 use Rattle.session_engine.proofs.EngineLemmas.{kept_by_name, one_name, placed, sessions-place, sound_by_name}
-use Rattle.session_engine.proofs.SessionLemmas.{does_fine, heard_state, kept_fresh, kept_gone, kept_heard, named_after, named_hears, not_shut, right_front, right_posts, sound_after}
+use Rattle.session_engine.proofs.SessionLemmas.{does_fine, after_posts_state, kept_fresh, kept_gone, kept_after_posts, named_after, named_hears, not_shut, right_front, right_posts, sound_after}
 
 some_if : {T : Type 0} (P : T → Type 0) (value : Option T) (x : T) → value ≡ Some x → P x → IfSome value P
 some_if P value x e h = subst (λ value. IfSome value P) (sym e) h
@@ -60,7 +60,7 @@ pub data Marks (was now failing : Bool) (told : Option (List Line)) : Type 0 whe
 -- what became of the session itself: it was told what it does with the command and is left so, with these posts; or memory was wanted, and these are the first of them
 pub data Own (settings : Settings) (name : List ℕ) (asked : Asked) (told : Option (List Line)) (posts : List Post) (old new : Session) : Type 0 where
   Told : told ≡ Some (session_does settings name old asked).lines → new ≡ session_after settings name old asked → posts ≡ (session_does settings name old asked).posts → Own settings name asked told posts old new
-  GaveUp : told ≡ None → new ≡ gone → IsFront posts (session_does settings name old asked).posts → Own settings name asked told posts old new
+  GaveUp : told ≡ None → new ≡ failed_session → IsPrefix posts (session_does settings name old asked).posts → Own settings name asked told posts old new
 
 -- what became of a command of the session at a place
 pub record Ended (old new : EngineState) (at : ℕ) (name : List ℕ) (asked : Asked) (told : Option (List Line)) (failing : Bool) : Type 0 where
@@ -73,8 +73,8 @@ pub record Ended (old new : EngineState) (at : ℕ) (name : List ℕ) (asked : A
   pub stays : IsSome (session_refusal old.settings name (session_at old.tables at) asked) → OnSome told (new.tables ≡ old.tables)
 
 -- a session that has had no command hears nothing
-heard_fresh : (classes : List Class) (from : List ℕ) (posts : List Post) → fresh ≡ heard classes from posts fresh
-heard_fresh classes from posts = sym (heard_stranger classes from posts fresh refl)
+after_posts_fresh : (classes : List Class) (from : List ℕ) (posts : List Post) → fresh ≡ after_posts classes from posts fresh
+after_posts_fresh classes from posts = sym (after_posts_stranger classes from posts fresh refl)
 
 module _ (old new : EngineState) (at : ℕ) (name : List ℕ) (asked : Asked) (told : Option (List Line)) (failing : Bool) (whole : IsWhole old) (named : (state : State) → IsFittingAsked old.settings state asked) (there : place old name ≡ Some at) (ended : Ended old new at name asked told failing) where
   own : sessions old name ≡ session_at old.tables at
@@ -113,11 +113,11 @@ module _ (old new : EngineState) (at : ℕ) (name : List ℕ) (asked : Asked) (t
               (λ apart. apart)
               (cases_Bool (eqb other' at))
 
-  hears_other : (other : List ℕ) → bytes_eq other name ≡ false → Hears old.settings.classes name ended.posts (sessions old other) (sessions new other)
-  hears_other = by_name (Hears old.settings.classes name ended.posts) (inl (heard_fresh old.settings.classes name ended.posts)) ended.others.hear
+  hears_other : (other : List ℕ) → bytes_eq other name ≡ false → ReceivesPosts old.settings.classes name ended.posts (sessions old other) (sessions new other)
+  hears_other = by_name (ReceivesPosts old.settings.classes name ended.posts) (inl (after_posts_fresh old.settings.classes name ended.posts)) ended.others.hear
 
-  heard_other : failing ≡ false → (other : List ℕ) → bytes_eq other name ≡ false → sessions new other ≡ heard old.settings.classes name ended.posts (sessions old other)
-  heard_other none = by_name (λ was now. now ≡ heard old.settings.classes name ended.posts was) (heard_fresh old.settings.classes name ended.posts) (ended.others.all none)
+  after_posts_other : failing ≡ false → (other : List ℕ) → bytes_eq other name ≡ false → sessions new other ≡ after_posts old.settings.classes name ended.posts (sessions old other)
+  after_posts_other none = by_name (λ was now. now ≡ after_posts old.settings.classes name ended.posts was) (after_posts_fresh old.settings.classes name ended.posts) (ended.others.all none)
 
   -- the mark falls from what was found
   less : IsFalse new.memory_refused → IsFalse old.memory_refused
@@ -143,7 +143,7 @@ module _ (old new : EngineState) (at : ℕ) (name : List ℕ) (asked : Asked) (t
   right : All IsRightPost ended.posts
   right = by ended.own
     where
-      own_front : (posts : List Post) → IsFront posts (session_does old.settings name (session_at old.tables at) asked).posts → All IsRightPost posts
+      own_front : (posts : List Post) → IsPrefix posts (session_does old.settings name (session_at old.tables at) asked).posts → All IsRightPost posts
       own_front = right_front old.settings name (session_at old.tables at) asked whole.settings (named (session_at old.tables at).state) (whole.kept at).sound
 
       by : Own old.settings name asked told ended.posts (session_at old.tables at) (session_at new.tables at) → All IsRightPost ended.posts
@@ -153,15 +153,15 @@ module _ (old new : EngineState) (at : ℕ) (name : List ℕ) (asked : Asked) (t
   kept_other : (other : ℕ) → eqb other at ≡ false → IsPlaced old.tables other → IsKept old.settings new.memory_refused (session_at new.tables other)
   kept_other other apart placed = by ended.mark
     where
-      heard_one : IsKept old.settings new.memory_refused (heard old.settings.classes name ended.posts (session_at old.tables other))
-      heard_one = kept_heard old.settings old.memory_refused new.memory_refused name ended.posts (session_at old.tables other) less right (whole.kept other)
+      after_posts_one : IsKept old.settings new.memory_refused (after_posts old.settings.classes name ended.posts (session_at old.tables other))
+      after_posts_one = kept_after_posts old.settings old.memory_refused new.memory_refused name ended.posts (session_at old.tables other) less right (whole.kept other)
 
       by : Marks old.memory_refused new.memory_refused failing told → IsKept old.settings new.memory_refused (session_at new.tables other)
-      by (Quiet none some e) = subst (IsKept old.settings new.memory_refused) (sym (ended.others.all none other apart placed)) heard_one
+      by (Quiet none some e) = subst (IsKept old.settings new.memory_refused) (sym (ended.others.all none other apart placed)) after_posts_one
       by (Loud either e) = either_way (ended.others.hear other apart placed)
         where
-          either_way : Hears old.settings.classes name ended.posts (session_at old.tables other) (session_at new.tables other) → IsKept old.settings new.memory_refused (session_at new.tables other)
-          either_way (inl f) = subst (IsKept old.settings new.memory_refused) (sym f) heard_one
+          either_way : ReceivesPosts old.settings.classes name ended.posts (session_at old.tables other) (session_at new.tables other) → IsKept old.settings new.memory_refused (session_at new.tables other)
+          either_way (inl f) = subst (IsKept old.settings new.memory_refused) (sym f) after_posts_one
           either_way (inr f) = subst (λ mark. IsKept old.settings mark (session_at new.tables other)) (sym e) (subst (IsKept old.settings true) (sym f.2) (kept_gone old.settings))
 
   pub whole_after : IsWhole new
@@ -248,8 +248,8 @@ module _ (old new : EngineState) (at : ℕ) (name : List ℕ) (asked : Asked) (t
                 (ap (λ session. session.state) left ∙ ap (λ effect. effect.state) (does_fine old.settings name (sessions old name) asked (fine found name))
                 ∙ sym (after-own (machine old.settings) (lawful old.settings) (states old) (given_by name asked) name ((bytes_eq-Decides name name).1 refl)))
                 (λ other elsewhere.
-                ap (λ session. session.state) (heard_other (quiet found) other elsewhere)
-                ∙ heard_state old.settings name ended.posts (sessions old other) (fine found other)
+                ap (λ session. session.state) (after_posts_other (quiet found) other elsewhere)
+                ∙ after_posts_state old.settings name ended.posts (sessions old other) (fine found other)
                 ∙ ap (all_arrive (machine old.settings) (states old other) name) (made ∙ ap (λ effect. effect.posts) (does_fine old.settings name (sessions old name) asked (fine found name)))
                 ∙ sym (after-other (machine old.settings) (states old) (given_by name asked) other elsewhere)));
             tells = some_if _ told _ lines (ap (λ session. (session_does old.settings name session asked).lines) (sym own));
@@ -277,7 +277,7 @@ module _ (old new : EngineState) (at : ℕ) (name : List ℕ) (asked : Asked) (t
             refused = λ refused. on_none _ told nothing;
             posts = ended.posts;
             posted = on_none _ told nothing;
-            front = λ none. subst (λ session. IsFront ended.posts (session_does old.settings name session asked).posts) (sym own) front;
+            front = λ none. subst (λ session. IsPrefix ended.posts (session_does old.settings name session asked).posts) (sym own) front;
             others = hears_other;
             settings = ended.settings;
             kept = kept_mark mark;
@@ -293,8 +293,8 @@ module _ (old new : EngineState) (at : ℕ) (name : List ℕ) (asked : Asked) (t
           loud (Loud either f) = f
 
 -- what a command has posted is a front of what it says
-step_front : (old new : Sessions) (name : List ℕ) (asked : Asked) (told : Option (List Line)) → (step : IsStep old new name asked told) → IsFront step.posts (session_does old.settings name (old.session name) asked).posts
-step_front old new name asked (Some lines) step = subst (IsFront step.posts) step.posted (front_same step.posts)
+step_front : (old new : Sessions) (name : List ℕ) (asked : Asked) (told : Option (List Line)) → (step : IsStep old new name asked told) → IsPrefix step.posts (session_does old.settings name (old.session name) asked).posts
+step_front old new name asked (Some lines) step = subst (IsPrefix step.posts) step.posted (front_same step.posts)
 step_front old new name asked None step = step.front refl
 
 -- what memory was refused for, also while it told a refusal
@@ -308,7 +308,7 @@ step_fails old middle new name asked told step fails = record {
   posts = step.posts;
   posted = tt;
   front = λ none. step_front old middle name asked told step;
-  others = λ other elsewhere. subst (Hears old.settings.classes name step.posts (old.session other)) (sym (fails.others other elsewhere)) (step.others other elsewhere);
+  others = λ other elsewhere. subst (ReceivesPosts old.settings.classes name step.posts (old.session other)) (sym (fails.others other elsewhere)) (step.others other elsewhere);
   settings = fails.settings ∙ step.settings;
   kept = λ was. fails.memory;
   memory = λ none. fails.memory;

@@ -7,7 +7,7 @@ use Rattle.session_model.specs.declared.line.Line.{Line}
 use Rattle.session_model.specs.declared.line.Line.TheVariants as line
 use Rattle.session_model.specs.declared.post.Post.{Post}
 use Rattle.session_model.specs.Asked.{Asked}
-use Rattle.session_model.specs.Doing.{begun, in_state, line_told}
+use Rattle.session_model.specs.Execution.{begun, in_state, line_told}
 use Rattle.session_model.specs.Effects.{does_next, ended}
 use Rattle.session_model.specs.Items.{Item, Next, puts}
 use Rattle.session_model.specs.Run.{run}
@@ -17,21 +17,21 @@ use Rattle.session_tables.specs.Reaching.{Reaches}
 use Rattle.session_tables.specs.Tables.{IsPlaced, state_at}
 use Rattle.session_tables.proofs.ForCallers.{reaches_twice}
 use Rattle.session_effects.specs.Actions.{KeepsOthers}
-use Rattle.session_effects.specs.declared.caller.Caller.{Caller}
+use Rattle.session_effects.specs.declared.session_context.SessionContext.{SessionContext}
 use Rattle.session_effects.specs.Setup.{settings_of}
-use Rattle.dispatch.specs.declared.telling.Telling.{Telling}
-use Rattle.dispatch.specs.Agenda.{Does}
-use Rattle.dispatch.specs.Telling.{doing_at, fresh_telling}
+use Rattle.dispatch.specs.declared.command_output.CommandOutput.{CommandOutput}
+use Rattle.dispatch.specs.Agenda.{RunsItems}
+use Rattle.dispatch.specs.CommandOutput.{doing_at, fresh_output}
 use Rattle.dispatch.proofs.ForCallers.{reaches_none}
 use Rattle.session_engine.specs.Commands.{Performs, its_effect, its_refusal, reply_after}
 use Rattle.session_engine.proofs.CommandsLemmas.{at_first_reaches, replied_last, starved_last}
 
 -- what there is to do, where the session has come from one state to another
-abbrev pub comes : Caller → Tables → Tables → List Item → Next
+abbrev pub comes : SessionContext → Tables → Tables → List Item → Next
 comes caller old middle items = puts items (in_state (begun (settings_of caller.setup.now) (state_at old caller.place)) (state_at middle caller.place))
 
-module _ (caller : Caller) (asked : Asked) (old middle new : Tables) (before after : Telling) (items : List Item) (next : Next) (answer : Answer)
-    (placed : IsPlaced old caller.place) (fresh : before ≡ fresh_telling caller.setup.now.turns) (passed : its_refusal caller asked old ≡ None)
+module _ (caller : SessionContext) (asked : Asked) (old middle new : Tables) (before after : CommandOutput) (items : List Item) (next : Next) (answer : Answer)
+    (placed : IsPlaced old caller.place) (fresh : before ≡ fresh_output caller.setup.now.turns) (passed : its_refusal caller asked old ≡ None)
     (effect : its_effect caller asked old ≡ does_next (settings_of caller.setup.now) next answer) (is : next ≡ comes caller old middle items) (keeps : KeepsOthers caller.place old middle) where
   -- it is done, and then replied
   told_runs : its_effect caller asked old ≡ ended (line_told (run (settings_of caller.setup.now) items (doing_at caller.place middle before [])) (line.Reply answer))
@@ -40,7 +40,7 @@ module _ (caller : Caller) (asked : Asked) (old middle new : Tables) (before aft
       effect
       ∙ ap (λ (next : Next). does_next settings next answer) is
       ∙ replies_last settings (comes caller old middle items) answer
-      ∙ ap (λ (telling : Telling). ended (line_told (run settings items (doing_at caller.place middle telling [])) (line.Reply answer))) (sym fresh)
+      ∙ ap (λ (output : CommandOutput). ended (line_told (run settings items (doing_at caller.place middle output [])) (line.Reply answer))) (sym fresh)
 
   -- the change itself has posted nothing
   told_reaches : (posts : List Post) → Reaches caller.setup.now.classes caller.name.now caller.place posts middle new before.failing after.failing → Reaches caller.setup.now.classes caller.name.now caller.place posts old new false after.failing
@@ -48,9 +48,9 @@ module _ (caller : Caller) (asked : Asked) (old middle new : Tables) (before aft
       at_first_reaches caller old new before after posts fresh
       (reaches_twice caller.setup.now.classes caller.name.now caller.place [] posts old middle new before.failing before.failing after.failing placed (reaches_none caller old middle before.failing before.failing keeps refl) reaches)
 
-  pub performs_told : {T E : Type 0} (value : T) → Does {E = E} caller items middle new before after (Ok value) → Performs caller asked old new after.failing (reply_after after.lines) (Ok answer)
+  pub performs_told : {T E : Type 0} (value : T) → RunsItems {E = E} caller items middle new before after (Ok value) → Performs caller asked old new after.failing (reply_after after.lines) (Ok answer)
   performs_told value does = replied_last caller asked old new after answer does.posts passed (told_runs ∙ ap (λ doing. ended (line_told doing (line.Reply answer))) (does.runs [])) (told_reaches does.posts does.reaches)
 
   -- where memory was wanted, the first of its posts are made
-  pub starved_told : {T E U : Type 0} (error : E) (lines : U → List Line) (result : Result U Fault) → IsErrAnd result (λ fault. fault ≡ Memory) → Does {T = T} caller items middle new before after (Err error) → Performs caller asked old new after.failing lines result
+  pub starved_told : {T E U : Type 0} (error : E) (lines : U → List Line) (result : Result U Fault) → IsErrAnd result (λ fault. fault ≡ Memory) → RunsItems {T = T} caller items middle new before after (Err error) → Performs caller asked old new after.failing lines result
   starved_told error lines result wanted does = starved_last caller asked old new after does.posts _ _ lines result wanted passed told_runs (does.front []) (told_reaches does.posts does.reaches)

@@ -18,12 +18,12 @@ use Rattle.session_model.specs.State.{State}
 use Rattle.session_model.specs.Thread.{does, performs}
 use Rattle.session_tables.specs.declared.tables.Tables.{Tables}
 use Rattle.session_tables.specs.Refused.{OnRefused}
-use Rattle.session_tables.specs.Session.{gone}
-use Rattle.session_tables.specs.Reaching.{AreShaped, Hears, heard}
+use Rattle.session_tables.specs.Session.{failed_session}
+use Rattle.session_tables.specs.Reaching.{AreShaped, ReceivesPosts, after_posts}
 use Rattle.session_tables.specs.Tables.{AreLaid, AreStored, IsPlaced, failed_at, session_at, state_at}
 use Rattle.session_model.specs.declared.post.Post.{Post}
-use Rattle.session_effects.specs.declared.caller.Caller.{Caller}
-use Rattle.dispatch.specs.Front.{IsFront}
+use Rattle.session_effects.specs.declared.session_context.SessionContext.{SessionContext}
+use Rattle.dispatch.specs.Prefix.{IsPrefix}
 use Rattle.session_engine.specs.Returning.{Returns, wants_memory}
 use Rattle.session_engine.specs.Sessions.{is_shut, session_after, session_does, session_refusal}
 use Rattle.session_effects.specs.Setup.{settings_of}
@@ -37,10 +37,10 @@ abbrev pub reply_after : List Line → Answer → List Line
 reply_after lines answer = lines ++ Reply answer ∷ []
 
 -- why a command is refused that a session gives which has not failed, and else what it does
-abbrev pub its_refusal : Caller → Asked → Tables → Option Code
+abbrev pub its_refusal : SessionContext → Asked → Tables → Option Code
 its_refusal caller asked old = refusal (settings_of caller.setup.now) caller.name.now (state_at old caller.place) asked
 
-abbrev pub its_effect : Caller → Asked → Tables → Effect State Line Post
+abbrev pub its_effect : SessionContext → Asked → Tables → Effect State Line Post
 its_effect caller asked old = performs (settings_of caller.setup.now) caller.name.now (state_at old caller.place) asked
 
 -- the families of commands, in the order in which they are asked for: 0 for queries, and for objects and their properties;
@@ -66,30 +66,30 @@ family c.Reset = 3
 family _ = 0
 
 -- the tables know the properties that each class declares, and those of each object of the caller's session
-pub record KnowsProperties (caller : Caller) (tables : Tables) : Type 0 where
+pub record KnowsProperties (caller : SessionContext) (tables : Tables) : Type 0 where
   pub laid : AreLaid caller.setup.now.classes tables
   pub stored : AreStored (state_at tables caller.place)
 
 -- all sessions but the one at a place have heard its posts, and whether one of them has failed by that
 pub record OthersHear (classes : List Class) (from : List ℕ) (place : ℕ) (posts : List Post) (old new : Tables) (failing : Bool) : Type 0 where
   pub shape : AreShaped old new
-  pub hear : (at : ℕ) → IsFalse (eqb at place) → IsPlaced old at → Hears classes from posts (session_at old at) (session_at new at)
-  pub all : IsFalse failing → (at : ℕ) → IsFalse (eqb at place) → IsPlaced old at → session_at new at ≡ heard classes from posts (session_at old at)
+  pub hear : (at : ℕ) → IsFalse (eqb at place) → IsPlaced old at → ReceivesPosts classes from posts (session_at old at) (session_at new at)
+  pub all : IsFalse failing → (at : ℕ) → IsFalse (eqb at place) → IsPlaced old at → session_at new at ≡ after_posts classes from posts (session_at old at)
   pub one : IsTrue failing → (at : ℕ) × IsFalse (eqb at place) × IsPlaced old at × IsFalse (failed_at old at) × IsTrue (failed_at new at)
 
 -- a query returns exactly its answer, or why it is refused, unless memory was wanted
-pub record Reads (caller : Caller) (query : Query) (tables : Tables) (result : Result Answer Fault) : Type 0 where
+pub record Reads (caller : SessionContext) (query : Query) (tables : Tables) (result : Result Answer Fault) : Type 0 where
   pub returns : Answers result (query_answer caller.setup.now.classes (state_at tables caller.place) query)
 
 -- a command of a session that has not failed; `failing` says whether another session has failed by its posts,
 -- and `lines` what is told by what the call returns
-pub record Performs {T : Type 0} (caller : Caller)
+pub record Performs {T : Type 0} (caller : SessionContext)
     (asked : Asked) (old new : Tables) (failing : Bool) (lines : T → List Line) (result : Result T Fault) : Type 0 where
   -- it is refused exactly by its refusal, and else tells its lines, unless memory was wanted
   pub returns : Returns (its_refusal caller asked old) (λ value. (its_effect caller asked old).lines ≡ lines value) result
   -- its posts; where memory was wanted, the first of them
   pub posts : List Post
-  pub front : OnMemory result (IsFront posts (does (settings_of caller.setup.now) caller.name.now (state_at old caller.place) asked).posts)
+  pub front : OnMemory result (IsPrefix posts (does (settings_of caller.setup.now) caller.name.now (state_at old caller.place) asked).posts)
   -- it has posted what it says, and changed the state of its session as it says
   pub posted : OnOk result (posts ≡ (its_effect caller asked old).posts)
   pub done : OnOk result (session_at new caller.place ≡ record { state = (its_effect caller asked old).state; failed = failed_at old caller.place })
@@ -98,16 +98,16 @@ pub record Performs {T : Type 0} (caller : Caller)
   pub others : OthersHear caller.setup.now.classes caller.name.now caller.place posts old new failing
 
 -- a command of any session, and whether memory has been wanted in vain before it and after it
-pub record Obeys (caller : Caller) (asked : Asked) (old new : Tables) (was now : Bool) (result : Result (List Line) Fault) : Type 0 where
+pub record Obeys (caller : SessionContext) (asked : Asked) (old new : Tables) (was now : Bool) (result : Result (List Line) Fault) : Type 0 where
   pub returns : Returns (session_refusal (settings_of caller.setup.now) caller.name.now (session_at old caller.place) asked)
       (λ lines. lines ≡ (its_effect caller asked old).lines) result
   pub posts : List Post
   pub done : OnDone result ((session_at new caller.place ≡ session_after (settings_of caller.setup.now) caller.name.now (session_at old caller.place) asked)
       × (posts ≡ (session_does (settings_of caller.setup.now) caller.name.now (session_at old caller.place) asked).posts))
-  pub front : OnMemory result (IsFront posts (session_does (settings_of caller.setup.now) caller.name.now (session_at old caller.place) asked).posts)
+  pub front : OnMemory result (IsPrefix posts (session_does (settings_of caller.setup.now) caller.name.now (session_at old caller.place) asked).posts)
   pub refused : OnRefused result (new ≡ old)
   -- where memory was wanted, its session has failed, and was not shut for the command
-  pub fails : OnMemory result ((session_at new caller.place ≡ gone) × IsFalse (is_shut (session_at old caller.place) asked))
+  pub fails : OnMemory result ((session_at new caller.place ≡ failed_session) × IsFalse (is_shut (session_at old caller.place) asked))
   -- whether another session has failed by its posts
   pub failing : Bool
   pub others : OthersHear caller.setup.now.classes caller.name.now caller.place posts old new failing

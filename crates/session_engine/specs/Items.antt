@@ -9,7 +9,7 @@ use Rattle.session_model.specs.Asked.{Asked, asked}
 use Rattle.session_model.specs.Fitting.{IsRightPost}
 use Rattle.session_model.specs.Machine.{machine}
 use Rattle.session_model.specs.Thread.{arrives}
-use Rattle.session_tables.specs.Reaching.{FailsBy, heard}
+use Rattle.session_tables.specs.Reaching.{FailsBy, after_posts}
 use Rattle.session_tables.specs.Session.{fresh}
 use Rattle.session_engine.specs.declared.item.Item.{Item}
 use Rattle.session_engine.specs.declared.item.Item.TheVariants as code
@@ -38,7 +38,7 @@ pub record HasArrived {T : Type 0} (old new : Sessions) (name from : List ℕ) (
   -- where memory was never refused it has done what a post does
   pub state : IsFalse new.memory_refused → states_of new name ≡ arrives old.settings.classes (states_of old name) from post
   -- and always the session has heard it, or has ignored it, having failed before
-  pub hears : OnSome done (new.session name ≡ heard old.settings.classes from (post ∷ []) (old.session name))
+  pub hears : OnSome done (new.session name ≡ after_posts old.settings.classes from (post ∷ []) (old.session name))
   -- unless memory was wanted for it: then this session alone has failed, which has a join that takes it
   pub fails : IfNone done (FailsBy from (post ∷ []) (old.session name) (new.session name))
   pub others : OthersStay old new name
@@ -72,7 +72,7 @@ pub record SparesItsSession (old new : Sessions) (name : List ℕ) (items : List
   pub lines : told ≡ all_lines (alone_lines (machine old.settings) name (states_of old name) items)
   pub own : new.session name ≡ record { state = alone_after (machine old.settings) name (states_of old name) items; failed = false }
   pub others : (other : List ℕ) → IsFalse (bytes_eq other name)
-      → (new.session other ≡ heard old.settings.classes name (alone_posts (machine old.settings) name (states_of old name) items) (old.session other))
+      → (new.session other ≡ after_posts old.settings.classes name (alone_posts (machine old.settings) name (states_of old name) items) (old.session other))
       ⊎ IsTrue (new.session other).failed
 
 -- what comes of items for a session and for all others

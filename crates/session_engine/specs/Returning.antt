@@ -9,7 +9,7 @@ use Rattle.session_model.specs.Thread.{performs}
 use Rattle.session_model.specs.declared.line.Line.{Line}
 use Rattle.session_model.specs.declared.line.Line.TheVariants.{Error}
 use Rattle.session_tables.specs.Refused.{OnRefused}
-use Rattle.session_tables.specs.Session.{gone}
+use Rattle.session_tables.specs.Session.{failed_session}
 use Rattle.session_engine.specs.Core.{EngineState, sessions, settings, states}
 use Rattle.session_engine.specs.Sessions.{is_shut, session_refusal}
 
@@ -26,7 +26,7 @@ pub record IsAnswered (old new : EngineState) (name : List ℕ) (asked : Asked) 
       (λ lines. lines ≡ (performs (settings old) name (states old name) asked).lines) result
   -- and a refused command changes nothing
   pub refused : OnRefused result (sessions new ≡ sessions old)
-  pub fails : OnMemory result (sessions new name ≡ gone)
+  pub fails : OnMemory result (sessions new name ≡ failed_session)
   -- a session that has failed wants no memory but to begin anew
   pub fine : OnMemory result (IsFalse (is_shut (sessions old name) asked))
 

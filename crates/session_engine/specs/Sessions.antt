@@ -15,9 +15,9 @@ use Rattle.session_model.specs.Named.{AreNamed, IsNamedAsked}
 use Rattle.session_model.specs.Refusing.{refusal}
 use Rattle.session_model.specs.State.{IsDeclared, IsSound, State}
 use Rattle.session_model.specs.Thread.{Settings, performs}
-use Rattle.session_tables.specs.Reaching.{Hears}
-use Rattle.session_tables.specs.Session.{Session, gone}
-use Rattle.dispatch.specs.Front.{IsFront}
+use Rattle.session_tables.specs.Reaching.{ReceivesPosts}
+use Rattle.session_tables.specs.Session.{Session, failed_session}
+use Rattle.dispatch.specs.Prefix.{IsPrefix}
 
 -- what is seen of all sessions
 pub record Sessions : Type 0 where
@@ -76,7 +76,7 @@ pub record IsSoundSession (settings : Settings) (session : Session) : Type 0 whe
   -- what it holds fits the classes and the functors
   pub fitting : IsFitting settings session.state
   -- one that has failed holds nothing
-  pub empty : IsTrue session.failed → session ≡ gone
+  pub empty : IsTrue session.failed → session ≡ failed_session
 
 -- so it is with every session
 abbrev pub AreSound : Sessions → Type 0
@@ -88,7 +88,7 @@ AllAreNamed sessions = (name : List ℕ) → AreNamed (sessions.session name).st
 
 -- the session of this name has failed for memory that was refused
 pub record Fails (old new : Sessions) (name : List ℕ) : Type 0 where
-  pub fails : new.session name ≡ gone
+  pub fails : new.session name ≡ failed_session
   pub others : OthersStay old new name
   pub settings : new.settings ≡ old.settings
   pub memory : IsTrue new.memory_refused
@@ -107,9 +107,9 @@ pub record IsStep (old new : Sessions) (name : List ℕ) (asked : Asked) (told :
   -- what it posts; where memory was wanted, the first of that
   pub posts : List Post
   pub posted : OnSome told (posts ≡ (session_does old.settings name (old.session name) asked).posts)
-  pub front : told ≡ None → IsFront posts (session_does old.settings name (old.session name) asked).posts
+  pub front : told ≡ None → IsPrefix posts (session_does old.settings name (old.session name) asked).posts
   -- every other session has heard that, or has failed by it for want of memory
-  pub others : (other : List ℕ) → IsFalse (bytes_eq other name) → Hears old.settings.classes name posts (old.session other) (new.session other)
+  pub others : (other : List ℕ) → IsFalse (bytes_eq other name) → ReceivesPosts old.settings.classes name posts (old.session other) (new.session other)
   pub settings : new.settings ≡ old.settings
   -- that memory was refused is remembered, from the first command that wanted it in vain
   pub kept : IsTrue old.memory_refused → IsTrue new.memory_refused

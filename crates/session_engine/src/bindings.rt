@@ -6,41 +6,40 @@ ghost use Rattle.serde_json.specs.View.{view};
 ghost use Rattle.term_evaluation.specs.Reading.{reads_of};
 ghost use Rattle.session_model.specs.Asked.{Begin, Bind, End, Unbind};
 ghost use Rattle.session_model.specs.Binding.{reads_refusal};
-ghost use Rattle.session_model.specs.Deeds.{behind};
+ghost use Rattle.session_model.specs.Operations.{behind};
 ghost use Rattle.session_tables.specs.Tables.{IsPlaced, state_at};
 ghost use Rattle.session_engine.specs.Commands.{Performs, reply_after, reply_lines};
-ghost use Rattle.dispatch.specs.Telling.{fresh_telling};
+ghost use Rattle.dispatch.specs.CommandOutput.{fresh_output};
 
-use dispatch::{Actor, Answering, Telling, tell};
-use plain_types::Text;
-use plain_types::{Code, Fault};
-use session_effects::Caller;
+use dispatch::{CallContext, CommandOutput, FunctorTable, tell};
+use plain_types::{Code, Fault, Text};
+use session_effects::SessionContext;
+use session_model::Answer;
 use session_tables::Tables;
 use std::alloc::Global;
 use term_core::{Expr, Target};
 use term_evaluation::{Read, reads_of};
-use session_model::Answer;
 
 /// Binds a property of an object to an expression, and tells of what has changed by it.
-pub fn bind<F: Answering>(
-    actor: &Actor<F>,
+pub fn bind<F: FunctorTable>(
+    actor: &CallContext<F>,
     tables: &mut Tables,
-    telling: &mut Telling,
+    output: &mut CommandOutput,
     object: u32,
     property: &Text,
     to: &serde_json::Value,
 ) -> Result<Answer, Fault>
     requires placed { IsPlaced tables.old actor.now.caller.place }
-    requires fresh { telling.old ≡ fresh_telling actor.now.caller.setup.now.turns }
-    ensures { Performs actor.now.caller (Bind object property.now (view to.now)) tables.old tables.new telling.new.failing
-        (reply_after telling.new.lines) result }
+    requires fresh { output.old ≡ fresh_output actor.now.caller.setup.now.turns }
+    ensures { Performs actor.now.caller (Bind object property.now (view to.now)) tables.old tables.new output.new.failing
+        (reply_after output.new.lines) result }
 {
     let (alloc, place) = (actor.caller.setup.alloc, actor.caller.place);
     let at = tables.bindable_property(place, object, property.as_str())?;
     let expr = Expr::from_json(alloc, to)?;
     check_reads(alloc, tables, place, object, &expr)?;
     let changes = tables.bind(place, at, expr)?;
-    tell(actor, tables, telling, changes, 0)?;
+    tell(actor, tables, output, changes, 0)?;
     Ok(Answer::Truth(true))
 }
 
@@ -77,27 +76,27 @@ fn check_read(tables: &Tables, place: usize, object: u32, read: &Read) -> Result
 }
 
 /// Binds a property no longer, which keeps the value that it shows, and replies whether it was bound.
-pub fn unbind<F: Answering>(
-    actor: &Actor<F>,
+pub fn unbind<F: FunctorTable>(
+    actor: &CallContext<F>,
     tables: &mut Tables,
-    telling: &mut Telling,
+    output: &mut CommandOutput,
     object: u32,
     property: &Text,
 ) -> Result<Answer, Fault>
     requires placed { IsPlaced tables.old actor.now.caller.place }
-    requires fresh { telling.old ≡ fresh_telling actor.now.caller.setup.now.turns }
-    ensures { Performs actor.now.caller (Unbind object property.now) tables.old tables.new telling.new.failing (reply_after telling.new.lines) result }
+    requires fresh { output.old ≡ fresh_output actor.now.caller.setup.now.turns }
+    ensures { Performs actor.now.caller (Unbind object property.now) tables.old tables.new output.new.failing (reply_after output.new.lines) result }
 {
     let place = actor.caller.place;
     let at = tables.asked_property(place, object, property.as_str())?;
     let was_bound = tables.stores.is_bound(place, at);
     let changes = tables.unbind(place, at)?;
-    tell(actor, tables, telling, changes, 0)?;
+    tell(actor, tables, output, changes, 0)?;
     Ok(Answer::Truth(was_bound))
 }
 
 /// Begins a group, within which changes are not told, and replies how many are open then.
-pub fn begin(caller: &Caller, tables: &mut Tables) -> Result<Answer, Fault>
+pub fn begin(caller: &SessionContext, tables: &mut Tables) -> Result<Answer, Fault>
     requires { IsPlaced tables.old caller.now.place }
     ensures { Performs caller.now Begin tables.old tables.new false reply_lines result }
 {
@@ -106,16 +105,16 @@ pub fn begin(caller: &Caller, tables: &mut Tables) -> Result<Answer, Fault>
 
 /// Ends the group that was begun last, and replies how many are left. With the outermost one all that has
 /// changed since it began is told.
-pub fn end<F: Answering>(
-    actor: &Actor<F>,
+pub fn end<F: FunctorTable>(
+    actor: &CallContext<F>,
     tables: &mut Tables,
-    telling: &mut Telling,
+    output: &mut CommandOutput,
 ) -> Result<Answer, Fault>
     requires placed { IsPlaced tables.old actor.now.caller.place }
-    requires fresh { telling.old ≡ fresh_telling actor.now.caller.setup.now.turns }
-    ensures { Performs actor.now.caller End tables.old tables.new telling.new.failing (reply_after telling.new.lines) result }
+    requires fresh { output.old ≡ fresh_output actor.now.caller.setup.now.turns }
+    ensures { Performs actor.now.caller End tables.old tables.new output.new.failing (reply_after output.new.lines) result }
 {
     let (left, changes) = tables.end(actor.caller.place)?;
-    tell(actor, tables, telling, changes, 0)?;
+    tell(actor, tables, output, changes, 0)?;
     Ok(Answer::Number(left))
 }

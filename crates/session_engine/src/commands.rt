@@ -1,34 +1,32 @@
-//! What a command does to the session that gives it.
+//! These functions do a command to the session that gives it.
 ghost use Rattle.std.specs.Prelude.{◌≡◌, ◌≤◌, ◌∷◌, ◌++◌, [], IfOk, OnOk, false, true};
 ghost use Rattle.session_model.specs.Asked.{asked};
 ghost use Rattle.plain_types.specs.declared.fault.Fault.TheVariants.{Memory};
-ghost use Rattle.session_tables.specs.Session.{gone};
+ghost use Rattle.session_tables.specs.Session.{failed_session};
 ghost use Rattle.session_tables.specs.Tables.{IsPlaced, with_session};
 ghost use Rattle.session_engine.specs.Commands.{KnowsProperties, Obeys, Performs, family, reply_after, reply_lines};
-ghost use Rattle.dispatch.specs.Telling.{fresh_telling};
+ghost use Rattle.dispatch.specs.CommandOutput.{fresh_output};
 
 use crate::bindings::{begin, bind, end, unbind};
 use crate::connections::{connect, connect_functor, disconnect, disconnect_one};
-use crate::deeds::{block, delete_later, set_parent};
 use crate::events::spin;
 use crate::invocation::invoke;
+use crate::operations::{block, delete_later, set_parent};
 use crate::properties::set;
 use crate::queries::answer;
 use crate::sharing::{join, leave, publish, renew, reset, unpublish};
 use crate::trees::{delete_object, new_object};
-use plain_types::ConnectionType;
-use dispatch::{Actor, Answering, Telling};
-use plain_types::Items;
-use plain_types::{Code, Fault};
-use session_effects::{Caller, Options};
+use dispatch::{CallContext, CommandOutput, FunctorTable};
+use plain_types::{Code, ConnectionType, Fault, Items};
+use session_effects::{Options, SessionContext};
+use session_model::{Answer, Command, Line};
 use session_tables::Tables;
 use std::alloc::{AllocError, Global};
-use session_model::{Answer, Command, Line};
 
 /// Lets a session do a command; one that has failed can only begin anew. Where memory is wanted and not
 /// found, it has failed. That is noted, as it is where another session has failed by what it posts.
-pub fn obey<F: Answering>(
-    caller: &Caller,
+pub fn obey<F: FunctorTable>(
+    caller: &SessionContext,
     answering: &F,
     tables: &mut Tables,
     memory_refused: &mut bool,
@@ -46,15 +44,15 @@ pub fn obey<F: Answering>(
             _ => Err(Fault::Refused(Code::SessionFailed)),
         };
     }
-    let actor = Actor::new(*caller, answering);
-    let mut telling = Telling::new(caller.setup);
-    match perform(&actor, tables, &mut telling, command) {
+    let actor = CallContext::new(*caller, answering);
+    let mut output = CommandOutput::new(caller.setup);
+    match perform(&actor, tables, &mut output, command) {
         Ok(answer) => {
-            *memory_refused = telling.failing | *memory_refused;
-            let Ok(()) = telling.tell(Line::Reply(answer)) else {
+            *memory_refused = output.failing | *memory_refused;
+            let Ok(()) = output.tell(Line::Reply(answer)) else {
                 return Err(give_up(tables, place, memory_refused));
             };
-            Ok(telling.lines)
+            Ok(output.lines)
         }
         Err(Fault::Refused(code)) => Err(Fault::Refused(code)),
         Err(Fault::Memory) => Err(give_up(tables, place, memory_refused)),
@@ -64,7 +62,7 @@ pub fn obey<F: Answering>(
 /// Lets a session fail for want of memory, which is noted.
 pub fn give_up(tables: &mut Tables, place: usize, memory_refused: &mut bool) -> Fault
     requires { IsPlaced tables.old place }
-    ensures tables { tables.new ≡ with_session tables.old place gone }
+    ensures tables { tables.new ≡ with_session tables.old place failed_session }
     ensures noted { memory_refused.new ≡ true }
     ensures wanted { result ≡ Memory }
 {
@@ -75,21 +73,21 @@ pub fn give_up(tables: &mut Tables, place: usize, memory_refused: &mut bool) -> 
 
 /// Does a command, tells what it tells before its reply, and returns what is replied: a query, or a command for
 /// objects and their properties.
-#[tactic(auto, using(crate::proofs::CommandsLemmas::silently, crate::proofs::CommandsLemmas::reads))]
-fn perform<F: Answering>(
-    actor: &Actor<F>,
+#[tactic(auto, using(crate::proofs::CommandsLemmas::silently))]
+fn perform<F: FunctorTable>(
+    actor: &CallContext<F>,
     tables: &mut Tables,
-    telling: &mut Telling,
+    output: &mut CommandOutput,
     command: &Command,
 ) -> Result<Answer, Fault>
     requires placed { IsPlaced tables.old actor.now.caller.place }
     requires known { KnowsProperties actor.now.caller tables.old }
-    requires fresh { telling.old ≡ fresh_telling actor.now.caller.setup.now.turns }
-    ensures { Performs actor.now.caller (asked command.now) tables.old tables.new telling.new.failing (reply_after telling.new.lines) result }
+    requires fresh { output.old ≡ fresh_output actor.now.caller.setup.now.turns }
+    ensures { Performs actor.now.caller (asked command.now) tables.old tables.new output.new.failing (reply_after output.new.lines) result }
 {
     match command {
         Command::New { class, parent } => new_object(&actor.caller, tables, class, *parent),
-        Command::Delete { object } => delete_object(actor, tables, telling, *object),
+        Command::Delete { object } => delete_object(actor, tables, output, *object),
         Command::SetParent { object, parent } => {
             set_parent(&actor.caller, tables, *object, *parent)
         }
@@ -98,33 +96,34 @@ fn perform<F: Answering>(
             object,
             property,
             value,
-        } => set(actor, tables, telling, *object, property, value),
-        _ => perform_bound(actor, tables, telling, command),
+        } => set(actor, tables, output, *object, property, value),
+        _ => perform_bound(actor, tables, output, command),
     }
 }
 
-/// The same of a command for bindings, calls and events, or for what other sessions may see.
-#[tactic(auto, using(crate::proofs::CommandsLemmas::silently, crate::proofs::CommandsLemmas::reads))]
-fn perform_bound<F: Answering>(
-    actor: &Actor<F>,
+/// Does a command for bindings, calls and events, or for what other sessions may see, and returns what is
+/// replied.
+#[tactic(auto, using(crate::proofs::CommandsLemmas::silently))]
+fn perform_bound<F: FunctorTable>(
+    actor: &CallContext<F>,
     tables: &mut Tables,
-    telling: &mut Telling,
+    output: &mut CommandOutput,
     command: &Command,
 ) -> Result<Answer, Fault>
     requires placed { IsPlaced tables.old actor.now.caller.place }
-    requires fresh { telling.old ≡ fresh_telling actor.now.caller.setup.now.turns }
+    requires fresh { output.old ≡ fresh_output actor.now.caller.setup.now.turns }
     requires family { 1 ≤ family command.now }
-    ensures { Performs actor.now.caller (asked command.now) tables.old tables.new telling.new.failing (reply_after telling.new.lines) result }
+    ensures { Performs actor.now.caller (asked command.now) tables.old tables.new output.new.failing (reply_after output.new.lines) result }
 {
     match command {
         Command::Bind {
             object,
             property,
             to,
-        } => bind(actor, tables, telling, *object, property, to),
-        Command::Unbind { object, property } => unbind(actor, tables, telling, *object, property),
+        } => bind(actor, tables, output, *object, property, to),
+        Command::Unbind { object, property } => unbind(actor, tables, output, *object, property),
         Command::Begin => begin(&actor.caller, tables),
-        Command::End => end(actor, tables, telling),
+        Command::End => end(actor, tables, output),
         Command::Invoke {
             object,
             method,
@@ -134,10 +133,10 @@ fn perform_bound<F: Answering>(
         } => {
             let args = args.as_slice();
             invoke(
-                actor, tables, telling, *object, method, args, *mode, *priority,
+                actor, tables, output, *object, method, args, *mode, *priority,
             )
         }
-        Command::Spin => spin(actor, tables, telling),
+        Command::Spin => spin(actor, tables, output),
         Command::DeleteLater { object } => delete_later(&actor.caller, tables, *object),
         Command::Block { object, on } => block(&actor.caller, tables, *object, *on),
         _ => perform_connection(&actor.caller, tables, command),
@@ -146,7 +145,7 @@ fn perform_bound<F: Answering>(
 
 /// Does a command for connections, or for publications and joins.
 fn perform_connection(
-    caller: &Caller,
+    caller: &SessionContext,
     tables: &mut Tables,
     command: &Command,
 ) -> Result<Answer, Fault>
@@ -190,7 +189,7 @@ fn perform_connection(
     }
 }
 
-/// What a command asks of its connection.
+/// Returns the options that a command asks for its connection.
 fn options(mode: ConnectionType, unique: bool, single: bool) -> Options
     ensures { result ≡ record { mode = mode; unique = unique; single = single } }
 {
@@ -202,7 +201,11 @@ fn options(mode: ConnectionType, unique: bool, single: bool) -> Options
 }
 
 /// Does a command for publications and joins, or the one that begins anew.
-fn perform_sharing(caller: &Caller, tables: &mut Tables, command: &Command) -> Result<Answer, Fault>
+fn perform_sharing(
+    caller: &SessionContext,
+    tables: &mut Tables,
+    command: &Command,
+) -> Result<Answer, Fault>
     requires placed { IsPlaced tables.old caller.now.place }
     requires family { 3 ≤ family command.now }
     ensures { Performs caller.now (asked command.now) tables.old tables.new false reply_lines result }

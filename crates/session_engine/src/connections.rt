@@ -4,17 +4,17 @@ ghost use Rattle.session_model.specs.Asked.{Connect, ConnectFunctor, Disconnect,
 ghost use Rattle.session_tables.specs.Tables.{IsPlaced};
 ghost use Rattle.session_engine.specs.Commands.{Performs, reply_lines};
 
-use plain_types::Text;
-use plain_types::{Code, Fault};
+use plain_types::{Code, Fault, Text};
 use session_effects::{
-    Caller, Options, asked_connection, asked_functor_connection, asked_pattern, do_deed, do_found,
+    Options, SessionContext, asked_connection, asked_functor_connection, asked_pattern, do_found,
+    do_operation,
 };
+use session_model::{Answer, Operation};
 use session_tables::Tables;
-use session_model::{Answer, Deed};
 
 /// Connects a signal to a method, and replies the connection's number.
 pub fn connect(
-    caller: &Caller,
+    caller: &SessionContext,
     tables: &mut Tables,
     sender: u32,
     signal: &Text,
@@ -29,17 +29,17 @@ pub fn connect(
     tables.forests.check_living(caller.place, sender)?;
     tables.forests.check_living(caller.place, receiver)?;
     let new = asked_connection(caller, tables, sender, signal, receiver, method, options)?;
-    let deed = Deed::Connect {
+    let operation = Operation::Connect {
         new,
         unique: options.unique,
     };
-    do_found(tables, caller.place, deed)
+    do_found(tables, caller.place, operation)
 }
 
 /// Connects a signal to a functor, and replies the connection's number. A functor's connection is never
 /// unique.
 pub fn connect_functor(
-    caller: &Caller,
+    caller: &SessionContext,
     tables: &mut Tables,
     sender: u32,
     signal: &Text,
@@ -57,12 +57,16 @@ pub fn connect_functor(
     if options.unique {
         return Err(Fault::Refused(Code::UniqueFunctor));
     }
-    do_found(tables, caller.place, Deed::Connect { new, unique: false })
+    do_found(
+        tables,
+        caller.place,
+        Operation::Connect { new, unique: false },
+    )
 }
 
 /// Breaks the connection of this number, and replies whether it stood.
 pub fn disconnect_one(
-    caller: &Caller,
+    caller: &SessionContext,
     tables: &mut Tables,
     connection: u32,
 ) -> Result<Answer, Fault>
@@ -74,7 +78,7 @@ pub fn disconnect_one(
 
 /// Breaks the connections of a sender that match, and replies how many they were.
 pub fn disconnect(
-    caller: &Caller,
+    caller: &SessionContext,
     tables: &mut Tables,
     sender: u32,
     signal: &Option<Text>,
@@ -87,5 +91,5 @@ pub fn disconnect(
     tables.forests.check_object(caller.place, sender)?;
     tables.forests.check_named(caller.place, receiver)?;
     let pattern = asked_pattern(caller, tables, sender, signal, receiver, method)?;
-    do_deed(tables, caller.place, Deed::Disconnect { pattern })
+    do_operation(tables, caller.place, Operation::Disconnect { pattern })
 }

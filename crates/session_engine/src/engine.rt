@@ -10,16 +10,14 @@ use crate::commands::{append, obey, one_line};
 use crate::item::Item;
 use class_table::ClassTable;
 use indexmap::IndexSet;
-use plain_types::{Items, Text};
-use plain_types::Fault;
-use session_effects::{Caller, Setup};
-use session_effects::layouts;
+use plain_types::{Fault, Items, Text};
+use session_effects::{SessionContext, Setup, layouts};
+use session_model::{Command, Line, Post};
 use session_tables::Tables;
 use std::alloc::{AllocError, Global};
 use std::hash::RandomState;
 use std::marker::Model;
 use stored_slots::{Functor, Functors};
-use session_model::{Command, Line, Post};
 
 /// All of an engine but what answers the calls of its functors: a type that holds closures has no view of
 /// its own.
@@ -71,7 +69,7 @@ impl Engine {
     ghost use Rattle.stored_slots.specs.Functors.{IsFunctor};
     ghost use Rattle.session_model.specs.Asked.{asked};
     ghost use Rattle.session_model.specs.Fitting.{IsRightPost};
-    ghost use Rattle.session_tables.specs.Session.{fresh, gone};
+    ghost use Rattle.session_tables.specs.Session.{fresh, failed_session};
     ghost use Rattle.session_engine.specs.Items.{BeginsAnew, HasAdded, HasArrived, HasCome, IsRightItem, RunsAlone, item_of};
     ghost use Rattle.session_engine.specs.Returning.{IsAnswered, answer_lines};
     ghost use Rattle.session_engine.specs.Sessions.{AreSound, AreWell, Fails, IsStep};
@@ -140,9 +138,8 @@ impl Engine {
         self.core.tables.joiners(self.core.setup.alloc, from)
     }
 
-    /// What holds of every session. There is nothing to run: the clauses are for the proofs of
-    /// callers.
-    pub fn sound(&self)
+    /// Every session is sound. There is nothing to run: the clauses are for the proofs of callers.
+    pub fn law_sound(&self)
         ensures well { AreWell (seen_by_name (seen_engine self.now)) }
         ensures sound { AreSound (seen_by_name (seen_engine self.now)) }
     {
@@ -161,7 +158,7 @@ impl Engine {
         ensures err { OnErr result (IsTrue (was_refused (seen_engine self.new)) × (names (seen_engine self.new) ≡ names (seen_engine self.old))) }
         ensures sound { AreSound (seen_by_name (seen_engine self.new)) }
     {
-        self.sound();
+        self.law_sound();
         let before = self.core.memory_refused;
         // It stays so where memory is wanted and not found.
         self.core.memory_refused = true;
@@ -185,7 +182,7 @@ impl Engine {
         let Some(name) = self.core.names.get_index(at) else {
             unreachable!()
         };
-        let caller = Caller {
+        let caller = SessionContext {
             setup: &self.core.setup,
             name,
             place: at,
@@ -205,7 +202,7 @@ impl Engine {
         requires { IsPlace (seen_engine self.old) at }
         ensures step { OfSession (seen_engine self.old) at (λ name.
             IsStep (seen_by_name (seen_engine self.old)) (seen_by_name (seen_engine self.new)) name (asked command.now) (result_ok result)) }
-        ensures fails { OfSession (seen_engine self.old) at (λ name. OnErr result (sessions (seen_engine self.new) name ≡ gone)) }
+        ensures fails { OfSession (seen_engine self.old) at (λ name. OnErr result (sessions (seen_engine self.new) name ≡ failed_session)) }
         ensures places { KeepsPlaces (seen_engine self.old) (seen_engine self.new) at }
     {
         match self.command(at, command) {
@@ -247,7 +244,7 @@ impl Engine {
         requires right { All IsRightItem items.now }
         ensures alone { OfSession (seen_engine self.old) at (λ name.
             RunsAlone (seen_by_name (seen_engine self.old)) (seen_by_name (seen_engine self.new)) name (map item_of items.now) (result_ok result)) }
-        ensures fails { OfSession (seen_engine self.old) at (λ name. OnErr result (sessions (seen_engine self.new) name ≡ gone)) }
+        ensures fails { OfSession (seen_engine self.old) at (λ name. OnErr result (sessions (seen_engine self.new) name ≡ failed_session)) }
         ensures places { KeepsPlaces (seen_engine self.old) (seen_engine self.new) at }
     {
         let mut told = Items::new(self.core.setup.alloc);
@@ -265,7 +262,7 @@ impl Engine {
             OnOk result (HasAdded (seen_by_name (seen_engine self.old)) (seen_by_name (seen_engine self.new)) name (item_of item.now) told.old told.new)) }
         ensures err { OfSession (seen_engine self.old) at (λ name.
             OnErr result (HasCome (seen_by_name (seen_engine self.old)) (seen_by_name (seen_engine self.new)) name (item_of item.now) None)) }
-        ensures fails { OfSession (seen_engine self.old) at (λ name. OnErr result (sessions (seen_engine self.new) name ≡ gone)) }
+        ensures fails { OfSession (seen_engine self.old) at (λ name. OnErr result (sessions (seen_engine self.new) name ≡ failed_session)) }
         ensures places { KeepsPlaces (seen_engine self.old) (seen_engine self.new) at }
     {
         match item {

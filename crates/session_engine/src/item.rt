@@ -1,7 +1,7 @@
 use plain_types::Text;
 use session_model::{Command, Post};
 
-/// What comes to a session: a command of its own, or a post of another session.
+/// A session receives items: a command of its own, or a post of another session.
 #[derive(Drop)]
 pub enum Item {
     Own(Command),

@@ -4,11 +4,11 @@
 mod bindings;
 mod commands;
 mod connections;
-mod deeds;
 mod engine;
 mod events;
 mod invocation;
 mod item;
+mod operations;
 mod properties;
 mod queries;
 mod sharing;

@@ -4,30 +4,29 @@ ghost use Rattle.serde_json.specs.View.{view};
 ghost use Rattle.session_model.specs.Asked.{Set};
 ghost use Rattle.session_tables.specs.Tables.{IsPlaced};
 ghost use Rattle.session_engine.specs.Commands.{Performs, reply_after};
-ghost use Rattle.dispatch.specs.Telling.{fresh_telling};
+ghost use Rattle.dispatch.specs.CommandOutput.{fresh_output};
 
-use dispatch::{Actor, Answering, Telling, notify};
-use plain_types::Text;
-use plain_types::Fault;
-use session_effects::{Caller, write_declared, write_dynamic};
-use session_tables::Tables;
+use dispatch::{CallContext, CommandOutput, FunctorTable, notify};
+use plain_types::{Fault, Text};
+use session_effects::{SessionContext, write_declared, write_dynamic};
 use session_model::Answer;
+use session_tables::Tables;
 use variant_value::Value;
 
 /// Writes a property, and replies whether it is one that the object's class declares and was written.
 /// Null leaves a declared property as it is, and takes a dynamic one away.
-pub fn set<F: Answering>(
-    actor: &Actor<F>,
+pub fn set<F: FunctorTable>(
+    actor: &CallContext<F>,
     tables: &mut Tables,
-    telling: &mut Telling,
+    output: &mut CommandOutput,
     object: u32,
     property: &Text,
     value: &serde_json::Value,
 ) -> Result<Answer, Fault>
     requires placed { IsPlaced tables.old actor.now.caller.place }
-    requires fresh { telling.old ≡ fresh_telling actor.now.caller.setup.now.turns }
-    ensures { Performs actor.now.caller (Set object property.now (view value.now)) tables.old tables.new telling.new.failing
-        (reply_after telling.new.lines) result }
+    requires fresh { output.old ≡ fresh_output actor.now.caller.setup.now.turns }
+    ensures { Performs actor.now.caller (Set object property.now (view value.now)) tables.old tables.new output.new.failing
+        (reply_after output.new.lines) result }
 {
     let class = tables.class_there(actor.caller.place, object)?;
     let Some((number, kind)) = tables.declared(actor.caller.place, object, property.as_str()) else {
@@ -40,6 +39,6 @@ pub fn set<F: Answering>(
     }
     let value = Value::from_json(actor.caller.setup.alloc, kind, value)?;
     let news = write_declared(&actor.caller, tables, object, class, number, value)?;
-    notify(actor, tables, telling, news, 0)?;
+    notify(actor, tables, output, news, 0)?;
     Ok(Answer::Truth(true))
 }

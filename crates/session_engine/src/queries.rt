@@ -6,15 +6,14 @@ ghost use Rattle.session_tables.specs.Tables.{IsPlaced};
 ghost use Rattle.session_engine.specs.Commands.{Reads};
 
 use class_table::Class;
-use plain_types::{Items, Text};
-use plain_types::Fault;
-use session_effects::{Caller, Setup};
+use plain_types::{Fault, Items, Text};
+use session_effects::{SessionContext, Setup};
+use session_model::{Answer, Boxed, MetaObject, Query};
 use session_tables::Tables;
 use std::alloc::AllocError;
-use session_model::{Answer, Boxed, MetaObject, Query};
 
 /// Answers a query.
-pub fn answer(caller: &Caller, tables: &Tables, query: &Query) -> Result<Answer, Fault>
+pub fn answer(caller: &SessionContext, tables: &Tables, query: &Query) -> Result<Answer, Fault>
     requires { IsPlaced tables.now caller.now.place }
     ensures { Reads caller.now query.now tables.now result }
 {
@@ -37,7 +36,7 @@ pub fn answer(caller: &Caller, tables: &Tables, query: &Query) -> Result<Answer,
 
 /// The children of an object, or the roots.
 #[tactic(auto, using(crate::proofs::CommandsLemmas::starved_reading))]
-fn children(caller: &Caller, tables: &Tables, object: Option<u32>) -> Result<Answer, Fault>
+fn children(caller: &SessionContext, tables: &Tables, object: Option<u32>) -> Result<Answer, Fault>
     requires { IsPlaced tables.now caller.now.place }
     ensures { Reads caller.now (Children object) tables.now result }
 {
@@ -49,7 +48,7 @@ fn children(caller: &Caller, tables: &Tables, object: Option<u32>) -> Result<Ans
 /// The nearest object below another one, of a title and of a class where they are given.
 #[tactic(auto, using(crate::proofs::CommandsLemmas::starved_reading))]
 fn find(
-    caller: &Caller,
+    caller: &SessionContext,
     tables: &Tables,
     object: u32,
     title: &Option<Text>,
@@ -66,7 +65,12 @@ fn find(
 
 /// Reads a property of an object, which is invalid where there is none of this name.
 #[tactic(auto, using(crate::proofs::CommandsLemmas::starved_reading))]
-fn get(caller: &Caller, tables: &Tables, object: u32, property: &Text) -> Result<Answer, Fault>
+fn get(
+    caller: &SessionContext,
+    tables: &Tables,
+    object: u32,
+    property: &Text,
+) -> Result<Answer, Fault>
     requires { IsPlaced tables.now caller.now.place }
     ensures { Reads caller.now (Get object property.now) tables.now result }
 {
@@ -77,7 +81,7 @@ fn get(caller: &Caller, tables: &Tables, object: u32, property: &Text) -> Result
 
 /// The names of an object's dynamic properties, that first set first.
 #[tactic(auto, using(crate::proofs::CommandsLemmas::starved_reading))]
-fn dynamic_names(caller: &Caller, tables: &Tables, object: u32) -> Result<Answer, Fault>
+fn dynamic_names(caller: &SessionContext, tables: &Tables, object: u32) -> Result<Answer, Fault>
     requires { IsPlaced tables.now caller.now.place }
     ensures { Reads caller.now (DynamicNames object) tables.now result }
 {
@@ -88,7 +92,7 @@ fn dynamic_names(caller: &Caller, tables: &Tables, object: u32) -> Result<Answer
 
 /// What there is in the class of this name.
 #[tactic(auto, using(crate::proofs::CommandsLemmas::starved_reading))]
-fn describe(caller: &Caller, tables: &Tables, class: &Text) -> Result<Answer, Fault>
+fn describe(caller: &SessionContext, tables: &Tables, class: &Text) -> Result<Answer, Fault>
     requires { IsPlaced tables.now caller.now.place }
     ensures { Reads caller.now (Meta class.now) tables.now result }
 {
@@ -111,7 +115,7 @@ fn describe(caller: &Caller, tables: &Tables, class: &Text) -> Result<Answer, Fa
 /// The error that a bound property stands for, where it does.
 #[tactic(auto, using(crate::proofs::CommandsLemmas::starved_reading))]
 fn binding_error(
-    caller: &Caller,
+    caller: &SessionContext,
     tables: &Tables,
     object: u32,
     property: &Text,
@@ -125,7 +129,7 @@ fn binding_error(
 }
 
 /// How much there is in the session.
-fn status(caller: &Caller, tables: &Tables) -> Result<Answer, Fault>
+fn status(caller: &SessionContext, tables: &Tables) -> Result<Answer, Fault>
     requires { IsPlaced tables.now caller.now.place }
     ensures { Reads caller.now Status tables.now result }
 {

@@ -8,18 +8,17 @@ ghost use Rattle.session_tables.specs.Tables.{IsPlaced};
 ghost use Rattle.session_engine.specs.Commands.{Obeys, Performs, reply_lines};
 
 use crate::commands::{give_up, one_line};
-use plain_types::{Items, Text};
+use plain_types::{Code, Fault, Items, Text};
 use publish_board::{Join, Publication};
-use plain_types::{Code, Fault};
-use session_effects::{Caller, kinds_at, method_named, signal_named};
+use session_effects::{SessionContext, kinds_at, method_named, signal_named};
+use session_model::{Answer, Line};
 use session_tables::Tables;
 use signature_core::{Kind, PARAMS};
 use std::alloc::{AllocError, Global};
-use session_model::{Answer, Line};
 
 /// Publishes a signal of an object under a name.
 pub fn publish(
-    caller: &Caller,
+    caller: &SessionContext,
     tables: &mut Tables,
     object: u32,
     signal: &Text,
@@ -41,7 +40,7 @@ pub fn publish(
 }
 
 /// Publishes nothing under a name any more, and replies whether something was.
-pub fn unpublish(caller: &Caller, tables: &mut Tables, name: &Text) -> Result<Answer, Fault>
+pub fn unpublish(caller: &SessionContext, tables: &mut Tables, name: &Text) -> Result<Answer, Fault>
     requires { IsPlaced tables.old caller.now.place }
     ensures { Performs caller.now (Unpublish name.now) tables.old tables.new false reply_lines result }
 {
@@ -50,7 +49,7 @@ pub fn unpublish(caller: &Caller, tables: &mut Tables, name: &Text) -> Result<An
 
 /// Lets what a session publishes under a name call a method of an object, whether it does so yet or not.
 pub fn join(
-    caller: &Caller,
+    caller: &SessionContext,
     tables: &mut Tables,
     from: &Text,
     name: &Text,
@@ -96,7 +95,7 @@ fn asked_kinds(alloc: Global, types: &[Text]) -> Result<Items<Kind>, Fault>
 
 /// Takes out the joins that were made with these four, and replies whether there was one.
 pub fn leave(
-    caller: &Caller,
+    caller: &SessionContext,
     tables: &mut Tables,
     from: &Text,
     name: &Text,
@@ -113,7 +112,7 @@ pub fn leave(
 }
 
 /// Puts the session back to where it was before its first command.
-pub fn reset(caller: &Caller, tables: &mut Tables) -> Result<Answer, Fault>
+pub fn reset(caller: &SessionContext, tables: &mut Tables) -> Result<Answer, Fault>
     requires { IsPlaced tables.old caller.now.place }
     ensures { Performs caller.now Reset tables.old tables.new false reply_lines result }
 {
@@ -121,9 +120,9 @@ pub fn reset(caller: &Caller, tables: &mut Tables) -> Result<Answer, Fault>
     Ok(Answer::Truth(true))
 }
 
-/// The same of a session that has failed.
+/// Puts a session that has failed back to where it was before its first command.
 pub fn renew(
-    caller: &Caller,
+    caller: &SessionContext,
     tables: &mut Tables,
     memory_refused: &mut bool,
 ) -> Result<Items<Line>, Fault>

@@ -3,17 +3,16 @@ ghost use Rattle.std.specs.Prelude.{◌≡◌, false};
 ghost use Rattle.session_model.specs.Asked.{Delete, New};
 ghost use Rattle.session_tables.specs.Tables.{IsPlaced};
 ghost use Rattle.session_engine.specs.Commands.{KnowsProperties, Performs, reply_after, reply_lines};
-ghost use Rattle.dispatch.specs.Telling.{fresh_telling};
+ghost use Rattle.dispatch.specs.CommandOutput.{fresh_output};
 
-use dispatch::{Actor, Answering, Telling, delete};
-use plain_types::Text;
-use plain_types::Fault;
-use session_effects::Caller;
-use session_tables::Tables;
+use dispatch::{CallContext, CommandOutput, FunctorTable, delete};
+use plain_types::{Fault, Text};
+use session_effects::SessionContext;
 use session_model::Answer;
+use session_tables::Tables;
 
 pub fn new_object(
-    caller: &Caller,
+    caller: &SessionContext,
     tables: &mut Tables,
     class: &Text,
     parent: Option<u32>,
@@ -29,17 +28,17 @@ pub fn new_object(
 }
 
 /// Deletes an object with all below it.
-pub fn delete_object<F: Answering>(
-    actor: &Actor<F>,
+pub fn delete_object<F: FunctorTable>(
+    actor: &CallContext<F>,
     tables: &mut Tables,
-    telling: &mut Telling,
+    output: &mut CommandOutput,
     object: u32,
 ) -> Result<Answer, Fault>
     requires placed { IsPlaced tables.old actor.now.caller.place }
-    requires fresh { telling.old ≡ fresh_telling actor.now.caller.setup.now.turns }
-    ensures { Performs actor.now.caller (Delete object) tables.old tables.new telling.new.failing (reply_after telling.new.lines) result }
+    requires fresh { output.old ≡ fresh_output actor.now.caller.setup.now.turns }
+    ensures { Performs actor.now.caller (Delete object) tables.old tables.new output.new.failing (reply_after output.new.lines) result }
 {
     tables.forests.check_object(actor.caller.place, object)?;
-    delete(actor, tables, telling, object, 0)?;
+    delete(actor, tables, output, object, 0)?;
     Ok(Answer::Truth(true))
 }

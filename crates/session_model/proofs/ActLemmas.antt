@@ -9,22 +9,22 @@ use Rattle.term_core.specs.declared.action.SingleAction.{SingleAction}
 use Rattle.term_core.specs.declared.action.SingleAction.TheVariants as e
 use Rattle.object_tree.specs.Refusing.{object_refusal}
 use Rattle.object_tree.specs.Rows.{is_there}
-use Rattle.session_model.specs.declared.deed.Deed.{Deed}
-use Rattle.session_model.specs.Acts.{act_deed, act_refusal, acted, emission, warns_or, with_found}
-use Rattle.session_model.specs.Deeds.{deed_done, deed_refusal, found_refusal}
-use Rattle.session_model.specs.Doing.{Doing}
+use Rattle.session_model.specs.declared.operation.Operation.{Operation}
+use Rattle.session_model.specs.Acts.{act_operation, act_refusal, acted, emission, warns_or, with_found}
+use Rattle.session_model.specs.Operations.{operation_done, operation_refusal, found_refusal}
+use Rattle.session_model.specs.Execution.{Execution}
 use Rattle.session_model.specs.Items.{Delete, Emit, Next, Warn, puts}
 use Rattle.session_model.specs.Methods.{Found, ◌>>=◌}
 use Rattle.session_model.specs.Settings.{Settings}
 use Rattle.session_model.specs.Targets.{evaluated, object_of}
 use Rattle.session_model.specs.Writing.{Writing, acted_writing, written}
 
-module _ (settings : Settings) (doing : Doing) (self sender : ℕ) (args : List Value) (depth : ℕ) (P : Next → Type 0)
+module _ (settings : Settings) (doing : Execution) (self sender : ℕ) (args : List Value) (depth : ℕ) (P : Next → Type 0)
     (warns : (code : Code) → P (puts (Warn code (Some self) ∷ []) doing))
     (sends : (target signal : ℕ) (values : List Value) → P (puts (Emit target signal values depth ∷ []) doing))
     (deletes : (target : ℕ) → P (puts (Delete target depth ∷ []) doing))
     (writes : (target : ℕ) (name : List ℕ) (value : Value) (writing : Writing) → is_there doing.state.forest.rows target ≡ true → acted_writing doing.state target name value ≡ Ok writing → P (written settings doing target depth writing))
-    (does : (deed : Deed) → deed_refusal doing.state deed ≡ None → P (puts [] (deed_done doing deed)))
+    (does : (operation : Operation) → operation_refusal doing.state operation ≡ None → P (puts [] (operation_done doing operation)))
   where
     written_by : (of : ℕ) (there : Bool) (name : List ℕ) (value : Found Value) → is_there doing.state.forest.rows of ≡ there
         → P (warns_or (option_or (cond there None (Some NoSuchObject)) (result_err (value >>= acted_writing doing.state of name))) self doing (with_found (value >>= acted_writing doing.state of name) (λ writing. written settings doing of depth writing) doing))
@@ -46,16 +46,16 @@ module _ (settings : Settings) (doing : Doing) (self sender : ℕ) (args : List 
     deleted_by target (Some code) = warns code
     deleted_by target None = deletes target
 
-    done_by : (deed : Deed) (refusal : Option Code) → deed_refusal doing.state deed ≡ refusal → P (warns_or refusal self doing (puts [] (deed_done doing deed)))
-    done_by deed (Some code) is = warns code
-    done_by deed None is = does deed is
+    done_by : (operation : Operation) (refusal : Option Code) → operation_refusal doing.state operation ≡ refusal → P (warns_or refusal self doing (puts [] (operation_done doing operation)))
+    done_by operation (Some code) is = warns code
+    done_by operation None is = does operation is
 
-    found_by : (found : Found Deed) → P (warns_or (found_refusal doing.state found) self doing (with_found found (λ deed. puts [] (deed_done doing deed)) doing))
-    found_by (Ok deed) = done_by deed _ refl
+    found_by : (found : Found Operation) → P (warns_or (found_refusal doing.state found) self doing (with_found found (λ operation. puts [] (operation_done doing operation)) doing))
+    found_by (Ok operation) = done_by operation _ refl
     found_by (Err code) = warns code
 
-    abbrev its : SingleAction → Found Deed
-    its plain = unwrap_or (act_deed settings doing.state self sender plain) (Err NoSuchObject)
+    abbrev its : SingleAction → Found Operation
+    its plain = unwrap_or (act_operation settings doing.state self sender plain) (Err NoSuchObject)
 
     -- an action is refused, or has one of these effects
     pub acted_cases : (plain : SingleAction) → P (warns_or (act_refusal settings doing.state self sender args plain) self doing (acted settings doing self sender args depth plain))

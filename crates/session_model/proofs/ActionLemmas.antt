@@ -11,19 +11,19 @@ use Rattle.term_core.specs.declared.action.SingleAction.TheVariants as e
 use Rattle.term_core.specs.declared.target.Target.{Target}
 use Rattle.term_core.specs.Act.{Acts, single_action, when}
 use Rattle.term_core.specs.Term.{Term}
-use Rattle.session_model.specs.declared.deed.Deed.{Deed}
+use Rattle.session_model.specs.declared.operation.Operation.{Operation}
 use Rattle.object_tree.specs.Rows.{is_there}
-use Rattle.session_model.specs.Acts.{act_deed, acts, chosen, emission, warns_or, with_found, writing}
+use Rattle.session_model.specs.Acts.{act_operation, acts, chosen, emission, warns_or, with_found, writing}
 use Rattle.session_model.specs.Agenda.{step}
-use Rattle.session_model.specs.Deeds.{deed_done, deed_refusal, found_refusal}
-use Rattle.session_model.specs.Doing.{Doing}
+use Rattle.session_model.specs.Operations.{operation_done, operation_refusal, found_refusal}
+use Rattle.session_model.specs.Execution.{Execution}
 use Rattle.session_model.specs.Items.{Act, Emit, Next, Warn, puts}
 use Rattle.session_model.specs.Methods.{Found}
 use Rattle.session_model.specs.Settings.{Settings}
 use Rattle.session_model.specs.Targets.{object_of, truth_evaluated}
 use Rattle.session_model.specs.Writing.{Writing, written}
 
-module _ (settings : Settings) (self sender : ℕ) (args : List Value) (depth : ℕ) (doing : Doing) where
+module _ (settings : Settings) (self sender : ℕ) (args : List Value) (depth : ℕ) (doing : Execution) where
   -- what a single action comes to
   abbrev pub comes_to : SingleAction → Next
   comes_to plain = step settings (Act (single_action plain) args self sender depth) doing
@@ -76,25 +76,25 @@ module _ (settings : Settings) (self sender : ℕ) (args : List Value) (depth : 
     unfolding emit_next
     emit_absent there = by_sender false there
 
-  -- what comes of a deed
-  abbrev pub found_next : Found Deed → Next
-  found_next found = warns_or (found_refusal doing.state found) self doing (with_found found (λ deed. puts [] (deed_done doing deed)) doing)
+  -- what comes of an operation
+  abbrev pub found_next : Found Operation → Next
+  found_next found = warns_or (found_refusal doing.state found) self doing (with_found found (λ operation. puts [] (operation_done doing operation)) doing)
 
-  next_of : Option (Found Deed) → Next
+  next_of : Option (Found Operation) → Next
   next_of found = option_map_or found_next found (puts [] doing)
 
-  pub by_deed : (plain : SingleAction) (found : Found Deed) → act_deed settings doing.state self sender plain ≡ Some found → comes_to plain ≡ found_next found
+  pub by_operation : (plain : SingleAction) (found : Found Operation) → act_operation settings doing.state self sender plain ≡ Some found → comes_to plain ≡ found_next found
   unfolding next_of
-  by_deed (e.Set of property value) found is = absurd (cc)
-  by_deed (e.Emit of signal sent) found is = absurd (cc)
-  by_deed (e.Delete of) found is = absurd (cc)
-  by_deed _ found is = ap next_of is
+  by_operation (e.Set of property value) found is = absurd (cc)
+  by_operation (e.Emit of signal sent) found is = absurd (cc)
+  by_operation (e.Delete of) found is = absurd (cc)
+  by_operation _ found is = ap next_of is
 
-  -- doing a deed
+  -- doing an operation
   module _ (plain : SingleAction) where
-    module _ (deed : Deed) (is : act_deed settings doing.state self sender plain ≡ Some (Ok deed)) where
-      pub deed_is_done : deed_refusal doing.state deed ≡ None → comes_to plain ≡ puts [] (deed_done doing deed)
-      deed_is_done passed = by_deed plain (Ok deed) is ∙ ap (λ refusal. warns_or refusal self doing (puts [] (deed_done doing deed))) passed
+    module _ (operation : Operation) (is : act_operation settings doing.state self sender plain ≡ Some (Ok operation)) where
+      pub operation_is_done : operation_refusal doing.state operation ≡ None → comes_to plain ≡ puts [] (operation_done doing operation)
+      operation_is_done passed = by_operation plain (Ok operation) is ∙ ap (λ refusal. warns_or refusal self doing (puts [] (operation_done doing operation))) passed
 
   -- choosing a branch
   module _ (test : Term) (held failed : Acts) where

@@ -14,7 +14,7 @@ use Rattle.property_store.specs.Store.{Properties, Store, changed, properties_of
 use Rattle.property_store.proofs.ForCallers.{without_others}
 use Rattle.term_core.specs.Term.{Term}
 use Rattle.binding_graph.specs.declared.change.Change.{Change}
-use Rattle.binding_graph.specs.declared.change.Message.TheVariants as message
+use Rattle.binding_graph.specs.declared.change.ChangeKind.TheVariants as message
 use Rattle.property_store.specs.declared.property.Property.{Property}
 use Rattle.binding_graph.specs.declared.shown.Shown.{Shown}
 use Rattle.binding_graph.specs.Graph.{all_shown, before, changes, fresh, has_turn, in_turn, is_same_error, notice, shown_as, shown_at, shown_now, warning}

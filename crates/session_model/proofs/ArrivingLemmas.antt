@@ -3,7 +3,7 @@ use Rattle.std.proofs.Common.{◌≡◌, ℕ, Bool, true, false, cond, List, [],
 use Rattle.std.proofs.lemmas.List.Elements.{All-head, All-tail}
 use Rattle.class_table.specs.declared.class.Class.{Class}
 use Rattle.event_queue.specs.declared.event.Event.TheVariants.{Call}
-use Rattle.event_queue.specs.Queue.{Queue, has_room, posted, with_lost, with_mismatched}
+use Rattle.event_queue.specs.Queue.{Queue, has_room, enqueued, with_lost, with_mismatched}
 use Rattle.isolation.specs.World.{all_arrive}
 use Rattle.object_tree.specs.declared.row.Row.{Row}
 use Rattle.publish_board.specs.declared.join.Join.{Join}
@@ -16,11 +16,11 @@ use Rattle.session_model.specs.Thread.{Settings, arrive_all, arrives}
 
 -- by each join a queue gets a call, or counts it as lost or mismatched, or stays as it was
 module _ (classes : List Class) (rows : List Row) (from : List ℕ) (post : Post) (P : Queue → Type 0) (mismatched : (queue : Queue) → P queue → P (with_mismatched queue)) (lost : (queue : Queue) → P queue → P (with_lost queue))
-    (Q : Join → Type 0) (called : (queue : Queue) (join : Join) → is_matched post.kinds join ≡ true → Q join → P queue → P (posted queue (Call (joined_call classes rows post.arguments join)))) where
+    (Q : Join → Type 0) (called : (queue : Queue) (join : Join) → is_matched post.kinds join ≡ true → Q join → P queue → P (enqueued queue (Call (joined_call classes rows post.arguments join)))) where
   reached_keeps : (queue : Queue) (join : Join) → Q join → P queue → P (reached classes rows from post queue join)
   reached_keeps queue join meant holds = by (listens from post.name join) (is_matched post.kinds join) refl
     where
-      call : is_matched post.kinds join ≡ true → (room : Bool) → P (cond room (posted queue (Call (joined_call classes rows post.arguments join))) (with_lost queue))
+      call : is_matched post.kinds join ≡ true → (room : Bool) → P (cond room (enqueued queue (Call (joined_call classes rows post.arguments join))) (with_lost queue))
       call is true = called queue join is meant holds
       call is false = lost queue holds
 

@@ -17,7 +17,7 @@ use Rattle.session_model.proofs.ShowingLemmas.{ending, ending_stays, tells}
 use Rattle.session_model.proofs.StateLemmas.{whole_with_binding, whole_with_binding_taken, whole_with_group, whole_without_group}
 use Rattle.session_model.specs.Asked.{Begin, Bind, End, Unbind}
 use Rattle.session_model.specs.Binding.{Bound, asked_binding, asked_property, begins, binding_refusal, binds_found, ends, unbinds_found}
-use Rattle.session_model.specs.Doing.{begun}
+use Rattle.session_model.specs.Execution.{begun}
 use Rattle.session_model.specs.Effects.{does_next}
 use Rattle.session_model.specs.Fitting.{IsRightPost}
 use Rattle.session_model.specs.Items.{Item}

@@ -13,7 +13,7 @@ use Rattle.property_store.specs.declared.property.Property.{Property}
 use Rattle.session_model.proofs.BindingLemmas.{IsBindable}
 use Rattle.session_model.proofs.BoundTermLemmas.{bound_term_short}
 use Rattle.session_model.specs.Binding.{Bound, asked_binding, asked_property, bindable_property, reads_refusal}
-use Rattle.session_model.specs.Deeds.{behind}
+use Rattle.session_model.specs.Operations.{behind}
 use Rattle.session_model.specs.Methods.{Found, ◌>>=◌}
 use Rattle.session_model.specs.State.{State}
 

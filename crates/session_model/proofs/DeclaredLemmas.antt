@@ -21,18 +21,18 @@ use Rattle.std.specs.Option.{option_map, option_map_or}
 use Rattle.session_model.proofs.RunLemmas.{run_keeps}
 use Rattle.session_model.proofs.StepLemmas.{Holds, step_holds}
 use Rattle.session_model.specs.Agenda.{step}
-use Rattle.session_model.specs.Deeds.{deed_done, with_deed}
-use Rattle.session_model.specs.Doing.{Doing, dying, first_taken, in_state, line_told, lost, posted, posting, severed, shot, stepped, turn_taken, used_up}
+use Rattle.session_model.specs.Operations.{operation_done, with_operation}
+use Rattle.session_model.specs.Execution.{Execution, dying, first_taken, in_state, line_told, lost, enqueued, posting, severed, single_shot_broken, stepped, turn_taken, used_up}
 use Rattle.session_model.specs.Items.{Item}
 use Rattle.session_model.specs.Run.{run}
 use Rattle.session_model.specs.State.{IsDeclared, State, fields_of, with_binding_taken, with_object, with_properties, without_connections, without_object}
 use Rattle.session_model.specs.Thread.{Settings, arrives}
 use Rattle.session_model.specs.Writing.{Declared, Dynamic, Nothing, Removed, Writing, with_writing}
-use Rattle.session_model.specs.declared.deed.Deed.{Deed}
+use Rattle.session_model.specs.declared.operation.Operation.{Operation}
 use Rattle.session_model.specs.declared.line.Line.{Line}
 use Rattle.session_model.specs.declared.post.Post.{Post}
 use Rattle.variant_value.specs.declared.value.Value.{Value}
-use Rattle.session_model.specs.declared.deed.Deed.TheVariants as d
+use Rattle.session_model.specs.declared.operation.Operation.TheVariants as d
 use Rattle.property_store.specs.Store as stored
 
 -- something that is said of an object by its number and its class
@@ -122,7 +122,7 @@ module _ (classes : List Class) (state : State) (declared : IsDeclared classes s
           let apart : (state.forest.last_number + 1 == row.number) ≡ false = grind (arith, nat_tests, below) in
           ap (option_map (λ of. of.fields)) (added_others state.store (state.forest.last_number + 1) (fields_of classes class) row.number apart) ∙ has
 
-module _ (classes : List Class) (doing : Doing) (declared : IsDeclared classes doing.state) where
+module _ (classes : List Class) (doing : Execution) (declared : IsDeclared classes doing.state) where
   told_declared : (said : Line) → IsDeclared classes (line_told doing said).state
   unfolding line_told
   told_declared said = declared
@@ -137,18 +137,18 @@ module _ (classes : List Class) (doing : Doing) (declared : IsDeclared classes d
 
   used_up_declared : IsDeclared classes (used_up doing).state
   unfolding used_up
-  used_up_declared = cond_both doing.spent doing _ (λ (new : Doing). IsDeclared classes new.state) (λ spent. declared) (λ fresh. declared)
+  used_up_declared = cond_both doing.spent doing _ (λ (new : Execution). IsDeclared classes new.state) (λ spent. declared) (λ fresh. declared)
 
-  shot_declared : (row : Connection) → IsDeclared classes (shot doing row).state
-  unfolding shot
-  shot_declared row = cond_both row.single (in_state doing (without_connections doing.state (has_connection_number row.number))) doing (λ (new : Doing). IsDeclared classes new.state) (λ single. declared) (λ lasting. declared)
+  shot_declared : (row : Connection) → IsDeclared classes (single_shot_broken doing row).state
+  unfolding single_shot_broken
+  shot_declared row = cond_both row.single (in_state doing (without_connections doing.state (has_connection_number row.number))) doing (λ (new : Execution). IsDeclared classes new.state) (λ single. declared) (λ lasting. declared)
 
   severed_declared : (target : ℕ) → IsDeclared classes (severed doing target).state
   unfolding severed
   severed_declared target = declared
 
-  posted_declared : (event : Event) → IsDeclared classes (posted doing event).state
-  unfolding posted
+  posted_declared : (event : Event) → IsDeclared classes (enqueued doing event).state
+  unfolding enqueued
   posted_declared event = declared
 
   lost_declared : IsDeclared classes (lost doing).state
@@ -159,16 +159,16 @@ module _ (classes : List Class) (doing : Doing) (declared : IsDeclared classes d
   unfolding first_taken
   first_declared = declared
 
-  pub deed_declared : (deed : Deed) → IsDeclared classes (with_deed doing.state deed)
-  deed_declared (d.Connect new unique) = declared
-  deed_declared (d.Disconnect pattern) = declared
-  deed_declared (d.SetParent target parent) = each_reparented (Has classes doing.state) doing.state.forest target parent declared
-  deed_declared (d.DeleteLater target) = declared
-  deed_declared (d.Block target on) = each_blocked (Has classes doing.state) doing.state.forest target on declared
+  pub operation_declared : (operation : Operation) → IsDeclared classes (with_operation doing.state operation)
+  operation_declared (d.Connect new unique) = declared
+  operation_declared (d.Disconnect pattern) = declared
+  operation_declared (d.SetParent target parent) = each_reparented (Has classes doing.state) doing.state.forest target parent declared
+  operation_declared (d.DeleteLater target) = declared
+  operation_declared (d.Block target on) = each_blocked (Has classes doing.state) doing.state.forest target on declared
 
-  change_declared : (deed : Deed) → IsDeclared classes (deed_done doing deed).state
-  unfolding deed_done
-  change_declared deed = deed_declared deed
+  change_declared : (operation : Operation) → IsDeclared classes (operation_done doing operation).state
+  unfolding operation_done
+  change_declared operation = operation_declared operation
 
   dying_declared : (target : ℕ) → IsDeclared classes (dying doing target).state
   unfolding dying
@@ -195,7 +195,7 @@ holds classes = record {
   posts = λ doing event declared. posted_declared classes doing declared event;
   loses = λ doing declared. lost_declared classes doing declared;
   takes = λ doing declared. first_declared classes doing declared;
-  does = λ doing deed declared. change_declared classes doing declared deed;
+  does = λ doing operation declared. change_declared classes doing declared operation;
   writes = λ doing target writing declared. declared_with_writing classes doing.state declared target writing;
   marks = λ doing target declared. dying_declared classes doing declared target;
   severs = λ doing target declared. severed_declared classes doing declared target;
@@ -203,11 +203,11 @@ holds classes = record {
   steps = λ doing number next declared. stepped_declared classes doing declared number next;
 }
 
-pub item_declared : (settings : Settings) (item : Item) (doing : Doing) → IsDeclared settings.classes doing.state → IsDeclared settings.classes (step settings item doing).doing.state
+pub item_declared : (settings : Settings) (item : Item) (doing : Execution) → IsDeclared settings.classes doing.state → IsDeclared settings.classes (step settings item doing).doing.state
 item_declared settings item doing = step_holds settings (λ old new. IsDeclared settings.classes old.state → IsDeclared settings.classes new.state) (holds settings.classes) item doing
 
 -- and after an agenda is done
-pub run_declared : (settings : Settings) (agenda : List Item) (doing : Doing) → IsDeclared settings.classes doing.state → IsDeclared settings.classes (run settings agenda doing).state
+pub run_declared : (settings : Settings) (agenda : List Item) (doing : Execution) → IsDeclared settings.classes doing.state → IsDeclared settings.classes (run settings agenda doing).state
 run_declared settings agenda doing declared = run_keeps settings (λ items doing. IsDeclared settings.classes doing.state) (λ item agenda doing. item_declared settings item doing) agenda doing declared
 
 -- and after a post

@@ -20,13 +20,13 @@ use Rattle.session_model.specs.Arriving.{posts_of}
 use Rattle.binding_values.specs.declared.property.BindingError.{BindingError}
 use Rattle.property_store.specs.declared.property.Property.{Property}
 use Rattle.session_model.specs.Agenda.{binding_line, call_line, callee_called, called, calls_of, connection_of, emitted, functor_ran, is_held_back, ran, step, with_turn}
-use Rattle.session_model.specs.Doing.{Doing, posting, shot, line_told, turn_taken, used_up}
+use Rattle.session_model.specs.Execution.{Execution, posting, single_shot_broken, line_told, turn_taken, used_up}
 use Rattle.session_model.specs.Items.{Call, Emit, Run, RunFunctor, Warn, WarnOf, puts}
 use Rattle.session_model.specs.Functors.{functor_at}
 use Rattle.session_model.specs.Methods.{method_at}
 use Rattle.session_model.specs.Settings.{Settings}
 
-module _ (settings : Settings) (target signal : ℕ) (args : List Value) (depth : ℕ) (doing : Doing) where
+module _ (settings : Settings) (target signal : ℕ) (args : List Value) (depth : ℕ) (doing : Execution) where
   -- an object that has gone sends nothing
   pub emit_absent : is_there doing.state.forest.rows target ≡ false → step settings (Emit target signal args depth) doing ≡ puts [] doing
   emit_absent absent = by (row_of doing.state.forest.rows target) absent
@@ -56,7 +56,7 @@ module _ (settings : Settings) (target signal : ℕ) (args : List Value) (depth 
       pub emit_calls : depth < NESTED_SIGNALS → step settings (Emit target signal args depth) doing ≡ puts (calls_of doing target signal args depth) (posting doing (posts_of settings.classes doing.state target signal args))
       emit_calls shallow = let is : nat_le NESTED_SIGNALS depth ≡ false = grind (arith, nat_tests, shallow) in is_sent ∙ cond-false (nat_le NESTED_SIGNALS depth) _ _ is
 
-module _ (settings : Settings) (number : ℕ) (args : List Value) (depth : ℕ) (doing : Doing) where
+module _ (settings : Settings) (number : ℕ) (args : List Value) (depth : ℕ) (doing : Execution) where
   -- a connection that is broken is not called
   pub call_broken : connection_of doing number ≡ None → step settings (Call number args depth) doing ≡ puts [] doing
   call_broken broken = ap (λ found. option_map_or (λ connection. with_turn doing (called settings connection args depth)) found (puts [] doing)) broken
@@ -70,20 +70,20 @@ module _ (settings : Settings) (number : ℕ) (args : List Value) (depth : ℕ) 
     call_spent none = let is : (doing.turns == 0) ≡ true = grind (arith, nat_tests, none) in is_called ∙ cond-true (doing.turns == 0) _ _ is
 
     -- what becomes of the session: a turn is taken, and a single-shot connection is broken
-    abbrev pub after : Doing
-    after = shot (turn_taken doing) connection
+    abbrev pub after : Execution
+    after = single_shot_broken (turn_taken doing) connection
 
     -- a connection that stands takes a turn where one is left
     pub call_taken : 0 < doing.turns → step settings (Call number args depth) doing ≡ callee_called settings connection args depth after connection.callee
     call_taken some = let is : (doing.turns == 0) ≡ false = grind (arith, nat_tests, some) in is_called ∙ cond-false (doing.turns == 0) _ (called settings connection args depth (turn_taken doing)) is
 
-module _ (settings : Settings) (target index sender : ℕ) (args : List Value) (depth : ℕ) (doing : Doing) where
+module _ (settings : Settings) (target index sender : ℕ) (args : List Value) (depth : ℕ) (doing : Execution) where
   -- a slot that is there is told of, and does what its body says, one level deeper
   pub run_slot : (method : Method) → method_at settings doing.state target index ≡ Some method → step settings (Run target index sender args depth) doing
       ≡ puts (acts (acts_of method.body.actions) args target sender (depth + 1)) (line_told doing (call_line method target sender args))
   run_slot method has = ap (λ found. option_map_or (ran doing target sender args depth) found (puts [] doing)) has
 
-module _ (settings : Settings) (target index sender connection : ℕ) (args : List Value) (depth : ℕ) (doing : Doing) where
+module _ (settings : Settings) (target index sender connection : ℕ) (args : List Value) (depth : ℕ) (doing : Execution) where
   -- a functor that is not there runs nothing
   pub run_functor_absent : functor_at settings index ≡ None → step settings (RunFunctor target index sender connection args depth) doing ≡ puts [] doing
   run_functor_absent absent = ap (λ found. option_map_or (functor_ran doing target sender connection args depth) found (puts [] doing)) absent
@@ -92,7 +92,7 @@ module _ (settings : Settings) (target index sender connection : ℕ) (args : Li
   pub run_functor : (functor : Functor) → functor_at settings index ≡ Some functor → step settings (RunFunctor target index sender connection args depth) doing ≡ functor_ran doing target sender connection args depth functor
   run_functor functor has = ap (λ found. option_map_or (functor_ran doing target sender connection args depth) found (puts [] doing)) has
 
-module _ (settings : Settings) (doing : Doing) where
+module _ (settings : Settings) (doing : Execution) where
   -- a warning and a reply are told
   pub warn_told : (code : Code) (object : Option ℕ) → step settings (Warn code object) doing ≡ puts [] (line_told doing (line.Warning code object))
   warn_told code object = refl

@@ -8,21 +8,21 @@ use Rattle.std.proofs.lemmas.List.Elements.{All-cons, All-nil}
 use Rattle.session_model.proofs.KeepingLemmas.{Keeps, found_keeps, ran, stays}
 use Rattle.session_model.specs.Agenda.{event_items, spun, step}
 use Rattle.session_model.specs.Asked.{Do, Spin as spin}
-use Rattle.session_model.specs.Deeds.{deed_answer, deed_refusal, with_deed}
-use Rattle.session_model.specs.Doing.{Doing, begun, first_taken, turn_taken, used_up}
+use Rattle.session_model.specs.Operations.{operation_answer, operation_refusal, with_operation}
+use Rattle.session_model.specs.Execution.{Execution, begun, first_taken, turn_taken, used_up}
 use Rattle.session_model.specs.Effects.{replies}
 use Rattle.session_model.specs.Events.{spins}
-use Rattle.session_model.specs.Fitting.{IsFittingDeed, IsFittingItem, IsRightPost}
+use Rattle.session_model.specs.Fitting.{IsFittingOperation, IsFittingItem, IsRightPost}
 use Rattle.session_model.specs.Items.{Item, Spin, puts}
 use Rattle.session_model.specs.Named.{IsNamedItem}
 use Rattle.session_model.specs.Refusing.{refusal}
 use Rattle.session_model.specs.Signals.{does_found}
 use Rattle.session_model.specs.State.{State}
 use Rattle.session_model.specs.Thread.{Settings, performs}
-use Rattle.session_model.specs.declared.deed.Deed.{Deed}
+use Rattle.session_model.specs.declared.operation.Operation.{Operation}
 use Rattle.session_model.specs.Items as to_do
 
-module _ (settings : Settings) (doing : Doing) where
+module _ (settings : Settings) (doing : Execution) where
   -- where there is no event, nothing is taken
   pub spin_empty : doing.state.queue.events ≡ [] → step settings Spin doing ≡ puts [] doing
   spin_empty none = ap (spun settings doing) none
@@ -51,13 +51,13 @@ module _ (settings : Settings) (self : List ℕ) (state : State) where
   unfolding performs
   performs_spin = refl
 
-  pub refusal_do : (deed : Deed) → refusal settings self state (Do deed) ≡ deed_refusal state deed
+  pub refusal_do : (operation : Operation) → refusal settings self state (Do operation) ≡ operation_refusal state operation
   unfolding refusal
-  refusal_do deed = refl
+  refusal_do operation = refl
 
-  pub performs_do : (deed : Deed) → performs settings self state (Do deed) ≡ replies (with_deed state deed) (deed_answer state deed)
+  pub performs_do : (operation : Operation) → performs settings self state (Do operation) ≡ replies (with_operation state operation) (operation_answer state operation)
   unfolding performs
-  performs_do deed = refl
+  performs_do operation = refl
 
 module _ (settings : Settings) (state : State) where
   pub spin_keeps : Keeps settings state spin (spins settings state)
@@ -69,5 +69,5 @@ module _ (settings : Settings) (state : State) where
     names = λ are is named. All-cons IsNamedItem Spin (to_do.ReplySpun ∷ []) tt (All-cons IsNamedItem to_do.ReplySpun [] tt (All-nil IsNamedItem));
   })
 
-  pub do_keeps : (deed : Deed) → deed_refusal state deed ≡ None → Keeps settings state (Do deed) (does_found state (Ok deed))
-  do_keeps deed passed = found_keeps settings state (Do deed) (Ok deed) passed (λ other is may. let same : deed ≡ other = cc in subst (IsFittingDeed settings state.forest.rows) same may)
+  pub do_keeps : (operation : Operation) → operation_refusal state operation ≡ None → Keeps settings state (Do operation) (does_found state (Ok operation))
+  do_keeps operation passed = found_keeps settings state (Do operation) (Ok operation) passed (λ other is may. let same : operation ≡ other = cc in subst (IsFittingOperation settings state.forest.rows) same may)

@@ -28,10 +28,10 @@ use Rattle.session_model.specs.declared.line.Line.TheVariants as line
 use Rattle.session_model.specs.declared.line.Line.TheVariants.{Warning}
 use Rattle.session_model.specs.Acts.{acts, chosen}
 use Rattle.session_model.specs.Arriving.{posts_of}
-use Rattle.session_model.specs.Agenda.{binding_line, call_items, call_line, callee_called, called, calls_of, connection_of, emitted, event_items, functor_called, functor_line, functor_ran, is_held_back, kins, lives, lives_below, method_called, method_items, queued, ran, spun, step, with_turn}
-use Rattle.session_model.specs.Deeds.{deed_done}
-use Rattle.session_model.specs.Doing.{Doing, dying, first_taken, in_state, shot, line_told, turn_taken, used_up, posting, severed, stepped}
-use Rattle.session_model.specs.Items.{Act, Call, Cut, Delete, Emit, Gone, Item, Kin, Next, Reply, ReplySpun, Run, RunFunctor, Spin, Warn, WarnOf, puts}
+use Rattle.session_model.specs.Agenda.{binding_line, call_items, call_line, callee_called, called, calls_of, connection_of, emitted, event_items, functor_called, functor_line, functor_ran, is_held_back, delete_children, lives, lives_below, method_called, method_items, queued, ran, spun, step, with_turn}
+use Rattle.session_model.specs.Operations.{operation_done}
+use Rattle.session_model.specs.Execution.{Execution, dying, first_taken, in_state, single_shot_broken, line_told, turn_taken, used_up, posting, severed, stepped}
+use Rattle.session_model.specs.Items.{Act, Call, Detach, Delete, Emit, Remove, Item, DeleteChild, Next, Reply, ReplySpun, Run, RunFunctor, Spin, Warn, WarnOf, puts}
 use Rattle.session_model.specs.Functors.{functor_at}
 use Rattle.session_model.specs.Methods.{Found, method_at}
 use Rattle.session_model.specs.Posting.{is_queued, spin_of}
@@ -44,18 +44,18 @@ use Rattle.session_model.specs.Writing.{Writing, with_writing, written, written_
 use Rattle.session_model.proofs.ActLemmas.{acted_cases}
 use Rattle.session_model.proofs.ShowingLemmas.{told-weight}
 use Rattle.session_model.proofs.LivingLemmas.{few_children, filter-fewer, living_rows}
-use Rattle.session_model.proofs.WeightLemmas.{act-some, acts-weight, body-size, calls-weight, choice-weight, functor-size, kins-weight, weight-some, weights-append}
-use Rattle.session_model.proofs.ShrinkLemmas.{Shrinks, both, deed_shrinks, dying_less, dying_shrinks, first_taken-turns, gone_shrinks, queued_shrinks, same, shot_shrinks, taken_shrinks, told_shrinks, turn_shrinks, turn_taken-less, used_up_shrinks, written_shrinks, posting_shrinks, severed_shrinks, stepped_shrinks}
+use Rattle.session_model.proofs.WeightLemmas.{act-some, acts-weight, body-size, calls-weight, choice-weight, functor-size, delete_children-weight, weight-some, weights-append}
+use Rattle.session_model.proofs.ShrinkLemmas.{Shrinks, both, operation_shrinks, dying_less, dying_shrinks, first_taken-turns, gone_shrinks, queued_shrinks, same, shot_shrinks, taken_shrinks, told_shrinks, turn_shrinks, turn_taken-less, used_up_shrinks, written_shrinks, posting_shrinks, severed_shrinks, stepped_shrinks}
 
-abbrev pub total : Most → Doing → ℕ → ℕ
+abbrev pub total : Most → Execution → ℕ → ℕ
 total n doing items = doing.turns * turn_weight n + living_rows doing.state.forest.rows * deletion_weight n + items
 
 -- what an item comes to is lower
-pub record FallsTo (settings : Settings) (item : Item) (doing : Doing) (next : Next) : Type 0 where
+pub record FallsTo (settings : Settings) (item : Item) (doing : Execution) (next : Next) : Type 0 where
   pub shrinks : Shrinks doing next.doing
   pub lower : total (most settings doing) next.doing (weights (most settings doing) next.items) < total (most settings doing) doing (weight (most settings doing) item)
 
-module _ (settings : Settings) (item : Item) (doing : Doing) where
+module _ (settings : Settings) (item : Item) (doing : Execution) where
   -- an item falls to lighter ones
   pub lighter : (next : Next) → Shrinks doing next.doing → weights (most settings doing) next.items < weight (most settings doing) item → FallsTo settings item doing next
   lighter next shrinks less =
@@ -82,18 +82,18 @@ module _ (settings : Settings) (item : Item) (doing : Doing) where
       record { shrinks = shrinks; lower = omega (arith, turns, one, plus, deletions, less) }
 
   -- nothing is put in front, and nothing grows
-  pub idle : (new : Doing) → Shrinks doing new → FallsTo settings item doing (puts [] new)
+  pub idle : (new : Execution) → Shrinks doing new → FallsTo settings item doing (puts [] new)
   idle new shrinks = let some = weight-some (most settings doing) item in lighter (puts [] new) shrinks (omega (arith, some))
 
 -- another state falls to what tells of it
-telling_falls : (settings : Settings) (item : Item) (doing : Doing) (depth : ℕ) (after : State) (written : Option Property) → Shrinks doing (in_state doing after) → change_weight (most settings doing) < weight (most settings doing) item
+telling_falls : (settings : Settings) (item : Item) (doing : Execution) (depth : ℕ) (after : State) (written : Option Property) → Shrinks doing (in_state doing after) → change_weight (most settings doing) < weight (most settings doing) item
     → FallsTo settings item doing (comes_to settings doing depth after written)
 telling_falls settings item doing depth after written shrinks more =
     let few = told-weight settings doing depth after written (most settings doing) shrinks.properties in
     lighter settings item doing (comes_to settings doing depth after written) shrinks (omega (arith, few, more))
 
 -- and so does a writing
-written_falls : (settings : Settings) (item : Item) (doing : Doing) (target depth : ℕ) (writing : Writing) → change_weight (most settings doing) < weight (most settings doing) item → FallsTo settings item doing (written settings doing target depth writing)
+written_falls : (settings : Settings) (item : Item) (doing : Execution) (target depth : ℕ) (writing : Writing) → change_weight (most settings doing) < weight (most settings doing) item → FallsTo settings item doing (written settings doing target depth writing)
 written_falls settings item doing target depth writing more =
     telling_falls settings item doing depth (with_writing doing.state target writing) (written_property target writing) (written_shrinks doing target writing) more
 
@@ -117,7 +117,7 @@ event_weight : (settings : Settings) (n : Most) (state : State) (event : Event) 
 event_weight settings n state (event.Call call) = call_weight settings n state call call.callee
 event_weight settings n state (event.Deletion target) = omega arith
 
-module _ (settings : Settings) (item : Item) (doing new : Doing) (shrinks : Shrinks doing new) (taken : new.turns + 1 ≤ doing.turns) where
+module _ (settings : Settings) (item : Item) (doing new : Execution) (shrinks : Shrinks doing new) (taken : new.turns + 1 ≤ doing.turns) where
   -- a connection's call falls to what its turn may come to, also where it is posted or lost
   method_falls : (connection : Connection) (index : ℕ) (args : List Value) (depth : ℕ) (method : Method) → FallsTo settings item doing (method_called connection index args depth new method)
   method_falls connection index args depth method =
@@ -152,7 +152,7 @@ module _ (settings : Settings) (item : Item) (doing new : Doing) (shrinks : Shri
       by None = idle settings item doing new shrinks
       by (Some method) = method_falls connection index args depth method
 
-called_falls : (settings : Settings) (number : ℕ) (args : List Value) (depth : ℕ) (doing : Doing) (found : Option Connection)
+called_falls : (settings : Settings) (number : ℕ) (args : List Value) (depth : ℕ) (doing : Execution) (found : Option Connection)
     → FallsTo settings (Call number args depth) doing (option_map_or (λ connection. with_turn doing (called settings connection args depth)) found (puts [] doing))
 called_falls settings number args depth doing None = idle settings (Call number args depth) doing doing (same doing)
 called_falls settings number args depth doing (Some connection) =
@@ -161,11 +161,11 @@ called_falls settings number args depth doing (Some connection) =
     let shot' = shot_shrinks taken connection in
     cond_both (doing.turns == 0) (puts [] (used_up doing)) (called settings connection args depth taken) (FallsTo settings item doing)
     (λ none. idle settings item doing (used_up doing) (used_up_shrinks doing))
-    (λ some. callee_falls settings item doing (shot taken connection) (both doing taken (shot taken connection) (turn_shrinks doing) shot')
+    (λ some. callee_falls settings item doing (single_shot_broken taken connection) (both doing taken (single_shot_broken taken connection) (turn_shrinks doing) shot')
     (let less = turn_taken-less doing some in omega (arith, less, shot'.turns)) connection args depth connection.callee)
 
 -- taking events falls with each event
-spun_falls : (settings : Settings) (doing : Doing) (events : List Event) → FallsTo settings Spin doing (spun settings doing events)
+spun_falls : (settings : Settings) (doing : Execution) (events : List Event) → FallsTo settings Spin doing (spun settings doing events)
 spun_falls settings doing [] = idle settings Spin doing doing (same doing)
 spun_falls settings doing (event ∷ later) =
     let taken = turn_taken doing in
@@ -179,7 +179,7 @@ spun_falls settings doing (event ∷ later) =
     (λ some. by_turn settings Spin doing (puts (items ++ Spin ∷ []) (first_taken taken)) (taken_shrinks doing some)
     (let less = turn_taken-less doing some in omega (arith, less, turns)) (omega (arith, few, parts)))
 
-calls_fall : (settings : Settings) (target signal : ℕ) (args : List Value) (depth : ℕ) (doing : Doing) → FallsTo settings (Emit target signal args depth) doing (puts (calls_of doing target signal args depth) (posting doing (posts_of settings.classes doing.state target signal args)))
+calls_fall : (settings : Settings) (target signal : ℕ) (args : List Value) (depth : ℕ) (doing : Execution) → FallsTo settings (Emit target signal args depth) doing (puts (calls_of doing target signal args depth) (posting doing (posts_of settings.classes doing.state target signal args)))
 unfolding calls_of
 calls_fall settings target signal args depth doing =
     let rows = doing.state.connections.rows in
@@ -187,15 +187,15 @@ calls_fall settings target signal args depth doing =
     let few = filter-fewer (calls target signal) rows in
     lighter settings (Emit target signal args depth) doing (puts _ (posting doing (posts_of settings.classes doing.state target signal args))) (posting_shrinks doing (posts_of settings.classes doing.state target signal args)) (omega (arith, one, few))
 
-cut_falls : (settings : Settings) (target depth : ℕ) (doing : Doing) → FallsTo settings (Cut target depth) doing (puts (kins doing target depth) (severed doing target))
-unfolding kins
-cut_falls settings target depth doing =
+detach_falls : (settings : Settings) (target depth : ℕ) (doing : Execution) → FallsTo settings (Detach target depth) doing (puts (delete_children doing target depth) (severed doing target))
+unfolding delete_children
+detach_falls settings target depth doing =
     let rows = doing.state.forest.rows in
-    let two = kins-weight (most settings doing) target depth (children rows (Some target)) in
+    let two = delete_children-weight (most settings doing) target depth (children rows (Some target)) in
     let few = few_children rows (Some target) in
-    lighter settings (Cut target depth) doing (puts _ (severed doing target)) (severed_shrinks doing target) (omega (arith, two, few))
+    lighter settings (Detach target depth) doing (puts _ (severed doing target)) (severed_shrinks doing target) (omega (arith, two, few))
 
-ran_falls : (settings : Settings) (target index sender : ℕ) (args : List Value) (depth : ℕ) (doing : Doing) (found : Option Method) → method_at settings doing.state target index ≡ found
+ran_falls : (settings : Settings) (target index sender : ℕ) (args : List Value) (depth : ℕ) (doing : Execution) (found : Option Method) → method_at settings doing.state target index ≡ found
     → FallsTo settings (Run target index sender args depth) doing (option_map_or (ran doing target sender args depth) found (puts [] doing))
 ran_falls settings target index sender args depth doing None is = idle settings (Run target index sender args depth) doing doing (same doing)
 ran_falls settings target index sender args depth doing (Some method) is =
@@ -206,7 +206,7 @@ ran_falls settings target index sender args depth doing (Some method) is =
     let short = mul-le-mul_right (action_weight n) within in
     lighter settings (Run target index sender args depth) doing (ran doing target sender args depth method) (told_shrinks doing (call_line method target sender args)) (omega (arith, its, short))
 
-functor_ran_falls : (settings : Settings) (target index sender connection : ℕ) (args : List Value) (depth : ℕ) (doing : Doing) (found : Option Functor) → functor_at settings index ≡ found
+functor_ran_falls : (settings : Settings) (target index sender connection : ℕ) (args : List Value) (depth : ℕ) (doing : Execution) (found : Option Functor) → functor_at settings index ≡ found
     → FallsTo settings (RunFunctor target index sender connection args depth) doing (option_map_or (functor_ran doing target sender connection args depth) found (puts [] doing))
 functor_ran_falls settings target index sender connection args depth doing None is = idle settings (RunFunctor target index sender connection args depth) doing doing (same doing)
 functor_ran_falls settings target index sender connection args depth doing (Some functor) is =
@@ -222,7 +222,7 @@ functor_ran_falls settings target index sender connection args depth doing (Some
     lighter settings (RunFunctor target index sender connection args depth) doing (functor_ran doing target sender connection args depth functor)
     (both doing new (stepped new connection next) (told_shrinks doing (functor_line functor target sender args)) (stepped_shrinks new connection next)) (omega (arith, its, short))
 
-chosen_falls : (settings : Settings) (test : _) (held failed : Acts) (args : List Value) (self sender depth : ℕ) (doing : Doing) (truth : Found Bool)
+chosen_falls : (settings : Settings) (test : _) (held failed : Acts) (args : List Value) (self sender depth : ℕ) (doing : Execution) (truth : Found Bool)
     → FallsTo settings (Act (when test held failed) args self sender depth) doing (chosen truth held failed args self sender depth doing)
 chosen_falls settings test held failed args self sender depth doing (Ok true) =
     let its = acts-weight (most settings doing) held args self sender depth in
@@ -234,7 +234,7 @@ chosen_falls settings test held failed args self sender depth doing (Err code) =
     let some = act-some (most settings doing) (when test held failed) in
     lighter settings (Act (when test held failed) args self sender depth) doing (puts (Warn code (Some self) ∷ []) doing) (same doing) (omega (arith, some))
 
-emitted_falls : (settings : Settings) (target signal : ℕ) (args : List Value) (depth : ℕ) (doing : Doing) (found : Option Row)
+emitted_falls : (settings : Settings) (target signal : ℕ) (args : List Value) (depth : ℕ) (doing : Execution) (found : Option Row)
     → FallsTo settings (Emit target signal args depth) doing (option_map_or (emitted settings doing target signal args depth) found (puts [] doing))
 emitted_falls settings target signal args depth doing None = idle settings (Emit target signal args depth) doing doing (same doing)
 emitted_falls settings target signal args depth doing (Some row) =
@@ -246,7 +246,7 @@ emitted_falls settings target signal args depth doing (Some row) =
     (λ shallow. calls_fall settings target signal args depth doing))
 
 -- what an item comes to is lower
-pub falls : (settings : Settings) (item : Item) (doing : Doing) → FallsTo settings item doing (step settings item doing)
+pub falls : (settings : Settings) (item : Item) (doing : Execution) → FallsTo settings item doing (step settings item doing)
 falls settings (Emit target signal args depth) doing = emitted_falls settings target signal args depth doing (row_of doing.state.forest.rows target)
 falls settings (Call number args depth) doing = called_falls settings number args depth doing (connection_of doing number)
 falls settings (Run target index sender args depth) doing = ran_falls settings target index sender args depth doing (method_at settings doing.state target index) refl
@@ -258,23 +258,23 @@ falls settings (Act (single_action plain) args self sender depth) doing =
     (λ target signal values. lighter settings item doing (puts (Emit target signal values depth ∷ []) doing) (same doing) (omega arith))
     (λ target. lighter settings item doing (puts (Delete target depth ∷ []) doing) (same doing) (omega arith))
     (λ target name value writing there found. written_falls settings item doing target depth writing (omega arith))
-    (λ deed passed. idle settings item doing (deed_done doing deed) (deed_shrinks doing deed passed))
+    (λ operation passed. idle settings item doing (operation_done doing operation) (operation_shrinks doing operation passed))
     plain
 falls settings (Act (when test held failed) args self sender depth) doing = chosen_falls settings test held failed args self sender depth doing (truth_evaluated doing.state self sender args test)
 falls settings (Warn code object) doing = idle settings (Warn code object) doing (line_told doing (line.Warning code object)) (told_shrinks doing (line.Warning code object))
 falls settings (WarnOf at error) doing = idle settings (WarnOf at error) doing (line_told doing (binding_line settings doing.state at error)) (told_shrinks doing (binding_line settings doing.state at error))
 falls settings (Delete target depth) doing =
     let item = Delete target depth in
-    cond_both (lives doing target) (puts (Emit target DESTROYED [] depth ∷ Cut target depth ∷ Gone target depth ∷ []) (dying doing target)) (puts [] doing) (FallsTo settings item doing)
-    (λ living. by_deletion settings item doing (puts (Emit target DESTROYED [] depth ∷ Cut target depth ∷ Gone target depth ∷ []) (dying doing target)) (dying_shrinks doing target living) (dying_less doing target living) (omega arith))
+    cond_both (lives doing target) (puts (Emit target DESTROYED [] depth ∷ Detach target depth ∷ Remove target depth ∷ []) (dying doing target)) (puts [] doing) (FallsTo settings item doing)
+    (λ living. by_deletion settings item doing (puts (Emit target DESTROYED [] depth ∷ Detach target depth ∷ Remove target depth ∷ []) (dying doing target)) (dying_shrinks doing target living) (dying_less doing target living) (omega arith))
     (λ absent. idle settings item doing doing (same doing))
-falls settings (Cut target depth) doing = cut_falls settings target depth doing
-falls settings (Kin parent child depth) doing =
-    let item = Kin parent child depth in
+falls settings (Detach target depth) doing = detach_falls settings target depth doing
+falls settings (DeleteChild parent child depth) doing =
+    let item = DeleteChild parent child depth in
     cond_both (lives_below doing parent child) (puts (Delete child depth ∷ []) doing) (puts [] doing) (FallsTo settings item doing)
     (λ living. lighter settings item doing (puts (Delete child depth ∷ []) doing) (same doing) (omega arith))
     (λ other. idle settings item doing doing (same doing))
-falls settings (Gone target depth) doing = telling_falls settings (Gone target depth) doing depth (without_object doing.state target) None (gone_shrinks doing target) (omega arith)
+falls settings (Remove target depth) doing = telling_falls settings (Remove target depth) doing depth (without_object doing.state target) None (gone_shrinks doing target) (omega arith)
 falls settings Spin doing = spun_falls settings doing doing.state.queue.events
 falls settings (Reply answer) doing = idle settings (Reply answer) doing (line_told doing (line.Reply answer)) (told_shrinks doing (line.Reply answer))
 falls settings ReplySpun doing = idle settings ReplySpun doing (line_told doing (line.Reply (a.Spun (spin_of doing)))) (told_shrinks doing (line.Reply (a.Spun (spin_of doing))))

@@ -6,7 +6,7 @@ use Rattle.session_model.specs.Fitting.{IsFittingAsked}
 use Rattle.session_model.specs.Settings.{Settings}
 use Rattle.session_model.specs.State.{State}
 
--- no command asks for a deed that connects: it names a signal and a method by their texts
+-- no command asks for an operation that connects: it names a signal and a method by their texts
 pub asked_fits : (settings : Settings) (state : State) (command : Command) → IsFittingAsked settings state (asked command)
 asked_fits settings state (c.New class parent) = tt
 asked_fits settings state _ = tt

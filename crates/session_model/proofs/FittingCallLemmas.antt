@@ -27,7 +27,7 @@ use Rattle.stored_slots.specs.Functors.{AreArguments}
 use Rattle.session_model.specs.declared.call.TheConstants.{NESTED_SIGNALS}
 use Rattle.session_model.specs.Agenda.{call_items, called, callee_called, calls_of, connection_of, emitted, event_items, functor_called, is_held_back, method_called, method_items, queued, spun, with_turn}
 use Rattle.session_model.specs.Arriving.{kinds_of, post_of, posts_of}
-use Rattle.session_model.specs.Doing.{Doing, first_taken, posting, shot, turn_taken, used_up}
+use Rattle.session_model.specs.Execution.{Execution, first_taken, posting, single_shot_broken, turn_taken, used_up}
 use Rattle.session_model.specs.Fitting.{IsCall, IsCalledBy, IsConnected, IsFittingEvent, IsFittingItem, IsRightPost, IsSent, MayBeConnected}
 use Rattle.session_model.specs.Functors.{functor_at}
 use Rattle.session_model.specs.Items.{Call, Delete, Emit, Item, Run, RunFunctor, Spin, Warn, puts}
@@ -97,7 +97,7 @@ posts_right : (settings : Settings) (state : State) (target signal : ℕ) (args 
 posts_right settings state target signal args all =
     All-map IsRightPost (post_of (kinds_of settings.classes state.forest.rows target signal) args) (filter (publishes target signal) state.desk.publications) (λ index default within. all)
 
-module _ (settings : Settings) (doing : Doing) (on : Carries settings doing.state.forest.rows doing) where
+module _ (settings : Settings) (doing : Execution) (on : Carries settings doing.state.forest.rows doing) where
   abbrev rows : List Row
   rows = doing.state.forest.rows
 
@@ -154,7 +154,7 @@ module _ (settings : Settings) (doing : Doing) (on : Carries settings doing.stat
           (λ later. no_item settings rows (queued doing call) (queued_carries settings rows doing on call its))
           (λ now. record { carries = on; items = method_fits settings doing.state connection.receiver index connection.sender given (depth + 1) depth method is arguments })
 
-module _ (settings : Settings) (doing : Doing) (on : Carries settings doing.state.forest.rows doing) where
+module _ (settings : Settings) (doing : Execution) (on : Carries settings doing.state.forest.rows doing) where
   abbrev rows' : List Row
   rows' = doing.state.forest.rows
 
@@ -170,8 +170,8 @@ module _ (settings : Settings) (doing : Doing) (on : Carries settings doing.stat
       (subst (λ rows. IsConnected settings rows connection) (sym same) (of_found (IsConnected settings rows') (has_number number) doing.state.connections.rows connection is on.fits.connections))
       (subst (λ rows. AreArguments (kinds_of settings.classes rows connection.sender connection.signal) args) (sym same) its)))
     where
-      new : Doing
-      new = shot (turn_taken doing) connection
+      new : Execution
+      new = single_shot_broken (turn_taken doing) connection
 
       same : new.state.forest.rows ≡ doing.state.forest.rows
       same = shot_rows (turn_taken doing) connection ∙ turn_rows doing
@@ -207,7 +207,7 @@ module _ (settings : Settings) (doing : Doing) (on : Carries settings doing.stat
             (All-cons Fit' Spin [] tt (All-nil Fit'));
       })
     where
-      some : Doing
+      some : Execution
       some = turn_taken doing
 
       Fit' : Item → Type 0

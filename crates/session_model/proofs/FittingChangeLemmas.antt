@@ -15,15 +15,15 @@ use Rattle.object_tree.specs.declared.row.Row.{Row}
 use Rattle.publish_board.specs.declared.join.Join.{Join}
 use Rattle.publish_board.specs.declared.publication.Publication.{Publication}
 use Rattle.connection_list.proofs.ForCallers.{all_stepped}
-use Rattle.session_model.specs.declared.deed.Deed.{Deed}
-use Rattle.session_model.specs.declared.deed.Deed.TheVariants as d
+use Rattle.session_model.specs.declared.operation.Operation.{Operation}
+use Rattle.session_model.specs.declared.operation.Operation.TheVariants as d
 use Rattle.session_model.specs.declared.line.Line.{Line}
 use Rattle.session_model.specs.declared.line.Line.TheVariants.{Warning}
 use Rattle.session_model.specs.declared.post.Post.{Post}
 use Rattle.session_model.specs.Agenda.{queued}
-use Rattle.session_model.specs.Deeds.{deed_done, with_deed}
-use Rattle.session_model.specs.Doing.{Doing, dying, first_taken, in_state, lost, posted, posting, severed, shot, line_told, turn_taken, used_up, stepped}
-use Rattle.session_model.specs.Fitting.{IsConnected, IsFittingDeed, IsFittingEvent, IsFittingItem, IsJoined, IsPublished, IsRightPost}
+use Rattle.session_model.specs.Operations.{operation_done, with_operation}
+use Rattle.session_model.specs.Execution.{Execution, dying, first_taken, in_state, lost, enqueued, posting, severed, single_shot_broken, line_told, turn_taken, used_up, stepped}
+use Rattle.session_model.specs.Fitting.{IsConnected, IsFittingOperation, IsFittingEvent, IsFittingItem, IsJoined, IsPublished, IsRightPost}
 use Rattle.session_model.specs.Items.{Item, Next, puts}
 use Rattle.session_model.specs.Settings.{Settings}
 use Rattle.session_model.specs.State.{State, with_event, without_connections}
@@ -33,7 +33,7 @@ use Rattle.session_model.proofs.QueueLemmas.{each_dropped, each_posted, each_tak
 
 module _ (settings : Settings) (rows : List Row) where
   -- what a session holds fits the objects of these rows, and what it has posted is right
-  pub record Carries (doing : Doing) : Type 0 where
+  pub record Carries (doing : Execution) : Type 0 where
     pub fits : Fits settings rows doing.state
     pub posts : All IsRightPost doing.posts
 
@@ -60,17 +60,17 @@ module _ (settings : Settings) (rows : List Row) where
     joins = fit.joins;
   }
 
-  pub fits_deed : (state : State) (deed : Deed) → IsFittingDeed settings rows deed → Fits settings rows state → Fits settings rows (with_deed state deed)
-  fits_deed state (d.Connect new unique) may fit = record {
+  pub fits_operation : (state : State) (operation : Operation) → IsFittingOperation settings rows operation → Fits settings rows state → Fits settings rows (with_operation state operation)
+  fits_operation state (d.Connect new unique) may fit = record {
     events = fit.events;
     connections = All-push (IsConnected settings rows) state.connections.rows (numbered (state.connections.last_number + 1) new) fit.connections may;
     publications = fit.publications;
     joins = fit.joins;
   }
-  fits_deed state (d.Disconnect pattern) may fit = fits_without state (matches pattern) fit
-  fits_deed state (d.SetParent target parent) may fit = record { events = fit.events; connections = fit.connections; publications = fit.publications; joins = fit.joins }
-  fits_deed state (d.DeleteLater target) may fit = fits_event state (event.Deletion target) tt fit
-  fits_deed state (d.Block target on) may fit = record { events = fit.events; connections = fit.connections; publications = fit.publications; joins = fit.joins }
+  fits_operation state (d.Disconnect pattern) may fit = fits_without state (matches pattern) fit
+  fits_operation state (d.SetParent target parent) may fit = record { events = fit.events; connections = fit.connections; publications = fit.publications; joins = fit.joins }
+  fits_operation state (d.DeleteLater target) may fit = fits_event state (event.Deletion target) tt fit
+  fits_operation state (d.Block target on) may fit = record { events = fit.events; connections = fit.connections; publications = fit.publications; joins = fit.joins }
 
   pub fits_writing : (state : State) (object : ℕ) (writing : Writing) → Fits settings rows state → Fits settings rows (with_writing state object writing)
   fits_writing state object (Declared number value) fit = record { events = fit.events; connections = fit.connections; publications = fit.publications; joins = fit.joins }
@@ -78,7 +78,7 @@ module _ (settings : Settings) (rows : List Row) where
   fits_writing state object (Removed name) fit = record { events = fit.events; connections = fit.connections; publications = fit.publications; joins = fit.joins }
   fits_writing state object Nothing fit = fit
 
-  module _ (doing : Doing) (on : Carries doing) where
+  module _ (doing : Execution) (on : Carries doing) where
     pub told_carries : (said : Line) → Carries (line_told doing said)
     unfolding line_told
     told_carries said = record { fits = on.fits; posts = on.posts }
@@ -95,8 +95,8 @@ module _ (settings : Settings) (rows : List Row) where
     unfolding used_up
     used_up_carries = cond_both doing.spent doing (record doing { spent = true; lines = doing.lines ++ Warning TurnsUsedUp None ∷ [] }) Carries (λ spent. on) (λ fresh. record { fits = on.fits; posts = on.posts })
 
-    pub shot_carries : (row : Connection) → Carries (shot doing row)
-    unfolding shot
+    pub shot_carries : (row : Connection) → Carries (single_shot_broken doing row)
+    unfolding single_shot_broken
     shot_carries row = cond_both row.single (in_state doing (without_connections doing.state (has_number row.number))) doing Carries
         (λ single. record { fits = fits_without doing.state (has_number row.number) on.fits; posts = on.posts }) (λ lasting. on)
 
@@ -112,8 +112,8 @@ module _ (settings : Settings) (rows : List Row) where
       posts = on.posts;
     }
 
-    posted_carries : (event : Event) → IsFittingEvent settings rows event → Carries (posted doing event)
-    unfolding posted
+    posted_carries : (event : Event) → IsFittingEvent settings rows event → Carries (enqueued doing event)
+    unfolding enqueued
     posted_carries event new = record { fits = fits_event doing.state event new on.fits; posts = on.posts }
 
     lost_carries : Carries (lost doing)
@@ -121,7 +121,7 @@ module _ (settings : Settings) (rows : List Row) where
     lost_carries = record { fits = record { events = on.fits.events; connections = on.fits.connections; publications = on.fits.publications; joins = on.fits.joins }; posts = on.posts }
 
     pub queued_carries : (call : QueuedCall) → IsFittingEvent settings rows (event.Call call) → Carries (queued doing call)
-    queued_carries call new = cond_both (has_room doing.state.queue) (posted doing (event.Call call)) (lost doing) Carries (λ room. posted_carries (event.Call call) new) (λ full. lost_carries)
+    queued_carries call new = cond_both (has_room doing.state.queue) (enqueued doing (event.Call call)) (lost doing) Carries (λ room. posted_carries (event.Call call) new) (λ full. lost_carries)
 
     pub first_carries : Carries (first_taken doing)
     unfolding first_taken
@@ -130,9 +130,9 @@ module _ (settings : Settings) (rows : List Row) where
       posts = on.posts;
     }
 
-    pub done_carries : (deed : Deed) → IsFittingDeed settings rows deed → Carries (deed_done doing deed)
-    unfolding deed_done
-    done_carries deed may = record { fits = fits_deed doing.state deed may on.fits; posts = on.posts }
+    pub done_carries : (operation : Operation) → IsFittingOperation settings rows operation → Carries (operation_done doing operation)
+    unfolding operation_done
+    done_carries operation may = record { fits = fits_operation doing.state operation may on.fits; posts = on.posts }
 
     pub dying_carries : (target : ℕ) → Carries (dying doing target)
     unfolding dying
@@ -158,14 +158,14 @@ module _ (settings : Settings) (rows : List Row) where
     one_item item fit = record { carries = on; items = All-cons (IsFittingItem settings doing.state) item [] fit (All-nil (IsFittingItem settings doing.state)) }
 
 -- a turn, and a single-shot connection that is broken, leave the objects
-pub turn_rows : (doing : Doing) → (turn_taken doing).state.forest.rows ≡ doing.state.forest.rows
+pub turn_rows : (doing : Execution) → (turn_taken doing).state.forest.rows ≡ doing.state.forest.rows
 unfolding turn_taken
 turn_rows doing = refl
 
-pub shot_rows : (doing : Doing) (row : Connection) → (shot doing row).state.forest.rows ≡ doing.state.forest.rows
-unfolding shot
-shot_rows doing row = cond_both row.single (in_state doing (without_connections doing.state (has_number row.number))) doing (λ (new : Doing). new.state.forest.rows ≡ doing.state.forest.rows) (λ single. refl) (λ lasting. refl)
+pub shot_rows : (doing : Execution) (row : Connection) → (single_shot_broken doing row).state.forest.rows ≡ doing.state.forest.rows
+unfolding single_shot_broken
+shot_rows doing row = cond_both row.single (in_state doing (without_connections doing.state (has_number row.number))) doing (λ (new : Execution). new.state.forest.rows ≡ doing.state.forest.rows) (λ single. refl) (λ lasting. refl)
 
-pub first_rows : (doing : Doing) → (first_taken doing).state.forest.rows ≡ doing.state.forest.rows
+pub first_rows : (doing : Execution) → (first_taken doing).state.forest.rows ≡ doing.state.forest.rows
 unfolding first_taken
 first_rows doing = refl

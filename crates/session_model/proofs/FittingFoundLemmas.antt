@@ -13,11 +13,11 @@ use Rattle.connection_list.specs.declared.pattern.Pattern.{Pattern}
 use Rattle.object_tree.specs.declared.row.Row.{Row}
 use Rattle.property_store.proofs.ForCallers.{position_some}
 use Rattle.stored_slots.specs.Functors.{index_of}
-use Rattle.session_model.specs.declared.deed.Deed.{Deed}
-use Rattle.session_model.specs.declared.deed.Deed.TheVariants as d
+use Rattle.session_model.specs.declared.operation.Operation.{Operation}
+use Rattle.session_model.specs.declared.operation.Operation.TheVariants as d
 use Rattle.session_model.specs.Connecting.{fits_at, fits_functor, new_connection, new_functor_connection}
-use Rattle.session_model.specs.Deeds.{behind}
-use Rattle.session_model.specs.Fitting.{IsFittingDeed, MayBeConnected}
+use Rattle.session_model.specs.Operations.{behind}
+use Rattle.session_model.specs.Fitting.{IsFittingOperation, MayBeConnected}
 use Rattle.session_model.specs.Functors.{functor_named}
 use Rattle.session_model.specs.Methods.{Found, ◌>>=◌, is_signal_at, method_named, method_with, methods_of, signal_named, signal_with, signature_in}
 use Rattle.session_model.specs.Settings.{Settings}
@@ -124,16 +124,16 @@ module _ (settings : Settings) (state : State) (sender : ℕ) (signal : Found �
       by (Ok s) (Err code) signals functors e = absurd (cc)
       by (Ok s) (Ok f) signals functors e = tested s f (signals s refl) (functors f refl) (fits_functor settings state sender s f) refl e
 
--- so does the deed that makes it
-pub deed_fits : (settings : Settings) (rows : List Row) (found : Found NewConnection) (unique : Bool) → ((new : NewConnection) → found ≡ Ok new → MayBeConnected settings rows new.sender new.signal new.receiver new.callee)
-    → (deed : Deed) → (found >>= λ new. Ok (d.Connect new unique)) ≡ Ok deed → IsFittingDeed settings rows deed
-deed_fits settings rows (Err code) unique fits deed e = absurd (cc)
-deed_fits settings rows (Ok new) unique fits deed e = let same : d.Connect new unique ≡ deed = cc in subst (IsFittingDeed settings rows) same (fits new refl)
+-- so does the operation that makes it
+pub operation_fits : (settings : Settings) (rows : List Row) (found : Found NewConnection) (unique : Bool) → ((new : NewConnection) → found ≡ Ok new → MayBeConnected settings rows new.sender new.signal new.receiver new.callee)
+    → (operation : Operation) → (found >>= λ new. Ok (d.Connect new unique)) ≡ Ok operation → IsFittingOperation settings rows operation
+operation_fits settings rows (Err code) unique fits operation e = absurd (cc)
+operation_fits settings rows (Ok new) unique fits operation e = let same : d.Connect new unique ≡ operation = cc in subst (IsFittingOperation settings rows) same (fits new refl)
 
 -- what breaks connections makes none
-pub pattern_fits : (settings : Settings) (rows : List Row) (absent other : Option Code) (found : Found Pattern) (deed : Deed) → behind absent (behind other (found >>= λ pattern. Ok (d.Disconnect pattern))) ≡ Ok deed → IsFittingDeed settings rows deed
-pattern_fits settings rows absent other found deed e = by found (found_past other _ deed (found_past absent _ deed e))
+pub pattern_fits : (settings : Settings) (rows : List Row) (absent other : Option Code) (found : Found Pattern) (operation : Operation) → behind absent (behind other (found >>= λ pattern. Ok (d.Disconnect pattern))) ≡ Ok operation → IsFittingOperation settings rows operation
+pattern_fits settings rows absent other found operation e = by found (found_past other _ operation (found_past absent _ operation e))
   where
-    by : (found : Found Pattern) → (found >>= λ pattern. Ok (d.Disconnect pattern)) ≡ Ok deed → IsFittingDeed settings rows deed
+    by : (found : Found Pattern) → (found >>= λ pattern. Ok (d.Disconnect pattern)) ≡ Ok operation → IsFittingOperation settings rows operation
     by (Err code) e = absurd (cc)
-    by (Ok pattern) e = let same : d.Disconnect pattern ≡ deed = cc in subst (IsFittingDeed settings rows) same tt
+    by (Ok pattern) e = let same : d.Disconnect pattern ≡ operation = cc in subst (IsFittingOperation settings rows) same tt

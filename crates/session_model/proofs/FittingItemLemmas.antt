@@ -25,18 +25,18 @@ use Rattle.stored_slots.specs.declared.functor.Functor.{Functor}
 use Rattle.stored_slots.specs.Functors.{AreArguments}
 use Rattle.term_evaluation.specs.Stating.{after, with_state}
 use Rattle.session_model.specs.declared.call.TheConstants.{DESTROYED}
-use Rattle.session_model.specs.declared.deed.Deed.{Deed}
-use Rattle.session_model.specs.declared.deed.Deed.TheVariants as d
+use Rattle.session_model.specs.declared.operation.Operation.{Operation}
+use Rattle.session_model.specs.declared.operation.Operation.TheVariants as d
 use Rattle.session_model.specs.declared.line.Answer.TheVariants as a
 use Rattle.session_model.specs.declared.line.Line.TheVariants as line
 use Rattle.session_model.specs.Absence.{absence}
 use Rattle.session_model.specs.Acts.{act_refusal, acted, acts, chosen, connection, emission, pattern, warns_or, with_found, writing}
-use Rattle.session_model.specs.Agenda.{binding_line, call_line, connection_of, functor_line, functor_ran, kins, lives, lives_below, ran, step}
-use Rattle.session_model.specs.Deeds.{behind, deed_done, deed_refusal, found_refusal}
-use Rattle.session_model.specs.Doing.{Doing, dying, severed, line_told, stepped}
-use Rattle.session_model.specs.Fitting.{AreSettings, IsCall, IsFittingDeed, IsFittingItem, IsFittingUnderWay, IsSent}
+use Rattle.session_model.specs.Agenda.{binding_line, call_line, connection_of, functor_line, functor_ran, delete_children, lives, lives_below, ran, step}
+use Rattle.session_model.specs.Operations.{behind, operation_done, operation_refusal, found_refusal}
+use Rattle.session_model.specs.Execution.{Execution, dying, severed, line_told, stepped}
+use Rattle.session_model.specs.Fitting.{AreSettings, IsCall, IsFittingOperation, IsFittingItem, IsFittingUnderWay, IsSent}
 use Rattle.session_model.specs.Functors.{functor_at}
-use Rattle.session_model.specs.Items.{Act, Call, Cut, Delete, Emit, Gone, Item, Kin, Next, Reply, ReplySpun, Run, RunFunctor, Spin, Warn, WarnOf, puts}
+use Rattle.session_model.specs.Items.{Act, Call, Detach, Delete, Emit, Remove, Item, DeleteChild, Next, Reply, ReplySpun, Run, RunFunctor, Spin, Warn, WarnOf, puts}
 use Rattle.session_model.specs.Methods.{Found, ◌>>=◌, is_signal_at, kinds_at, method_at, method_with, methods_by, methods_of, signal_with}
 use Rattle.session_model.specs.Posting.{spin_of}
 use Rattle.session_model.specs.Settings.{Settings}
@@ -49,7 +49,7 @@ use Rattle.session_model.proofs.FittingCallLemmas.{connection_comes, emitted_com
 use Rattle.session_model.proofs.FittingChangeLemmas.{Carries, Comes, done_carries, dying_carries, fits_writing, no_item, one_item, severed_carries, told_carries, stepped_carries}
 use Rattle.session_model.proofs.DeclaredLemmas.{each_marked, item_declared}
 use Rattle.session_model.proofs.ItemLemmas.{item_under_way}
-use Rattle.session_model.proofs.FittingFoundLemmas.{connection_fits, deed_fits, found_past, method_there, pattern_fits, signal_there}
+use Rattle.session_model.proofs.FittingFoundLemmas.{connection_fits, operation_fits, found_past, method_there, pattern_fits, signal_there}
 use Rattle.session_model.proofs.FittingClassLemmas.{Fits, HaveClasses, class_at, fits_own, fits_whole, has_method, own_classes}
 use Rattle.session_model.proofs.FittingTableLemmas.{destroyed, first_method, functor_limited, method_limited}
 use Rattle.session_model.proofs.FittingLaterLemmas.{classes_stay, item_stays}
@@ -85,7 +85,7 @@ module _ (settings : Settings) (are : AreSettings settings) where
             arguments = subst (λ kinds. AreArguments kinds []) (sym (ap (λ found. option_map_or (λ (method : Method). method.signature.kinds) found []) first)) tt;
           }
 
-  module _ (doing : Doing) (on : Carries settings doing.state.forest.rows doing) where
+  module _ (doing : Execution) (on : Carries settings doing.state.forest.rows doing) where
     abbrev rows : List Row
     rows = doing.state.forest.rows
 
@@ -144,12 +144,12 @@ module _ (settings : Settings) (are : AreSettings settings) where
       deleted_comes target (Some code) = warns code
       deleted_comes target None = λ after declared. one_item settings rows doing on (Delete target depth) tt
 
-      done_comes : (deed : Deed) (refusal : Option Code) → IsFittingDeed settings rows deed → May (warns_or refusal self doing (puts [] (deed_done doing deed)))
-      done_comes deed (Some code) may = warns code
-      done_comes deed None may = λ after declared. no_item settings rows (deed_done doing deed) (done_carries settings rows doing on deed may)
+      done_comes : (operation : Operation) (refusal : Option Code) → IsFittingOperation settings rows operation → May (warns_or refusal self doing (puts [] (operation_done doing operation)))
+      done_comes operation (Some code) may = warns code
+      done_comes operation None may = λ after declared. no_item settings rows (operation_done doing operation) (done_carries settings rows doing on operation may)
 
-      found_comes : (found : Found Deed) → ((deed : Deed) → found ≡ Ok deed → IsFittingDeed settings rows deed) → May (warns_or (found_refusal doing.state found) self doing (with_found found (λ deed. puts [] (deed_done doing deed)) doing))
-      found_comes (Ok deed) may = done_comes deed (deed_refusal doing.state deed) (may deed refl)
+      found_comes : (found : Found Operation) → ((operation : Operation) → found ≡ Ok operation → IsFittingOperation settings rows operation) → May (warns_or (found_refusal doing.state found) self doing (with_found found (λ operation. puts [] (operation_done doing operation)) doing))
+      found_comes (Ok operation) may = done_comes operation (operation_refusal doing.state operation) (may operation refl)
       found_comes (Err code) may = warns code
 
       -- a signal of an object's class is sent with values of its kinds
@@ -180,10 +180,10 @@ module _ (settings : Settings) (are : AreSettings settings) where
           (emission_sent (object_of doing.state self sender of) signal sent limited)
       act_comes (e.Connect of signal to method mode unique single) limited = found_comes
           (behind (object_refusal rows sends) (behind (object_refusal rows gets) (connection settings doing.state sends signal gets method mode single >>= λ new. Ok (d.Connect new unique))))
-          (λ deed e. deed_fits settings rows (connection settings doing.state sends signal gets method mode single) unique
+          (λ operation e. operation_fits settings rows (connection settings doing.state sends signal gets method mode single) unique
           (connection_fits settings doing.state sends (signal_with (methods_of settings doing.state sends) signal) (signal_there (methods_of settings doing.state sends) signal)
           gets (method_with (methods_of settings doing.state gets) method) (method_there (methods_of settings doing.state gets) method) mode single)
-          deed (found_past (object_refusal rows gets) _ deed (found_past (object_refusal rows sends) _ deed e)))
+          operation (found_past (object_refusal rows gets) _ operation (found_past (object_refusal rows sends) _ operation e)))
         where
           sends : ℕ
           sends = object_of doing.state self sender of
@@ -192,30 +192,30 @@ module _ (settings : Settings) (are : AreSettings settings) where
           gets = object_of doing.state self sender to
       act_comes (e.Disconnect of signal to method) limited = found_comes _ (pattern_fits settings rows _ _ (pattern settings doing.state (object_of doing.state self sender of) signal (named_object_of doing.state self sender to) method))
       act_comes (e.Delete target) limited = deleted_comes (object_of doing.state self sender target) (object_refusal rows (object_of doing.state self sender target))
-      act_comes (e.DeleteLater target) limited = done_comes (d.DeleteLater (object_of doing.state self sender target)) (deed_refusal doing.state (d.DeleteLater (object_of doing.state self sender target))) tt
-      act_comes (e.Block of on') limited = done_comes (d.Block (object_of doing.state self sender of) on') (deed_refusal doing.state (d.Block (object_of doing.state self sender of) on')) tt
+      act_comes (e.DeleteLater target) limited = done_comes (d.DeleteLater (object_of doing.state self sender target)) (operation_refusal doing.state (d.DeleteLater (object_of doing.state self sender target))) tt
+      act_comes (e.Block of on') limited = done_comes (d.Block (object_of doing.state self sender of) on') (operation_refusal doing.state (d.Block (object_of doing.state self sender of) on')) tt
       act_comes (e.SetParent of parent) limited =
-          let deed = d.SetParent (object_of doing.state self sender of) (named_object_of doing.state self sender parent) in
-          done_comes deed (deed_refusal doing.state deed) tt
+          let operation = d.SetParent (object_of doing.state self sender of) (named_object_of doing.state self sender parent) in
+          done_comes operation (operation_refusal doing.state operation) tt
 
     -- an object that begins to die sends `destroyed()`
-    deleted : HaveClasses settings rows → (target depth : ℕ) → Comes settings rows (puts (Emit target DESTROYED [] depth ∷ Cut target depth ∷ Gone target depth ∷ []) (dying doing target))
+    deleted : HaveClasses settings rows → (target depth : ℕ) → Comes settings rows (puts (Emit target DESTROYED [] depth ∷ Detach target depth ∷ Remove target depth ∷ []) (dying doing target))
     unfolding dying
     deleted classes target depth = record {
       carries = dying_carries settings rows doing on target;
-      items = All-cons Fit (Emit target DESTROYED [] depth) (Cut target depth ∷ Gone target depth ∷ [])
+      items = All-cons Fit (Emit target DESTROYED [] depth) (Detach target depth ∷ Remove target depth ∷ [])
           (destroyed_sent (dying doing target).state.forest.rows (each_marked (λ number class. is_some (slice_get settings.classes class) ≡ true) doing.state.forest target classes) target)
-          (All-cons Fit (Cut target depth) (Gone target depth ∷ []) tt (All-cons Fit (Gone target depth) [] tt (All-nil Fit)));
+          (All-cons Fit (Detach target depth) (Remove target depth ∷ []) tt (All-cons Fit (Remove target depth) [] tt (All-nil Fit)));
     }
       where
         Fit : Item → Type 0
         Fit = IsFittingItem settings (dying doing target).state
 
-    kins_come : (target depth : ℕ) → Comes settings rows (puts (kins doing target depth) (severed doing target))
-    unfolding kins
-    kins_come target depth = record {
+    delete_children_come : (target depth : ℕ) → Comes settings rows (puts (delete_children doing target depth) (severed doing target))
+    unfolding delete_children
+    delete_children_come target depth = record {
       carries = severed_carries settings rows doing on target;
-      items = All-map (IsFittingItem settings (severed doing target).state) (λ child. Kin target child depth) (children rows (Some target)) (λ index default within. tt);
+      items = All-map (IsFittingItem settings (severed doing target).state) (λ child. DeleteChild target child depth) (children rows (Some target)) (λ index default within. tt);
     }
 
     -- what an item comes to
@@ -232,20 +232,20 @@ module _ (settings : Settings) (are : AreSettings settings) where
     item_comes whole classes (Warn code object) fit after declared = no_item settings rows _ (told_carries settings rows doing on (line.Warning code object))
     item_comes whole classes (WarnOf at error) fit after declared = no_item settings rows _ (told_carries settings rows doing on (binding_line settings doing.state at error))
     item_comes whole classes (Delete target depth) fit after declared =
-        cond_both (lives doing target) (puts (Emit target DESTROYED [] depth ∷ Cut target depth ∷ Gone target depth ∷ []) (dying doing target)) (puts [] doing) (Comes settings rows)
+        cond_both (lives doing target) (puts (Emit target DESTROYED [] depth ∷ Detach target depth ∷ Remove target depth ∷ []) (dying doing target)) (puts [] doing) (Comes settings rows)
         (λ living. deleted classes target depth) (λ absent. no_item settings rows doing on)
-    item_comes whole classes (Cut target depth) fit after declared = kins_come target depth
-    item_comes whole classes (Kin parent child depth) fit after declared =
+    item_comes whole classes (Detach target depth) fit after declared = delete_children_come target depth
+    item_comes whole classes (DeleteChild parent child depth) fit after declared =
         cond_both (lives_below doing parent child) (puts (Delete child depth ∷ []) doing) (puts [] doing) (Comes settings rows)
         (λ living. one_item settings rows doing on (Delete child depth) tt) (λ other. no_item settings rows doing on)
-    item_comes whole classes (Gone target depth) fit after declared =
+    item_comes whole classes (Remove target depth) fit after declared =
         telling_comes whole depth (without_object doing.state target) None (record { events = on.fits.events; connections = on.fits.connections; publications = on.fits.publications; joins = on.fits.joins }) after declared
     item_comes whole classes Spin fit after declared = spun_comes settings doing on doing.state.queue.events refl
     item_comes whole classes (Reply answer) fit after declared = no_item settings rows _ (told_carries settings rows doing on (line.Reply answer))
     item_comes whole classes ReplySpun fit after declared = no_item settings rows _ (told_carries settings rows doing on (line.Reply (a.Spun (spin_of doing))))
 
 -- each item leaves a session that fits, and an agenda that fits it
-pub item_fits : (settings : Settings) (item : Item) (agenda : List Item) (doing : Doing) → AreSettings settings → IsFittingUnderWay settings (item ∷ agenda) doing
+pub item_fits : (settings : Settings) (item : Item) (agenda : List Item) (doing : Execution) → AreSettings settings → IsFittingUnderWay settings (item ∷ agenda) doing
     → IsFittingUnderWay settings ((step settings item doing).items ++ agenda) (step settings item doing).doing
 item_fits settings item agenda doing are under =
     let before = under.under_way.whole in

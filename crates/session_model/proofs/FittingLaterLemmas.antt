@@ -13,17 +13,17 @@ use Rattle.event_queue.specs.declared.event.Event.{Event}
 use Rattle.object_tree.specs.Rows.{is_there}
 use Rattle.stored_slots.specs.Functors.{AreArguments}
 use Rattle.connection_list.proofs.ForCallers.{all_stepped}
-use Rattle.session_model.specs.declared.deed.Deed.{Deed}
-use Rattle.session_model.specs.declared.deed.Deed.TheVariants as d
+use Rattle.session_model.specs.declared.operation.Operation.{Operation}
+use Rattle.session_model.specs.declared.operation.Operation.TheVariants as d
 use Rattle.session_model.specs.declared.line.Line.{Line}
 use Rattle.session_model.specs.declared.line.Line.TheVariants.{Warning}
 use Rattle.session_model.specs.declared.post.Post.{Post}
 use Rattle.session_model.specs.Agenda.{step}
 use Rattle.session_model.specs.Arriving.{kinds_of}
-use Rattle.session_model.specs.Deeds.{deed_done, with_deed}
-use Rattle.session_model.specs.Doing.{Doing, dying, first_taken, in_state, lost, posted, posting, severed, shot, line_told, turn_taken, used_up, stepped}
+use Rattle.session_model.specs.Operations.{operation_done, with_operation}
+use Rattle.session_model.specs.Execution.{Execution, dying, first_taken, in_state, lost, enqueued, posting, severed, single_shot_broken, line_told, turn_taken, used_up, stepped}
 use Rattle.session_model.specs.Fitting.{IsCalledBy, IsFittingItem}
-use Rattle.session_model.specs.Items.{Act, Call, Cut, Delete, Emit, Gone, Item, Kin, Reply, ReplySpun, Run, RunFunctor, Spin, Warn, WarnOf}
+use Rattle.session_model.specs.Items.{Act, Call, Detach, Delete, Emit, Remove, Item, DeleteChild, Reply, ReplySpun, Run, RunFunctor, Spin, Warn, WarnOf}
 use Rattle.session_model.specs.Settings.{Settings}
 use Rattle.session_model.specs.State.{IsWhole, State, without_connections, without_object}
 use Rattle.session_model.specs.Writing.{Declared, Dynamic, Nothing, Removed, Writing, with_writing}
@@ -51,16 +51,16 @@ module _ (G : ℕ → ℕ → Type 0) (number : ℕ) (Q : Connection → Type 0)
   without_stays : (state : State) (test : Connection → Bool) → Stays state (without_connections state test)
   without_stays state test = record { classes = λ all. all; last = omega arith; calls = λ given all. All-filter (λ row. not (test row)) (λ (row : Connection). row.number ≡ number → Q row) state.connections.rows all }
 
-  deed_stays : (state : State) (deed : Deed) → Stays state (with_deed state deed)
-  deed_stays state (d.Connect new unique) = record {
+  operation_stays : (state : State) (operation : Operation) → Stays state (with_operation state operation)
+  operation_stays state (d.Connect new unique) = record {
     classes = λ all. all;
     last = omega arith;
     calls = λ given all. All-push (λ (row : Connection). row.number ≡ number → Q row) state.connections.rows (numbered (state.connections.last_number + 1) new) all (λ same. absurd (omega (arith, given, same)));
   }
-  deed_stays state (d.Disconnect pattern) = without_stays state (matches pattern)
-  deed_stays state (d.SetParent target parent) = record { classes = each_reparented G state.forest target parent; last = omega arith; calls = λ given all. all }
-  deed_stays state (d.DeleteLater target) = record { classes = λ all. all; last = omega arith; calls = λ given all. all }
-  deed_stays state (d.Block target on) = record { classes = each_blocked G state.forest target on; last = omega arith; calls = λ given all. all }
+  operation_stays state (d.Disconnect pattern) = without_stays state (matches pattern)
+  operation_stays state (d.SetParent target parent) = record { classes = each_reparented G state.forest target parent; last = omega arith; calls = λ given all. all }
+  operation_stays state (d.DeleteLater target) = record { classes = λ all. all; last = omega arith; calls = λ given all. all }
+  operation_stays state (d.Block target on) = record { classes = each_blocked G state.forest target on; last = omega arith; calls = λ given all. all }
 
   both_stay : (one two three : State) → Stays one two → Stays two three → Stays one three
   both_stay one two three first second = record {
@@ -69,32 +69,32 @@ module _ (G : ℕ → ℕ → Type 0) (number : ℕ) (Q : Connection → Type 0)
     calls = λ given all. second.calls (omega (arith, given, first.last)) (first.calls given all);
   }
 
-  abbrev Stay : Doing → Doing → Type 0
+  abbrev Stay : Execution → Execution → Type 0
   Stay old new = Stays old.state new.state
 
-  told_stays : (doing : Doing) (said : Line) → Stay doing (line_told doing said)
+  told_stays : (doing : Execution) (said : Line) → Stay doing (line_told doing said)
   unfolding line_told
   told_stays doing said = record { classes = λ all. all; last = omega arith; calls = λ given all. all }
 
-  posting_stays : (doing : Doing) (more : List Post) → Stay doing (posting doing more)
+  posting_stays : (doing : Execution) (more : List Post) → Stay doing (posting doing more)
   unfolding posting
   posting_stays doing more = record { classes = λ all. all; last = omega arith; calls = λ given all. all }
 
-  turn_stays : (doing : Doing) → Stay doing (turn_taken doing)
+  turn_stays : (doing : Execution) → Stay doing (turn_taken doing)
   unfolding turn_taken
   turn_stays doing = record { classes = λ all. all; last = omega arith; calls = λ given all. all }
 
-  used_up_stays : (doing : Doing) → Stay doing (used_up doing)
+  used_up_stays : (doing : Execution) → Stay doing (used_up doing)
   unfolding used_up
   used_up_stays doing = cond_both doing.spent doing (record doing { spent = true; lines = doing.lines ++ Warning TurnsUsedUp None ∷ [] }) (Stay doing)
       (λ spent. record { classes = λ all. all; last = omega arith; calls = λ given all. all }) (λ fresh. record { classes = λ all. all; last = omega arith; calls = λ given all. all })
 
-  shot_stays : (doing : Doing) (row : Connection) → Stay doing (shot doing row)
-  unfolding shot
+  shot_stays : (doing : Execution) (row : Connection) → Stay doing (single_shot_broken doing row)
+  unfolding single_shot_broken
   shot_stays doing row = cond_both row.single (in_state doing (without_connections doing.state (has_number row.number))) doing (Stay doing)
       (λ single. without_stays doing.state (has_number row.number)) (λ lasting. record { classes = λ all. all; last = omega arith; calls = λ given all. all })
 
-  stepped_stays : (doing : Doing) (object next : ℕ) → Stay doing (stepped doing object next)
+  stepped_stays : (doing : Execution) (object next : ℕ) → Stay doing (stepped doing object next)
   unfolding stepped
   stepped_stays doing object next = record {
     classes = λ all. all;
@@ -102,32 +102,32 @@ module _ (G : ℕ → ℕ → Type 0) (number : ℕ) (Q : Connection → Type 0)
     calls = λ given all. all_stepped object next (λ (row : Connection). row.number ≡ number → Q row) (λ row holds same. stateless row next (holds same)) doing.state.connections.rows all;
   }
 
-  posted_stays : (doing : Doing) (event : Event) → Stay doing (posted doing event)
-  unfolding posted
+  posted_stays : (doing : Execution) (event : Event) → Stay doing (enqueued doing event)
+  unfolding enqueued
   posted_stays doing event = record { classes = λ all. all; last = omega arith; calls = λ given all. all }
 
-  lost_stays : (doing : Doing) → Stay doing (lost doing)
+  lost_stays : (doing : Execution) → Stay doing (lost doing)
   unfolding lost
   lost_stays doing = record { classes = λ all. all; last = omega arith; calls = λ given all. all }
 
-  first_stays : (doing : Doing) → Stay doing (first_taken doing)
+  first_stays : (doing : Execution) → Stay doing (first_taken doing)
   unfolding first_taken
   first_stays doing = record { classes = λ all. all; last = omega arith; calls = λ given all. all }
 
-  done_stays : (doing : Doing) (deed : Deed) → Stay doing (deed_done doing deed)
-  unfolding deed_done
-  done_stays doing deed = deed_stays doing.state deed
+  done_stays : (doing : Execution) (operation : Operation) → Stay doing (operation_done doing operation)
+  unfolding operation_done
+  done_stays doing operation = operation_stays doing.state operation
 
-  dying_stays : (doing : Doing) (target : ℕ) → Stay doing (dying doing target)
+  dying_stays : (doing : Execution) (target : ℕ) → Stay doing (dying doing target)
   unfolding dying
   dying_stays doing target = record { classes = each_marked G doing.state.forest target; last = omega arith; calls = λ given all. all }
 
-  severed_stays : (doing : Doing) (target : ℕ) → Stay doing (severed doing target)
+  severed_stays : (doing : Execution) (target : ℕ) → Stay doing (severed doing target)
   unfolding severed
   severed_stays doing target =
       record { classes = λ all. all; last = omega arith; calls = λ given all. All-filter (λ row. not (touches target row)) (λ (row : Connection). row.number ≡ number → Q row) doing.state.connections.rows all }
 
-  gone_stays : (doing : Doing) (target : ℕ) → Stay doing (in_state doing (without_object doing.state target))
+  gone_stays : (doing : Execution) (target : ℕ) → Stay doing (in_state doing (without_object doing.state target))
   gone_stays doing target = record { classes = each_removed G G doing.state.forest target (λ n class apart holds. holds); last = omega arith; calls = λ given all. all }
 
   stay : Holds Stay
@@ -151,14 +151,14 @@ module _ (G : ℕ → ℕ → Type 0) (number : ℕ) (Q : Connection → Type 0)
   }
 
 -- what is said of each object by its number and its class stays with each item
-pub classes_stay : (G : ℕ → ℕ → Type 0) (settings : Settings) (item : Item) (doing : Doing) → OfEach G doing.state.forest.rows → OfEach G (step settings item doing).doing.state.forest.rows
+pub classes_stay : (G : ℕ → ℕ → Type 0) (settings : Settings) (item : Item) (doing : Execution) → OfEach G doing.state.forest.rows → OfEach G (step settings item doing).doing.state.forest.rows
 classes_stay G settings item doing = (step_holds settings (Stay G 0 (λ row. Unit {0}) (λ row state h. h)) (stay G 0 (λ row. Unit {0}) (λ row state h. h)) item doing).classes
 
--- and with each deed
-pub deed_classes : (G : ℕ → ℕ → Type 0) (state : State) (deed : Deed) → OfEach G state.forest.rows → OfEach G (with_deed state deed).forest.rows
-deed_classes G state deed = (deed_stays G 0 (λ row. Unit {0}) (λ row state h. h) state deed).classes
+-- and with each operation
+pub operation_classes : (G : ℕ → ℕ → Type 0) (state : State) (operation : Operation) → OfEach G state.forest.rows → OfEach G (with_operation state operation).forest.rows
+operation_classes G state operation = (operation_stays G 0 (λ row. Unit {0}) (λ row state h. h) state operation).classes
 
-module _ (settings : Settings) (item : Item) (doing : Doing) (whole : IsWhole (step settings item doing).doing.state)
+module _ (settings : Settings) (item : Item) (doing : Execution) (whole : IsWhole (step settings item doing).doing.state)
     (kept : All (λ row. class_at doing.state.forest.rows row.number ≡ Some row.class) (step settings item doing).doing.state.forest.rows) where
   abbrev after : State
   after = (step settings item doing).doing.state
@@ -196,9 +196,9 @@ module _ (settings : Settings) (item : Item) (doing : Doing) (whole : IsWhole (s
   item_stays (Warn code object) fit = tt
   item_stays (WarnOf at error) fit = tt
   item_stays (Delete target depth) fit = tt
-  item_stays (Cut target depth) fit = tt
-  item_stays (Kin parent child depth) fit = tt
-  item_stays (Gone target depth) fit = tt
+  item_stays (Detach target depth) fit = tt
+  item_stays (DeleteChild parent child depth) fit = tt
+  item_stays (Remove target depth) fit = tt
   item_stays Spin fit = tt
   item_stays (Reply answer) fit = tt
   item_stays ReplySpun fit = tt

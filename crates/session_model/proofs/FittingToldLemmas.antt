@@ -25,15 +25,15 @@ use Rattle.property_store.proofs.ForCallers.{found}
 use Rattle.binding_values.specs.Scene.{Cell}
 use Rattle.binding_values.specs.Stored.{cell_in, cell_of}
 use Rattle.binding_graph.specs.declared.change.Change.{Change}
-use Rattle.binding_graph.specs.declared.change.Message.{Message}
-use Rattle.binding_graph.specs.declared.change.Message.TheVariants as message
+use Rattle.binding_graph.specs.declared.change.ChangeKind.{ChangeKind}
+use Rattle.binding_graph.specs.declared.change.ChangeKind.TheVariants as message
 use Rattle.binding_graph.specs.declared.shown.Shown.{Shown}
 use Rattle.binding_graph.specs.Fitting as graph_fitting
 use Rattle.binding_graph.specs.Graph as graph
 use Rattle.binding_graph.specs.Graph.{Graph, AreShown, is_open}
 use Rattle.binding_graph.proofs.ForCallers.{all_shown_sound, changes_fit}
 use Rattle.stored_slots.specs.Functors.{AreArguments}
-use Rattle.session_model.specs.Doing.{Doing}
+use Rattle.session_model.specs.Execution.{Execution}
 use Rattle.session_model.specs.Fitting.{IsFittingItem, IsSent}
 use Rattle.session_model.specs.Items.{Emit, Item}
 use Rattle.session_model.specs.Methods.{is_signal_at, kinds_at, methods_by}
@@ -80,7 +80,7 @@ module _ (settings : Settings) (table : IsTable settings.classes) (state : State
           let cell : cell_in state.store at ≡ _ = ap (λ of. option_map_or (cell_of at.number) of None) e ∙ value_there of sound at.number (field_of property) field value in
           subst (λ cell. IfSome cell (λ (cell : Cell). IsOfKind cell.kind value)) cell fits
 
-  told_fits : (depth : ℕ) (at : At) (what : Message) → graph_fitting.IsFitting state.store at what → IfSome (told_as settings state depth at what) (IsFittingItem settings state)
+  told_fits : (depth : ℕ) (at : At) (what : ChangeKind) → graph_fitting.IsFitting state.store at what → IfSome (told_as settings state depth at what) (IsFittingItem settings state)
   told_fits depth at (message.Error error) fits = tt
   told_fits depth at (message.Value value) fits = by (row_of state.forest.rows at.object) refl
     where
@@ -138,7 +138,7 @@ module _ (settings : Settings) (table : IsTable settings.classes) (after : State
       (changes_fit after.store (record after.graph { last = last }) whole.properties (record { bindings = whole.graph.bindings; last = shown; shallow = whole.graph.shallow }) written)
 
   -- what a change of a session tells fits, and what the end of a group does
-  pub change_fits : (doing : Doing) → IsWhole doing.state → (depth : ℕ) (written : Option At) → All (IsFittingItem settings after) (comes_to settings doing depth after written).items
+  pub change_fits : (doing : Execution) → IsWhole doing.state → (depth : ℕ) (written : Option At) → All (IsFittingItem settings after) (comes_to settings doing depth after written).items
   change_fits doing before depth written =
       since (showing doing.state) (all_shown_sound doing.state.store before.properties doing.state.graph.bindings before.graph.bindings) depth written
 

@@ -1,5 +1,5 @@
 -- What other crates prove by.
-pub use Rattle.session_model.proofs.ActionLemmas.{deed_is_done, set_done, set_faulty, when_failed, when_faulty}
+pub use Rattle.session_model.proofs.ActionLemmas.{operation_is_done, set_done, set_faulty, when_failed, when_faulty}
 pub use Rattle.session_model.proofs.ActionLemmas.{when_held}
 pub use Rattle.session_model.proofs.AloneLemmas.{going_told, its_cell, write_told}
 pub use Rattle.session_model.proofs.ArrivingLemmas.{arrive_all-append, arrive_all-is}
@@ -9,7 +9,7 @@ pub use Rattle.session_model.proofs.BindLemmas.{refusal_unbind, unbind_done}
 pub use Rattle.session_model.proofs.BindableLemmas.{may_be_bound}
 pub use Rattle.session_model.proofs.ClassLemmas.{class_there, described_at, described_by}
 pub use Rattle.session_model.proofs.CommandLemmas.{keeps_declared, keeps_fitting, keeps_named, keeps_sound}
-pub use Rattle.session_model.proofs.DeletionLemmas.{cut_kins, delete_none, delete_some, gone_now, kin_none, kin_some}
+pub use Rattle.session_model.proofs.DeletionLemmas.{detach_delete_children, delete_none, delete_some, gone_now, delete_child_none, delete_child_some}
 pub use Rattle.session_model.proofs.EmissionLemmas.{call_spent, call_taken, emit_absent, emit_calls, emit_deep}
 pub use Rattle.session_model.proofs.EmissionLemmas.{emit_held_back, run_functor, run_functor_absent, run_slot}
 pub use Rattle.session_model.proofs.EmissionLemmas.{warn_of_told, warn_told}

@@ -15,7 +15,7 @@ use Rattle.term_evaluation.proofs.ForCallers.{in_place}
 use Rattle.session_model.specs.Absence.{absence}
 use Rattle.session_model.specs.Acts.{acts, chosen, warns_or, with_found}
 use Rattle.session_model.specs.Agenda.{step}
-use Rattle.session_model.specs.Doing.{Doing}
+use Rattle.session_model.specs.Execution.{Execution}
 use Rattle.session_model.specs.Items.{Act, Emit, Next, puts}
 use Rattle.session_model.specs.Laws.{ActsInPlace}
 use Rattle.session_model.specs.Methods.{Found, ◌>>=◌, kinds_at, methods_of, signal_with}
@@ -38,7 +38,7 @@ module _ (settings : Settings) (self sender : ℕ) (args : List Value) where
       ∙ ap (λ found. evaluated state self sender [] (unfolded_term args term) >>= λ value. found >>= λ values. Ok (value ∷ values)) (all_evaluated-put_in state rest)
 
   -- what a single action comes to
-  effect-put_in : (depth : ℕ) (doing : Doing) (plain : SingleAction) → step settings (Act (single_action plain) args self sender depth) doing ≡ step settings (Act (single_action (unfolded_effect args plain)) [] self sender depth) doing
+  effect-put_in : (depth : ℕ) (doing : Execution) (plain : SingleAction) → step settings (Act (single_action plain) args self sender depth) doing ≡ step settings (Act (single_action (unfolded_effect args plain)) [] self sender depth) doing
   effect-put_in depth doing (e.Set of property value) =
       let object = object_of doing.state self sender of in
       ap
@@ -55,7 +55,7 @@ module _ (settings : Settings) (self sender : ℕ) (args : List Value) where
   effect-put_in depth doing _ = refl
 
   -- a choice, by its test and what its branches come to
-  choice-put_in : (test : Term) (held failed : Acts) (depth : ℕ) (doing : Doing)
+  choice-put_in : (test : Term) (held failed : Acts) (depth : ℕ) (doing : Execution)
       → run settings (acts held args self sender depth) doing ≡ run settings (acts (unfolded_acts args held) [] self sender depth) doing
       → run settings (acts failed args self sender depth) doing ≡ run settings (acts (unfolded_acts args failed) [] self sender depth) doing
       → run settings (Act (when test held failed) args self sender depth ∷ []) doing ≡ run settings (Act (unfolded args (when test held failed)) [] self sender depth ∷ []) doing
@@ -65,7 +65,7 @@ module _ (settings : Settings) (self sender : ℕ) (args : List Value) where
       ∙ ap (λ found. after (found >>= λ value. ok_or (truth_in value) BadValue)) (evaluated-put_in doing.state test)
       ∙ sym (at_item settings (Act (unfolded args (when test held failed)) [] self sender depth) [] doing)
     where
-      after : Found Bool → Doing
+      after : Found Bool → Execution
       after truth = let next = chosen truth (unfolded_acts args held) (unfolded_acts args failed) [] self sender depth doing in run settings (next.items ++ []) next.doing
 
       by : (truth : Found Bool) → (let next = chosen truth held failed args self sender depth doing in run settings (next.items ++ []) next.doing ≡ after truth)
@@ -74,7 +74,7 @@ module _ (settings : Settings) (self sender : ℕ) (args : List Value) where
       by (Err code) = refl
 
   mutual
-    pub act-put_in : (action : term.Act) (depth : ℕ) (doing : Doing) → run settings (Act action args self sender depth ∷ []) doing ≡ run settings (Act (unfolded args action) [] self sender depth ∷ []) doing
+    pub act-put_in : (action : term.Act) (depth : ℕ) (doing : Execution) → run settings (Act action args self sender depth ∷ []) doing ≡ run settings (Act (unfolded args action) [] self sender depth ∷ []) doing
     act-put_in (single_action plain) depth doing =
         at_item settings (Act (single_action plain) args self sender depth) [] doing
         ∙ ap (λ (next : Next). run settings (next.items ++ []) next.doing) (effect-put_in depth doing plain)
@@ -82,7 +82,7 @@ module _ (settings : Settings) (self sender : ℕ) (args : List Value) where
     act-put_in (when test held failed) depth doing = choice-put_in test held failed depth doing (acts-put_in held depth doing) (acts-put_in failed depth doing)
 
     -- and so do all actions of a body
-    pub acts-put_in : (body : Acts) (depth : ℕ) (doing : Doing) → run settings (acts body args self sender depth) doing ≡ run settings (acts (unfolded_acts args body) [] self sender depth) doing
+    pub acts-put_in : (body : Acts) (depth : ℕ) (doing : Execution) → run settings (acts body args self sender depth) doing ≡ run settings (acts (unfolded_acts args body) [] self sender depth) doing
     acts-put_in nothing depth doing = refl
     acts-put_in (more action rest) depth doing =
         in_parts settings (Act action args self sender depth ∷ []) (acts rest args self sender depth) doing

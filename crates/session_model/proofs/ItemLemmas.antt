@@ -27,9 +27,9 @@ use Rattle.session_model.specs.declared.line.Answer.TheVariants as a
 use Rattle.session_model.specs.declared.line.Line.TheVariants as line
 use Rattle.session_model.specs.Acts.{acts, chosen}
 use Rattle.session_model.specs.Arriving.{posts_of}
-use Rattle.session_model.specs.Agenda.{binding_line, call_items, call_line, called, callee_called, calls_of, connection_of, emitted, event_items, functor_called, functor_line, functor_ran, is_held_back, kins, lives, lives_below, method_called, method_items, queued, ran, spun, step, with_turn}
-use Rattle.session_model.specs.Doing.{Doing, dying, first_taken, in_state, posting, shot, line_told, turn_taken, used_up, severed, stepped}
-use Rattle.session_model.specs.Items.{Act, Call, Cut, Delete, Emit, Gone, Item, Kin, Next, Reply, ReplySpun, Run, RunFunctor, Spin, Warn, WarnOf, puts}
+use Rattle.session_model.specs.Agenda.{binding_line, call_items, call_line, called, callee_called, calls_of, connection_of, emitted, event_items, functor_called, functor_line, functor_ran, is_held_back, delete_children, lives, lives_below, method_called, method_items, queued, ran, spun, step, with_turn}
+use Rattle.session_model.specs.Execution.{Execution, dying, first_taken, in_state, posting, single_shot_broken, line_told, turn_taken, used_up, severed, stepped}
+use Rattle.session_model.specs.Items.{Act, Call, Detach, Delete, Emit, Remove, Item, DeleteChild, Next, Reply, ReplySpun, Run, RunFunctor, Spin, Warn, WarnOf, puts}
 use Rattle.session_model.specs.Functors.{functor_at}
 use Rattle.session_model.specs.Methods.{Found, method_at}
 use Rattle.session_model.specs.Posting.{is_queued, spin_of}
@@ -41,7 +41,7 @@ use Rattle.session_model.specs.Writing.{Writing, with_writing, written, written_
 use Rattle.session_model.specs.UnderWay.{IsBrokenInTime, IsUnderWay, is_gone}
 use Rattle.session_model.proofs.ActLemmas.{acted_cases}
 use Rattle.session_model.proofs.ConnectionLemmas.{of_found}
-use Rattle.session_model.proofs.UnderWayLemmas.{behind, cut_under, deed_under, dying_under, first_taken_under, gone_under, in_front, queued_under, shot_under, told_under, turn_under, used_up_under, writing_under, posting_under, stepped_under}
+use Rattle.session_model.proofs.UnderWayLemmas.{behind, detach_under, operation_under, dying_under, first_taken_under, gone_under, in_front, queued_under, shot_under, told_under, turn_under, used_up_under, writing_under, posting_under, stepped_under}
 use Rattle.session_model.proofs.ShowingLemmas.{tells_stay}
 use Rattle.session_model.proofs.FitLemmas.{IsFit, acted_fit}
 
@@ -54,9 +54,9 @@ calls_stay : (args : List Value) (depth : ℕ) (rows : List Connection) → list
 calls_stay args depth [] = refl
 calls_stay args depth (row ∷ rows) = calls_stay args depth rows
 
-kins_stay : (target depth : ℕ) (children : List ℕ) → list_any is_gone (map (λ child. Kin target child depth) children) ≡ false
-kins_stay target depth [] = refl
-kins_stay target depth (child ∷ rest) = kins_stay target depth rest
+delete_children_stay : (target depth : ℕ) (children : List ℕ) → list_any is_gone (map (λ child. DeleteChild target child depth) children) ≡ false
+delete_children_stay target depth [] = refl
+delete_children_stay target depth (child ∷ rest) = delete_children_stay target depth rest
 
 methods_stay : (target index sender : ℕ) (args : List Value) (sent_at run_at : ℕ) (method : Method) → list_any is_gone (method_items target index sender args sent_at run_at method) ≡ false
 methods_stay target index sender args sent_at run_at method =
@@ -79,20 +79,20 @@ event_stays settings state first = list_any-append is_gone (event_items settings
     by (event.Deletion target) = refl
 
 -- the ends of a connection stand still when a turn is taken, and when a single-shot connection is broken
-turn_tied : (doing : Doing) (row : Connection) → IsTied doing.state row → IsTied (turn_taken doing).state row
+turn_tied : (doing : Execution) (row : Connection) → IsTied doing.state row → IsTied (turn_taken doing).state row
 unfolding turn_taken
 turn_tied doing row tied = record { sender = tied.sender; receiver = tied.receiver }
 
-shot_tied : (doing : Doing) (row : Connection) → IsTied doing.state row → IsTied (shot doing row).state row
-unfolding shot
+shot_tied : (doing : Execution) (row : Connection) → IsTied doing.state row → IsTied (single_shot_broken doing row).state row
+unfolding single_shot_broken
 shot_tied doing row tied =
-    cond_both row.single (in_state doing (without_connections doing.state (has_number row.number))) doing (λ (new : Doing). IsTied new.state row) (λ single. record { sender = tied.sender; receiver = tied.receiver }) (λ lasting. tied)
+    cond_both row.single (in_state doing (without_connections doing.state (has_number row.number))) doing (λ (new : Execution). IsTied new.state row) (λ single. record { sender = tied.sender; receiver = tied.receiver }) (λ lasting. tied)
 
 -- what an item comes to keeps the session under way
 abbrev LeavesUnderWay : List Item → Next → Type 0
 LeavesUnderWay agenda next = IsUnderWay (next.items ++ agenda) next.doing.state
 
-module _ (settings : Settings) (agenda : List Item) (doing : Doing) (under : IsUnderWay agenda doing.state) where
+module _ (settings : Settings) (agenda : List Item) (doing : Execution) (under : IsUnderWay agenda doing.state) where
   calls_kept : (target signal : ℕ) (args : List Value) (depth : ℕ) → LeavesUnderWay agenda (puts (calls_of doing target signal args depth) (posting doing (posts_of settings.classes doing.state target signal args)))
   unfolding calls_of
   calls_kept target signal args depth = in_front (calls_of doing target signal args depth) agenda (posting doing (posts_of settings.classes doing.state target signal args)).state (calls_stay args depth (filter (calls target signal) doing.state.connections.rows)) (posting_under agenda doing under (posts_of settings.classes doing.state target signal args))
@@ -157,12 +157,12 @@ module _ (settings : Settings) (agenda : List Item) (doing : Doing) (under : IsU
   chosen_kept (Ok false) held failed args self sender depth = in_front _ agenda doing.state (acts_stay failed args self sender depth) under
   chosen_kept (Err code) held failed args self sender depth = in_front (Warn code (Some self) ∷ []) agenda doing.state refl under
 
-module _ (settings : Settings) (agenda : List Item) (doing : Doing) (under : IsUnderWay agenda doing.state) where
+module _ (settings : Settings) (agenda : List Item) (doing : Execution) (under : IsUnderWay agenda doing.state) where
   called_kept : (connection : Connection) (args : List Value) (depth : ℕ) → IsTied doing.state connection → IsBrokenInTime agenda connection → LeavesUnderWay agenda (called settings connection args depth doing)
   called_kept connection args depth tied broken =
-      callee_kept settings agenda (shot doing connection) (shot_under agenda doing under connection) connection args depth (shot_tied doing connection tied) broken connection.callee
+      callee_kept settings agenda (single_shot_broken doing connection) (shot_under agenda doing under connection) connection args depth (shot_tied doing connection tied) broken connection.callee
 
-module _ (settings : Settings) (agenda : List Item) (doing : Doing) (under : IsUnderWay agenda doing.state) where
+module _ (settings : Settings) (agenda : List Item) (doing : Execution) (under : IsUnderWay agenda doing.state) where
   -- a connection that stands is tied, and broken in time
   found_kept : (number : ℕ) (args : List Value) (depth : ℕ) (found : Option Connection) → connection_of doing number ≡ found → LeavesUnderWay agenda (option_map_or (λ connection. with_turn doing (called settings connection args depth)) found (puts [] doing))
   found_kept number args depth None is = under
@@ -183,11 +183,11 @@ module _ (settings : Settings) (agenda : List Item) (doing : Doing) (under : IsU
       (λ none. used_up_under agenda doing under)
       (λ left. in_front items agenda (first_taken some).state (event_stays settings some.state first) (first_taken_under agenda some (turn_under agenda doing under)))
 
-kins_kept : (target depth : ℕ) (agenda : List Item) (doing : Doing) → IsUnderWay agenda (severed doing target).state → LeavesUnderWay agenda (puts (kins doing target depth) (severed doing target))
-unfolding kins
-kins_kept target depth agenda doing rest = in_front (kins doing target depth) agenda (severed doing target).state (kins_stay target depth (children doing.state.forest.rows (Some target))) rest
+delete_children_kept : (target depth : ℕ) (agenda : List Item) (doing : Execution) → IsUnderWay agenda (severed doing target).state → LeavesUnderWay agenda (puts (delete_children doing target depth) (severed doing target))
+unfolding delete_children
+delete_children_kept target depth agenda doing rest = in_front (delete_children doing target depth) agenda (severed doing target).state (delete_children_stay target depth (children doing.state.forest.rows (Some target))) rest
 
-pub item_under_way : (settings : Settings) (item : Item) (agenda : List Item) (doing : Doing) → IsUnderWay (item ∷ agenda) doing.state → IsUnderWay ((step settings item doing).items ++ agenda) (step settings item doing).doing.state
+pub item_under_way : (settings : Settings) (item : Item) (agenda : List Item) (doing : Execution) → IsUnderWay (item ∷ agenda) doing.state → IsUnderWay ((step settings item doing).items ++ agenda) (step settings item doing).doing.state
 item_under_way settings (Emit target signal args depth) agenda doing under =
     let rest = behind (Emit target signal args depth) agenda doing.state (λ number. refl) (λ number. refl) under in
     emitted_kept settings agenda doing rest target signal args depth (row_of doing.state.forest.rows target)
@@ -207,7 +207,7 @@ item_under_way settings (Act (single_action plain) args self sender depth) agend
     (λ target signal values. in_front (Emit target signal values depth ∷ []) agenda doing.state refl rest)
     (λ target. in_front (Delete target depth ∷ []) agenda doing.state refl rest)
     (λ target name value writing there found. written_kept settings agenda doing rest target depth writing (acted_fit doing.state target name value writing found))
-    (λ deed passed. deed_under agenda doing rest deed passed)
+    (λ operation passed. operation_under agenda doing rest operation passed)
     plain
 item_under_way settings (Act (when test held failed) args self sender depth) agenda doing under =
     let rest = behind (Act (when test held failed) args self sender depth) agenda doing.state (λ number. refl) (λ number. refl) under in
@@ -218,16 +218,16 @@ item_under_way settings (WarnOf at error) agenda doing under =
     told_under agenda doing (behind (WarnOf at error) agenda doing.state (λ number. refl) (λ number. refl) under) (binding_line settings doing.state at error)
 item_under_way settings (Delete target depth) agenda doing under =
     let rest = behind (Delete target depth) agenda doing.state (λ number. refl) (λ number. refl) under in
-    cond_both (lives doing target) (puts (Emit target DESTROYED [] depth ∷ Cut target depth ∷ Gone target depth ∷ []) (dying doing target)) (puts [] doing) (LeavesUnderWay agenda)
-    (λ living. in_front (Emit target DESTROYED [] depth ∷ []) (Cut target depth ∷ Gone target depth ∷ agenda) (dying doing target).state refl (dying_under agenda doing rest target depth))
+    cond_both (lives doing target) (puts (Emit target DESTROYED [] depth ∷ Detach target depth ∷ Remove target depth ∷ []) (dying doing target)) (puts [] doing) (LeavesUnderWay agenda)
+    (λ living. in_front (Emit target DESTROYED [] depth ∷ []) (Detach target depth ∷ Remove target depth ∷ agenda) (dying doing target).state refl (dying_under agenda doing rest target depth))
     (λ absent. rest)
-item_under_way settings (Cut target depth) agenda doing under = kins_kept target depth agenda doing (cut_under target depth agenda doing under)
-item_under_way settings (Kin parent child depth) agenda doing under =
-    let rest = behind (Kin parent child depth) agenda doing.state (λ number. refl) (λ number. refl) under in
+item_under_way settings (Detach target depth) agenda doing under = delete_children_kept target depth agenda doing (detach_under target depth agenda doing under)
+item_under_way settings (DeleteChild parent child depth) agenda doing under =
+    let rest = behind (DeleteChild parent child depth) agenda doing.state (λ number. refl) (λ number. refl) under in
     cond_both (lives_below doing parent child) (puts (Delete child depth ∷ []) doing) (puts [] doing) (LeavesUnderWay agenda)
     (λ living. in_front (Delete child depth ∷ []) agenda doing.state refl rest)
     (λ other. rest)
-item_under_way settings (Gone target depth) agenda doing under =
+item_under_way settings (Remove target depth) agenda doing under =
     let after = without_object doing.state target in
     in_front _ agenda after (tells_stay settings after depth (changes doing.state after None)) (gone_under target depth agenda doing under)
 item_under_way settings Spin agenda doing under =

@@ -17,7 +17,7 @@ use Rattle.session_model.proofs.KeepingLemmas.{is_join_asked}
 use Rattle.session_model.specs.Absence.{absence}
 use Rattle.session_model.specs.Arriving.{is_matched, joined_call, kinds_of, reached, reached_by, with_call}
 use Rattle.session_model.specs.Asked.{Asked, Join as AsksJoin}
-use Rattle.session_model.specs.Deeds.{behind}
+use Rattle.session_model.specs.Operations.{behind}
 use Rattle.session_model.specs.Effects.{unless}
 use Rattle.session_model.specs.Methods.{Found, method_named, methods_of, ◌>>=◌}
 use Rattle.session_model.specs.Refusing.{refusal}

@@ -1,5 +1,5 @@
 -- What a command keeps of a session, in one record; and what keeps it: a state that is replied, a state that is
--- told of, items that are done to their end, and a deed.
+-- told of, items that are done to their end, and an operation.
 use Rattle.isolation.specs.Machine.{Effect}
 use Rattle.property_store.specs.declared.property.Property.{Property as At}
 use Rattle.publish_board.specs.declared.join.Join.{Join}
@@ -7,21 +7,21 @@ use Rattle.plain_types.specs.declared.code.Code.{Code}
 use Rattle.std.proofs.Common.{Bool, Err, List, None, Ok, Option, Some, [], ap, false, is_some, refl, slice_get, subst, sym, true, ◌++◌, ◌||◌, ◌∷◌, ◌≡◌}
 use Rattle.std.proofs.lemmas.List.Elements.{All-append, All-cons, All-nil}
 use Rattle.std.specs.List.{All, list_any}
-use Rattle.session_model.proofs.DeclaredLemmas.{deed_declared, run_declared}
-use Rattle.session_model.proofs.FittingChangeLemmas.{fits_deed}
+use Rattle.session_model.proofs.DeclaredLemmas.{operation_declared, run_declared}
+use Rattle.session_model.proofs.FittingChangeLemmas.{fits_operation}
 use Rattle.session_model.proofs.FittingClassLemmas.{class_at, fits_own, fits_whole, own_classes}
 use Rattle.session_model.proofs.FittingItemLemmas.{item_fits}
-use Rattle.session_model.proofs.FittingLaterLemmas.{deed_classes}
+use Rattle.session_model.proofs.FittingLaterLemmas.{operation_classes}
 use Rattle.session_model.proofs.FittingToldLemmas.{change_fits}
-use Rattle.session_model.proofs.LawLemmas.{deed_sound, keeps_under_way, replies_stay, run_sound}
-use Rattle.session_model.proofs.NamedLemmas.{deed_named, run_named, tells_named}
+use Rattle.session_model.proofs.LawLemmas.{operation_sound, keeps_under_way, replies_stay, run_sound}
+use Rattle.session_model.proofs.NamedLemmas.{operation_named, run_named, tells_named}
 use Rattle.session_model.proofs.RunLemmas.{run_keeps, run_shrinks}
 use Rattle.session_model.proofs.ShowingLemmas.{tells_stay}
 use Rattle.session_model.specs.Asked.{Asked, Join as AsksJoin}
-use Rattle.session_model.specs.Deeds.{deed_answer, deed_refusal, found_refusal, with_deed}
-use Rattle.session_model.specs.Doing.{Doing, begun}
+use Rattle.session_model.specs.Operations.{operation_answer, operation_refusal, found_refusal, with_operation}
+use Rattle.session_model.specs.Execution.{Execution, begun}
 use Rattle.session_model.specs.Effects.{does_next, ended, refuses, replies}
-use Rattle.session_model.specs.Fitting.{AreSettings, IsFitting, IsFittingAsked, IsFittingDeed, IsFittingItem, IsFittingUnderWay, IsRightPost}
+use Rattle.session_model.specs.Fitting.{AreSettings, IsFitting, IsFittingAsked, IsFittingOperation, IsFittingItem, IsFittingUnderWay, IsRightPost}
 use Rattle.session_model.specs.Items.{Item, Next}
 use Rattle.session_model.specs.Methods.{Found}
 use Rattle.session_model.specs.Named.{AreNamed, IsNamedAsked, IsNamedItem}
@@ -31,11 +31,11 @@ use Rattle.session_model.specs.Showing.{changes, comes_to}
 use Rattle.session_model.specs.Signals.{does_found}
 use Rattle.session_model.specs.State.{IsDeclared, IsSound, State}
 use Rattle.session_model.specs.UnderWay.{is_gone}
-use Rattle.session_model.specs.declared.deed.Deed.{Deed}
+use Rattle.session_model.specs.declared.operation.Operation.{Operation}
 use Rattle.session_model.specs.declared.line.Answer.{Answer}
 use Rattle.session_model.specs.declared.line.Line.{Line}
 use Rattle.session_model.specs.declared.post.Post.{Post}
-use Rattle.session_model.specs.declared.deed.Deed.TheVariants as d
+use Rattle.session_model.specs.declared.operation.Operation.TheVariants as d
 use Rattle.session_model.specs.Items as to_do
 
 -- every join that is there was there before
@@ -69,7 +69,7 @@ pub record Keeps (settings : Settings) (state : State) (asked : Asked) (effect :
   pub posts : FitsBefore settings state asked → All IsRightPost effect.posts
 
 -- what a command has to do first, and the session then
-pub record Begins (settings : Settings) (state : State) (asked : Asked) (agenda : List Item) (doing : Doing) : Type 0 where
+pub record Begins (settings : Settings) (state : State) (asked : Asked) (agenda : List Item) (doing : Execution) : Type 0 where
   pub none : list_any is_gone agenda ≡ false
   pub leaves : Leaves settings state asked doing.state
   pub items : FitsBefore settings state asked → All (IsFittingItem settings doing.state) agenda
@@ -93,7 +93,7 @@ module _ (settings : Settings) (state : State) (asked : Asked) where
   refused code = told_one (refuses state code) refl stays
 
   -- an agenda is done to its end
-  pub ran : (agenda : List Item) (doing : Doing) → Begins settings state asked agenda doing → Keeps settings state asked (ended (run settings agenda doing))
+  pub ran : (agenda : List Item) (doing : Execution) → Begins settings state asked agenda doing → Keeps settings state asked (ended (run settings agenda doing))
   ran agenda doing begins = record {
     leaves = record {
       sound = λ sound. run_sound settings agenda doing begins.none (begins.leaves.sound sound);
@@ -125,7 +125,7 @@ module _ (settings : Settings) (state : State) (asked : Asked) where
   })
 
   -- one item is done first, whatever was taken of the turns
-  pub one_begins : (item : Item) (doing : Doing) → doing.state ≡ state → doing.posts ≡ [] → is_gone item ≡ false → (FitsBefore settings state asked → IsFittingItem settings state item) → IsNamedItem item → Begins settings state asked (item ∷ []) doing
+  pub one_begins : (item : Item) (doing : Execution) → doing.state ≡ state → doing.posts ≡ [] → is_gone item ≡ false → (FitsBefore settings state asked → IsFittingItem settings state item) → IsNamedItem item → Begins settings state asked (item ∷ []) doing
   one_begins item doing same none stays_there fits named = record {
     none = ap (λ b. b || false) stays_there;
     leaves = subst (Leaves settings state asked) (sym same) stays;
@@ -134,7 +134,7 @@ module _ (settings : Settings) (state : State) (asked : Asked) where
     names = λ are is names. All-cons IsNamedItem item [] named (All-nil IsNamedItem);
   }
 
-  pub nothing_begins : (doing : Doing) → doing.state ≡ state → doing.posts ≡ [] → Begins settings state asked [] doing
+  pub nothing_begins : (doing : Execution) → doing.state ≡ state → doing.posts ≡ [] → Begins settings state asked [] doing
   nothing_begins doing same none = record {
     none = refl;
     leaves = subst (Leaves settings state asked) (sym same) stays;
@@ -153,23 +153,23 @@ module _ (settings : Settings) (state : State) (asked : Asked) where
     names = λ are is named. tells_named settings after 0 (changes state after written);
   })
 
-  -- a deed that fits is done
-  deed_falls : (deed : Deed) → Falls state (with_deed state deed)
-  deed_falls (d.Connect new unique) = λ test held. held
-  deed_falls _ = λ test held. held
+  -- an operation that fits is done
+  operation_falls : (operation : Operation) → Falls state (with_operation state operation)
+  operation_falls (d.Connect new unique) = λ test held. held
+  operation_falls _ = λ test held. held
 
-  deed_leaves : (deed : Deed) → deed_refusal state deed ≡ None → (IsFittingAsked settings state asked → IsFittingDeed settings state.forest.rows deed) → Leaves settings state asked (with_deed state deed)
-  deed_leaves deed passed may = record {
-    sound = λ sound. deed_sound (begun settings state) deed passed sound;
-    declared = λ sound declared. deed_declared settings.classes (begun settings state) declared deed;
-    fitting = λ fits. fits_whole settings state.forest.rows (with_deed state deed) (deed_sound (begun settings state) deed passed fits.sound).whole
-        (deed_classes (λ number class. class_at state.forest.rows number ≡ Some class) state deed (own_classes state.forest fits.sound.whole.forest))
-        (deed_classes (λ number class. is_some (slice_get settings.classes class) ≡ true) state deed fits.fit.objects)
-        (fits_deed settings state.forest.rows state deed (may fits.may) (fits_own settings state fits.fit));
-    named = λ are is named. deed_named (begun settings state) named deed;
-    joins = λ plain. deed_falls deed;
+  operation_leaves : (operation : Operation) → operation_refusal state operation ≡ None → (IsFittingAsked settings state asked → IsFittingOperation settings state.forest.rows operation) → Leaves settings state asked (with_operation state operation)
+  operation_leaves operation passed may = record {
+    sound = λ sound. operation_sound (begun settings state) operation passed sound;
+    declared = λ sound declared. operation_declared settings.classes (begun settings state) declared operation;
+    fitting = λ fits. fits_whole settings state.forest.rows (with_operation state operation) (operation_sound (begun settings state) operation passed fits.sound).whole
+        (operation_classes (λ number class. class_at state.forest.rows number ≡ Some class) state operation (own_classes state.forest fits.sound.whole.forest))
+        (operation_classes (λ number class. is_some (slice_get settings.classes class) ≡ true) state operation fits.fit.objects)
+        (fits_operation settings state.forest.rows state operation (may fits.may) (fits_own settings state fits.fit));
+    named = λ are is named. operation_named (begun settings state) named operation;
+    joins = λ plain. operation_falls operation;
   }
 
-  pub found_keeps : (found : Found Deed) → found_refusal state found ≡ None → ((deed : Deed) → found ≡ Ok deed → IsFittingAsked settings state asked → IsFittingDeed settings state.forest.rows deed) → Keeps settings state asked (does_found state found)
+  pub found_keeps : (found : Found Operation) → found_refusal state found ≡ None → ((operation : Operation) → found ≡ Ok operation → IsFittingAsked settings state asked → IsFittingOperation settings state.forest.rows operation) → Keeps settings state asked (does_found state found)
   found_keeps (Err code) passed may = refused code
-  found_keeps (Ok deed) passed may = replied (with_deed state deed) (deed_answer state deed) (deed_leaves deed passed (may deed refl))
+  found_keeps (Ok operation) passed may = replied (with_operation state operation) (operation_answer state operation) (operation_leaves operation passed (may operation refl))

@@ -14,11 +14,11 @@ use Rattle.connection_list.specs.Ends.{allows, allows_receiver, matches, touches
 use Rattle.connection_list.specs.Rows.{Rows, has_number, numbered}
 use Rattle.connection_list.proofs.ForCallers.{IsUnseen, filter-changed, stepped-same, stepped_row}
 use Rattle.session_model.specs.declared.line.Line.TheVariants.{Warning}
-use Rattle.session_model.specs.declared.deed.Deed.{Deed}
-use Rattle.session_model.specs.declared.deed.Deed.TheVariants as d
+use Rattle.session_model.specs.declared.operation.Operation.{Operation}
+use Rattle.session_model.specs.declared.operation.Operation.TheVariants as d
 use Rattle.session_model.specs.Agenda.{step}
-use Rattle.session_model.specs.Deeds.{deed_done}
-use Rattle.session_model.specs.Doing.{Doing, dying, first_taken, in_state, lost, posted, posting, shot, line_told, turn_taken, used_up, severed, stepped}
+use Rattle.session_model.specs.Operations.{operation_done}
+use Rattle.session_model.specs.Execution.{Execution, dying, first_taken, in_state, lost, enqueued, posting, single_shot_broken, line_told, turn_taken, used_up, severed, stepped}
 use Rattle.session_model.specs.Items.{Item}
 use Rattle.session_model.specs.Run.{run}
 use Rattle.session_model.specs.Settings.{Settings}
@@ -98,19 +98,19 @@ bare_stepped number next [] = refl
 bare_stepped number next (row ∷ rows) = ap₂ (λ row rows. row ∷ rows) (stepped-same number next bare_row (λ row. refl) row) (bare_stepped number next rows)
 
 -- the connections after a change of a session, or after what an item comes to, whatever their functors keep
-abbrev pub Later : Doing → Doing → Type 0
+abbrev pub Later : Execution → Execution → Type 0
 Later old new = IsLater (bare old.state.connections) (bare new.state.connections)
 
-unchanged : (doing : Doing) → Later doing doing
+unchanged : (doing : Execution) → Later doing doing
 unchanged doing = later_same (bare doing.state.connections)
 
-deed_later : (doing : Doing) (deed : Deed) → Later doing (deed_done doing deed)
-unfolding deed_done
-deed_later doing (d.Connect new unique) = bare_linked doing.state.connections new
-deed_later doing (d.Disconnect pattern) = bare_without (matches pattern) (bare_matches pattern) doing.state.connections
-deed_later doing _ = unchanged doing
+operation_later : (doing : Execution) (operation : Operation) → Later doing (operation_done doing operation)
+unfolding operation_done
+operation_later doing (d.Connect new unique) = bare_linked doing.state.connections new
+operation_later doing (d.Disconnect pattern) = bare_without (matches pattern) (bare_matches pattern) doing.state.connections
+operation_later doing _ = unchanged doing
 
-written_later : (doing : Doing) (target : ℕ) (writing : Writing) → Later doing (in_state doing (with_writing doing.state target writing))
+written_later : (doing : Execution) (target : ℕ) (writing : Writing) → Later doing (in_state doing (with_writing doing.state target writing))
 written_later doing target (Declared number value) = unchanged doing
 written_later doing target (Dynamic name value) = unchanged doing
 written_later doing target (Removed name) = unchanged doing
@@ -118,7 +118,7 @@ written_later doing target Nothing = unchanged doing
 
 -- what each change makes of the connections
 holds : Holds Later
-unfolding line_told posting turn_taken used_up shot posted lost first_taken dying severed stepped
+unfolding line_told posting turn_taken used_up single_shot_broken enqueued lost first_taken dying severed stepped
 holds = record {
   same = unchanged;
   both = λ one two three first second. later_both (bare one.state.connections) (bare two.state.connections) (bare three.state.connections) first second;
@@ -130,7 +130,7 @@ holds = record {
   posts = λ doing event. unchanged doing;
   loses = unchanged;
   takes = unchanged;
-  does = deed_later;
+  does = operation_later;
   writes = written_later;
   marks = λ doing target. unchanged doing;
   severs = λ doing target. bare_without (touches target) (λ row. refl) doing.state.connections;
@@ -139,9 +139,9 @@ holds = record {
 }
 
 module _ (settings : Settings) where
-  pub step_later : (item : Item) (doing : Doing) → Later doing (step settings item doing).doing
+  pub step_later : (item : Item) (doing : Execution) → Later doing (step settings item doing).doing
   step_later item doing = step_holds settings Later holds item doing
 
-  pub run_later : (agenda : List Item) (doing : Doing) → Later doing (run settings agenda doing)
+  pub run_later : (agenda : List Item) (doing : Execution) → Later doing (run settings agenda doing)
   run_later agenda doing = run_keeps settings (λ items new. Later doing new)
       (λ item rest new before. later_both (bare doing.state.connections) (bare new.state.connections) (bare (step settings item new).doing.state.connections) before (step_later item new)) agenda doing (unchanged doing)

@@ -15,10 +15,10 @@ use Rattle.session_model.proofs.ItemLemmas.{item_under_way}
 use Rattle.session_model.proofs.QueueLemmas.{each_posted, sound_lost, sound_mismatched, sound_posted}
 use Rattle.session_model.proofs.RunLemmas.{run_keeps}
 use Rattle.session_model.proofs.StateLemmas.{whole_empty, whole_with_queue}
-use Rattle.session_model.proofs.UnderWayLemmas.{IsGoing, deed_under, none_goes, untied_staying, writing_under}
+use Rattle.session_model.proofs.UnderWayLemmas.{IsGoing, operation_under, none_goes, untied_staying, writing_under}
 use Rattle.session_model.specs.Arriving.{joined_call, reached_by}
-use Rattle.session_model.specs.Deeds.{deed_done, deed_refusal, with_deed}
-use Rattle.session_model.specs.Doing.{Doing}
+use Rattle.session_model.specs.Operations.{operation_done, operation_refusal, with_operation}
+use Rattle.session_model.specs.Execution.{Execution}
 use Rattle.session_model.specs.Items.{Item}
 use Rattle.session_model.specs.Laws.{KeepsUnderWay}
 use Rattle.session_model.specs.Run.{run}
@@ -26,7 +26,7 @@ use Rattle.session_model.specs.State.{IsMeant, IsSound, State, empty}
 use Rattle.session_model.specs.Thread.{Settings, arrives}
 use Rattle.session_model.specs.UnderWay.{IsUnderWay, is_gone}
 use Rattle.session_model.specs.Writing.{Writing, with_writing}
-use Rattle.session_model.specs.declared.deed.Deed.{Deed}
+use Rattle.session_model.specs.declared.operation.Operation.{Operation}
 use Rattle.session_model.specs.declared.line.Answer.{Answer}
 use Rattle.session_model.specs.declared.post.Post.{Post}
 use Rattle.event_queue.specs.Queue as events
@@ -53,7 +53,7 @@ pub keeps_under_way : KeepsUnderWay
 keeps_under_way = record { at_first = under_way; by_item = item_under_way; at_end = sound_at_end }
 
 -- an agenda done to its end leaves a session sound
-pub run_sound : (settings : Settings) (agenda : List Item) (doing : Doing) → list_any is_gone agenda ≡ false → IsSound doing.state → IsSound (run settings agenda doing).state
+pub run_sound : (settings : Settings) (agenda : List Item) (doing : Execution) → list_any is_gone agenda ≡ false → IsSound doing.state → IsSound (run settings agenda doing).state
 run_sound settings agenda doing none sound =
     sound_at_end (run settings agenda doing).state (run_keeps settings (λ items doing. IsUnderWay items doing.state) (item_under_way settings) agenda doing (under_way agenda doing.state none sound))
 
@@ -62,12 +62,12 @@ pub replies_stay : (items : List Item) (answer : Answer) → list_any is_gone it
 replies_stay items answer none = list_any-append is_gone items (to_do.Reply answer ∷ []) ∙ ap (λ b. b || false) none
 
 -- properties are written
-pub writing_sound : (doing : Doing) (target : ℕ) (writing : Writing) → IsFit doing.state target writing → IsSound doing.state → IsSound (with_writing doing.state target writing)
+pub writing_sound : (doing : Execution) (target : ℕ) (writing : Writing) → IsFit doing.state target writing → IsSound doing.state → IsSound (with_writing doing.state target writing)
 writing_sound doing target writing fit sound = sound_at_end (with_writing doing.state target writing) (writing_under [] doing (under_way [] doing.state refl sound) target writing fit)
 
-pub deed_sound : (doing : Doing) (deed : Deed) → deed_refusal doing.state deed ≡ None → IsSound doing.state → IsSound (with_deed doing.state deed)
-unfolding deed_done
-deed_sound doing deed passed sound = sound_at_end (with_deed doing.state deed) (deed_under [] doing (under_way [] doing.state refl sound) deed passed)
+pub operation_sound : (doing : Execution) (operation : Operation) → operation_refusal doing.state operation ≡ None → IsSound doing.state → IsSound (with_operation doing.state operation)
+unfolding operation_done
+operation_sound doing operation passed sound = sound_at_end (with_operation doing.state operation) (operation_under [] doing (under_way [] doing.state refl sound) operation passed)
 
 -- before the first command
 pub empty_sound : IsSound empty

@@ -1,7 +1,7 @@
 -- What a session holds stays called by names, and what is still to be done sets only what has a name.
 use Rattle.binding_graph.specs.Graph.{is_bound, value_in}
 use Rattle.binding_graph.specs.declared.change.Change.{Change}
-use Rattle.binding_graph.specs.declared.change.Message.{Message}
+use Rattle.binding_graph.specs.declared.change.ChangeKind.{ChangeKind}
 use Rattle.class_table.specs.Lookup.{methods}
 use Rattle.class_table.specs.declared.class.Class.{Class}
 use Rattle.class_table.specs.declared.class.Method.{Method}
@@ -39,14 +39,14 @@ use Rattle.session_model.proofs.FittingTableLemmas.{functor_named, method_named}
 use Rattle.session_model.proofs.RunLemmas.{run_keeps}
 use Rattle.session_model.proofs.ShowingLemmas.{tells}
 use Rattle.session_model.specs.Absence.{absence}
-use Rattle.session_model.specs.Acts.{act_deed, act_refusal, acted, acts, chosen, emission, warns_or, with_found, writing}
-use Rattle.session_model.specs.Agenda.{binding_line, call_items, call_line, called, callee_called, calls_of, connection_of, emitted, event_items, functor_called, functor_line, functor_ran, is_held_back, kins, lives, lives_below, method_called, method_items, queued, ran, spun, step, with_turn}
+use Rattle.session_model.specs.Acts.{act_operation, act_refusal, acted, acts, chosen, emission, warns_or, with_found, writing}
+use Rattle.session_model.specs.Agenda.{binding_line, call_items, call_line, called, callee_called, calls_of, connection_of, emitted, event_items, functor_called, functor_line, functor_ran, is_held_back, delete_children, lives, lives_below, method_called, method_items, queued, ran, spun, step, with_turn}
 use Rattle.session_model.specs.Arriving.{posts_of}
-use Rattle.session_model.specs.Deeds.{behind, deed_done, with_deed}
-use Rattle.session_model.specs.Doing.{Doing, dying, first_taken, in_state, line_told as one_told, lost, posted, posting, severed, shot, stepped, turn_taken, used_up}
+use Rattle.session_model.specs.Operations.{behind, operation_done, with_operation}
+use Rattle.session_model.specs.Execution.{Execution, dying, first_taken, in_state, line_told as one_told, lost, enqueued, posting, severed, single_shot_broken, stepped, turn_taken, used_up}
 use Rattle.session_model.specs.Fitting.{AreSettings}
 use Rattle.session_model.specs.Functors.{functor_at}
-use Rattle.session_model.specs.Items.{Act, Call, Cut, Emit, Gone, Item, Kin, Next, Reply, ReplySpun, Run, RunFunctor, Warn, WarnOf, puts}
+use Rattle.session_model.specs.Items.{Act, Call, Detach, Emit, Remove, Item, DeleteChild, Next, Reply, ReplySpun, Run, RunFunctor, Warn, WarnOf, puts}
 use Rattle.session_model.specs.Methods.{Found, method_at, method_named as method_named_by, methods_of, signal_named, ◌>>=◌}
 use Rattle.session_model.specs.Named.{AreNamed, HasNames, IsNamedItem, IsNamedJoin, IsNamedPublication}
 use Rattle.session_model.specs.Posting.{is_queued, spin_of}
@@ -59,7 +59,7 @@ use Rattle.session_model.specs.Targets.{evaluated, object_of, truth_evaluated}
 use Rattle.session_model.specs.Thread.{arrives}
 use Rattle.session_model.specs.Writing.{Declared, DeclaredField, Dynamic, Nothing, Removed, Writing, acted_writing, asked_place, asked_writing, declared, dynamic_writing, short, with_writing, written, written_property}
 use Rattle.session_model.specs.declared.call.TheConstants.{DESTROYED, NESTED_SIGNALS}
-use Rattle.session_model.specs.declared.deed.Deed.{Deed}
+use Rattle.session_model.specs.declared.operation.Operation.{Operation}
 use Rattle.session_model.specs.declared.line.Line.{Line}
 use Rattle.session_model.specs.declared.post.Post.{Post}
 use Rattle.variant_value.specs.Values.{converted, inferred, value_of}
@@ -67,12 +67,12 @@ use Rattle.variant_value.specs.declared.value.Value.{Value}
 use Rattle.session_model.specs.declared.line.Answer.TheVariants as a
 use Rattle.term_core.specs.Act as act
 use Rattle.plain_types.specs.declared.callee.Callee.TheVariants as callee
-use Rattle.session_model.specs.declared.deed.Deed.TheVariants as d
+use Rattle.session_model.specs.declared.operation.Operation.TheVariants as d
 use Rattle.term_core.specs.declared.action.SingleAction.TheVariants as e
 use Rattle.event_queue.specs.declared.event.Event.TheVariants as event
 use Rattle.serde_json.specs.Data as json
 use Rattle.session_model.specs.declared.line.Line.TheVariants as line
-use Rattle.binding_graph.specs.declared.change.Message.TheVariants as message
+use Rattle.binding_graph.specs.declared.change.ChangeKind.TheVariants as message
 use Rattle.property_store.specs.Store as stored
 use Rattle.session_model.specs.Items as to_do
 use Rattle.variant_value.specs.declared.value.Value.TheVariants as v
@@ -201,7 +201,7 @@ module _ (state : State) (named : AreNamed state) where
   named_without_object : (target : ℕ) → AreNamed (without_object state target)
   named_without_object target = named_with_store (without_object state target) (All-filter (λ (of : Properties). not (of.object == target)) HasNames state.store named.store) refl
 
-module _ (doing : Doing) (named : AreNamed doing.state) where
+module _ (doing : Execution) (named : AreNamed doing.state) where
   beside : (new : State) → new.store ≡ doing.state.store → new.desk ≡ doing.state.desk → AreNamed new
   beside = named_beside doing.state named
 
@@ -219,11 +219,11 @@ module _ (doing : Doing) (named : AreNamed doing.state) where
 
   used_up_named : AreNamed (used_up doing).state
   unfolding used_up
-  used_up_named = cond_both doing.spent doing _ (λ (new : Doing). AreNamed new.state) (λ spent. named) (λ fresh. named)
+  used_up_named = cond_both doing.spent doing _ (λ (new : Execution). AreNamed new.state) (λ spent. named) (λ fresh. named)
 
-  shot_named : (row : Connection) → AreNamed (shot doing row).state
-  unfolding shot
-  shot_named row = cond_both row.single (in_state doing (without_connections doing.state (has_connection_number row.number))) doing (λ (new : Doing). AreNamed new.state)
+  shot_named : (row : Connection) → AreNamed (single_shot_broken doing row).state
+  unfolding single_shot_broken
+  shot_named row = cond_both row.single (in_state doing (without_connections doing.state (has_connection_number row.number))) doing (λ (new : Execution). AreNamed new.state)
       (λ single. beside (without_connections doing.state (has_connection_number row.number)) refl refl) (λ lasting. named)
 
   severed_named : (target : ℕ) → AreNamed (severed doing target).state
@@ -235,8 +235,8 @@ module _ (doing : Doing) (named : AreNamed doing.state) where
   }
 
   queued_named : (call : QueuedCall) → AreNamed (queued doing call).state
-  unfolding posted lost
-  queued_named call = cond_both (has_room doing.state.queue) (posted doing (event.Call call)) (lost doing) (λ (new : Doing). AreNamed new.state)
+  unfolding enqueued lost
+  queued_named call = cond_both (has_room doing.state.queue) (enqueued doing (event.Call call)) (lost doing) (λ (new : Execution). AreNamed new.state)
       (λ room. beside (with_event doing.state (event.Call call)) refl refl) (λ full. beside (with_lost doing.state) refl refl)
 
   first_named : AreNamed (first_taken doing).state
@@ -251,16 +251,16 @@ module _ (doing : Doing) (named : AreNamed doing.state) where
   unfolding dying
   dying_named target = beside (dying doing target).state refl refl
 
-  pub deed_named : (deed : Deed) → AreNamed (with_deed doing.state deed)
-  deed_named (d.Connect new unique) = beside (with_connection doing.state new) refl refl
-  deed_named (d.Disconnect pattern) = beside (without_connections doing.state (matches pattern)) refl refl
-  deed_named (d.SetParent target parent) = beside (with_parent doing.state target parent) refl refl
-  deed_named (d.DeleteLater target) = beside (with_event doing.state (event.Deletion target)) refl refl
-  deed_named (d.Block target on) = beside (with_blocking doing.state target on) refl refl
+  pub operation_named : (operation : Operation) → AreNamed (with_operation doing.state operation)
+  operation_named (d.Connect new unique) = beside (with_connection doing.state new) refl refl
+  operation_named (d.Disconnect pattern) = beside (without_connections doing.state (matches pattern)) refl refl
+  operation_named (d.SetParent target parent) = beside (with_parent doing.state target parent) refl refl
+  operation_named (d.DeleteLater target) = beside (with_event doing.state (event.Deletion target)) refl refl
+  operation_named (d.Block target on) = beside (with_blocking doing.state target on) refl refl
 
-  deed_done_named : (deed : Deed) → AreNamed (deed_done doing deed).state
-  unfolding deed_done
-  deed_done_named deed = deed_named deed
+  operation_done_named : (operation : Operation) → AreNamed (operation_done doing operation).state
+  unfolding operation_done
+  operation_done_named operation = operation_named operation
 
 -- what an item comes to
 
@@ -279,7 +279,7 @@ tells_named settings after depth (change ∷ rest) = by change.told (tells_named
     sent None value later = later
     sent (Some signal) value later = All-cons IsNamedItem (Emit change.at.object signal (told_value settings after change.at.object value signal) depth) (tells settings after depth rest) tt later
 
-    by : (what : Message) → All IsNamedItem (tells settings after depth rest) → All IsNamedItem (cons_option (told_as settings after depth change.at what) (tells settings after depth rest))
+    by : (what : ChangeKind) → All IsNamedItem (tells settings after depth rest) → All IsNamedItem (cons_option (told_as settings after depth change.at what) (tells settings after depth rest))
     by (message.Error error) later = All-cons IsNamedItem (WarnOf change.at error) (tells settings after depth rest) tt later
     by (message.Value value) later = sent (option_and_then (λ (property : Property). property.notify) (property_at settings after change.at.object change.at.number)) value later
 
@@ -287,7 +287,7 @@ tells_named settings after depth (change ∷ rest) = by change.told (tells_named
 abbrev pub LeavesNamed : Next → Type 0
 LeavesNamed next = All IsNamedItem next.items × AreNamed next.doing.state
 
-comes_to_named : (settings : Settings) (doing : Doing) (depth : ℕ) (after : State) (written : Option At) → AreNamed after → LeavesNamed (comes_to settings doing depth after written)
+comes_to_named : (settings : Settings) (doing : Execution) (depth : ℕ) (after : State) (written : Option At) → AreNamed after → LeavesNamed (comes_to settings doing depth after written)
 comes_to_named settings doing depth after written named = (tells_named settings after depth (changes doing.state after written), named)
 
 -- a session that has had no command
@@ -309,7 +309,7 @@ module _ (settings : Settings) (state : State) where
       (found_always IsNamedJoin (asked_kinds types) _ (λ kinds. found_always IsNamedJoin (method_named_by (methods_of settings state target) method) _ (λ index. is)))
 
 module _ (settings : Settings) (are : AreSettings settings) where
-  module _ (doing : Doing) (named : AreNamed doing.state) where
+  module _ (doing : Execution) (named : AreNamed doing.state) where
     none : LeavesNamed (puts [] doing)
     none = (All-nil IsNamedItem, named)
 
@@ -355,7 +355,7 @@ module _ (settings : Settings) (are : AreSettings settings) where
         by (Some method) = calls_by (is_queued connection.mode) _ _ (method_items_named connection.receiver index connection.sender (take (length method.signature.kinds) args) (depth + 1) depth method)
 
     -- a turn is taken, where one is left
-    turns : (next : Doing → Next) → LeavesNamed (next (turn_taken doing)) → LeavesNamed (with_turn doing next)
+    turns : (next : Execution → Next) → LeavesNamed (next (turn_taken doing)) → LeavesNamed (with_turn doing next)
     turns next goes_on =
         cond_both (doing.turns == 0) (puts [] (used_up doing)) (next (turn_taken doing)) LeavesNamed
         (λ spent. (All-nil IsNamedItem, used_up_named doing named)) (λ some. goes_on)
@@ -408,9 +408,9 @@ module _ (settings : Settings) (are : AreSettings settings) where
       sends_found of (Ok emitted) = one (Emit of emitted.0 emitted.1 depth) tt
       sends_found of (Err code) = none
 
-      does_deed : (found : Found Deed) → LeavesNamed (with_found found (λ deed. puts [] (deed_done doing deed)) doing)
-      does_deed (Ok deed) = (All-nil IsNamedItem, deed_done_named doing named deed)
-      does_deed (Err code) = none
+      does_operation : (found : Found Operation) → LeavesNamed (with_found found (λ operation. puts [] (operation_done doing operation)) doing)
+      does_operation (Ok operation) = (All-nil IsNamedItem, operation_done_named doing named operation)
+      does_operation (Err code) = none
 
       acts_out : (plain : Plain) → is_effect_named plain ≡ true → LeavesNamed (acted settings doing self sender args depth plain)
       acts_out (e.Set of property value) is =
@@ -418,26 +418,26 @@ module _ (settings : Settings) (are : AreSettings settings) where
           (found_always IsNamedWriting (evaluated doing.state self sender args value) (acted_writing doing.state (object_of doing.state self sender of) property) (acted_named doing.state (object_of doing.state self sender of) property is))
       acts_out (e.Emit of signal sent) is = sends_found (object_of doing.state self sender of) (emission settings doing.state self sender args (object_of doing.state self sender of) signal sent)
       acts_out (e.Delete target) is = one (to_do.Delete (object_of doing.state self sender target) depth) tt
-      acts_out plain is = does_deed (unwrap_or (act_deed settings doing.state self sender plain) (Err NoSuchObject))
+      acts_out plain is = does_operation (unwrap_or (act_operation settings doing.state self sender plain) (Err NoSuchObject))
 
-    kins_named : (target depth : ℕ) → LeavesNamed (puts (kins doing target depth) (severed doing target))
-    unfolding kins
-    kins_named target depth = (All-map IsNamedItem (λ child. Kin target child depth) (children doing.state.forest.rows (Some target)) (λ index default within. tt), severed_named doing named target)
+    delete_children_named : (target depth : ℕ) → LeavesNamed (puts (delete_children doing target depth) (severed doing target))
+    unfolding delete_children
+    delete_children_named target depth = (All-map IsNamedItem (λ child. DeleteChild target child depth) (children doing.state.forest.rows (Some target)) (λ index default within. tt), severed_named doing named target)
 
-  calls_found : (args : List Value) (depth : ℕ) (doing : Doing) → AreNamed doing.state → (found : Option Connection) → LeavesNamed (option_map_or (λ connection. with_turn doing (called settings connection args depth)) found (puts [] doing))
+  calls_found : (args : List Value) (depth : ℕ) (doing : Execution) → AreNamed doing.state → (found : Option Connection) → LeavesNamed (option_map_or (λ connection. with_turn doing (called settings connection args depth)) found (puts [] doing))
   calls_found args depth doing named None = none doing named
   calls_found args depth doing named (Some connection) =
       turns doing named (called settings connection args depth)
-      (calls_callee (shot (turn_taken doing) connection) (shot_named (turn_taken doing) (turn_named doing named) connection) connection args depth connection.callee)
+      (calls_callee (single_shot_broken (turn_taken doing) connection) (shot_named (turn_taken doing) (turn_named doing named) connection) connection args depth connection.callee)
 
-  spins : (doing : Doing) → AreNamed doing.state → (events : List Event) → LeavesNamed (spun settings doing events)
+  spins : (doing : Execution) → AreNamed doing.state → (events : List Event) → LeavesNamed (spun settings doing events)
   spins doing named [] = none doing named
   spins doing named (first ∷ later) =
       let new = turn_taken doing in
       turns doing named (λ doing. puts (event_items settings doing.state first ++ to_do.Spin ∷ []) (first_taken doing))
       (All-append IsNamedItem (event_items settings new.state first) (to_do.Spin ∷ []) (event_items_named doing named new.state first) (All-cons IsNamedItem to_do.Spin [] tt (All-nil IsNamedItem)), first_named new (turn_named doing named))
 
-  item_named : (item : Item) (doing : Doing) → IsNamedItem item → AreNamed doing.state → LeavesNamed (step settings item doing)
+  item_named : (item : Item) (doing : Execution) → IsNamedItem item → AreNamed doing.state → LeavesNamed (step settings item doing)
   item_named (Emit target signal args depth) doing is named = emits doing named target signal args depth (row_of doing.state.forest.rows target)
   item_named (Call number args depth) doing is named = calls_found args depth doing named (connection_of doing number)
   item_named (Run target index sender args depth) doing is named = runs doing named target index sender args depth (method_at settings doing.state target index) refl
@@ -447,25 +447,25 @@ module _ (settings : Settings) (are : AreSettings settings) where
   item_named (Warn code object) doing is named = (All-nil IsNamedItem, told_named doing named (line.Warning code object))
   item_named (WarnOf at error) doing is named = (All-nil IsNamedItem, told_named doing named (binding_line settings doing.state at error))
   item_named (to_do.Delete target depth) doing is named =
-      cond_both (lives doing target) (puts (Emit target DESTROYED [] depth ∷ Cut target depth ∷ Gone target depth ∷ []) (dying doing target)) (puts [] doing) LeavesNamed
-      (λ living. (All-cons IsNamedItem (Emit target DESTROYED [] depth) (Cut target depth ∷ Gone target depth ∷ []) tt (All-cons IsNamedItem (Cut target depth) (Gone target depth ∷ []) tt (All-cons IsNamedItem (Gone target depth) [] tt (All-nil IsNamedItem))), dying_named doing named target))
+      cond_both (lives doing target) (puts (Emit target DESTROYED [] depth ∷ Detach target depth ∷ Remove target depth ∷ []) (dying doing target)) (puts [] doing) LeavesNamed
+      (λ living. (All-cons IsNamedItem (Emit target DESTROYED [] depth) (Detach target depth ∷ Remove target depth ∷ []) tt (All-cons IsNamedItem (Detach target depth) (Remove target depth ∷ []) tt (All-cons IsNamedItem (Remove target depth) [] tt (All-nil IsNamedItem))), dying_named doing named target))
       (λ absent. none doing named)
-  item_named (Cut target depth) doing is named = kins_named doing named target depth
-  item_named (Kin parent child depth) doing is named =
+  item_named (Detach target depth) doing is named = delete_children_named doing named target depth
+  item_named (DeleteChild parent child depth) doing is named =
       cond_both (lives_below doing parent child) (puts (to_do.Delete child depth ∷ []) doing) (puts [] doing) LeavesNamed
       (λ living. one doing named (to_do.Delete child depth) tt) (λ other. none doing named)
-  item_named (Gone target depth) doing is named = comes_to_named settings doing depth (without_object doing.state target) None (named_without_object doing.state named target)
+  item_named (Remove target depth) doing is named = comes_to_named settings doing depth (without_object doing.state target) None (named_without_object doing.state named target)
   item_named to_do.Spin doing is named = spins doing named doing.state.queue.events
   item_named (Reply answer) doing is named = (All-nil IsNamedItem, told_named doing named (line.Reply answer))
   item_named ReplySpun doing is named = (All-nil IsNamedItem, told_named doing named (line.Reply (a.Spun (spin_of doing))))
 
-  pub by_item : (item : Item) (agenda : List Item) (doing : Doing) → All IsNamedItem (item ∷ agenda) → AreNamed doing.state → All IsNamedItem ((step settings item doing).items ++ agenda) × AreNamed (step settings item doing).doing.state
+  pub by_item : (item : Item) (agenda : List Item) (doing : Execution) → All IsNamedItem (item ∷ agenda) → AreNamed doing.state → All IsNamedItem ((step settings item doing).items ++ agenda) × AreNamed (step settings item doing).doing.state
   by_item item agenda doing items named =
       let next = item_named item doing (All-head IsNamedItem item agenda items) named in
       (All-append IsNamedItem (step settings item doing).items agenda next.0 (All-tail IsNamedItem item agenda items), next.1)
 
   -- after an agenda is done
-  pub run_named : (agenda : List Item) (doing : Doing) → LeavesNamed (puts agenda doing) → AreNamed (run settings agenda doing).state
+  pub run_named : (agenda : List Item) (doing : Execution) → LeavesNamed (puts agenda doing) → AreNamed (run settings agenda doing).state
   run_named agenda doing kept = (run_keeps settings (λ agenda doing. LeavesNamed (puts agenda doing)) (λ item agenda doing its. by_item item agenda doing its.0 its.1) agenda doing kept).1
 
 -- nor does a post bring another name

@@ -14,7 +14,7 @@ use Rattle.connection_list.specs.Ends.{calls}
 use Rattle.connection_list.specs.Rows.{IsSound, Rows, has_number, is_next}
 use Rattle.connection_list.proofs.ForCallers.{filter-changed, find-changed, sound_changed}
 use Rattle.session_model.specs.Agenda.{calls_of}
-use Rattle.session_model.specs.Doing.{Doing}
+use Rattle.session_model.specs.Execution.{Execution}
 use Rattle.session_model.specs.Items.{Call, Item}
 use Rattle.session_model.specs.Run.{run}
 use Rattle.session_model.specs.Settings.{Settings}
@@ -59,7 +59,7 @@ module _ (settings : Settings) (args : List Value) (depth : ℕ) where
   calls_bare (row ∷ rows) = ap (λ rest. Call row.number args depth ∷ rest) (calls_bare rows)
 
   -- calls of dead connections may be left out
-  dead_out : (test : Connection → Bool) (rows : List Connection) (doing : Doing) → AllByRecursion (λ row. test row ≡ false → IsDead (bare doing.state.connections) row.number) rows
+  dead_out : (test : Connection → Bool) (rows : List Connection) (doing : Execution) → AllByRecursion (λ row. test row ≡ false → IsDead (bare doing.state.connections) row.number) rows
       → run settings (calls_to rows) doing ≡ run settings (calls_to (filter test rows)) doing
   dead_out test [] doing dead = refl
   dead_out test (row ∷ rows) doing dead =
@@ -68,7 +68,7 @@ module _ (settings : Settings) (args : List Value) (depth : ℕ) where
       (let new = run settings (Call row.number args depth ∷ []) doing in
       dead_out test rows new (still rows new (run_later settings (Call row.number args depth ∷ []) doing) dead.1))
     where
-      still : (rows : List Connection) (new : Doing) → Later doing new → AllByRecursion (λ row. test row ≡ false → IsDead (bare doing.state.connections) row.number) rows → AllByRecursion (λ row. test row ≡ false → IsDead (bare new.state.connections) row.number) rows
+      still : (rows : List Connection) (new : Execution) → Later doing new → AllByRecursion (λ row. test row ≡ false → IsDead (bare doing.state.connections) row.number) rows → AllByRecursion (λ row. test row ≡ false → IsDead (bare new.state.connections) row.number) rows
       still [] new later dead = tt
       still (row ∷ rows) new later dead = ((λ out. dead_later (bare doing.state.connections) (bare new.state.connections) row.number later (dead.0 out)), still rows new later dead.1)
 
@@ -89,7 +89,7 @@ first_true false b e = e
 
 module _ (settings : Settings) (target signal : ℕ) (args : List Value) (depth : ℕ) where
   -- at first all connections of the signal remain
-  pub emission_first : (doing : Doing) → IsSound doing.state.connections → calls_of doing target signal args depth ≡ calls_to settings args depth (remaining target signal doing.state.connections.last_number 0 doing.state.connections.rows)
+  pub emission_first : (doing : Execution) → IsSound doing.state.connections → calls_of doing target signal args depth ≡ calls_to settings args depth (remaining target signal doing.state.connections.last_number 0 doing.state.connections.rows)
   unfolding calls_of
   emission_first doing sound =
       ap (calls_to settings args depth) (filter-alike (calls target signal) (is_next target signal 0 doing.state.connections.last_number) doing.state.connections.rows
@@ -103,7 +103,7 @@ module _ (settings : Settings) (target signal : ℕ) (args : List Value) (depth 
           let other : nat_le row.number doing.state.connections.last_number ≡ true = grind (arith, nat_tests, given.0) in
           (rw (one, other), both rows from.1 given.1)
 
-  module _ (up_to after : ℕ) (doing : Doing) where
+  module _ (up_to after : ℕ) (doing : Execution) where
     -- the same connections remain, whatever their functors keep
     calls_remaining : (up_to after : ℕ) (rows : List Connection) → calls_to settings args depth (remaining target signal up_to after rows) ≡ calls_to settings args depth (remaining target signal up_to after (map bare_row rows))
     calls_remaining up_to after rows =
@@ -132,7 +132,7 @@ module _ (settings : Settings) (target signal : ℕ) (args : List Value) (depth 
         found' : find (is_next target signal after up_to) place.rows ≡ Some (bare_row next)
         found' = find-changed bare_row (is_next target signal after up_to) (λ row. refl) doing.state.connections.rows ∙ ap (option_map bare_row) found
 
-        then : Doing
+        then : Execution
         then = run settings (Call next.number args depth ∷ []) doing
 
         later : Later doing then

@@ -13,7 +13,7 @@ use Rattle.session_model.proofs.NamedLemmas.{IsNamedWriting, asked_named, named_
 use Rattle.session_model.proofs.ShrinkLemmas.{written_shrinks}
 use Rattle.session_model.specs.Absence.{absence}
 use Rattle.session_model.specs.Asked.{Set}
-use Rattle.session_model.specs.Doing.{begun}
+use Rattle.session_model.specs.Execution.{begun}
 use Rattle.session_model.specs.Effects.{does_next}
 use Rattle.session_model.specs.Fitting.{IsFitting}
 use Rattle.session_model.specs.Methods.{Found}

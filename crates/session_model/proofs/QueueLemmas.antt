@@ -8,7 +8,7 @@ use Rattle.std.proofs.lemmas.List.Sums.{count_by-le-length, length-filter}
 use Rattle.object_tree.specs.Rows.{numbers}
 use Rattle.event_queue.specs.declared.event.Event.{Event}
 use Rattle.event_queue.specs.declared.table.TheConstants.{EVENTS}
-use Rattle.event_queue.specs.Queue.{IsSound, Queue, dropped, empty_queue, has_room, object_of, others, placed, posted, taken, with_lost, with_mismatched}
+use Rattle.event_queue.specs.Queue.{IsSound, Queue, dropped, empty_queue, has_room, object_of, others, placed, enqueued, taken, with_lost, with_mismatched}
 use Rattle.event_queue.proofs.PlacedLemmas.{All_placed, length_placed}
 use Rattle.session_model.specs.State.{IsMeant, State}
 use Rattle.session_model.proofs.ConnectionLemmas.{there_more, there_same, there_without}
@@ -17,7 +17,7 @@ use Rattle.session_model.proofs.ConnectionLemmas.{there_more, there_same, there_
 pub sound_none : IsSound empty_queue
 sound_none = record { few = omega arith; lost = omega arith; mismatched = omega arith }
 
-pub sound_posted : (queue : Queue) (event : Event) → IsSound queue → IsSound (posted queue event)
+pub sound_posted : (queue : Queue) (event : Event) → IsSound queue → IsSound (enqueued queue event)
 sound_posted queue event sound = by (has_room queue) refl
   where
     by : (room : Bool) → has_room queue ≡ room → IsSound (cond room (record queue { events = placed event queue.events }) queue)
@@ -41,7 +41,7 @@ pub sound_mismatched : (queue : Queue) → IsSound queue → IsSound (with_misma
 sound_mismatched queue sound = record { few = sound.few; lost = sound.lost; mismatched = omega arith }
 
 -- what holds of every event, and of one more, holds when that is posted
-pub each_posted : (P : Event → Type 0) (queue : Queue) (event : Event) → P event → All P queue.events → All P (posted queue event).events
+pub each_posted : (P : Event → Type 0) (queue : Queue) (event : Event) → P event → All P queue.events → All P (enqueued queue event).events
 each_posted P queue event new all = by (has_room queue)
   where
     by : (room : Bool) → All P (cond room (record queue { events = placed event queue.events }) queue).events

@@ -27,7 +27,7 @@ use Rattle.session_model.proofs.StateLemmas.{whole_with_desk}
 use Rattle.session_model.specs.Absence.{absence}
 use Rattle.session_model.specs.Arriving.{kinds_of}
 use Rattle.session_model.specs.Asked.{Asked, Join as AsksJoin, Leave, Publish, Reset, Unpublish}
-use Rattle.session_model.specs.Deeds.{behind}
+use Rattle.session_model.specs.Operations.{behind}
 use Rattle.session_model.specs.Effects.{replies}
 use Rattle.session_model.specs.Fitting.{IsFitting, IsJoined, IsPublished}
 use Rattle.session_model.specs.Methods.{Found, method_named, methods_of, signal_named, ◌>>=◌}

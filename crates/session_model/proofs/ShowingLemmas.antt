@@ -10,8 +10,8 @@ use Rattle.std.proofs.lemmas.List.Filters.{length-filter_both}
 use Rattle.variant_value.specs.declared.value.Value.{Value}
 use Rattle.variant_value.specs.Values.{is_same}
 use Rattle.binding_graph.specs.declared.change.Change.{Change}
-use Rattle.binding_graph.specs.declared.change.Message.{Message}
-use Rattle.binding_graph.specs.declared.change.Message.TheVariants as message
+use Rattle.binding_graph.specs.declared.change.ChangeKind.{ChangeKind}
+use Rattle.binding_graph.specs.declared.change.ChangeKind.TheVariants as message
 use Rattle.binding_values.specs.declared.property.BindingError.{BindingError}
 use Rattle.property_store.specs.declared.property.Property.{Property as At}
 use Rattle.binding_graph.specs.declared.shown.Shown.{Shown}
@@ -19,7 +19,7 @@ use Rattle.binding_graph.specs.Graph as graph
 use Rattle.binding_graph.specs.Graph.{before, has_turn, in_turn, is_open, is_same_error, notice, shown_now, warning}
 use Rattle.binding_values.specs.Stored.{properties_in}
 use Rattle.class_table.specs.declared.class.Property.{Property}
-use Rattle.session_model.specs.Doing.{Doing, begun, in_state}
+use Rattle.session_model.specs.Execution.{Execution, begun, in_state}
 use Rattle.session_model.specs.Items.{Emit, Item, Next, puts}
 use Rattle.session_model.specs.Run.{Most, change_weight, weights}
 use Rattle.session_model.specs.Settings.{Settings}
@@ -43,7 +43,7 @@ module _ (settings : Settings) (after : State) (depth : ℕ) where
       sent None value later = later
       sent (Some signal) value later = later
 
-      by : (what : Message) → list_any is_gone (tells settings after depth rest) ≡ false → list_any is_gone (cons_option (told_as settings after depth change.at what) (tells settings after depth rest)) ≡ false
+      by : (what : ChangeKind) → list_any is_gone (tells settings after depth rest) ≡ false → list_any is_gone (cons_option (told_as settings after depth change.at what) (tells settings after depth rest)) ≡ false
       by (message.Error error) later = later
       by (message.Value value) later = sent (option_and_then (λ (property : Property). property.notify) (property_at settings after change.at.object change.at.number)) value later
 
@@ -115,7 +115,7 @@ changes-weight settings after depth n last now written =
     omega (arith, split, both, one, other, all, wide)
 
 -- what is told of a change of the session weighs no more than the declared properties allow
-pub told-weight : (settings : Settings) (doing : Doing) (depth : ℕ) (after : State) (written : Option At) (n : Most) → length (properties_in after.store) ≤ n.properties
+pub told-weight : (settings : Settings) (doing : Execution) (depth : ℕ) (after : State) (written : Option At) (n : Most) → length (properties_in after.store) ≤ n.properties
     → weights n (comes_to settings doing depth after written).items ≤ change_weight n
 told-weight settings doing depth after written n fewer =
     cond_both (is_open after.graph) [] (graph.changes (showing doing.state) (showing after) written) (λ all. weights n (tells settings after depth all) ≤ change_weight n)

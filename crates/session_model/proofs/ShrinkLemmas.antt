@@ -22,10 +22,10 @@ use Rattle.std.specs.List.{list_any}
 use Rattle.publish_board.specs.declared.join.Join.{Join}
 use Rattle.session_model.specs.declared.post.Post.{Post}
 use Rattle.session_model.specs.Agenda.{lives, queued}
-use Rattle.session_model.specs.declared.deed.Deed.{Deed}
-use Rattle.session_model.specs.declared.deed.Deed.TheVariants as d
-use Rattle.session_model.specs.Deeds.{deed_done, deed_refusal}
-use Rattle.session_model.specs.Doing.{Doing, dying, first_taken, in_state, lost, posted, shot, stepped, line_told, turn_taken, used_up, posting, severed}
+use Rattle.session_model.specs.declared.operation.Operation.{Operation}
+use Rattle.session_model.specs.declared.operation.Operation.TheVariants as d
+use Rattle.session_model.specs.Operations.{operation_done, operation_refusal}
+use Rattle.session_model.specs.Execution.{Execution, dying, first_taken, in_state, lost, enqueued, single_shot_broken, stepped, line_told, turn_taken, used_up, posting, severed}
 use Rattle.binding_values.specs.Stored.{properties_in}
 use Rattle.property_store.specs.Store.{with_dynamic, with_value, without_dynamic}
 use Rattle.session_model.specs.State.{without_connections, without_object}
@@ -36,7 +36,7 @@ use Rattle.session_model.proofs.DeskLemmas.{fewer_pass}
 use Rattle.session_model.proofs.LivingLemmas.{all_orphaned-living, changed-as_many, filter-fewer, filter-living, living_rows, marked-one, reparented-as_many}
 
 -- nothing that bounds the run has grown
-pub record Shrinks (old new : Doing) : Type 0 where
+pub record Shrinks (old new : Execution) : Type 0 where
   pub turns : new.turns ≤ old.turns
   -- every event that is taken takes a turn
   pub taken : new.turns + new.taken ≤ old.turns + old.taken
@@ -47,10 +47,10 @@ pub record Shrinks (old new : Doing) : Type 0 where
   -- no join is made
   pub joins : (test : Join → Bool) → list_any test new.state.desk.joins ≡ true → list_any test old.state.desk.joins ≡ true
 
-pub same : (doing : Doing) → Shrinks doing doing
+pub same : (doing : Execution) → Shrinks doing doing
 same doing = record { turns = omega arith; taken = omega arith; living = omega arith; objects = omega arith; connections = omega arith; properties = omega arith; joins = λ test held. held }
 
-pub both : (one two three : Doing) → Shrinks one two → Shrinks two three → Shrinks one three
+pub both : (one two three : Execution) → Shrinks one two → Shrinks two three → Shrinks one three
 both one two three first second = record {
   turns = omega (arith, first.turns, second.turns);
   taken = omega (arith, first.taken, second.taken);
@@ -65,43 +65,43 @@ both one two three first second = record {
 kept : (n : ℕ) (test : Connection → Bool) (rows : List Connection) → max n (length (filter test rows)) ≤ max n (length rows)
 kept n test rows = let fewer = filter-fewer test rows in omega (arith, fewer)
 
-pub told_shrinks : (doing : Doing) (said : Line) → Shrinks doing (line_told doing said)
+pub told_shrinks : (doing : Execution) (said : Line) → Shrinks doing (line_told doing said)
 unfolding line_told
 told_shrinks doing said = record { turns = omega arith; taken = omega arith; living = omega arith; objects = omega arith; connections = omega arith; properties = omega arith; joins = λ test held. held }
 
-pub posting_shrinks : (doing : Doing) (more : List Post) → Shrinks doing (posting doing more)
+pub posting_shrinks : (doing : Execution) (more : List Post) → Shrinks doing (posting doing more)
 unfolding posting
 posting_shrinks doing more = record { turns = omega arith; taken = omega arith; living = omega arith; objects = omega arith; connections = omega arith; properties = omega arith; joins = λ test held. held }
 
-pub used_up_shrinks : (doing : Doing) → Shrinks doing (used_up doing)
+pub used_up_shrinks : (doing : Execution) → Shrinks doing (used_up doing)
 unfolding used_up
 used_up_shrinks doing =
     cond_both doing.spent doing (record doing { spent = true; lines = doing.lines ++ Warning TurnsUsedUp None ∷ [] }) (Shrinks doing)
     (λ spent. same doing)
     (λ fresh. record { turns = omega arith; taken = omega arith; living = omega arith; objects = omega arith; connections = omega arith; properties = omega arith; joins = λ test held. held })
 
-pub turn_shrinks : (doing : Doing) → Shrinks doing (turn_taken doing)
+pub turn_shrinks : (doing : Execution) → Shrinks doing (turn_taken doing)
 unfolding turn_taken
 turn_shrinks doing = record { turns = omega arith; taken = omega arith; living = omega arith; objects = omega arith; connections = omega arith; properties = omega arith; joins = λ test held. held }
 
-pub turn_taken-less : (doing : Doing) → (doing.turns == 0) ≡ false → (turn_taken doing).turns + 1 ≤ doing.turns
+pub turn_taken-less : (doing : Execution) → (doing.turns == 0) ≡ false → (turn_taken doing).turns + 1 ≤ doing.turns
 unfolding turn_taken
 turn_taken-less doing some = let more = eqb-false doing.turns 0 some in omega (arith, more)
 
-pub shot_shrinks : (doing : Doing) (row : Connection) → Shrinks doing (shot doing row)
-unfolding shot
+pub shot_shrinks : (doing : Execution) (row : Connection) → Shrinks doing (single_shot_broken doing row)
+unfolding single_shot_broken
 shot_shrinks doing row =
     cond_both row.single (in_state doing (without_connections doing.state (has_number row.number))) doing (Shrinks doing)
     (λ single. record { turns = omega arith; taken = omega arith; living = omega arith; objects = omega arith; connections = kept CONNECTIONS (λ other. not (has_number row.number other)) doing.state.connections.rows; properties = omega arith; joins = λ test held. held })
     (λ lasting. same doing)
 
-pub stepped_shrinks : (doing : Doing) (number next : ℕ) → Shrinks doing (stepped doing number next)
+pub stepped_shrinks : (doing : Execution) (number next : ℕ) → Shrinks doing (stepped doing number next)
 unfolding stepped
 stepped_shrinks doing number next =
     let many = length-map doing.state.connections.rows (stepped_row number next) in
     record { turns = omega arith; taken = omega arith; living = omega arith; objects = omega arith; connections = omega (arith, many); properties = omega arith; joins = λ test held. held }
 
-pub severed_shrinks : (doing : Doing) (target : ℕ) → Shrinks doing (severed doing target)
+pub severed_shrinks : (doing : Execution) (target : ℕ) → Shrinks doing (severed doing target)
 unfolding severed
 severed_shrinks doing target = record {
   turns = omega arith;
@@ -113,33 +113,33 @@ severed_shrinks doing target = record {
   joins = λ test held. fewer_pass test (λ join. not (join.object == target)) doing.state.desk.joins held;
 }
 
-pub posted_shrinks : (doing : Doing) (event : Event) → Shrinks doing (posted doing event)
-unfolding posted
+pub posted_shrinks : (doing : Execution) (event : Event) → Shrinks doing (enqueued doing event)
+unfolding enqueued
 posted_shrinks doing event = record { turns = omega arith; taken = omega arith; living = omega arith; objects = omega arith; connections = omega arith; properties = omega arith; joins = λ test held. held }
 
-pub lost_shrinks : (doing : Doing) → Shrinks doing (lost doing)
+pub lost_shrinks : (doing : Execution) → Shrinks doing (lost doing)
 unfolding lost
 lost_shrinks doing = record { turns = omega arith; taken = omega arith; living = omega arith; objects = omega arith; connections = omega arith; properties = omega arith; joins = λ test held. held }
 
-pub queued_shrinks : (doing : Doing) (call : QueuedCall) → Shrinks doing (queued doing call)
+pub queued_shrinks : (doing : Execution) (call : QueuedCall) → Shrinks doing (queued doing call)
 queued_shrinks doing call =
-    cond_both (has_room doing.state.queue) (posted doing (event.Call call)) (lost doing) (Shrinks doing)
+    cond_both (has_room doing.state.queue) (enqueued doing (event.Call call)) (lost doing) (Shrinks doing)
     (λ room. posted_shrinks doing (event.Call call))
     (λ full. lost_shrinks doing)
 
 -- the first event is taken, with a turn
-pub taken_shrinks : (doing : Doing) → (doing.turns == 0) ≡ false → Shrinks doing (first_taken (turn_taken doing))
+pub taken_shrinks : (doing : Execution) → (doing.turns == 0) ≡ false → Shrinks doing (first_taken (turn_taken doing))
 unfolding first_taken turn_taken
 taken_shrinks doing some =
     let more = eqb-false doing.turns 0 some in
     record { turns = omega arith; taken = omega (arith, more); living = omega arith; objects = omega arith; connections = omega arith; properties = omega arith; joins = λ test held. held }
 
-pub first_taken-turns : (doing : Doing) → (first_taken doing).turns ≡ doing.turns
+pub first_taken-turns : (doing : Execution) → (first_taken doing).turns ≡ doing.turns
 unfolding first_taken
 first_taken-turns doing = refl
 
 -- what is written bounds nothing
-pub written_shrinks : (doing : Doing) (target : ℕ) (writing : Writing) → Shrinks doing (in_state doing (with_writing doing.state target writing))
+pub written_shrinks : (doing : Execution) (target : ℕ) (writing : Writing) → Shrinks doing (in_state doing (with_writing doing.state target writing))
 written_shrinks doing target (Declared number value) =
     let many = many_changed (with_value number value) target (λ of. refl) (λ of. refl) doing.state.store in
     record { turns = omega arith; taken = omega arith; living = omega arith; objects = omega arith; connections = omega arith; properties = omega (arith, many); joins = λ test held. held }
@@ -151,10 +151,10 @@ written_shrinks doing target (Removed name) =
     record { turns = omega arith; taken = omega arith; living = omega arith; objects = omega arith; connections = omega arith; properties = omega (arith, many); joins = λ test held. held }
 written_shrinks doing target Nothing = same doing
 
--- a deed leaves as many living objects
-pub deed_shrinks : (doing : Doing) (deed : Deed) → deed_refusal doing.state deed ≡ None → Shrinks doing (deed_done doing deed)
-unfolding deed_done with_blocked
-deed_shrinks doing (d.Connect new unique) passed =
+-- an operation leaves as many living objects
+pub operation_shrinks : (doing : Execution) (operation : Operation) → operation_refusal doing.state operation ≡ None → Shrinks doing (operation_done doing operation)
+unfolding operation_done with_blocked
+operation_shrinks doing (d.Connect new unique) passed =
     let all = or_none (object_refusal doing.state.forest.rows new.sender) _ passed in
     let its = allowed doing.state.connections new unique (or_none (object_refusal doing.state.forest.rows new.receiver) _ all.1).1 in
     record {
@@ -166,16 +166,16 @@ deed_shrinks doing (d.Connect new unique) passed =
       properties = omega arith;
       joins = λ test held. held;
     }
-deed_shrinks doing (d.Disconnect pattern) passed = record { turns = omega arith; taken = omega arith; living = omega arith; objects = omega arith; connections = kept CONNECTIONS (λ row. not (matches pattern row)) doing.state.connections.rows; properties = omega arith; joins = λ test held. held }
-deed_shrinks doing (d.SetParent target parent) passed =
+operation_shrinks doing (d.Disconnect pattern) passed = record { turns = omega arith; taken = omega arith; living = omega arith; objects = omega arith; connections = kept CONNECTIONS (λ row. not (matches pattern row)) doing.state.connections.rows; properties = omega arith; joins = λ test held. held }
+operation_shrinks doing (d.SetParent target parent) passed =
     let many = reparented-as_many doing.state.forest target parent in
     record { turns = omega arith; taken = omega arith; living = omega (arith, many.living); objects = omega (arith, many.objects); connections = omega arith; properties = omega arith; joins = λ test held. held }
-deed_shrinks doing (d.DeleteLater target) passed = record { turns = omega arith; taken = omega arith; living = omega arith; objects = omega arith; connections = omega arith; properties = omega arith; joins = λ test held. held }
-deed_shrinks doing (d.Block target on) passed =
+operation_shrinks doing (d.DeleteLater target) passed = record { turns = omega arith; taken = omega arith; living = omega arith; objects = omega arith; connections = omega arith; properties = omega arith; joins = λ test held. held }
+operation_shrinks doing (d.Block target on) passed =
     let many = changed-as_many (λ (row : Row). record row { blocked = on }) target (λ row. refl) doing.state.forest.rows in
     record { turns = omega arith; taken = omega arith; living = omega (arith, many.living); objects = omega (arith, many.objects); connections = omega arith; properties = omega arith; joins = λ test held. held }
 
-pub gone_shrinks : (doing : Doing) (target : ℕ) → Shrinks doing (in_state doing (without_object doing.state target))
+pub gone_shrinks : (doing : Execution) (target : ℕ) → Shrinks doing (in_state doing (without_object doing.state target))
 unfolding removed
 gone_shrinks doing target =
     let rows = doing.state.forest.rows in
@@ -193,11 +193,11 @@ gone_shrinks doing target =
     }
 
 -- marking a living object as dying leaves fewer living ones
-pub dying_less : (doing : Doing) (target : ℕ) → lives doing target ≡ true → living_rows (dying doing target).state.forest.rows + 1 ≤ living_rows doing.state.forest.rows
+pub dying_less : (doing : Execution) (target : ℕ) → lives doing target ≡ true → living_rows (dying doing target).state.forest.rows + 1 ≤ living_rows doing.state.forest.rows
 unfolding dying marked
 dying_less doing target lives = let less = marked-one target doing.state.forest.rows lives in omega (arith, less)
 
-pub dying_shrinks : (doing : Doing) (target : ℕ) → lives doing target ≡ true → Shrinks doing (dying doing target)
+pub dying_shrinks : (doing : Execution) (target : ℕ) → lives doing target ≡ true → Shrinks doing (dying doing target)
 unfolding dying marked
 dying_shrinks doing target lives =
     let less = marked-one target doing.state.forest.rows lives in

@@ -20,7 +20,7 @@ use Rattle.std.specs.Result.{result_err, result_unwrap_or}
 use Rattle.stored_slots.specs.Functors.{AreArguments}
 use Rattle.session_model.proofs.ConnectionLemmas.{or_none}
 use Rattle.session_model.proofs.FittingArgumentLemmas.{read_arguments}
-use Rattle.session_model.proofs.FittingFoundLemmas.{connection_fits, deed_fits, found_past, functor_connection_fits, functor_there, named_method_there, named_signal_there, numbered_there, pattern_fits}
+use Rattle.session_model.proofs.FittingFoundLemmas.{connection_fits, operation_fits, found_past, functor_connection_fits, functor_there, named_method_there, named_signal_there, numbered_there, pattern_fits}
 use Rattle.session_model.proofs.KeepingLemmas.{Keeps, done, found_keeps, nothing_begins, one_begins, replied, stays}
 use Rattle.session_model.proofs.NamedLemmas.{named_beside}
 use Rattle.session_model.proofs.QueueLemmas.{each_posted}
@@ -29,10 +29,10 @@ use Rattle.session_model.specs.Absence.{absence}
 use Rattle.session_model.specs.Agenda.{with_turn}
 use Rattle.session_model.specs.Arriving.{kinds_of}
 use Rattle.session_model.specs.Asked.{Asked, Connect, ConnectFunctor, Disconnect, DisconnectOne, Invoke}
-use Rattle.session_model.specs.Deeds.{found_refusal}
-use Rattle.session_model.specs.Doing.{Doing, begun, turn_taken, used_up}
+use Rattle.session_model.specs.Operations.{found_refusal}
+use Rattle.session_model.specs.Execution.{Execution, begun, turn_taken, used_up}
 use Rattle.session_model.specs.Effects.{does_next, replies}
-use Rattle.session_model.specs.Fitting.{IsCall, IsConnected, IsFittingDeed, IsFittingEvent}
+use Rattle.session_model.specs.Fitting.{IsCall, IsConnected, IsFittingOperation, IsFittingEvent}
 use Rattle.session_model.specs.Functors.{functor_named}
 use Rattle.session_model.specs.Items.{Next, Run, puts}
 use Rattle.session_model.specs.Methods.{Found, is_signal_at, method_named, methods_of, signal_named, signature_in, ◌>>=◌}
@@ -41,12 +41,12 @@ use Rattle.session_model.specs.Refusing.{later_refusal, refusal, values_refusal}
 use Rattle.session_model.specs.Signals.{asked_connect, asked_connect_functor, asked_connection, asked_disconnect, asked_functor_connection, asked_method, asked_pattern, asked_values, disconnects_one, does_found, invoked, invoked_later, invokes}
 use Rattle.session_model.specs.State.{State, with_event, without_connections}
 use Rattle.session_model.specs.Thread.{Settings, performs}
-use Rattle.session_model.specs.declared.deed.Deed.{Deed}
+use Rattle.session_model.specs.declared.operation.Operation.{Operation}
 use Rattle.session_model.specs.declared.line.Answer.{Answer}
 use Rattle.variant_value.specs.declared.value.Value.{Value}
 use Rattle.session_model.specs.declared.line.Answer.TheVariants as a
 use Rattle.plain_types.specs.declared.callee.Callee.TheVariants as callee
-use Rattle.session_model.specs.declared.deed.Deed.TheVariants as d
+use Rattle.session_model.specs.declared.operation.Operation.TheVariants as d
 use Rattle.event_queue.specs.declared.event.Event.TheVariants as event
 use Rattle.session_model.specs.Items as to_do
 
@@ -110,21 +110,21 @@ is_present state target passed = by (is_there state.forest.rows target) passed
     by false e = absurd (cc)
 
 -- a turn that is taken or wanted changes neither the session nor what it posts
-turn_state : (doing : Doing) → (turn_taken doing).state ≡ doing.state
+turn_state : (doing : Execution) → (turn_taken doing).state ≡ doing.state
 unfolding turn_taken
 turn_state doing = refl
 
-turn_posts : (doing : Doing) → (turn_taken doing).posts ≡ doing.posts
+turn_posts : (doing : Execution) → (turn_taken doing).posts ≡ doing.posts
 unfolding turn_taken
 turn_posts doing = refl
 
-used_up_state : (doing : Doing) → (used_up doing).state ≡ doing.state
+used_up_state : (doing : Execution) → (used_up doing).state ≡ doing.state
 unfolding used_up
-used_up_state doing = cond_both doing.spent doing _ (λ (new : Doing). new.state ≡ doing.state) (λ spent. refl) (λ fresh. refl)
+used_up_state doing = cond_both doing.spent doing _ (λ (new : Execution). new.state ≡ doing.state) (λ spent. refl) (λ fresh. refl)
 
-used_up_posts : (doing : Doing) → (used_up doing).posts ≡ doing.posts
+used_up_posts : (doing : Execution) → (used_up doing).posts ≡ doing.posts
 unfolding used_up
-used_up_posts doing = cond_both doing.spent doing _ (λ (new : Doing). new.posts ≡ doing.posts) (λ spent. refl) (λ fresh. refl)
+used_up_posts doing = cond_both doing.spent doing _ (λ (new : Execution). new.posts ≡ doing.posts) (λ spent. refl) (λ fresh. refl)
 
 module _ (settings : Settings) (state : State) where
   abbrev rows : List Row
@@ -133,24 +133,24 @@ module _ (settings : Settings) (state : State) where
   module _ (sender : ℕ) (signal : List ℕ) (receiver : ℕ) (method : List ℕ) (mode : ConnectionType) (unique single : Bool) where
     pub connect_keeps : found_refusal state (asked_connect settings state sender signal receiver method mode unique single) ≡ None
         → Keeps settings state (Connect sender signal receiver method mode unique single) (does_found state (asked_connect settings state sender signal receiver method mode unique single))
-    connect_keeps passed = found_keeps settings state (Connect sender signal receiver method mode unique single) _ passed (λ deed e may.
-        deed_fits settings rows (asked_connection settings state sender signal receiver method mode single) unique
+    connect_keeps passed = found_keeps settings state (Connect sender signal receiver method mode unique single) _ passed (λ operation e may.
+        operation_fits settings rows (asked_connection settings state sender signal receiver method mode single) unique
         (connection_fits settings state sender (signal_named (methods_of settings state sender) signal) (named_signal_there (methods_of settings state sender) signal)
         receiver (method_named (methods_of settings state receiver) method) (named_method_there (methods_of settings state receiver) method) mode single)
-        deed (found_past (object_refusal rows receiver) _ deed (found_past (object_refusal rows sender) _ deed e)))
+        operation (found_past (object_refusal rows receiver) _ operation (found_past (object_refusal rows sender) _ operation e)))
 
     pub connect_functor_keeps : found_refusal state (asked_connect_functor settings state sender signal receiver method mode unique single) ≡ None
         → Keeps settings state (ConnectFunctor sender signal receiver method mode unique single) (does_found state (asked_connect_functor settings state sender signal receiver method mode unique single))
-    connect_functor_keeps passed = found_keeps settings state (ConnectFunctor sender signal receiver method mode unique single) _ passed (λ deed e may.
-        by deed unique (asked_functor_connection settings state sender signal receiver method mode single)
+    connect_functor_keeps passed = found_keeps settings state (ConnectFunctor sender signal receiver method mode unique single) _ passed (λ operation e may.
+        by operation unique (asked_functor_connection settings state sender signal receiver method mode single)
         (functor_connection_fits settings state sender (signal_named (methods_of settings state sender) signal) (named_signal_there (methods_of settings state sender) signal)
         receiver (functor_named settings method) (functor_there settings method) mode single)
-        (found_past (object_refusal rows receiver) _ deed (found_past (object_refusal rows sender) _ deed e)))
+        (found_past (object_refusal rows receiver) _ operation (found_past (object_refusal rows sender) _ operation e)))
       where
-        by : (deed : Deed) (unique : Bool) (found : Found NewConnection) → ((new : NewConnection) → found ≡ Ok new → IsFittingDeed settings rows (d.Connect new false)) → (found >>= λ new. cond unique (Err UniqueFunctor) (Ok (d.Connect new false))) ≡ Ok deed → IsFittingDeed settings rows deed
-        by deed unique (Err code) fits e = absurd (cc)
-        by deed true (Ok new) fits e = absurd (cc)
-        by deed false (Ok new) fits e = let same : d.Connect new false ≡ deed = cc in subst (IsFittingDeed settings rows) same (fits new refl)
+        by : (operation : Operation) (unique : Bool) (found : Found NewConnection) → ((new : NewConnection) → found ≡ Ok new → IsFittingOperation settings rows (d.Connect new false)) → (found >>= λ new. cond unique (Err UniqueFunctor) (Ok (d.Connect new false))) ≡ Ok operation → IsFittingOperation settings rows operation
+        by operation unique (Err code) fits e = absurd (cc)
+        by operation true (Ok new) fits e = absurd (cc)
+        by operation false (Ok new) fits e = let same : d.Connect new false ≡ operation = cc in subst (IsFittingOperation settings rows) same (fits new refl)
 
   pub disconnect_one_keeps : (connection : ℕ) → Keeps settings state (DisconnectOne connection) (disconnects_one state connection)
   disconnect_one_keeps connection = replied settings state (DisconnectOne connection) (without_connections state (has_number connection)) _ (record {
@@ -170,7 +170,7 @@ module _ (settings : Settings) (state : State) where
   pub disconnect_keeps : (sender : ℕ) (signal : Option (List ℕ)) (receiver : Option ℕ) (method : Option (List ℕ)) → found_refusal state (asked_disconnect settings state sender signal receiver method) ≡ None
       → Keeps settings state (Disconnect sender signal receiver method) (does_found state (asked_disconnect settings state sender signal receiver method))
   disconnect_keeps sender signal receiver method passed =
-      found_keeps settings state (Disconnect sender signal receiver method) _ passed (λ deed e may. pattern_fits settings rows _ _ (asked_pattern settings state sender signal receiver method) deed e)
+      found_keeps settings state (Disconnect sender signal receiver method) _ passed (λ operation e may. pattern_fits settings rows _ _ (asked_pattern settings state sender signal receiver method) operation e)
 
   -- a method is called with the values that are given, at once or by an event
   module _ (target : ℕ) (method : List ℕ) (args : List Data) (mode : ConnectionType) (priority : Priority) where

@@ -16,7 +16,7 @@ use Rattle.connection_list.specs.Rows.{numbered}
 use Rattle.connection_list.proofs.ForCallers.{all_stepped, sound_stepped, IsSound-without}
 use Rattle.event_queue.specs.declared.event.Event.{Event}
 use Rattle.event_queue.specs.Queue as events
-use Rattle.event_queue.specs.Queue.{IsSound, Queue, dropped, object_of, posted, taken}
+use Rattle.event_queue.specs.Queue.{IsSound, Queue, dropped, object_of, enqueued, taken}
 use Rattle.publish_board.specs.Desk as board
 use Rattle.publish_board.specs.Desk.{Desk, without_object as withdrawn}
 use Rattle.property_store.specs.Store.{AreSound, Properties, changed, fitting, properties_of, with_value, written}
@@ -295,7 +295,7 @@ whole_with_queue state queue sound meant whole = record {
 
 pub whole_with_event : (state : State) (event : Event) → IsMeant state event → IsWhole state → IsWhole (with_event state event)
 whole_with_event state event there whole =
-    whole_with_queue state (posted state.queue event) (sound_posted state.queue event whole.queue) (each_posted (IsMeant state) state.queue event there whole.meant) whole
+    whole_with_queue state (enqueued state.queue event) (sound_posted state.queue event whole.queue) (each_posted (IsMeant state) state.queue event there whole.meant) whole
 
 pub whole_without_events : (state : State) (number : ℕ) → IsWhole state → IsWhole (without_events state number)
 whole_without_events state number whole =

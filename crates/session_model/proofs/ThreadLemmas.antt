@@ -7,7 +7,7 @@ use Rattle.session_model.specs.declared.line.Answer.TheVariants as a
 use Rattle.session_model.specs.declared.line.Line.TheVariants as line
 use Rattle.session_model.specs.declared.query.Query.{Query}
 use Rattle.session_model.specs.Asked.{Ask}
-use Rattle.session_model.specs.Doing.{begun, line_told}
+use Rattle.session_model.specs.Execution.{begun, line_told}
 use Rattle.session_model.specs.Effects.{answers, does_next, ended, replies}
 use Rattle.session_model.specs.Events.{spins}
 use Rattle.session_model.specs.Items.{Next, Reply, ReplySpun, Spin}

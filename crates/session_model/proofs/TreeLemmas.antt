@@ -21,7 +21,7 @@ use Rattle.session_model.proofs.StateLemmas.{whole_with_object}
 use Rattle.session_model.specs.Absence.{absence}
 use Rattle.session_model.specs.Asked.{Asked, Delete, New}
 use Rattle.session_model.specs.Classes.{class_index, class_refusal}
-use Rattle.session_model.specs.Doing.{begun}
+use Rattle.session_model.specs.Execution.{begun}
 use Rattle.session_model.specs.Fitting.{IsFitting}
 use Rattle.session_model.specs.Items.{puts}
 use Rattle.session_model.specs.Refusing.{refusal}

@@ -20,11 +20,11 @@ use Rattle.session_model.specs.declared.line.Line.{Line}
 use Rattle.session_model.specs.declared.line.Line.TheVariants.{Warning}
 use Rattle.session_model.specs.declared.post.Post.{Post}
 use Rattle.session_model.specs.Agenda.{queued}
-use Rattle.session_model.specs.declared.deed.Deed.{Deed}
-use Rattle.session_model.specs.declared.deed.Deed.TheVariants as d
-use Rattle.session_model.specs.Deeds.{deed_done, deed_refusal}
-use Rattle.session_model.specs.Doing.{Doing, dying, first_taken, in_state, lost, posted, shot, stepped, line_told, turn_taken, used_up, posting, severed}
-use Rattle.session_model.specs.Items.{Cut, Gone, Item}
+use Rattle.session_model.specs.declared.operation.Operation.{Operation}
+use Rattle.session_model.specs.declared.operation.Operation.TheVariants as d
+use Rattle.session_model.specs.Operations.{operation_done, operation_refusal}
+use Rattle.session_model.specs.Execution.{Execution, dying, first_taken, in_state, lost, enqueued, single_shot_broken, stepped, line_told, turn_taken, used_up, posting, severed}
+use Rattle.session_model.specs.Items.{Detach, Remove, Item}
 use Rattle.session_model.specs.State.{IsTied, IsWhole, State, without_connections, without_events, without_object}
 use Rattle.session_model.specs.Writing.{Declared, Dynamic, Nothing, Removed, Writing, with_writing}
 use Rattle.session_model.specs.UnderWay.{IsBrokenInTime, IsForgottenInTime, IsUnderWay, is_gone, is_untied_first, lets_go, unties}
@@ -41,7 +41,7 @@ IsGoing agenda number dying = list_any (lets_go number) agenda ≡ dying
 
 -- an item that lets no object go does not let this one go
 goes_gone : (number : ℕ) (item : Item) → is_gone item ≡ false → lets_go number item ≡ false
-goes_gone number (Gone target depth) e = absurd (cc)
+goes_gone number (Remove target depth) e = absurd (cc)
 goes_gone number _ e = refl
 
 -- where none of two tests passes
@@ -107,7 +107,7 @@ behind item agenda state stays ties under = record {
     rest : (number : ℕ) → is_untied_first (item ∷ agenda) number ≡ true → is_untied_first agenda number ≡ true
     rest number untied = ap (λ b. b || is_untied_first agenda number) (sym (ties number)) ∙ ap (λ b. unties number item || (not b && is_untied_first agenda number)) (sym (stays number)) ∙ untied
 
-module _ (agenda : List Item) (doing : Doing) (under : IsUnderWay agenda doing.state) where
+module _ (agenda : List Item) (doing : Execution) (under : IsUnderWay agenda doing.state) where
   pub told_under : (said : Line) → IsUnderWay agenda (line_told doing said).state
   unfolding line_told
   told_under said = under
@@ -122,7 +122,7 @@ module _ (agenda : List Item) (doing : Doing) (under : IsUnderWay agenda doing.s
 
   pub used_up_under : IsUnderWay agenda (used_up doing).state
   unfolding used_up
-  used_up_under = cond_both doing.spent doing (record doing { spent = true; lines = doing.lines ++ Warning TurnsUsedUp None ∷ [] }) (λ (new : Doing). IsUnderWay agenda new.state) (λ spent. under) (λ fresh. under)
+  used_up_under = cond_both doing.spent doing (record doing { spent = true; lines = doing.lines ++ Warning TurnsUsedUp None ∷ [] }) (λ (new : Execution). IsUnderWay agenda new.state) (λ spent. under) (λ fresh. under)
 
   -- connections may be broken
   without_under : (test : Connection → Bool) → IsUnderWay agenda (without_connections doing.state test)
@@ -145,17 +145,17 @@ module _ (agenda : List Item) (doing : Doing) (under : IsUnderWay agenda doing.s
     withdrawn = under.withdrawn;
   }
 
-  pub shot_under : (row : Connection) → IsUnderWay agenda (shot doing row).state
-  unfolding shot
-  shot_under row = cond_both row.single (in_state doing (without_connections doing.state (has_number row.number))) doing (λ (new : Doing). IsUnderWay agenda new.state) (λ single. without_under (has_number row.number)) (λ lasting. under)
+  pub shot_under : (row : Connection) → IsUnderWay agenda (single_shot_broken doing row).state
+  unfolding single_shot_broken
+  shot_under row = cond_both row.single (in_state doing (without_connections doing.state (has_number row.number))) doing (λ (new : Execution). IsUnderWay agenda new.state) (λ single. without_under (has_number row.number)) (λ lasting. under)
 
   -- an end of a new connection lives, and so is not to be let go
   staying : (number : ℕ) → Stands doing.state.forest.rows number → is_untied_first agenda number ≡ true
   staying number stands = untied_staying number agenda (of_row (IsGoing agenda) doing.state.forest.rows number stands.row stands.found under.going ∙ stands.living)
 
   -- an event may be posted for an object that is not let go before the event is forgotten
-  posted_under : (event : Event) → is_there doing.state.forest.rows (object_of event) ≡ true → is_untied_first agenda (object_of event) ≡ true → IsUnderWay agenda (posted doing event).state
-  unfolding posted
+  posted_under : (event : Event) → is_there doing.state.forest.rows (object_of event) ≡ true → is_untied_first agenda (object_of event) ≡ true → IsUnderWay agenda (enqueued doing event).state
+  unfolding enqueued
   posted_under event there untied = record {
     whole = whole_with_event doing.state event there under.whole;
     going = under.going;
@@ -165,7 +165,7 @@ module _ (agenda : List Item) (doing : Doing) (under : IsUnderWay agenda doing.s
   }
 
   -- as for one that lives
-  pub meant_under : (event : Event) → object_refusal doing.state.forest.rows (object_of event) ≡ None → IsUnderWay agenda (posted doing event).state
+  pub meant_under : (event : Event) → object_refusal doing.state.forest.rows (object_of event) ≡ None → IsUnderWay agenda (enqueued doing event).state
   meant_under event passed =
       let stands = stands_living doing.state.forest.rows (object_of event) passed in
       posted_under event stands.there (staying (object_of event) stands)
@@ -178,7 +178,7 @@ module _ (agenda : List Item) (doing : Doing) (under : IsUnderWay agenda doing.s
   -- broken before
   pub queued_under : (connection : Connection) (call : QueuedCall) → IsTied doing.state connection → IsBrokenInTime agenda connection → call.object ≡ connection.receiver → IsUnderWay agenda (queued doing call).state
   queued_under connection call tied broken same =
-      cond_both (has_room doing.state.queue) (posted doing (event.Call call)) (lost doing) (λ (new : Doing). IsUnderWay agenda new.state)
+      cond_both (has_room doing.state.queue) (enqueued doing (event.Call call)) (lost doing) (λ (new : Execution). IsUnderWay agenda new.state)
       (λ room. posted_under (event.Call call) (ap (is_there doing.state.forest.rows) same ∙ tied.receiver) (ap (is_untied_first agenda) same ∙ broken.receiver))
       (λ full. lost_under)
 
@@ -202,9 +202,9 @@ module _ (agenda : List Item) (doing : Doing) (under : IsUnderWay agenda doing.s
       by (Removed name) whole = record { whole = whole; going = under.going; in_time = under.in_time; forgotten = under.forgotten; withdrawn = under.withdrawn }
       by Nothing whole = under
 
-  pub deed_under : (deed : Deed) → deed_refusal doing.state deed ≡ None → IsUnderWay agenda (deed_done doing deed).state
-  unfolding deed_done posted
-  deed_under (d.Connect new unique) passed =
+  pub operation_under : (operation : Operation) → operation_refusal doing.state operation ≡ None → IsUnderWay agenda (operation_done doing operation).state
+  unfolding operation_done enqueued
+  operation_under (d.Connect new unique) passed =
       let both = or_none (object_refusal doing.state.forest.rows new.sender) _ passed in
       let rest = or_none (object_refusal doing.state.forest.rows new.receiver) _ both.1 in
       let one = stands_living doing.state.forest.rows new.sender both.0 in
@@ -216,16 +216,16 @@ module _ (agenda : List Item) (doing : Doing) (under : IsUnderWay agenda doing.s
         forgotten = under.forgotten;
         withdrawn = under.withdrawn;
       }
-  deed_under (d.Disconnect pattern) passed = without_under (matches pattern)
-  deed_under (d.SetParent target parent) passed = record {
+  operation_under (d.Disconnect pattern) passed = without_under (matches pattern)
+  operation_under (d.SetParent target parent) passed = record {
     whole = whole_with_parent doing.state target parent passed under.whole;
     going = each_reparented (IsGoing agenda) doing.state.forest target parent under.going;
     in_time = under.in_time;
     forgotten = under.forgotten;
     withdrawn = under.withdrawn;
   }
-  deed_under (d.DeleteLater target) passed = meant_under (event.Deletion target) (or_none (object_refusal doing.state.forest.rows target) _ passed).0
-  deed_under (d.Block target on) passed = record {
+  operation_under (d.DeleteLater target) passed = meant_under (event.Deletion target) (or_none (object_refusal doing.state.forest.rows target) _ passed).0
+  operation_under (d.Block target on) passed = record {
     whole = whole_with_blocking doing.state target on under.whole;
     going = each_blocked (IsGoing agenda) doing.state.forest target on under.going;
     in_time = under.in_time;
@@ -233,16 +233,16 @@ module _ (agenda : List Item) (doing : Doing) (under : IsUnderWay agenda doing.s
     withdrawn = under.withdrawn;
   }
 
-  -- an object that begins to die has its Cut and then its Gone put in front
-  pub dying_under : (target depth : ℕ) → IsUnderWay (Cut target depth ∷ Gone target depth ∷ agenda) (dying doing target).state
+  -- an object that begins to die has its Detach and then its Remove put in front
+  pub dying_under : (target depth : ℕ) → IsUnderWay (Detach target depth ∷ Remove target depth ∷ agenda) (dying doing target).state
   unfolding dying
   dying_under target depth = record {
     whole = whole_with_dying doing.state target under.whole;
-    going = each_marked (IsGoing agenda) (IsGoing (Cut target depth ∷ Gone target depth ∷ agenda)) doing.state.forest target
+    going = each_marked (IsGoing agenda) (IsGoing (Detach target depth ∷ Remove target depth ∷ agenda)) doing.state.forest target
         (or_left (target == target) _ (nat_eq_equiv.refl target))
         (λ number dying other is. ap (λ b. b || list_any (lets_go number) agenda) (nat_eq_equiv.symm target number ∙ other) ∙ is) under.going;
-    in_time = in_time agenda (Cut target depth ∷ Gone target depth ∷ agenda) first doing.state.connections.rows under.in_time;
-    forgotten = still_forgotten agenda (Cut target depth ∷ Gone target depth ∷ agenda) first doing.state.queue.events under.forgotten;
+    in_time = in_time agenda (Detach target depth ∷ Remove target depth ∷ agenda) first doing.state.connections.rows under.in_time;
+    forgotten = still_forgotten agenda (Detach target depth ∷ Remove target depth ∷ agenda) first doing.state.queue.events under.forgotten;
     withdrawn = each_of _ _ first doing.state.desk under.withdrawn;
   }
     where
@@ -266,42 +266,42 @@ loose_rows target P rows all = All-from_recursion (λ row. P row × (touches tar
         by true is later = later
         by false is later = ((all.0, is), later)
 
--- what is left when nothing ties an object to others needs its Cut no more
-pub cut_under : (target depth : ℕ) (agenda : List Item) (doing : Doing) → IsUnderWay (Cut target depth ∷ agenda) doing.state → IsUnderWay agenda (severed doing target).state
+-- what is left when nothing ties an object to others needs its Detach no more
+pub detach_under : (target depth : ℕ) (agenda : List Item) (doing : Execution) → IsUnderWay (Detach target depth ∷ agenda) doing.state → IsUnderWay agenda (severed doing target).state
 unfolding severed
-cut_under target depth agenda doing under =
+detach_under target depth agenda doing under =
     let loose = without_connections doing.state (touches target) in
     let unnamed = without_events loose target in
     record {
       whole = whole_without_rows_of unnamed target (whole_without_events loose target (whole_without_connections doing.state (touches target) under.whole));
       going = under.going;
-      in_time = All-weaker (λ row. IsBrokenInTime (Cut target depth ∷ agenda) row × (touches target row ≡ false)) (IsBrokenInTime agenda) one _ (loose_rows target (IsBrokenInTime (Cut target depth ∷ agenda)) doing.state.connections.rows under.in_time);
-      forgotten = All-weaker (λ event. IsForgottenInTime (Cut target depth ∷ agenda) event × ((object_of event == target) ≡ false)) (IsForgottenInTime agenda) (λ event held. other (object_of event) held.1 held.0) _
-          (others_named (IsForgottenInTime (Cut target depth ∷ agenda)) target doing.state.queue.events under.forgotten);
-      withdrawn = each_of _ _ (λ number held. other number held.1 held.0) _ (of_others (λ number. is_untied_first (Cut target depth ∷ agenda) number ≡ true) doing.state.desk target under.withdrawn);
+      in_time = All-weaker (λ row. IsBrokenInTime (Detach target depth ∷ agenda) row × (touches target row ≡ false)) (IsBrokenInTime agenda) one _ (loose_rows target (IsBrokenInTime (Detach target depth ∷ agenda)) doing.state.connections.rows under.in_time);
+      forgotten = All-weaker (λ event. IsForgottenInTime (Detach target depth ∷ agenda) event × ((object_of event == target) ≡ false)) (IsForgottenInTime agenda) (λ event held. other (object_of event) held.1 held.0) _
+          (others_named (IsForgottenInTime (Detach target depth ∷ agenda)) target doing.state.queue.events under.forgotten);
+      withdrawn = each_of _ _ (λ number held. other number held.1 held.0) _ (of_others (λ number. is_untied_first (Detach target depth ∷ agenda) number ≡ true) doing.state.desk target under.withdrawn);
     }
   where
-    other : (number : ℕ) → (number == target) ≡ false → is_untied_first (Cut target depth ∷ agenda) number ≡ true → is_untied_first agenda number ≡ true
+    other : (number : ℕ) → (number == target) ≡ false → is_untied_first (Detach target depth ∷ agenda) number ≡ true → is_untied_first agenda number ≡ true
     other number apart untied = ap (λ b. b || is_untied_first agenda number) (sym (nat_eq_equiv.symm target number ∙ apart)) ∙ untied
 
-    one : (row : Connection) → IsBrokenInTime (Cut target depth ∷ agenda) row × (touches target row ≡ false) → IsBrokenInTime agenda row
+    one : (row : Connection) → IsBrokenInTime (Detach target depth ∷ agenda) row × (touches target row ≡ false) → IsBrokenInTime agenda row
     one row held = record {
       sender = other row.sender (none_first (row.sender == target) (row.receiver == target) held.1) held.0.sender;
       receiver = other row.receiver (none_second (row.sender == target) (row.receiver == target) held.1) held.0.receiver;
     }
 
--- what stays when an object goes needs its Gone no more
-pub gone_under : (target depth : ℕ) (agenda : List Item) (doing : Doing) → IsUnderWay (Gone target depth ∷ agenda) doing.state → IsUnderWay agenda (without_object doing.state target)
+-- what stays when an object goes needs its Remove no more
+pub gone_under : (target depth : ℕ) (agenda : List Item) (doing : Execution) → IsUnderWay (Remove target depth ∷ agenda) doing.state → IsUnderWay agenda (without_object doing.state target)
 gone_under target depth agenda doing under = record {
   whole = whole_without_object doing.state target
-      (All-weaker (IsBrokenInTime (Gone target depth ∷ agenda)) (OfEnds (λ end. (end == target) ≡ false)) (λ row broken. record { sender = (parts row.sender broken.sender).0; receiver = (parts row.receiver broken.receiver).0 }) doing.state.connections.rows under.in_time)
-      (All-weaker (IsForgottenInTime (Gone target depth ∷ agenda)) (λ event. (object_of event == target) ≡ false) (λ event untied. (parts (object_of event) untied).0) doing.state.queue.events under.forgotten)
+      (All-weaker (IsBrokenInTime (Remove target depth ∷ agenda)) (OfEnds (λ end. (end == target) ≡ false)) (λ row broken. record { sender = (parts row.sender broken.sender).0; receiver = (parts row.receiver broken.receiver).0 }) doing.state.connections.rows under.in_time)
+      (All-weaker (IsForgottenInTime (Remove target depth ∷ agenda)) (λ event. (object_of event == target) ≡ false) (λ event untied. (parts (object_of event) untied).0) doing.state.queue.events under.forgotten)
       (each_of _ _ (λ number untied. (parts number untied).0) doing.state.desk under.withdrawn)
       under.whole;
-  going = each_removed (IsGoing (Gone target depth ∷ agenda)) (IsGoing agenda) doing.state.forest target
+  going = each_removed (IsGoing (Remove target depth ∷ agenda)) (IsGoing agenda) doing.state.forest target
       (λ number dying apart is. ap (λ b. b || list_any (lets_go number) agenda) (sym (nat_eq_equiv.symm target number ∙ apart)) ∙ is) under.going;
-  in_time = in_time (Gone target depth ∷ agenda) agenda (λ number untied. (parts number untied).1) doing.state.connections.rows under.in_time;
-  forgotten = still_forgotten (Gone target depth ∷ agenda) agenda (λ number untied. (parts number untied).1) doing.state.queue.events under.forgotten;
+  in_time = in_time (Remove target depth ∷ agenda) agenda (λ number untied. (parts number untied).1) doing.state.connections.rows under.in_time;
+  forgotten = still_forgotten (Remove target depth ∷ agenda) agenda (λ number untied. (parts number untied).1) doing.state.queue.events under.forgotten;
   withdrawn = each_of _ _ (λ number untied. (parts number untied).1) doing.state.desk under.withdrawn;
 }
   where

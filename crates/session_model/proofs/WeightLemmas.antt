@@ -19,7 +19,7 @@ use Rattle.object_tree.specs.Rows.{row_of}
 use Rattle.stored_slots.specs.declared.functor.Functor.{Functor}
 use Rattle.session_model.specs.Acts.{acts}
 use Rattle.session_model.specs.Functors.{functor_at}
-use Rattle.session_model.specs.Items.{Act, Call, Cut, Delete, Emit, Gone, Item, Kin, Reply, ReplySpun, Run, RunFunctor, Spin, Warn, WarnOf}
+use Rattle.session_model.specs.Items.{Act, Call, Detach, Delete, Emit, Remove, Item, DeleteChild, Reply, ReplySpun, Run, RunFunctor, Spin, Warn, WarnOf}
 use Rattle.session_model.specs.Methods.{method_at, methods_of}
 use Rattle.session_model.specs.Run.{Most, action_weight, change_weight, longest_body, longest_functor, weight, weights}
 use Rattle.session_model.specs.Settings.{Settings}
@@ -59,9 +59,9 @@ weight-more m n (Act action args self sender depth) less = mul-le-mul_left (coun
 weight-more m n (Warn code object) less = omega arith
 weight-more m n (WarnOf at error) less = omega arith
 weight-more m n (Delete target depth) less = omega arith
-weight-more m n (Cut target depth) less = omega (arith, less.objects)
-weight-more m n (Kin parent child depth) less = omega arith
-weight-more m n (Gone target depth) less = let change = change-more m n less in omega (arith, change)
+weight-more m n (Detach target depth) less = omega (arith, less.objects)
+weight-more m n (DeleteChild parent child depth) less = omega arith
+weight-more m n (Remove target depth) less = let change = change-more m n less in omega (arith, change)
 weight-more m n Spin less = omega arith
 weight-more m n (Reply answer) less = omega arith
 weight-more m n ReplySpun less = omega arith
@@ -92,9 +92,9 @@ weight-some n (Act action args self sender depth) = let some = act-some n action
 weight-some n (Warn code object) = omega arith
 weight-some n (WarnOf at error) = omega arith
 weight-some n (Delete target depth) = omega arith
-weight-some n (Cut target depth) = omega arith
-weight-some n (Kin parent child depth) = omega arith
-weight-some n (Gone target depth) = omega arith
+weight-some n (Detach target depth) = omega arith
+weight-some n (DeleteChild parent child depth) = omega arith
+weight-some n (Remove target depth) = omega arith
 weight-some n Spin = omega arith
 weight-some n (Reply answer) = omega arith
 weight-some n ReplySpun = omega arith
@@ -120,9 +120,9 @@ calls-weight n args depth [] = refl
 calls-weight n args depth (row ∷ rows) = let rest = calls-weight n args depth rows in omega (arith, rest)
 
 -- children that are to be deleted weigh two each
-pub kins-weight : (n : Most) (target depth : ℕ) (children : List ℕ) → weights n (map (λ child. Kin target child depth) children) ≡ 2 * length children
-kins-weight n target depth [] = refl
-kins-weight n target depth (child ∷ rest) = let more = kins-weight n target depth rest in omega (arith, more)
+pub delete_children-weight : (n : Most) (target depth : ℕ) (children : List ℕ) → weights n (map (λ child. DeleteChild target child depth) children) ≡ 2 * length children
+delete_children-weight n target depth [] = refl
+delete_children-weight n target depth (child ∷ rest) = let more = delete_children-weight n target depth rest in omega (arith, more)
 
 -- a list is no greater than its greatest
 below_greatest : {X : Type 0} (size : X → ℕ) (xs : List X) → All (λ x. size x ≤ greatest (map size xs)) xs

@@ -7,14 +7,14 @@ use Rattle.property_store.specs.Store.{Store, changed, with_dynamic, with_value,
 use Rattle.property_store.proofs.ForCallers.{sound_changed}
 use Rattle.binding_values.specs.declared.binding.Binding.{Binding}
 use Rattle.binding_graph.specs.declared.change.Change.{Change}
-use Rattle.binding_graph.specs.declared.change.Message.TheVariants as message
+use Rattle.binding_graph.specs.declared.change.ChangeKind.TheVariants as message
 use Rattle.binding_values.specs.Scene.{Cell}
 use Rattle.property_store.specs.Property.{is_property}
 use Rattle.binding_values.specs.Stored.{cell_in}
 use Rattle.property_store.specs.declared.property.Property.{Property as At}
 use Rattle.binding_graph.specs.Graph as graph
 use Rattle.binding_graph.specs.Graph.{all_shown, is_open}
-use Rattle.session_model.specs.Doing.{Doing, in_state}
+use Rattle.session_model.specs.Execution.{Execution, in_state}
 use Rattle.session_model.specs.Items.{Next, puts}
 use Rattle.session_model.specs.Settings.{Settings}
 use Rattle.session_model.specs.Showing.{changes, comes_to as comes_to_state, showing}
@@ -26,7 +26,7 @@ use Rattle.session_model.proofs.QuietLemmas.{nothing_changed, showing_same}
 use Rattle.session_model.proofs.ShowingLemmas.{tells}
 
 -- the session with what is written
-abbrev pub after : Doing → ℕ → Writing → Doing
+abbrev pub after : Execution → ℕ → Writing → Execution
 after doing object writing = in_state doing (with_writing doing.state object writing)
 
 -- nothing has changed where all declared properties show what they showed
@@ -40,7 +40,7 @@ unchanged before after written same = by (is_open after.graph)
     by true = refl
     by false = told
 
-module _ (settings : Settings) (doing : Doing) (depth : ℕ) where
+module _ (settings : Settings) (doing : Execution) (depth : ℕ) where
   -- in a group nothing is told
   pub told_in_group : (after : State) (written : Option At) → is_open after.graph ≡ true → comes_to_state settings doing depth after written ≡ puts [] (in_state doing after)
   told_in_group after written deep = ap (λ deep. puts (tells settings after depth (cond deep [] (graph.changes (showing doing.state) (showing after) written))) (in_state doing after)) deep
@@ -49,7 +49,7 @@ module _ (settings : Settings) (doing : Doing) (depth : ℕ) where
   pub told_nothing : (after : State) (written : Option At) → showing after ≡ showing doing.state → comes_to_state settings doing depth after written ≡ puts [] (in_state doing after)
   told_nothing after written same = ap (λ changes. puts (tells settings after depth changes) (in_state doing after)) (unchanged doing.state after written same)
 
-module _ (settings : Settings) (doing : Doing) (object depth : ℕ) where
+module _ (settings : Settings) (doing : Execution) (object depth : ℕ) where
   -- what a writing comes to
   abbrev pub comes_to : Writing → Next
   comes_to writing = written settings doing object depth writing

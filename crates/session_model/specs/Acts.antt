@@ -16,10 +16,10 @@ use Rattle.connection_list.specs.declared.pattern.Pattern.{Pattern}
 use Rattle.object_tree.specs.Refusing.{object_refusal}
 use Rattle.session_model.specs.Absence.{absence, named_absence}
 use Rattle.session_model.specs.Connecting.{new_connection, pattern_with}
-use Rattle.session_model.specs.declared.deed.Deed.{Deed}
-use Rattle.session_model.specs.declared.deed.Deed.TheVariants as d
-use Rattle.session_model.specs.Deeds.{behind, deed_done, found_refusal}
-use Rattle.session_model.specs.Doing.{Doing}
+use Rattle.session_model.specs.declared.operation.Operation.{Operation}
+use Rattle.session_model.specs.declared.operation.Operation.TheVariants as d
+use Rattle.session_model.specs.Operations.{behind, operation_done, found_refusal}
+use Rattle.session_model.specs.Execution.{Execution}
 use Rattle.session_model.specs.Items.{Act, Delete, Emit, Item, Next, Warn, puts}
 use Rattle.session_model.specs.Methods.{Found, ◌>>=◌, kinds_at, method_with, methods_of, signal_with}
 use Rattle.session_model.specs.Settings.{Settings}
@@ -58,22 +58,22 @@ pattern settings state object signal receiver method =
 abbrev pub writing : State → ℕ → ℕ → List Value → ℕ → List ℕ → Term → Found Writing
 writing state self sender args object name value = evaluated state self sender args value >>= acted_writing state object name
 
--- the deed that an action of the slot of `self` is, or why it is none; no other action is a deed
-abbrev pub act_deed : Settings → State → ℕ → ℕ → SingleAction → Option (Found Deed)
-act_deed settings state self sender (e.Connect of signal to method mode unique single) = Some (
+-- the operation that an action of the slot of `self` is, or why it is none; no other action is an operation
+abbrev pub act_operation : Settings → State → ℕ → ℕ → SingleAction → Option (Found Operation)
+act_operation settings state self sender (e.Connect of signal to method mode unique single) = Some (
     behind (object_refusal state.forest.rows (object_of state self sender of)) (
     behind (object_refusal state.forest.rows (object_of state self sender to))
     (connection settings state (object_of state self sender of) signal (object_of state self sender to) method mode single >>= λ new.
     Ok (d.Connect new unique))))
-act_deed settings state self sender (e.Disconnect of signal to method) = Some (
+act_operation settings state self sender (e.Disconnect of signal to method) = Some (
     behind (absence state (object_of state self sender of)) (
     behind (named_absence state (named_object_of state self sender to))
     (pattern settings state (object_of state self sender of) signal (named_object_of state self sender to) method >>= λ pattern. Ok (d.Disconnect pattern))))
-act_deed settings state self sender (e.DeleteLater target) = Some (Ok (d.DeleteLater (object_of state self sender target)))
-act_deed settings state self sender (e.Block of on) = Some (Ok (d.Block (object_of state self sender of) on))
-act_deed settings state self sender (e.SetParent of parent) =
+act_operation settings state self sender (e.DeleteLater target) = Some (Ok (d.DeleteLater (object_of state self sender target)))
+act_operation settings state self sender (e.Block of on) = Some (Ok (d.Block (object_of state self sender of) on))
+act_operation settings state self sender (e.SetParent of parent) =
     Some (Ok (d.SetParent (object_of state self sender of) (named_object_of state self sender parent)))
-act_deed settings state self sender _ = None
+act_operation settings state self sender _ = None
 
 module _ (settings : Settings) (state : State) (self sender : ℕ) (args : List Value) where
   -- the number of the object that a target is; 0 where there is none
@@ -89,14 +89,14 @@ module _ (settings : Settings) (state : State) (self sender : ℕ) (args : List 
       option_or (absence state (object of))
       (result_err (emission settings state self sender args (object of) signal sent))
   act_refusal (e.Delete target) = object_refusal state.forest.rows (object target)
-  act_refusal plain = option_map_or (found_refusal state) (act_deed settings state self sender plain) None
+  act_refusal plain = option_map_or (found_refusal state) (act_operation settings state self sender plain) None
 
 -- what comes of something that was looked for; nothing where it was not found
-abbrev pub with_found : {A : Type 0} → Found A → (A → Next) → Doing → Next
+abbrev pub with_found : {A : Type 0} → Found A → (A → Next) → Execution → Next
 with_found (Ok found) next doing = next found
 with_found (Err code) next doing = puts [] doing
 
-module _ (settings : Settings) (doing : Doing) (self sender : ℕ) (args : List Value) (depth : ℕ) where
+module _ (settings : Settings) (doing : Execution) (self sender : ℕ) (args : List Value) (depth : ℕ) where
   -- the number of the object that a target is when the action is done
   abbrev acted_object : Target → ℕ
   acted_object target = object_of doing.state self sender target
@@ -110,11 +110,11 @@ module _ (settings : Settings) (doing : Doing) (self sender : ℕ) (args : List 
       with_found (emission settings doing.state self sender args (acted_object of) signal sent)
       (λ emitted. puts (Emit (acted_object of) emitted.0 emitted.1 depth ∷ []) doing) doing
   acted (e.Delete target) = puts (Delete (acted_object target) depth ∷ []) doing
-  acted plain = option_map_or (λ found. with_found found (λ deed. puts [] (deed_done doing deed)) doing)
-      (act_deed settings doing.state self sender plain) (puts [] doing)
+  acted plain = option_map_or (λ found. with_found found (λ operation. puts [] (operation_done doing operation)) doing)
+      (act_operation settings doing.state self sender plain) (puts [] doing)
 
 -- a refused action warns of its code for the object whose slot is run, and does nothing
-abbrev pub warns_or : Option Code → ℕ → Doing → Next → Next
+abbrev pub warns_or : Option Code → ℕ → Execution → Next → Next
 warns_or (Some code) self doing next = puts (Warn code (Some self) ∷ []) doing
 warns_or None self doing next = next
 
@@ -124,6 +124,6 @@ branch true held failed = held
 branch false held failed = failed
 
 -- the branch that is taken is done in place of the choice
-abbrev pub chosen : Found Bool → Acts → Acts → List Value → ℕ → ℕ → ℕ → Doing → Next
+abbrev pub chosen : Found Bool → Acts → Acts → List Value → ℕ → ℕ → ℕ → Execution → Next
 chosen (Ok truth) held failed args self sender depth doing = puts (acts (branch truth held failed) args self sender depth) doing
 chosen (Err code) held failed args self sender depth doing = puts (Warn code (Some self) ∷ []) doing

@@ -29,8 +29,10 @@ use Rattle.session_model.specs.declared.line.Line.{Line}
 use Rattle.session_model.specs.declared.line.Line.TheVariants as line
 use Rattle.session_model.specs.Arriving.{posts_of}
 use Rattle.session_model.specs.Acts.{act_refusal, acted, acts, chosen, warns_or}
-use Rattle.session_model.specs.Doing.{Doing, dying, first_taken, lost, posted, posting, severed, shot, stepped, line_told, turn_taken, used_up}
-use Rattle.session_model.specs.Items.{Act, Call, Cut, Delete, Emit, Gone, Item, Kin, Next, Reply, ReplySpun, Run, RunFunctor, Spin, Warn, WarnOf, puts}
+use Rattle.session_model.specs.Execution.{Execution, dying, first_taken, lost, enqueued, posting}
+use Rattle.session_model.specs.Execution.{severed, single_shot_broken, stepped, line_told, turn_taken, used_up}
+use Rattle.session_model.specs.Items.{Act, Call, Detach, Delete, Emit, Remove, Item, DeleteChild, Next}
+use Rattle.session_model.specs.Items.{Reply, ReplySpun, Run, RunFunctor, Spin, Warn, WarnOf, puts}
 use Rattle.session_model.specs.Functors.{functor_at}
 use Rattle.session_model.specs.Methods.{method_at}
 use Rattle.session_model.specs.Posting.{is_queued, spin_of}
@@ -44,19 +46,19 @@ abbrev pub is_living : Row → Bool
 is_living row = not row.dying
 
 -- an object of this number stands and is not dying
-abbrev pub lives : Doing → ℕ → Bool
+abbrev pub lives : Execution → ℕ → Bool
 lives doing number = option_map_or is_living (row_of doing.state.forest.rows number) false
 
 -- the object stands, is not dying, and has this parent
-abbrev pub lives_below : Doing → ℕ → ℕ → Bool
+abbrev pub lives_below : Execution → ℕ → ℕ → Bool
 lives_below doing parent number = option_map_or (λ row. is_living row && is_same row.parent (Some parent)) (row_of doing.state.forest.rows number) false
 
 -- the children of an object, each to be deleted
-unfoldable pub kins : Doing → ℕ → ℕ → List Item
-kins doing target depth = map (λ child. Kin target child depth) (children doing.state.forest.rows (Some target))
+unfoldable pub delete_children : Execution → ℕ → ℕ → List Item
+delete_children doing target depth = map (λ child. DeleteChild target child depth) (children doing.state.forest.rows (Some target))
 
 -- the connections of a signal, each to be called, in the order in which they were made
-unfoldable pub calls_of : Doing → ℕ → ℕ → List Value → ℕ → List Item
+unfoldable pub calls_of : Execution → ℕ → ℕ → List Value → ℕ → List Item
 calls_of doing target signal args depth = map (λ row. Call row.number args depth) (filter (calls target signal) doing.state.connections.rows)
 
 -- is a signal held back, as those of a blocked object are; `destroyed()` never is
@@ -65,18 +67,18 @@ is_held_back signal row = row.blocked && not (signal == DESTROYED)
 
 -- a signal that is sent is posted under each name that it is published by, and calls what is connected to
 -- it; held back it does neither, and nested too deep neither
-abbrev pub emitted : Settings → Doing → ℕ → ℕ → List Value → ℕ → Row → Next
+abbrev pub emitted : Settings → Execution → ℕ → ℕ → List Value → ℕ → Row → Next
 emitted settings doing target signal args depth row =
     if is_held_back signal row then puts [] doing
     else (if nat_le NESTED_SIGNALS depth then puts (Warn Limit (Some target) ∷ []) doing
     else puts (calls_of doing target signal args depth) (posting doing (posts_of settings.classes doing.state target signal args)))
 
 -- where a turn is left it is taken, and else none of this is done
-abbrev pub with_turn : Doing → (Doing → Next) → Next
+abbrev pub with_turn : Execution → (Execution → Next) → Next
 with_turn doing next = if doing.turns == 0 then puts [] (used_up doing) else next (turn_taken doing)
 
 -- the connection of a number, where it stands
-abbrev pub connection_of : Doing → ℕ → Option Connection
+abbrev pub connection_of : Execution → ℕ → Option Connection
 connection_of doing number = find (has_number number) doing.state.connections.rows
 
 -- a method is called by a signal that is sent on, or by a slot that is run
@@ -86,8 +88,8 @@ method_items target index sender args sent_at run_at method =
     else Run target index sender args run_at ∷ []
 
 -- a call is posted as an event, or lost where there are as many as there may be
-abbrev pub queued : Doing → QueuedCall → Doing
-queued doing call = if has_room doing.state.queue then posted doing (event.Call call) else lost doing
+abbrev pub queued : Execution → QueuedCall → Execution
+queued doing call = if has_room doing.state.queue then enqueued doing (event.Call call) else lost doing
 
 -- the call of what a connection calls, as it is queued
 abbrev pub queued_call : Connection → Callee → List Value → QueuedCall
@@ -102,7 +104,7 @@ queued_call connection callee args = record {
 
 -- a method is called with as many of the first arguments as it has parameters: later, or at once, where
 -- a signal is sent one level deeper
-abbrev pub method_called : Connection → ℕ → List Value → ℕ → Doing → Method → Next
+abbrev pub method_called : Connection → ℕ → List Value → ℕ → Execution → Method → Next
 method_called connection index args depth doing method =
     let given = take (length method.signature.kinds) args in
     if is_queued connection.mode
@@ -110,7 +112,7 @@ method_called connection index args depth doing method =
     else puts (method_items connection.receiver index connection.sender given (depth + 1) depth method) doing
 
 -- the same of a functor, whose context object is the receiver
-abbrev pub functor_called : Connection → ℕ → List Value → ℕ → Doing → Functor → Next
+abbrev pub functor_called : Connection → ℕ → List Value → ℕ → Execution → Functor → Next
 functor_called connection index args depth doing functor =
     let given = take (length functor.params) args in
     if is_queued connection.mode
@@ -118,15 +120,15 @@ functor_called connection index args depth doing functor =
     else puts (RunFunctor connection.receiver index connection.sender connection.number given depth ∷ []) doing
 
 -- what a connection calls
-abbrev pub callee_called : Settings → Connection → List Value → ℕ → Doing → Callee → Next
+abbrev pub callee_called : Settings → Connection → List Value → ℕ → Execution → Callee → Next
 callee_called settings connection args depth doing (callee.Method index) =
     option_map_or (method_called connection index args depth doing) (method_at settings doing.state connection.receiver index) (puts [] doing)
 callee_called settings connection args depth doing (callee.Functor index) =
     option_map_or (functor_called connection index args depth doing) (functor_at settings index) (puts [] doing)
 
 -- a connection's call; a single-shot connection goes first
-abbrev pub called : Settings → Connection → List Value → ℕ → Doing → Next
-called settings connection args depth doing = callee_called settings connection args depth (shot doing connection) connection.callee
+abbrev pub called : Settings → Connection → List Value → ℕ → Execution → Next
+called settings connection args depth doing = callee_called settings connection args depth (single_shot_broken doing connection) connection.callee
 
 -- what an event comes to: all that it does is done at depth 0
 abbrev pub call_items : Settings → State → QueuedCall → Callee → List Item
@@ -139,7 +141,7 @@ event_items settings state (event.Call call) = call_items settings state call ca
 event_items settings state (event.Deletion target) = Delete target 0 ∷ []
 
 -- the first event is taken, and then the next one, while there are any and a turn is left for each
-abbrev pub spun : Settings → Doing → List Event → Next
+abbrev pub spun : Settings → Execution → List Event → Next
 spun settings doing [] = puts [] doing
 spun settings doing (event ∷ later) = with_turn doing (λ doing. puts (event_items settings doing.state event ++ Spin ∷ []) (first_taken doing))
 
@@ -152,13 +154,13 @@ abbrev pub functor_line : Functor → ℕ → ℕ → List Value → Line
 functor_line functor target sender args = line.Call (record { method = functor.name; object = target; sender = sender; args = args })
 
 -- a slot is told of, and then does what its body says, one level deeper
-abbrev pub ran : Doing → ℕ → ℕ → List Value → ℕ → Method → Next
+abbrev pub ran : Execution → ℕ → ℕ → List Value → ℕ → Method → Next
 ran doing target sender args depth method =
     puts (acts (acts_of method.body.actions) args target sender (depth + 1)) (line_told doing (call_line method target sender args))
 
 -- and so does a functor for its context object, over the state that its connection keeps; the state that
 -- follows is kept there before that
-abbrev pub functor_ran : Doing → ℕ → ℕ → ℕ → List Value → ℕ → Functor → Next
+abbrev pub functor_ran : Execution → ℕ → ℕ → ℕ → List Value → ℕ → Functor → Next
 functor_ran doing target sender connection args depth functor =
     let state = functor_state doing.state connection in
     puts (acts (acts_of (with_state state functor.body).actions) args target sender (depth + 1))
@@ -170,7 +172,7 @@ binding_line settings state at error =
     line.BindingWarning at.object (option_map_or (λ property. property.name) (property_at settings state at.object at.number) []) error
 
 -- what an item comes to
-abbrev pub step : Settings → Item → Doing → Next
+abbrev pub step : Settings → Item → Execution → Next
 step settings (Emit target signal args depth) doing =
     option_map_or (emitted settings doing target signal args depth) (row_of doing.state.forest.rows target) (puts [] doing)
 step settings (Call number args depth) doing =
@@ -186,10 +188,10 @@ step settings (Act (when test held failed) args self sender depth) doing =
 step settings (Warn code object) doing = puts [] (line_told doing (line.Warning code object))
 step settings (WarnOf at error) doing = puts [] (line_told doing (binding_line settings doing.state at error))
 step settings (Delete target depth) doing = if lives doing target
-    then puts (Emit target DESTROYED [] depth ∷ Cut target depth ∷ Gone target depth ∷ []) (dying doing target) else puts [] doing
-step settings (Cut target depth) doing = puts (kins doing target depth) (severed doing target)
-step settings (Kin parent child depth) doing = if lives_below doing parent child then puts (Delete child depth ∷ []) doing else puts [] doing
-step settings (Gone target depth) doing = comes_to settings doing depth (without_object doing.state target) None
+    then puts (Emit target DESTROYED [] depth ∷ Detach target depth ∷ Remove target depth ∷ []) (dying doing target) else puts [] doing
+step settings (Detach target depth) doing = puts (delete_children doing target depth) (severed doing target)
+step settings (DeleteChild parent child depth) doing = if lives_below doing parent child then puts (Delete child depth ∷ []) doing else puts [] doing
+step settings (Remove target depth) doing = comes_to settings doing depth (without_object doing.state target) None
 step settings Spin doing = spun settings doing doing.state.queue.events
 step settings (Reply answer) doing = puts [] (line_told doing (line.Reply answer))
 step settings ReplySpun doing = puts [] (line_told doing (line.Reply (a.Spun (spin_of doing))))

@@ -8,7 +8,7 @@ use Rattle.plain_types.specs.declared.callee.Callee.TheVariants.{Method}
 use Rattle.event_queue.specs.declared.event.Event.TheVariants.{Call}
 use Rattle.event_queue.specs.declared.event.QueuedCall.{QueuedCall}
 use Rattle.event_queue.specs.declared.event.Priority.TheVariants.{Normal}
-use Rattle.event_queue.specs.Queue.{Queue, has_room, posted, with_lost, with_mismatched}
+use Rattle.event_queue.specs.Queue.{Queue, has_room, enqueued, with_lost, with_mismatched}
 use Rattle.object_tree.specs.declared.row.Row.{Row}
 use Rattle.publish_board.specs.declared.join.Join.{Join}
 use Rattle.publish_board.specs.declared.publication.Publication.{Publication}
@@ -50,7 +50,7 @@ joined_call classes rows args join = record {
 
 -- a call among all events; where there is no room for it, it is lost
 abbrev pub with_call : Queue → QueuedCall → Queue
-with_call queue call = if has_room queue then posted queue (Call call) else with_lost queue
+with_call queue call = if has_room queue then enqueued queue (Call call) else with_lost queue
 
 -- the queue of a session when a post of the session `from` has done what it does by one of its joins; its objects are these
 abbrev pub reached : List Class → List Row → List ℕ → Post → Queue → Join → Queue

@@ -8,8 +8,8 @@ use Rattle.event_queue.specs.declared.event.Priority.{Priority}
 use Rattle.session_model.specs.declared.command.Command.{Command}
 use Rattle.session_model.specs.declared.command.Command.TheVariants as c
 use Rattle.session_model.specs.declared.command.Tagged.{Tagged}
-use Rattle.session_model.specs.declared.deed.Deed.{Deed}
-use Rattle.session_model.specs.declared.deed.Deed.TheVariants.{Block, DeleteLater, SetParent}
+use Rattle.session_model.specs.declared.operation.Operation.{Operation}
+use Rattle.session_model.specs.declared.operation.Operation.TheVariants.{Block, DeleteLater, SetParent}
 use Rattle.session_model.specs.declared.query.Query.{Query}
 
 -- what is asked of a session
@@ -32,8 +32,8 @@ pub data Asked : Type 0 where
   Invoke : (target : ℕ) (method : List ℕ) (args : List Data) (mode : ConnectionType) (priority : Priority) → Asked
   -- take the events that there are
   Spin : Asked
-  -- do a deed
-  Do : (deed : Deed) → Asked
+  -- do an operation
+  Do : (operation : Operation) → Asked
   -- publish a signal of this object under a name
   Publish : (target : ℕ) (signal name : List ℕ) → Asked
   -- publish nothing under this name any more

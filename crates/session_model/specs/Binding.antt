@@ -18,8 +18,8 @@ use Rattle.session_model.specs.declared.line.Answer.TheVariants as a
 use Rattle.session_model.specs.declared.line.Line.{Line}
 use Rattle.session_model.specs.declared.post.Post.{Post}
 use Rattle.session_model.specs.Absence.{absence}
-use Rattle.session_model.specs.Deeds.{behind}
-use Rattle.session_model.specs.Doing.{begun, in_state}
+use Rattle.session_model.specs.Operations.{behind}
+use Rattle.session_model.specs.Execution.{begun, in_state}
 use Rattle.session_model.specs.Effects.{does_next, refuses, replies}
 use Rattle.session_model.specs.Items.{puts}
 use Rattle.session_model.specs.Methods.{Found, ◌>>=◌}

@@ -6,7 +6,7 @@ use Rattle.session_model.specs.declared.line.Answer.{Answer}
 use Rattle.session_model.specs.declared.line.Line.{Line}
 use Rattle.session_model.specs.declared.line.Line.TheVariants.{Reply, Error}
 use Rattle.session_model.specs.declared.post.Post.{Post}
-use Rattle.session_model.specs.Doing.{Doing}
+use Rattle.session_model.specs.Execution.{Execution}
 use Rattle.session_model.specs.Items.{Next, Reply as to_reply}
 use Rattle.session_model.specs.Methods.{Found}
 use Rattle.session_model.specs.Run.{run}
@@ -18,7 +18,7 @@ abbrev pub replies : State → Answer → Effect State Line Post
 replies state answer = record { state = state; lines = Reply answer ∷ []; posts = [] }
 
 -- what a session was told when it has done a command, and its state then
-abbrev pub ended : Doing → Effect State Line Post
+abbrev pub ended : Execution → Effect State Line Post
 ended doing = record { state = doing.state; lines = doing.lines; posts = doing.posts }
 
 -- a command that comes to this, does it to its end, and then replies

@@ -4,7 +4,7 @@ use Rattle.isolation.specs.Machine.{Effect}
 use Rattle.session_model.specs.declared.line.Line.{Line}
 use Rattle.session_model.specs.declared.line.Status.{Status}
 use Rattle.session_model.specs.declared.post.Post.{Post}
-use Rattle.session_model.specs.Doing.{begun}
+use Rattle.session_model.specs.Execution.{begun}
 use Rattle.session_model.specs.Effects.{ended}
 use Rattle.session_model.specs.Items.{ReplySpun, Spin}
 use Rattle.session_model.specs.Run.{run}

@@ -17,12 +17,12 @@ use Rattle.object_tree.specs.Rows.{is_there}
 use Rattle.publish_board.specs.declared.join.Join.{Join}
 use Rattle.publish_board.specs.declared.publication.Publication.{Publication}
 use Rattle.stored_slots.specs.Functors.{AreArguments, IsFunctor}
-use Rattle.session_model.specs.declared.deed.Deed.{Deed}
-use Rattle.session_model.specs.declared.deed.Deed.TheVariants.{Connect}
+use Rattle.session_model.specs.declared.operation.Operation.{Operation}
+use Rattle.session_model.specs.declared.operation.Operation.TheVariants.{Connect}
 use Rattle.session_model.specs.declared.post.Post.{Post}
 use Rattle.session_model.specs.Arriving.{kinds_of}
 use Rattle.session_model.specs.Asked.{Asked, Do}
-use Rattle.session_model.specs.Doing.{Doing}
+use Rattle.session_model.specs.Execution.{Execution}
 use Rattle.session_model.specs.Functors.{functor_at, params_at}
 use Rattle.session_model.specs.Items.{Act, Call, Emit, Item, Run, RunFunctor}
 use Rattle.session_model.specs.Methods.{is_signal_at, methods_by}
@@ -70,14 +70,14 @@ pub record MayBeConnected (settings : Settings) (rows : List Row) (sender signal
 abbrev pub IsConnected : Settings → List Row → Connection → Type 0
 IsConnected settings rows row = MayBeConnected settings rows row.sender row.signal row.receiver row.callee
 
--- and those of a connection that a deed makes
-abbrev pub IsFittingDeed : Settings → List Row → Deed → Type 0
-IsFittingDeed settings rows (Connect new unique) = MayBeConnected settings rows new.sender new.signal new.receiver new.callee
-IsFittingDeed settings rows _ = Unit {0}
+-- and those of a connection that an operation makes
+abbrev pub IsFittingOperation : Settings → List Row → Operation → Type 0
+IsFittingOperation settings rows (Connect new unique) = MayBeConnected settings rows new.sender new.signal new.receiver new.callee
+IsFittingOperation settings rows _ = Unit {0}
 
--- a deed that is asked for outright, with the indices of signals and methods, is such a one
+-- an operation that is asked for outright, with the indices of signals and methods, is such a one
 abbrev pub IsFittingAsked : Settings → State → Asked → Type 0
-IsFittingAsked settings state (Do deed) = IsFittingDeed settings state.forest.rows deed
+IsFittingAsked settings state (Do operation) = IsFittingOperation settings state.forest.rows operation
 IsFittingAsked settings state _ = Unit {0}
 
 -- what is published is a signal
@@ -124,7 +124,7 @@ IsFittingItem settings state (Act action args self sender depth) = IsTrue (is_li
 IsFittingItem settings state _ = Unit {0}
 
 -- what holds of a session that has this agenda still to do
-pub record IsFittingUnderWay (settings : Settings) (agenda : List Item) (doing : Doing) : Type 0 where
+pub record IsFittingUnderWay (settings : Settings) (agenda : List Item) (doing : Execution) : Type 0 where
   pub under_way : IsUnderWay agenda doing.state
   pub declared : IsDeclared settings.classes doing.state
   pub fitting : IsFitting settings doing.state

@@ -6,7 +6,7 @@ use Rattle.binding_values.specs.declared.property.BindingError.{BindingError}
 use Rattle.property_store.specs.declared.property.Property.{Property}
 use Rattle.term_core.specs.Act as term
 use Rattle.session_model.specs.declared.line.Answer.{Answer}
-use Rattle.session_model.specs.Doing.{Doing}
+use Rattle.session_model.specs.Execution.{Execution}
 
 -- what is to be done; the depth is that of the signals that it sends
 pub data Item : Type 0 where
@@ -27,11 +27,11 @@ pub data Item : Type 0 where
   -- delete an object, unless it is gone or dying
   Delete : (target depth : ℕ) → Item
   -- cut what ties a dying object to others, and then delete its children
-  Cut : (target depth : ℕ) → Item
+  Detach : (target depth : ℕ) → Item
   -- delete a child, unless it has gone, is dying or has another parent by now
-  Kin : (parent child depth : ℕ) → Item
+  DeleteChild : (parent child depth : ℕ) → Item
   -- let a dying object go
-  Gone : (target depth : ℕ) → Item
+  Remove : (target depth : ℕ) → Item
   -- take events, one after another, until there is none
   Spin : Item
   -- reply to the command
@@ -42,8 +42,8 @@ pub data Item : Type 0 where
 -- what an item comes to: what is to be done first now, and the session then
 pub record Next : Type 0 where
   pub items : List Item
-  pub doing : Doing
+  pub doing : Execution
 
 -- more is to be done first
-abbrev pub puts : List Item → Doing → Next
+abbrev pub puts : List Item → Execution → Next
 puts items doing = record { items = items; doing = doing }

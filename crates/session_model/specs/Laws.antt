@@ -8,7 +8,7 @@ use Rattle.class_table.specs.declared.class.Class.{Class}
 use Rattle.session_model.specs.declared.post.Post.{Post}
 use Rattle.session_model.specs.Agenda.{step}
 use Rattle.session_model.specs.Asked.{Asked}
-use Rattle.session_model.specs.Doing.{Doing}
+use Rattle.session_model.specs.Execution.{Execution}
 use Rattle.session_model.specs.Fitting.{AreSettings, IsFitting, IsFittingAsked, IsFittingUnderWay, IsRightPost}
 use Rattle.session_model.specs.Items as to_do
 use Rattle.session_model.specs.Items.{Item}
@@ -30,7 +30,7 @@ pub record KeepsSound : Type 0 where
 -- connection has lost an end, and no event names an object that is gone
 pub record KeepsUnderWay : Type 0 where
   pub at_first : (agenda : List Item) (state : State) → IsFalse (list_any is_gone agenda) → IsSound state → IsUnderWay agenda state
-  pub by_item : (settings : Settings) (item : Item) (agenda : List Item) (doing : Doing) → IsUnderWay (item ∷ agenda) doing.state
+  pub by_item : (settings : Settings) (item : Item) (agenda : List Item) (doing : Execution) → IsUnderWay (item ∷ agenda) doing.state
       → IsUnderWay ((step settings item doing).items ++ agenda) (step settings item doing).doing.state
   pub at_end : (state : State) → IsUnderWay [] state → IsSound state
 
@@ -38,7 +38,7 @@ pub record KeepsUnderWay : Type 0 where
 -- command is done, after it, and after each post of another session
 pub record KeepsDeclared : Type 0 where
   pub at_first : (classes : List Class) → IsDeclared classes empty
-  pub by_item : (settings : Settings) (item : Item) (doing : Doing)
+  pub by_item : (settings : Settings) (item : Item) (doing : Execution)
       → IsDeclared settings.classes doing.state → IsDeclared settings.classes (step settings item doing).doing.state
   pub by_command : (settings : Settings) (self : List ℕ) (state : State) (asked : Asked)
       → IsSound state → IsDeclared settings.classes state → IsDeclared settings.classes (does settings self state asked).state
@@ -49,7 +49,7 @@ pub record KeepsDeclared : Type 0 where
 -- is done, after it, and after each right post of another session; what a command posts is right
 pub record KeepsFitting : Type 0 where
   pub at_first : (settings : Settings) → IsFitting settings empty
-  pub by_item : (settings : Settings) (item : Item) (agenda : List Item) (doing : Doing)
+  pub by_item : (settings : Settings) (item : Item) (agenda : List Item) (doing : Execution)
       → AreSettings settings → IsFittingUnderWay settings (item ∷ agenda) doing
       → IsFittingUnderWay settings ((step settings item doing).items ++ agenda) (step settings item doing).doing
   pub by_command : (settings : Settings) (self : List ℕ) (state : State) (asked : Asked) → AreSettings settings
@@ -62,7 +62,7 @@ pub record KeepsFitting : Type 0 where
 -- one that uses names for what it sets, publishes and joins, and after each post of another session
 pub record KeepsNamed : Type 0 where
   pub at_first : AreNamed empty
-  pub by_item : (settings : Settings) (item : Item) (agenda : List Item) (doing : Doing)
+  pub by_item : (settings : Settings) (item : Item) (agenda : List Item) (doing : Execution)
       → AreSettings settings → All IsNamedItem (item ∷ agenda) → AreNamed doing.state
       → All IsNamedItem ((step settings item doing).items ++ agenda) × AreNamed (step settings item doing).doing.state
   pub by_command : (settings : Settings) (self : List ℕ) (state : State) (asked : Asked)
@@ -71,5 +71,5 @@ pub record KeepsNamed : Type 0 where
 
 -- an action over the arguments of its slot does what it does with them put in, over none
 abbrev pub ActsInPlace : Type 0
-ActsInPlace = (settings : Settings) (action : Act) (args : List Value) (self sender depth : ℕ) (doing : Doing) →
+ActsInPlace = (settings : Settings) (action : Act) (args : List Value) (self sender depth : ℕ) (doing : Execution) →
     run settings (to_do.Act action args self sender depth ∷ []) doing ≡ run settings (to_do.Act (unfolded args action) [] self sender depth ∷ []) doing

@@ -3,13 +3,13 @@ pub mod Asked
 pub mod State
 pub mod Absence
 pub mod Arriving
-pub mod Doing
+pub mod Execution
 pub mod Items
 pub mod Methods
 pub mod Functors
 pub mod Connecting
 pub mod Posting
-pub mod Deeds
+pub mod Operations
 pub mod Targets
 pub mod Showing
 pub mod Writing

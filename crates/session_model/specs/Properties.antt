@@ -4,7 +4,7 @@ use Rattle.isolation.specs.Machine.{Effect}
 use Rattle.session_model.specs.declared.line.Answer.TheVariants as a
 use Rattle.session_model.specs.declared.line.Line.{Line}
 use Rattle.session_model.specs.declared.post.Post.{Post}
-use Rattle.session_model.specs.Doing.{begun}
+use Rattle.session_model.specs.Execution.{begun}
 use Rattle.session_model.specs.Effects.{does_next, refuses}
 use Rattle.session_model.specs.Methods.{Found}
 use Rattle.session_model.specs.Settings.{Settings}

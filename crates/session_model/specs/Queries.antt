@@ -12,7 +12,7 @@ use Rattle.session_model.specs.declared.query.Query.TheVariants.{Children, Find,
 use Rattle.session_model.specs.Absence.{absence, named_absence}
 use Rattle.session_model.specs.Binding.{asked_property}
 use Rattle.session_model.specs.Classes.{class_index, class_refusal, described, named_class_refusal}
-use Rattle.session_model.specs.Deeds.{behind}
+use Rattle.session_model.specs.Operations.{behind}
 use Rattle.session_model.specs.Events.{status}
 use Rattle.session_model.specs.Methods.{Found, ◌>>=◌}
 use Rattle.session_model.specs.Showing.{named_value}

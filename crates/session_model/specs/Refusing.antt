@@ -13,9 +13,9 @@ use Rattle.session_model.specs.Asked.{Asked, New, Delete, Set, Ask, Connect}
 use Rattle.session_model.specs.Asked.{ConnectFunctor, DisconnectOne, Disconnect, Invoke, Spin, Do, Publish}
 use Rattle.session_model.specs.Asked.{Unpublish, Join, Leave, Reset, Bind, Unbind, Begin, End}
 use Rattle.session_model.specs.Classes.{class_refusal}
-use Rattle.session_model.specs.Deeds.{deed_refusal, found_refusal}
+use Rattle.session_model.specs.Operations.{operation_refusal, found_refusal}
 use Rattle.session_model.specs.Methods.{signature_in}
-use Rattle.session_model.specs.Posting.{is_queued, post_refusal}
+use Rattle.session_model.specs.Posting.{is_queued, enqueue_refusal}
 use Rattle.session_model.specs.Queries.{query_answer}
 use Rattle.session_model.specs.Settings.{Settings}
 use Rattle.session_model.specs.Sharing.{asked_join, asked_listener, asked_publication, joining_refusal, publication_refusal}
@@ -29,7 +29,7 @@ values_refusal settings state target args index = option_map_or (λ index. resul
 
 -- a call that is asked for later needs room in the queue, where the object has such a method
 abbrev pub later_refusal : State → ConnectionType → Option ℕ → Option Code
-later_refusal state mode index = if is_queued mode && is_some index then post_refusal state.queue else None
+later_refusal state mode index = if is_queued mode && is_some index then enqueue_refusal state.queue else None
 
 -- why a command is refused in a session of this name and state, if it is
 unfoldable pub refusal : Settings → List ℕ → State → Asked → Option Code
@@ -53,7 +53,7 @@ refusal settings self state (Invoke target method args mode priority) =
     option_or (values_refusal settings state target args (asked_method settings state target method))
     (later_refusal state mode (asked_method settings state target method))))
 refusal settings self state Spin = None
-refusal settings self state (Do deed) = deed_refusal state deed
+refusal settings self state (Do operation) = operation_refusal state operation
 refusal settings self state (Publish target signal name) = publication_refusal state (asked_publication settings state target signal name)
 refusal settings self state (Unpublish name) = None
 refusal settings self state (Join from name types target method) = joining_refusal settings self state (asked_join settings state from name types target method)

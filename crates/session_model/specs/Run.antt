@@ -7,18 +7,18 @@ use Rattle.object_tree.specs.Lines.{greatest}
 use Rattle.binding_values.specs.Stored.{properties_in}
 use Rattle.stored_slots.specs.declared.functor.Functor.{Functor}
 use Rattle.session_model.specs.Agenda.{is_living, step}
-use Rattle.session_model.specs.Doing.{Doing}
-use Rattle.session_model.specs.Items.{Act, Call, Cut, Delete, Emit, Gone, Item, Kin, Reply, ReplySpun, Run, RunFunctor, Spin, Warn, WarnOf}
+use Rattle.session_model.specs.Execution.{Execution}
+use Rattle.session_model.specs.Items.{Act, Call, Detach, Delete, Emit, Remove, Item, DeleteChild, Reply, ReplySpun, Run, RunFunctor, Spin, Warn, WarnOf}
 use Rattle.session_model.specs.Settings.{Settings}
 
 -- at most so many items done, each with what it puts in front of the others
-abbrev pub steps : Settings → ℕ → List Item → Doing → Doing
+abbrev pub steps : Settings → ℕ → List Item → Execution → Execution
 steps settings zero agenda doing = doing
 steps settings (suc most) [] doing = doing
 steps settings (suc most) (item ∷ agenda) doing = steps settings most ((step settings item doing).items ++ agenda) (step settings item doing).doing
 
 -- how many objects are not dying
-unfoldable pub living : Doing → ℕ
+unfoldable pub living : Execution → ℕ
 living doing = length (filter is_living doing.state.forest.rows)
 
 -- how many actions the longest body of these classes has, those in branches among them
@@ -37,7 +37,7 @@ pub record Most : Type 0 where
   pub properties : ℕ
   pub actions : ℕ
 
-abbrev pub most : Settings → Doing → Most
+abbrev pub most : Settings → Execution → Most
 most settings doing = record {
   connections = max CONNECTIONS (length doing.state.connections.rows);
   objects = length doing.state.forest.rows;
@@ -65,9 +65,9 @@ weight most (WarnOf at error) = 1
 weight most (Delete target depth) = 1
 weight most Spin = 1
 weight most ReplySpun = 1
-weight most (Cut target depth) = 2 * most.objects + 1
-weight most (Kin parent child depth) = 2
-weight most (Gone target depth) = change_weight most + 1
+weight most (Detach target depth) = 2 * most.objects + 1
+weight most (DeleteChild parent child depth) = 2
+weight most (Remove target depth) = change_weight most + 1
 weight most (Reply answer) = 1
 
 abbrev pub weights : Most → List Item → ℕ
@@ -83,18 +83,19 @@ abbrev pub deletion_weight : Most → ℕ
 deletion_weight most = 2 * most.objects + change_weight most + most.connections + 4
 
 -- enough steps to come to the end
-unfoldable pub enough : Settings → List Item → Doing → ℕ
+unfoldable pub enough : Settings → List Item → Execution → ℕ
 enough settings agenda doing =
     doing.turns * turn_weight (most settings doing) + living doing * deletion_weight (most settings doing) + weights (most settings doing) agenda
 
 -- an agenda done to its end
-unfoldable pub run : Settings → List Item → Doing → Doing
+unfoldable pub run : Settings → List Item → Execution → Execution
 run settings agenda doing = steps settings (enough settings agenda doing) agenda doing
 
 -- the run of an agenda is that of its first item, and then of what that comes to and of the others; two
 -- agendas are done one after the other
 pub record RunsToItsEnd : Type 0 where
-  pub at_end : (settings : Settings) (doing : Doing) → run settings [] doing ≡ doing
-  pub at_item : (settings : Settings) (item : Item) (agenda : List Item) (doing : Doing)
+  pub at_end : (settings : Settings) (doing : Execution) → run settings [] doing ≡ doing
+  pub at_item : (settings : Settings) (item : Item) (agenda : List Item) (doing : Execution)
       → run settings (item ∷ agenda) doing ≡ run settings ((step settings item doing).items ++ agenda) (step settings item doing).doing
-  pub in_parts : (settings : Settings) (one other : List Item) (doing : Doing) → run settings (one ++ other) doing ≡ run settings other (run settings one doing)
+  pub in_parts : (settings : Settings) (one other : List Item) (doing : Execution)
+      → run settings (one ++ other) doing ≡ run settings other (run settings one doing)

@@ -16,7 +16,7 @@ use Rattle.session_model.specs.declared.line.Line.{Line}
 use Rattle.session_model.specs.declared.post.Post.{Post}
 use Rattle.session_model.specs.Absence.{absence}
 use Rattle.session_model.specs.Arriving.{kinds_of}
-use Rattle.session_model.specs.Deeds.{behind}
+use Rattle.session_model.specs.Operations.{behind}
 use Rattle.session_model.specs.Effects.{refuses, replies}
 use Rattle.session_model.specs.Methods.{Found, ◌>>=◌, method_named, methods_of, signal_named}
 use Rattle.session_model.specs.Settings.{Settings}

@@ -4,8 +4,8 @@ use Rattle.std.specs.List.{filter_map}
 use Rattle.std.specs.Option.{option_map_or}
 use Rattle.variant_value.specs.declared.value.Value.{Value}
 use Rattle.binding_graph.specs.declared.change.Change.{Change}
-use Rattle.binding_graph.specs.declared.change.Message.{Message}
-use Rattle.binding_graph.specs.declared.change.Message.TheVariants as message
+use Rattle.binding_graph.specs.declared.change.ChangeKind.{ChangeKind}
+use Rattle.binding_graph.specs.declared.change.ChangeKind.TheVariants as message
 use Rattle.property_store.specs.declared.property.Property.{Property as At}
 use Rattle.binding_graph.specs.declared.shown.Shown.{Shown}
 use Rattle.binding_graph.specs.Graph as graph
@@ -14,7 +14,7 @@ use Rattle.class_table.specs.declared.class.Property.{Property}
 use Rattle.class_table.specs.Lookup.{properties}
 use Rattle.object_tree.specs.Rows.{row_of}
 use Rattle.property_store.specs.Store.{dynamic_value, field_number, properties_of}
-use Rattle.session_model.specs.Doing.{Doing, in_state}
+use Rattle.session_model.specs.Execution.{Execution, in_state}
 use Rattle.session_model.specs.Items.{Emit, Item, Next, WarnOf, puts}
 use Rattle.session_model.specs.Methods.{kinds_at, methods_of}
 use Rattle.session_model.specs.Settings.{Settings}
@@ -45,7 +45,7 @@ abbrev pub told_value : Settings → State → ℕ → Value → ℕ → List Va
 told_value settings state object value signal = take (length (kinds_at (methods_of settings state object) signal)) (value ∷ [])
 
 -- an error is warned of, and a value told by the property's signal for it (NOTIFY), where it has one
-abbrev pub told_as : Settings → State → ℕ → At → Message → Option Item
+abbrev pub told_as : Settings → State → ℕ → At → ChangeKind → Option Item
 told_as settings state depth at (message.Error error) = Some (WarnOf at error)
 told_as settings state depth at (message.Value value) =
     option_map (λ signal. Emit at.object signal (told_value settings state at.object value signal) depth)
@@ -56,5 +56,5 @@ abbrev pub tellings : Settings → State → ℕ → List Change → List Item
 tellings settings state depth changes = filter_map (λ change. told_as settings state depth change.at change.told) changes
 
 -- the session comes to another state, and tells of what has changed
-abbrev pub comes_to : Settings → Doing → ℕ → State → Option At → Next
+abbrev pub comes_to : Settings → Execution → ℕ → State → Option At → Next
 comes_to settings doing depth after written = puts (tellings settings after depth (changes doing.state after written)) (in_state doing after)

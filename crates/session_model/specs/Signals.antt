@@ -25,11 +25,11 @@ use Rattle.session_model.specs.declared.line.Line.{Line}
 use Rattle.session_model.specs.declared.post.Post.{Post}
 use Rattle.session_model.specs.Agenda.{with_turn}
 use Rattle.session_model.specs.Connecting.{new_connection, new_functor_connection, pattern_with}
-use Rattle.session_model.specs.declared.deed.Deed.{Deed}
-use Rattle.session_model.specs.declared.deed.Deed.TheVariants as d
+use Rattle.session_model.specs.declared.operation.Operation.{Operation}
+use Rattle.session_model.specs.declared.operation.Operation.TheVariants as d
 use Rattle.session_model.specs.Absence.{absence, named_absence}
-use Rattle.session_model.specs.Deeds.{behind, deed_answer, with_deed}
-use Rattle.session_model.specs.Doing.{begun}
+use Rattle.session_model.specs.Operations.{behind, operation_answer, with_operation}
+use Rattle.session_model.specs.Execution.{begun}
 use Rattle.session_model.specs.Effects.{does_next, refuses, replies}
 use Rattle.session_model.specs.Functors.{functor_named}
 use Rattle.session_model.specs.Items.{Emit, Next, Run, puts}
@@ -54,14 +54,14 @@ asked_functor_connection settings state sender signal context functor mode singl
     context (functor_named settings functor)
     mode single
 
--- the deed that they are, or why there is none; a command finds no object dying
-abbrev pub asked_connect : Settings → State → ℕ → List ℕ → ℕ → List ℕ → ConnectionType → Bool → Bool → Found Deed
+-- the operation that they are, or why there is none; a command finds no object dying
+abbrev pub asked_connect : Settings → State → ℕ → List ℕ → ℕ → List ℕ → ConnectionType → Bool → Bool → Found Operation
 asked_connect settings state sender signal receiver method mode unique single =
     behind (object_refusal state.forest.rows sender) (
     behind (object_refusal state.forest.rows receiver)
     (asked_connection settings state sender signal receiver method mode single >>= λ new. Ok (d.Connect new unique)))
 
-abbrev pub asked_connect_functor : Settings → State → ℕ → List ℕ → ℕ → List ℕ → ConnectionType → Bool → Bool → Found Deed
+abbrev pub asked_connect_functor : Settings → State → ℕ → List ℕ → ℕ → List ℕ → ConnectionType → Bool → Bool → Found Operation
 asked_connect_functor settings state sender signal context functor mode unique single =
     behind (object_refusal state.forest.rows sender) (
     behind (object_refusal state.forest.rows context)
@@ -79,15 +79,15 @@ asked_pattern settings state sender signal receiver method =
     sender (option_map (signal_named (methods_of settings state sender)) signal)
     receiver (λ object. option_map (method_named (methods_of settings state object)) method)
 
-abbrev pub asked_disconnect : Settings → State → ℕ → Option (List ℕ) → Option ℕ → Option (List ℕ) → Found Deed
+abbrev pub asked_disconnect : Settings → State → ℕ → Option (List ℕ) → Option ℕ → Option (List ℕ) → Found Operation
 asked_disconnect settings state sender signal receiver method =
     behind (absence state sender) (
     behind (named_absence state receiver)
     (asked_pattern settings state sender signal receiver method >>= λ pattern. Ok (d.Disconnect pattern)))
 
--- a deed that was looked for is done, and what it answers is replied
-abbrev pub does_found : State → Found Deed → Effect State Line Post
-does_found state (Ok deed) = replies (with_deed state deed) (deed_answer state deed)
+-- an operation that was looked for is done, and what it answers is replied
+abbrev pub does_found : State → Found Operation → Effect State Line Post
+does_found state (Ok operation) = replies (with_operation state operation) (operation_answer state operation)
 does_found state (Err code) = refuses state code
 
 -- a value and further ones; of two faults a bad value comes before a text that is too long

@@ -18,7 +18,7 @@ use Rattle.event_queue.specs.declared.event.Event.{Event}
 use Rattle.event_queue.specs.declared.event.Event.TheVariants.{Call}
 use Rattle.event_queue.specs.declared.event.QueuedCall.{QueuedCall}
 use Rattle.event_queue.specs.Queue as events
-use Rattle.event_queue.specs.Queue.{Queue, dropped, empty_queue, has_room, object_of, posted, taken}
+use Rattle.event_queue.specs.Queue.{Queue, dropped, empty_queue, has_room, object_of, enqueued, taken}
 use Rattle.object_tree.specs.Forest as tree
 use Rattle.object_tree.specs.Forest.{Forest, empty_forest}
 use Rattle.object_tree.specs.Rows.{is_there, numbers}
@@ -138,7 +138,7 @@ without_connections state test = record state { connections = without test state
 
 -- the state with one more event, in its place among the others
 abbrev pub with_event : State → Event → State
-with_event state event = record state { queue = posted state.queue event }
+with_event state event = record state { queue = enqueued state.queue event }
 
 -- the state without the events that name an object
 abbrev pub without_events : State → ℕ → State

@@ -38,7 +38,7 @@ performs settings self state (Disconnect sender signal receiver method) = does_f
 performs settings self state (Invoke target method args mode priority) =
     invokes settings state target args mode priority (asked_method settings state target method)
 performs settings self state Spin = spins settings state
-performs settings self state (Do deed) = does_found state (Ok deed)
+performs settings self state (Do operation) = does_found state (Ok operation)
 performs settings self state (Publish target signal name) = publishes_found state (asked_publication settings state target signal name)
 performs settings self state (Unpublish name) = unpublishes state name
 performs settings self state (Join from name types target method) = joins_found state (asked_join settings state from name types target method)

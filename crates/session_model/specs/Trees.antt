@@ -10,7 +10,7 @@ use Rattle.session_model.specs.declared.line.Answer.TheVariants.{Number, Truth}
 use Rattle.session_model.specs.declared.line.Line.{Line}
 use Rattle.session_model.specs.declared.post.Post.{Post}
 use Rattle.session_model.specs.Classes.{class_index}
-use Rattle.session_model.specs.Doing.{begun}
+use Rattle.session_model.specs.Execution.{begun}
 use Rattle.session_model.specs.Effects.{does_next, replies}
 use Rattle.session_model.specs.Items.{Delete, puts}
 use Rattle.session_model.specs.Settings.{Settings}

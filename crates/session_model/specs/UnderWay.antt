@@ -4,22 +4,22 @@ use Rattle.std.specs.List.{All, list_any}
 use Rattle.connection_list.specs.declared.connection.Connection.{Connection}
 use Rattle.event_queue.specs.declared.event.Event.{Event}
 use Rattle.event_queue.specs.Queue.{object_of}
-use Rattle.session_model.specs.Items.{Cut, Gone, Item}
+use Rattle.session_model.specs.Items.{Detach, Remove, Item}
 use Rattle.session_model.specs.State.{IsWhole, OfDesk, State}
 
 -- does an item let this object go
 abbrev pub lets_go : ℕ → Item → Bool
-lets_go number (Gone target depth) = target == number
+lets_go number (Remove target depth) = target == number
 lets_go number _ = false
 
 -- does an item break the connections of this object, forget its events, and withdraw its publications and joins
 abbrev pub unties : ℕ → Item → Bool
-unties number (Cut target depth) = target == number
+unties number (Detach target depth) = target == number
 unties number _ = false
 
 -- does an item let any object go
 abbrev pub is_gone : Item → Bool
-is_gone (Gone target depth) = true
+is_gone (Remove target depth) = true
 is_gone _ = false
 
 -- no item lets an object go before one has broken its connections

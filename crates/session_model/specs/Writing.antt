@@ -9,7 +9,7 @@ use Rattle.variant_value.specs.declared.value.Value.TheVariants as v
 use Rattle.variant_value.specs.Values.{converted, inferred, text_of, value_of}
 use Rattle.property_store.specs.declared.property.Property.{Property as At}
 use Rattle.property_store.specs.Store.{dynamic_refusal, field_number, properties_of, with_dynamic, with_value, without_dynamic}
-use Rattle.session_model.specs.Doing.{Doing}
+use Rattle.session_model.specs.Execution.{Execution}
 use Rattle.session_model.specs.Items.{Next}
 use Rattle.session_model.specs.Methods.{Found, ◌>>=◌}
 use Rattle.session_model.specs.Settings.{Settings}
@@ -81,5 +81,5 @@ written_property object (Declared number value) = Some (record { object = object
 written_property object _ = None
 
 -- writing changes the properties, and then tells of what has changed
-abbrev pub written : Settings → Doing → ℕ → ℕ → Writing → Next
+abbrev pub written : Settings → Execution → ℕ → ℕ → Writing → Next
 written settings doing object depth writing = comes_to settings doing depth (with_writing doing.state object writing) (written_property object writing)

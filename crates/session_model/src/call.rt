@@ -1,4 +1,4 @@
-//! What clients are told of a call.
+//! Clients are told of calls.
 use plain_types::Text;
 use variant_value::Args;
 

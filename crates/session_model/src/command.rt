@@ -1,8 +1,7 @@
-//! What clients ask.
+//! Clients give commands.
 use crate::query::Query;
-use plain_types::ConnectionType;
 use event_queue::Priority;
-use plain_types::{Items, Text};
+use plain_types::{ConnectionType, Items, Text};
 
 /// A command of a session.
 #[derive(Drop)]

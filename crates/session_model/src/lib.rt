@@ -1,6 +1,6 @@
-//! What a session is and what it does, as definitions: its state, its commands, and the machine that
-//! the theory of isolated sessions speaks of. The only code is the types that the definitions share
-//! with the program.
+//! This crate says as definitions what a session is and what it does: its state, its commands, and the machine
+//! that the theory of isolated sessions speaks of. The only code is the types that the definitions share with
+//! the program.
 #![tactic(auto)]
 
 ghost use Rattle.session_model.specs.Machine.{IsMetadLawful};
@@ -10,20 +10,20 @@ ghost use Rattle.session_model.specs.Laws.{ActsInPlace, KeepsDeclared, KeepsFitt
 mod boxed;
 mod call;
 mod command;
-mod deed;
 mod limits;
 mod line;
 mod meta;
+mod operation;
 mod post;
 mod query;
 
 pub use boxed::Boxed;
 pub use call::{Call, DESTROYED, NESTED_SIGNALS, OBJECT_NAME};
 pub use command::{Command, Tagged};
-pub use deed::Deed;
 pub use limits::limits_are_these;
 pub use line::{Answer, Line, Spin, Status};
 pub use meta::MetaObject;
+pub use operation::Operation;
 pub use post::Post;
 pub use query::Query;
 

@@ -1,13 +1,12 @@
-//! What clients are told.
+//! Clients are told lines.
 use crate::boxed::Boxed;
 use crate::call::Call;
 use crate::meta::MetaObject;
 use binding_values::BindingError;
-use plain_types::{Items, Text};
-use plain_types::Code;
+use plain_types::{Code, Items, Text};
 use variant_value::Value;
 
-/// What a command replies.
+/// A command replies with an answer.
 #[derive(Drop)]
 pub enum Answer {
     /// The number of an object.
@@ -22,13 +21,13 @@ pub enum Answer {
     Value(Value),
     /// The names of properties, in order.
     Names(Items<Text>),
-    /// What there is in a class. It is the largest answer and the rarest.
+    /// The answer describes a class. It is the largest answer and the rarest.
     Meta(Boxed<MetaObject>),
     Spun(Spin),
     Status(Status),
 }
 
-/// What came of taking events.
+/// The answer tells how many events were taken, and how many are left.
 #[derive(Clone, Copy)]
 pub struct Spin {
     /// How many were taken.

@@ -1,7 +1,7 @@
-//! What clients are told of a class.
+//! Clients are told of a class.
 use plain_types::{Items, Text};
 
-/// What there is in a class, as Qt's `QMetaObject` tells it.
+/// A meta-object describes a class, as Qt's `QMetaObject` does.
 pub struct MetaObject {
     /// The name of the class.
     pub class: Text,

@@ -1,4 +1,4 @@
-//! What reaches a session from another.
+//! A session receives posts from others.
 use plain_types::{Items, Text};
 use signature_core::Kind;
 use variant_value::Value;

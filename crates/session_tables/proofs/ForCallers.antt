@@ -1,6 +1,6 @@
 -- What other crates prove by.
 pub use Rattle.session_tables.proofs.PostLemmas.{changes_session}
-pub use Rattle.session_tables.proofs.ReachingLemmas.{heard-append, heard-none, heard_stranger, placed_shaped, reaches_changed}
+pub use Rattle.session_tables.proofs.ReachingLemmas.{after_posts-append, after_posts-none, after_posts_stranger, placed_shaped, reaches_changed}
 pub use Rattle.session_tables.proofs.ReachingLemmas.{reaches_twice, session_unchanged, shaped_changed, shaped_twice}
 pub use Rattle.session_tables.proofs.ReachingLemmas.{stays_failed}
 pub use Rattle.session_tables.proofs.TablesLemmas.{changes_same, changes_twice, changes_with, even_opened, even_same}

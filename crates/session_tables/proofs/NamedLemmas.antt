@@ -13,7 +13,7 @@ use Rattle.event_queue.specs.Queue.{empty_queue}
 use Rattle.object_tree.specs.Forest.{empty_forest}
 use Rattle.publish_board.specs.Desk.{no_desk}
 use Rattle.binding_graph.specs.Graph.{Graph, unbound}
-use Rattle.bound_stores.specs.declared.changed.Changed.{Changed}
+use Rattle.bound_stores.specs.declared.write_changes.WriteChanges.{WriteChanges}
 use Rattle.bound_stores.specs.Bound.{BoundShelves, bound_at, stored_at, with_bound}
 use Rattle.bound_stores.specs.Named as bound
 use Rattle.session_model.specs.Writing.{DeclaredField, declared}
@@ -48,7 +48,7 @@ module _ (place object : ℕ) (name : List ℕ) (value : Value) (old : Tables) w
   undeclared is = unmapped pair_of (declared (state_at old place) object name) (sym (declared_pair (state_at old place) object name) ∙ is)
 
   -- what was written is written to the state
-  pub writes_declared : (new : BoundShelves) (number : ℕ) (changed : Changed) → bound.WritesDeclared place object name value old.stores number changed new → WritesDeclared place object name value old number changed (with_stores old new)
+  pub writes_declared : (new : BoundShelves) (number : ℕ) (changed : WriteChanges) → bound.WritesDeclared place object name value old.stores number changed new → WritesDeclared place object name value old number changed (with_stores old new)
   writes_declared new number changed its =
       let there = declared_as number its.kind its.named in
       let at_of : BoundShelves = bound.with_written old.stores place (record { object = object; number = there.of.number }) its.fit in

@@ -30,11 +30,11 @@ use Rattle.session_model.specs.declared.post.Post.{Post}
 use Rattle.session_model.specs.Arriving.{post_of, posts_by, reached, reached_by}
 use Rattle.session_model.specs.Thread.{arrives}
 use Rattle.session_tables.specs.declared.tables.Tables.{Tables}
-use Rattle.session_tables.specs.Session.{Session, gone}
+use Rattle.session_tables.specs.Session.{Session, failed_session}
 use Rattle.session_tables.specs.Tables.{ChangesOnly, IsPlaced, failed_at, session_at, state_at, with_session}
-use Rattle.session_tables.specs.Reaching.{Hears, Reaches, ReachesBy, heard, only_at, takes, takes_some}
+use Rattle.session_tables.specs.Reaching.{ReceivesPosts, Reaches, ReachesBy, after_posts, only_at, takes, takes_some}
 use Rattle.session_tables.proofs.TablesLemmas.{changes_same, changes_twice, session_there}
-use Rattle.session_tables.proofs.ReachingLemmas.{heard-none, heard_stranger, placed_shaped, reaches_by_twice, reaches_changed, session_unchanged, shaped_changed}
+use Rattle.session_tables.proofs.ReachingLemmas.{after_posts-none, after_posts_stranger, placed_shaped, reaches_by_twice, reaches_changed, session_unchanged, shaped_changed}
 
 module _ (classes : List Class) (rows : List Row) (from : List ℕ) (post : Post) where
   -- the next join of a session is done
@@ -78,19 +78,19 @@ changes_session old new at session placed e = record {
 }
 
 -- nor a session that fails there behind another queue
-pub failed_only : (old new : Tables) (at : ℕ) (queues : Table Queue) → IsPlaced old at → ChangesAt empty_queue at old.queues queues → new ≡ with_session (record old { queues = queues }) at gone → ChangesOnly at old new
+pub failed_only : (old new : Tables) (at : ℕ) (queues : Table Queue) → IsPlaced old at → ChangesAt empty_queue at old.queues queues → new ≡ with_session (record old { queues = queues }) at failed_session → ChangesOnly at old new
 failed_only old new at queues placed changed e =
     let middle : Tables = record old { queues = queues } in
     let first = changes_queue old at queues changed in
     let still = placed_shaped old middle at (shaped_changed old middle at first) placed in
-    changes_twice old middle new at first (changes_session middle new at gone still e)
+    changes_twice old middle new at first (changes_session middle new at failed_session still e)
 
 -- and that one is gone
-pub failed_there : (old new : Tables) (at : ℕ) (queues : Table Queue) → IsPlaced old at → ChangesAt empty_queue at old.queues queues → new ≡ with_session (record old { queues = queues }) at gone → session_at new at ≡ gone
+pub failed_there : (old new : Tables) (at : ℕ) (queues : Table Queue) → IsPlaced old at → ChangesAt empty_queue at old.queues queues → new ≡ with_session (record old { queues = queues }) at failed_session → session_at new at ≡ failed_session
 failed_there old new at queues placed changed e =
     let middle : Tables = record old { queues = queues } in
     let still = placed_shaped old middle at (shaped_changed old middle at (changes_queue old at queues changed)) placed in
-    ap (λ tables. session_at tables at) e ∙ session_there middle at gone still
+    ap (λ tables. session_at tables at) e ∙ session_there middle at failed_session still
 
 apart_other : (at other : ℕ) → eqb at other ≡ false → eqb other at ≡ false
 apart_other at other apart = grind (arith, nat_tests, apart)
@@ -105,42 +105,42 @@ by_place P at posts here elsewhere other = by (eqb other at) refl
 
 module _ (classes : List Class) (from : List ℕ) (place : ℕ) where
   -- what has changed one other session alone
-  reaches_one : (old new : Tables) (at : ℕ) (posts : List Post) (before after : Bool) → eqb at place ≡ false → ChangesOnly at old new → Hears classes from posts (session_at old at) (session_at new at)
-      → (IsFalse after → IsFalse before × (session_at new at ≡ heard classes from posts (session_at old at)))
+  reaches_one : (old new : Tables) (at : ℕ) (posts : List Post) (before after : Bool) → eqb at place ≡ false → ChangesOnly at old new → ReceivesPosts classes from posts (session_at old at) (session_at new at)
+      → (IsFalse after → IsFalse before × (session_at new at ≡ after_posts classes from posts (session_at old at)))
       → (IsFalse before → IsTrue after → IsPlaced old at × IsFalse (failed_at old at) × IsTrue (failed_at new at))
       → ReachesBy classes from place (only_at at posts) old new before after
   reaches_one old new at posts before after apart changes hears all one = record {
     shape = shaped_changed old new at changes;
     own = ap (λ (session : Session). session.failed) (session_unchanged old new at place changes (apart_other at place apart));
-    others = by_place (λ other posts. IsFalse (eqb other place) → IsPlaced old other → Hears classes from posts (session_at old other) (session_at new other)) at posts
+    others = by_place (λ other posts. IsFalse (eqb other place) → IsPlaced old other → ReceivesPosts classes from posts (session_at old other) (session_at new other)) at posts
         (λ differs placed. hears)
-        (λ other else differs placed. inl (session_unchanged old new at other changes else ∙ sym (heard-none classes from (session_at old other))));
+        (λ other else differs placed. inl (session_unchanged old new at other changes else ∙ sym (after_posts-none classes from (session_at old other))));
     all = λ none. (
       (all none).0,
-      by_place (λ other posts. IsFalse (eqb other place) → IsPlaced old other → session_at new other ≡ heard classes from posts (session_at old other)) at posts
+      by_place (λ other posts. IsFalse (eqb other place) → IsPlaced old other → session_at new other ≡ after_posts classes from posts (session_at old other)) at posts
           (λ differs placed. (all none).1)
-          (λ other else differs placed. session_unchanged old new at other changes else ∙ sym (heard-none classes from (session_at old other))),
+          (λ other else differs placed. session_unchanged old new at other changes else ∙ sym (after_posts-none classes from (session_at old other))),
     );
     one = λ none some. let it = one none some in (at, apart, it.0, it.1, it.2);
   }
 
   -- one that has not failed hears the post
-  pub heard_one : (old : Tables) (at : ℕ) (post : Post) (queues : Table Queue) → failed_at old at ≡ false → IsPlaced old at
+  pub after_posts_one : (old : Tables) (at : ℕ) (post : Post) (queues : Table Queue) → failed_at old at ≡ false → IsPlaced old at
       → queues ≡ with_queue old.queues at (reached_by classes (forest_at old.forests at).rows from post (queue_at old.queues at) (desk_at old.desks at).joins)
-      → session_at (record old { queues = queues }) at ≡ heard classes from (post ∷ []) (session_at old at)
+      → session_at (record old { queues = queues }) at ≡ after_posts classes from (post ∷ []) (session_at old at)
   unfolding arrives
-  heard_one old at post queues fine placed e =
+  after_posts_one old at post queues fine placed e =
       let queue : queue_at queues at ≡ reached_by classes (forest_at old.forests at).rows from post (queue_at old.queues at) (desk_at old.desks at).joins = ap (λ table. queue_at table at) e ∙ column.with_there empty_queue old.queues at _ placed.3 in
       ap (λ queue. record { state = record (state_at old at) { queue = queue }; failed = failed_at old at }) queue
       ∙ ap (λ failed. record { state = arrives classes (state_at old at) from post; failed = failed }) fine
       ∙ sym (cond-false (failed_at old at) _ _ fine)
 
-  pub reach_heard : (old : Tables) (at : ℕ) (post : Post) (flag : Bool) (queues : Table Queue) → (at ≡ place → ⊥) → failed_at old at ≡ false → IsPlaced old at
+  pub reach_after_posts : (old : Tables) (at : ℕ) (post : Post) (flag : Bool) (queues : Table Queue) → (at ≡ place → ⊥) → failed_at old at ≡ false → IsPlaced old at
       → queues ≡ with_queue old.queues at (reached_by classes (forest_at old.forests at).rows from post (queue_at old.queues at) (desk_at old.desks at).joins)
       → ReachesBy classes from place (only_at at (post ∷ [])) old (record old { queues = queues }) flag flag
-  reach_heard old at post flag queues differ fine placed e =
+  reach_after_posts old at post flag queues differ fine placed e =
       let changes = changes_queue old at queues (column.changes_with empty_queue old.queues queues at _ placed.3 e) in
-      let is = heard_one old at post queues fine placed e in
+      let is = after_posts_one old at post queues fine placed e in
       reaches_one old (record old { queues = queues }) at (post ∷ []) flag flag (apart_of at differ) changes (inl is) (λ none. (none, is)) (λ none some. absurd (true≢false (sym some ∙ none)))
     where
       apart_of : (at : ℕ) → (at ≡ place → ⊥) → eqb at place ≡ false
@@ -148,9 +148,9 @@ module _ (classes : List Class) (from : List ℕ) (place : ℕ) where
 
   -- or fails where memory is wanted and it takes one of the posts
   pub reach_failed : (old new : Tables) (at : ℕ) (posts : List Post) (flag : Bool) (queues : Table Queue) → (at ≡ place → ⊥) → failed_at old at ≡ false → IsPlaced old at → IsTrue (takes_some from posts (session_at old at))
-      → ChangesAt empty_queue at old.queues queues → new ≡ with_session (record old { queues = queues }) at gone → ReachesBy classes from place (only_at at posts) old new flag true
+      → ChangesAt empty_queue at old.queues queues → new ≡ with_session (record old { queues = queues }) at failed_session → ReachesBy classes from place (only_at at posts) old new flag true
   reach_failed old new at posts flag queues differ fine placed taken changed e =
-      let is : session_at new at ≡ gone = failed_there old new at queues placed changed e in
+      let is : session_at new at ≡ failed_session = failed_there old new at queues placed changed e in
       let apart : eqb at place ≡ false = grind (arith, nat_tests, differ) in
       reaches_one old new at posts flag true apart (failed_only old new at queues placed changed e) (inr (fine, taken, is)) (λ none. absurd (true≢false none)) (λ none some. (placed, fine, ap (λ (session : Session). session.failed) is))
 
@@ -159,8 +159,8 @@ module _ (classes : List Class) (from : List ℕ) (place : ℕ) where
   reaches_alike posts more old new before after alike reaches = record {
     shape = reaches.shape;
     own = reaches.own;
-    others = λ at apart placed. subst (λ posts. Hears classes from posts (session_at old at) (session_at new at)) (alike at placed) (reaches.others at apart placed);
-    all = λ none. ((reaches.all none).0, λ at apart placed. (reaches.all none).1 at apart placed ∙ ap (λ posts. heard classes from posts (session_at old at)) (alike at placed));
+    others = λ at apart placed. subst (λ posts. ReceivesPosts classes from posts (session_at old at) (session_at new at)) (alike at placed) (reaches.others at apart placed);
+    all = λ none. ((reaches.all none).0, λ at apart placed. (reaches.all none).1 at apart placed ∙ ap (λ posts. after_posts classes from posts (session_at old at)) (alike at placed));
     one = reaches.one;
   }
 
@@ -188,26 +188,26 @@ module _ (classes : List Class) (from : List ℕ) (place : ℕ) where
     one = reaches.one;
   }
     where
-      past : (at : ℕ) → ltb at least ≡ false → (ends : Bool) → ltb at end ≡ ends → IsPlaced old at → session_at now at ≡ heard classes from (cond ends posts []) (session_at old at)
+      past : (at : ℕ) → ltb at least ≡ false → (ends : Bool) → ltb at end ≡ ends → IsPlaced old at → session_at now at ≡ after_posts classes from (cond ends posts []) (session_at old at)
       past at e true within placed =
           let from_least : least ≤ at = grind (arith, nat_tests, e) in
           let below_end : at < end = grind (arith, nat_tests, within) in
           let same = rest at from_least in
-          same ∙ sym (heard_stranger classes from posts (session_at old at) (sym (ap (λ (session : Session). names_session from session.state.desk) same) ∙ strange at from_least below_end placed))
+          same ∙ sym (after_posts_stranger classes from posts (session_at old at) (sym (ap (λ (session : Session). names_session from session.state.desk) same) ∙ strange at from_least below_end placed))
       past at e false within placed =
           let from_least : least ≤ at = grind (arith, nat_tests, e) in
-          rest at from_least ∙ sym (heard-none classes from (session_at old at))
+          rest at from_least ∙ sym (after_posts-none classes from (session_at old at))
 
       still : (at : ℕ) → ltb at least ≡ true → posts ≡ below end posts at
       still at e = let within : ltb at end ≡ true = grind (arith, nat_tests, e, up) in sym (cond-true (ltb at end) posts [] within)
 
-      hear : (at : ℕ) → IsPlaced old at → (less : Bool) → ltb at least ≡ less → session_at now at ≡ heard classes from (cond less posts []) (session_at old at) → session_at now at ≡ heard classes from (below end posts at) (session_at old at)
+      hear : (at : ℕ) → IsPlaced old at → (less : Bool) → ltb at least ≡ less → session_at now at ≡ after_posts classes from (cond less posts []) (session_at old at) → session_at now at ≡ after_posts classes from (below end posts at) (session_at old at)
       hear at placed false e was = past at e (ltb at end) refl placed
-      hear at placed true e was = was ∙ ap (λ posts. heard classes from posts (session_at old at)) (still at e)
+      hear at placed true e was = was ∙ ap (λ posts. after_posts classes from posts (session_at old at)) (still at e)
 
-      hears : (at : ℕ) → IsPlaced old at → (less : Bool) → ltb at least ≡ less → Hears classes from (cond less posts []) (session_at old at) (session_at now at) → Hears classes from (below end posts at) (session_at old at) (session_at now at)
+      hears : (at : ℕ) → IsPlaced old at → (less : Bool) → ltb at least ≡ less → ReceivesPosts classes from (cond less posts []) (session_at old at) (session_at now at) → ReceivesPosts classes from (below end posts at) (session_at old at) (session_at now at)
       hears at placed false e was = inl (past at e (ltb at end) refl placed)
-      hears at placed true e was = subst (λ posts. Hears classes from posts (session_at old at) (session_at now at)) (still at e) was
+      hears at placed true e was = subst (λ posts. ReceivesPosts classes from posts (session_at old at) (session_at now at)) (still at e) was
 
   pub reaches_next : (posts : List Post) (end : ℕ) (old now new : Tables) (before between after : Bool) → IsPlaced old place → ReachesBy classes from place (below end posts) old now before between → ReachesBy classes from place (only_at end posts) now new between after
       → ReachesBy classes from place (below (end + 1) posts) old new before after

@@ -18,7 +18,7 @@ use Rattle.session_model.proofs.ForCallers.{arrive_all-append, post_stranger}
 use Rattle.session_tables.specs.declared.tables.Tables.{Tables}
 use Rattle.session_tables.specs.Session.{Session}
 use Rattle.session_tables.specs.Tables.{ChangesOnly, IsPlaced, failed_at, session_at}
-use Rattle.session_tables.specs.Reaching.{AreShaped, Hears, Reaches, ReachesBy, heard, takes, takes_some}
+use Rattle.session_tables.specs.Reaching.{AreShaped, ReceivesPosts, Reaches, ReachesBy, after_posts, takes, takes_some}
 use Rattle.session_tables.proofs.TablesLemmas.{even_changed, placed_by, session_of}
 
 differ_by : (at place : ℕ) → eqb at place ≡ false → at ≢ place
@@ -73,55 +73,55 @@ module _ (classes : List Class) (from : List ℕ) where
   arrive_all-desk [] state = refl
   arrive_all-desk (post ∷ posts) state = arrive_all-desk posts (arrives classes state from post)
 
-  heard-desk : (posts : List Post) (session : Session) → (heard classes from posts session).state.desk ≡ session.state.desk
-  heard-desk posts session = by session.failed
+  after_posts-desk : (posts : List Post) (session : Session) → (after_posts classes from posts session).state.desk ≡ session.state.desk
+  after_posts-desk posts session = by session.failed
     where
       by : (failed : Bool) → (cond failed session (record { state = arrive_all classes session.state from posts; failed = false })).state.desk ≡ session.state.desk
       by true = refl
       by false = arrive_all-desk posts session.state
 
   -- so a session takes the same posts after others
-  takes_heard : (posts more : List Post) (old middle : Session) → middle ≡ heard classes from posts old → IsTrue (takes_some from more middle) → IsTrue (takes_some from more old)
-  takes_heard posts more old middle e taken =
-      subst (λ (desk : Desk). IsTrue (list_any (λ post. list_any (takes from post) desk.joins) more)) (ap (λ (session : Session). session.state.desk) e ∙ heard-desk posts old) taken
+  takes_after_posts : (posts more : List Post) (old middle : Session) → middle ≡ after_posts classes from posts old → IsTrue (takes_some from more middle) → IsTrue (takes_some from more old)
+  takes_after_posts posts more old middle e taken =
+      subst (λ (desk : Desk). IsTrue (list_any (λ post. list_any (takes from post) desk.joins) more)) (ap (λ (session : Session). session.state.desk) e ∙ after_posts-desk posts old) taken
 
-  pub heard-none : (session : Session) → heard classes from [] session ≡ session
-  heard-none session = by session.failed refl
+  pub after_posts-none : (session : Session) → after_posts classes from [] session ≡ session
+  after_posts-none session = by session.failed refl
     where
       by : (failed : Bool) → session.failed ≡ failed → cond failed session (record { state = session.state; failed = false }) ≡ session
       by true e = refl
       by false e = ap (λ failed. record { state = session.state; failed = failed }) (sym e)
 
-  pub heard-append : (posts more : List Post) (session : Session) → heard classes from (posts ++ more) session ≡ heard classes from more (heard classes from posts session)
-  heard-append posts more session = by session.failed refl
+  pub after_posts-append : (posts more : List Post) (session : Session) → after_posts classes from (posts ++ more) session ≡ after_posts classes from more (after_posts classes from posts session)
+  after_posts-append posts more session = by session.failed refl
     where
       hearing : List Post → Session → Bool → Session
       hearing posts session failed = cond failed session (record { state = arrive_all classes session.state from posts; failed = false })
 
-      by : (failed : Bool) → session.failed ≡ failed → hearing (posts ++ more) session failed ≡ heard classes from more (hearing posts session failed)
+      by : (failed : Bool) → session.failed ≡ failed → hearing (posts ++ more) session failed ≡ after_posts classes from more (hearing posts session failed)
       by true e = sym (cond-true session.failed _ _ e)
       by false e = ap (λ state. record { state = state; failed = false }) (arrive_all-append classes session.state from posts more)
 
-  heard-failed : (posts : List Post) (session : Session) → (heard classes from posts session).failed ≡ session.failed
-  heard-failed posts session = by session.failed refl
+  after_posts-failed : (posts : List Post) (session : Session) → (after_posts classes from posts session).failed ≡ session.failed
+  after_posts-failed posts session = by session.failed refl
     where
       by : (failed : Bool) → session.failed ≡ failed → (cond failed session (record { state = arrive_all classes session.state from posts; failed = false })).failed ≡ session.failed
       by true e = refl
       by false e = sym e
 
-  pub hears_twice : (posts more : List Post) (old middle new : Session) → Hears classes from posts old middle → Hears classes from more middle new → Hears classes from (posts ++ more) old new
-  hears_twice posts more old middle new (inl e) (inl f) = inl (f ∙ ap (heard classes from more) e ∙ sym (heard-append posts more old))
-  hears_twice posts more old middle new (inl e) (inr f) = inr ((sym (heard-failed posts old) ∙ ap (λ (session : Session). session.failed) (sym e) ∙ f.0, takes_last from posts more old (takes_heard posts more old middle e f.1), f.2))
-  hears_twice posts more old middle new (inr e) (inl f) = inr ((e.0, takes_first from posts more old e.1, f ∙ ap (heard classes from more) e.2))
+  pub hears_twice : (posts more : List Post) (old middle new : Session) → ReceivesPosts classes from posts old middle → ReceivesPosts classes from more middle new → ReceivesPosts classes from (posts ++ more) old new
+  hears_twice posts more old middle new (inl e) (inl f) = inl (f ∙ ap (after_posts classes from more) e ∙ sym (after_posts-append posts more old))
+  hears_twice posts more old middle new (inl e) (inr f) = inr ((sym (after_posts-failed posts old) ∙ ap (λ (session : Session). session.failed) (sym e) ∙ f.0, takes_last from posts more old (takes_after_posts posts more old middle e f.1), f.2))
+  hears_twice posts more old middle new (inr e) (inl f) = inr ((e.0, takes_first from posts more old e.1, f ∙ ap (after_posts classes from more) e.2))
   hears_twice posts more old middle new (inr e) (inr f) = inr ((e.0, takes_first from posts more old e.1, f.2))
 
   -- no post mends a session
-  pub stays_failed : (posts : List Post) (old new : Session) → Hears classes from posts old new → old.failed ≡ true → new.failed ≡ true
-  stays_failed posts old new (inl e) was = ap (λ (session : Session). session.failed) e ∙ heard-failed posts old ∙ was
+  pub stays_failed : (posts : List Post) (old new : Session) → ReceivesPosts classes from posts old new → old.failed ≡ true → new.failed ≡ true
+  stays_failed posts old new (inl e) was = ap (λ (session : Session). session.failed) e ∙ after_posts-failed posts old ∙ was
   stays_failed posts old new (inr e) was = ap (λ (session : Session). session.failed) e.2
 
   -- so one that has not failed had not before
-  was_fine : (posts : List Post) (old new : Session) → Hears classes from posts old new → new.failed ≡ false → old.failed ≡ false
+  was_fine : (posts : List Post) (old new : Session) → ReceivesPosts classes from posts old new → new.failed ≡ false → old.failed ≡ false
   was_fine posts old new hears fine = by old.failed refl
     where
       by : (failed : Bool) → old.failed ≡ failed → old.failed ≡ false
@@ -132,8 +132,8 @@ module _ (classes : List Class) (from : List ℕ) where
     -- what changes the session itself posts nothing
     pub reaches_changed : (old new : Tables) (flag : Bool) → ChangesOnly place old new → new.failed ≡ old.failed → Reaches classes from place [] old new flag flag
     reaches_changed old new flag changes same =
-        let unchanged : (at : ℕ) → IsFalse (eqb at place) → IsPlaced old at → session_at new at ≡ heard classes from [] (session_at old at) =
-        λ at apart placed. session_unchanged old new place at changes apart ∙ sym (heard-none (session_at old at)) in
+        let unchanged : (at : ℕ) → IsFalse (eqb at place) → IsPlaced old at → session_at new at ≡ after_posts classes from [] (session_at old at) =
+        λ at apart placed. session_unchanged old new place at changes apart ∙ sym (after_posts-none (session_at old at)) in
         record {
           shape = shaped_changed old new place changes;
           own = ap (λ table. get_or table.places place false) same;
@@ -163,7 +163,7 @@ module _ (classes : List Class) (from : List ℕ) where
         all = λ none.
             let then = second.all none in
             let so = first.all then.0 in
-            (so.0, λ at apart placed. then.1 at apart (still at placed) ∙ ap (heard classes from (more at)) (so.1 at apart placed) ∙ sym (heard-append (posts at) (more at) (session_at old at)));
+            (so.0, λ at apart placed. then.1 at apart (still at placed) ∙ ap (after_posts classes from (more at)) (so.1 at apart placed) ∙ sym (after_posts-append (posts at) (more at) (session_at old at)));
         one = one_of between refl;
       }
 
@@ -171,9 +171,9 @@ module _ (classes : List Class) (from : List ℕ) where
     reaches_twice posts more old middle new before between after placed first second = reaches_by_twice (λ at. posts) (λ at. more) old middle new before between after placed first second
 
 -- a session that does not join another one does not hear it
-pub heard_stranger : (classes : List Class) (from : List ℕ) (posts : List Post) (session : Session) → names_session from session.state.desk ≡ false → heard classes from posts session ≡ session
+pub after_posts_stranger : (classes : List Class) (from : List ℕ) (posts : List Post) (session : Session) → names_session from session.state.desk ≡ false → after_posts classes from posts session ≡ session
 unfolding joins_name
-heard_stranger classes from posts session unnamed = by session.failed refl
+after_posts_stranger classes from posts session unnamed = by session.failed refl
   where
     all : (posts : List Post) → arrive_all classes session.state from posts ≡ session.state
     all [] = refl

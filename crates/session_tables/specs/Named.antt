@@ -6,8 +6,8 @@ use Rattle.plain_types.specs.declared.fault.Fault.TheVariants.{Refused, Memory}
 use Rattle.variant_value.specs.declared.value.Value.{Value}
 use Rattle.variant_value.specs.Values.{converted}
 use Rattle.property_store.specs.declared.property.Property.{Property as At}
-use Rattle.bound_stores.specs.declared.changed.Changed.{Changed}
-use Rattle.bound_stores.specs.Changed.{changes_in}
+use Rattle.bound_stores.specs.declared.write_changes.WriteChanges.{WriteChanges}
+use Rattle.bound_stores.specs.WriteChanges.{changes_in}
 use Rattle.session_model.specs.Showing.{changes}
 use Rattle.session_model.specs.State.{State, shown}
 use Rattle.session_model.specs.Writing as writing
@@ -18,12 +18,12 @@ use Rattle.session_tables.specs.declared.tables.Tables.{Tables}
 use Rattle.session_tables.specs.Tables.{state_at, with_state}
 
 -- these are the changes from one state to another, where this property was written
-abbrev pub Tells : At → State → State → Changed → Type 0
+abbrev pub Tells : At → State → State → WriteChanges → Type 0
 Tells at old new changed = changes_in at (shown new at.object at.number).0 changed ≡ changes old new (Some at)
 
 module _ (place object : ℕ) (name : List ℕ) (value : Value) (old : Tables) where
   -- a declared property of this name was given the value as one of its kind
-  pub record WritesDeclared (found : ℕ) (changed : Changed) (after : Tables) : Type 0 where
+  pub record WritesDeclared (found : ℕ) (changed : WriteChanges) (after : Tables) : Type 0 where
     pub of : writing.DeclaredField
     pub written : Value
     pub named : declared (state_at old place) object name ≡ Some of

@@ -13,12 +13,12 @@ use Rattle.session_model.specs.Arriving.{is_matched, post_of, posts_by}
 use Rattle.session_model.specs.Thread.{arrive_all}
 use Rattle.session_tables.specs.declared.posts.Posting.{Posting}
 use Rattle.session_tables.specs.declared.tables.Tables.{Tables}
-use Rattle.session_tables.specs.Session.{Session, gone}
+use Rattle.session_tables.specs.Session.{Session, failed_session}
 use Rattle.session_tables.specs.Tables.{AreEven, IsPlaced, failed_at, session_at}
 
 -- a session after posts of another one; one that has failed ignores them
-abbrev pub heard : List Class → List ℕ → List Post → Session → Session
-heard classes from posts session = if session.failed then session else record { state = arrive_all classes session.state from posts; failed = false }
+abbrev pub after_posts : List Class → List ℕ → List Post → Session → Session
+after_posts classes from posts session = if session.failed then session else record { state = arrive_all classes session.state from posts; failed = false }
 
 -- does a join take a post of the session `from`: it names what is posted, and its kinds are those of the post
 abbrev pub takes : List ℕ → Post → Join → Bool
@@ -30,11 +30,11 @@ takes_some from posts session = list_any (λ post. list_any (takes from post) se
 
 -- a session fails by posts: it had not failed before, and one of its joins takes one of them
 abbrev pub FailsBy : List ℕ → List Post → Session → Session → Type 0
-FailsBy from posts old new = IsFalse old.failed × IsTrue (takes_some from posts old) × (new ≡ gone)
+FailsBy from posts old new = IsFalse old.failed × IsTrue (takes_some from posts old) × (new ≡ failed_session)
 
 -- a session hears posts, or memory is wanted for one of them that it takes: then it has failed
-abbrev pub Hears : List Class → List ℕ → List Post → Session → Session → Type 0
-Hears classes from posts old new = (new ≡ heard classes from posts old) ⊎ FailsBy from posts old new
+abbrev pub ReceivesPosts : List Class → List ℕ → List Post → Session → Session → Type 0
+ReceivesPosts classes from posts old new = (new ≡ after_posts classes from posts old) ⊎ FailsBy from posts old new
 
 -- the post of a signal for the publication at an index
 abbrev pub post_at : Desk → ℕ → List Kind → List Value → List Post
@@ -65,10 +65,10 @@ pub record ReachesBy (classes : List Class) (from : List ℕ) (place : ℕ) (pos
   -- the session itself has neither failed nor was mended
   pub own : failed_at new place ≡ failed_at old place
   -- every other one hears its posts
-  pub others : (at : ℕ) → IsFalse (eqb at place) → IsPlaced old at → Hears classes from (posts at) (session_at old at) (session_at new at)
+  pub others : (at : ℕ) → IsFalse (eqb at place) → IsPlaced old at → ReceivesPosts classes from (posts at) (session_at old at) (session_at new at)
   -- where none is said to have failed, none has
   pub all : IsFalse after → IsFalse before
-      × ((at : ℕ) → IsFalse (eqb at place) → IsPlaced old at → session_at new at ≡ heard classes from (posts at) (session_at old at))
+      × ((at : ℕ) → IsFalse (eqb at place) → IsPlaced old at → session_at new at ≡ after_posts classes from (posts at) (session_at old at))
   -- and where one is said to have, one has
   pub one : IsFalse before → IsTrue after → (at : ℕ) × IsFalse (eqb at place) × IsPlaced old at × IsFalse (failed_at old at) × IsTrue (failed_at new at)
 

@@ -12,5 +12,5 @@ abbrev pub fresh : Session
 fresh = record { state = empty; failed = false }
 
 -- a session that has failed for want of memory
-abbrev pub gone : Session
-gone = record { state = empty; failed = true }
+abbrev pub failed_session : Session
+failed_session = record { state = empty; failed = true }

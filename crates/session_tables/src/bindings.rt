@@ -13,9 +13,8 @@ ghost use Rattle.session_tables.specs.Tables.{ChangesOnly, IsPlaced, state_at, w
 
 use crate::tables::Tables;
 use binding_graph::Change;
-use plain_types::Items;
+use plain_types::{Code, Fault, Items};
 use property_store::Property;
-use plain_types::{Code, Fault};
 use std::alloc::AllocError;
 use term_core::Expr;
 
@@ -32,7 +31,8 @@ impl Tables {
         }
     }
 
-    /// The same of one that may be bound, and be read in a binding.
+    /// Returns the property of this name that the class of an object declares and that may be bound, and be
+    /// read in a binding.
     pub fn bindable_property(&self, place: usize, object: u32, name: &str) -> Result<Property, Code>
         requires { IsPlaced self.now place }
         ensures { result ≡ bindable_property (state_at self.now place) object name.now }

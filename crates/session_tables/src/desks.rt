@@ -1,4 +1,4 @@
-//! What sessions publish and join, and what ties an object to others.
+//! Sessions publish and join, and objects have ties to others.
 ghost use Rattle.std.specs.Prelude.{◌≡◌, IfOk, OnOk, OnErr};
 ghost use Rattle.std.specs.List.{list_any};
 ghost use Rattle.plain_types.specs.Answers.{RefusedBy};
@@ -9,9 +9,8 @@ ghost use Rattle.session_tables.specs.Joining.{AreJoiners};
 ghost use Rattle.session_tables.specs.Tables.{IsPlaced, state_at, with_state};
 
 use crate::tables::Tables;
-use plain_types::Text;
+use plain_types::{Fault, Text};
 use publish_board::{Join, Publication};
-use plain_types::Fault;
 use signature_core::Kind;
 use std::alloc::{AllocError, Global};
 

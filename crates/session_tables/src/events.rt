@@ -3,21 +3,21 @@ ghost use Rattle.std.specs.Prelude.{◌≡◌, IfOk, OnOk, OnErr};
 ghost use Rattle.std.specs.List.{slice_get};
 ghost use Rattle.std.specs.Result.{result_err};
 ghost use Rattle.event_queue.specs.Queue.{has_room};
-ghost use Rattle.session_model.specs.Deeds.{is_blocked};
+ghost use Rattle.session_model.specs.Operations.{is_blocked};
 ghost use Rattle.session_model.specs.Events.{status};
-ghost use Rattle.session_model.specs.Posting.{post_refusal, spin_after};
+ghost use Rattle.session_model.specs.Posting.{enqueue_refusal, spin_after};
 ghost use Rattle.session_model.specs.State.{with_blocking, with_call, with_event, without_first};
 ghost use Rattle.session_tables.specs.Tables.{IsPlaced, state_at, with_state};
 
 use crate::tables::Tables;
 use event_queue::{EVENTS, Event, QueuedCall};
 use plain_types::Code;
-use std::alloc::AllocError;
 use session_model::{Spin, Status};
+use std::alloc::AllocError;
 
 impl Tables {
     /// Posts an event, and returns whether there was room for it.
-    pub fn post(&mut self, place: usize, event: Event) -> Result<bool, AllocError>
+    pub fn enqueue(&mut self, place: usize, event: Event) -> Result<bool, AllocError>
         requires { IsPlaced self.old place }
         ensures room { IfOk result (λ answer. answer ≡ has_room (state_at self.old place).queue) }
         ensures ok { OnOk result (self.new ≡ with_state self.old place
@@ -28,7 +28,7 @@ impl Tables {
     }
 
     /// Posts a call, or counts it as lost where there is no room for it.
-    pub fn post_call(&mut self, place: usize, call: QueuedCall) -> Result<(), AllocError>
+    pub fn enqueue_call(&mut self, place: usize, call: QueuedCall) -> Result<(), AllocError>
         requires { IsPlaced self.old place }
         ensures ok { OnOk result (self.new ≡ with_state self.old place
             (with_call (state_at self.old place) call)) }
@@ -43,7 +43,7 @@ impl Tables {
     /// Refuses to post where there is no room.
     pub fn check_room(&self, place: usize) -> Result<(), Code>
         requires { IsPlaced self.now place }
-        ensures { result_err result ≡ post_refusal (state_at self.now place).queue }
+        ensures { result_err result ≡ enqueue_refusal (state_at self.now place).queue }
     {
         if self.queues.counts(place).queued < EVENTS {
             Ok(())
@@ -76,7 +76,7 @@ impl Tables {
         requires { IsPlaced self.now place }
         ensures { result ≡ status (state_at self.now place) }
     {
-        self.forests.sound(place);
+        self.forests.law_sound(place);
         let events = self.queues.counts(place);
         let desk = self.desks.counts(place);
         Status {
@@ -92,7 +92,7 @@ impl Tables {
         }
     }
 
-    /// What came of taking this many events.
+    /// Returns the answer to a command that has taken this many events.
     pub fn spun(&self, place: usize, taken: u32) -> Spin
         requires { IsPlaced self.now place }
         ensures { result ≡ spin_after taken (state_at self.now place).queue }

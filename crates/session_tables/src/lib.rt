@@ -13,7 +13,7 @@ mod signals;
 mod tables;
 mod trees;
 
-pub use bound_stores::Changed;
+pub use bound_stores::WriteChanges;
 pub use named::NamedWrite;
 pub use posts::Sending;
 pub use tables::Tables;

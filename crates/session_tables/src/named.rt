@@ -1,12 +1,15 @@
-//! What came of a write to the property of a name.
-use bound_stores::Changed;
+//! A write may name its property.
+use bound_stores::WriteChanges;
 use variant_value::Value;
 
-/// What came of a write to the property of a name.
+/// A write to the property of a name has changed one of these.
 #[derive(Drop)]
 pub enum NamedWrite {
     /// The class of the object declares it: its number, and what has changed.
-    Declared { number: usize, changed: Changed },
+    Declared {
+        number: usize,
+        changed: WriteChanges,
+    },
     /// The class declares none of this name, and nothing was written: the value.
     Undeclared(Value),
 }

@@ -7,19 +7,18 @@ ghost use Rattle.object_tree.specs.Table.{forest_at};
 ghost use Rattle.publish_board.specs.Rows.{listens, publishes};
 ghost use Rattle.publish_board.specs.Table.{desk_at};
 ghost use Rattle.session_model.specs.Arriving.{is_matched, kinds_of, posts_by, reached, reached_by, with_call};
-ghost use Rattle.session_tables.specs.Reaching.{FailsBy, Reaches, ReachesBy, heard, only_at, post_at, post_in, posts_at, takes};
+ghost use Rattle.session_tables.specs.Reaching.{FailsBy, Reaches, ReachesBy, after_posts, only_at, post_at, post_in, posts_at, takes};
 ghost use Rattle.session_tables.specs.Tables.{ChangesOnly, IsPlaced, session_at, state_at};
 
 use crate::tables::Tables;
 use class_table::ClassTable;
-use plain_types::Callee;
 use event_queue::{Event, Priority, QueuedCall, Queues};
 use object_tree::Forests;
-use plain_types::Text;
+use plain_types::{Callee, Text};
 use publish_board::{Join, Publication};
+use session_model::Post;
 use signature_core::{Kind, fits};
 use std::alloc::{AllocError, Global};
-use session_model::Post;
 use variant_value::{Args, Value};
 
 /// A signal that a session sends: where the session is, its name, the object and its signal, and the
@@ -124,7 +123,7 @@ impl Tables {
         post: &Post,
     ) -> Result<(), AllocError>
         requires { IsPlaced self.old place }
-        ensures ok { OnOk result (session_at self.new place ≡ heard classes.now from.now (post.now ∷ []) (session_at self.old place)) }
+        ensures ok { OnOk result (session_at self.new place ≡ after_posts classes.now from.now (post.now ∷ []) (session_at self.old place)) }
         ensures err { OnErr result (FailsBy from.now (post.now ∷ []) (session_at self.old place) (session_at self.new place)) }
         ensures only { ChangesOnly place self.old self.new }
     {
@@ -218,7 +217,7 @@ fn arrive_by(
         priority: Priority::Normal,
         args: Args::copied(posting.alloc, first(posting.args, wanted))?,
     };
-    post_call(queues, at, call)
+    enqueue_call(queues, at, call)
 }
 
 /// How many arguments the method of a join takes.
@@ -236,7 +235,7 @@ fn wanted_by(forests: &Forests, classes: &ClassTable, at: usize, join: &Join) ->
 }
 
 /// Posts a call, or counts it as lost where there is no room for it.
-fn post_call(queues: &mut Queues, at: usize, call: QueuedCall) -> Result<(), AllocError>
+fn enqueue_call(queues: &mut Queues, at: usize, call: QueuedCall) -> Result<(), AllocError>
     requires { IsPlace queues.old at }
     ensures ok { OnOk result (queues.new ≡ with_queue queues.old at (with_call (queue_at queues.old at) call)) }
     ensures err { OnErr result (queues.new ≡ queues.old) }

@@ -12,10 +12,9 @@ ghost use Rattle.session_tables.specs.Tables.{ChangesOnly, IsPlaced, state_at, w
 
 use crate::named::NamedWrite;
 use crate::tables::Tables;
-use bound_stores::Changed;
-use plain_types::Text;
+use bound_stores::WriteChanges;
+use plain_types::{Fault, Text};
 use property_store::{Property, Unwritten};
-use plain_types::Fault;
 use signature_core::Kind;
 use std::alloc::AllocError;
 use variant_value::Value;
@@ -50,7 +49,7 @@ impl Tables {
         object: u32,
         number: usize,
         value: Value,
-    ) -> Result<Changed, AllocError>
+    ) -> Result<WriteChanges, AllocError>
         requires place { IsPlaced self.old place }
         requires fits { fitting (state_at self.old place).store object number value ≡ Some value }
         requires short { IsShort value }

@@ -46,7 +46,7 @@ impl Tables {
     }
 
     /// Breaks a single-shot connection, as its callee is about to be called; another one stays.
-    pub fn shoot(&mut self, place: usize, connection: &Connection)
+    pub fn break_single_shot(&mut self, place: usize, connection: &Connection)
         requires { IsPlaced self.old place }
         ensures { self.new ≡ with_state self.old place (if connection.now.single
             then without_connections (state_at self.old place) (has_number connection.now.number)

@@ -1,6 +1,6 @@
 //! The tables, and the places in them.
 ghost use Rattle.std.specs.Prelude.{◌≡◌, [], OnOk, length};
-ghost use Rattle.session_tables.specs.Session.{fresh, gone};
+ghost use Rattle.session_tables.specs.Session.{fresh, failed_session};
 ghost use Rattle.session_tables.specs.Tables.{AreSame, HasRoom, IsPlaced, failed_at, opened, with_session, with_state};
 ghost use Rattle.session_model.specs.State.{empty};
 
@@ -8,14 +8,15 @@ use bound_stores::BoundStores;
 use connection_list::Connections;
 use event_queue::Queues;
 use object_tree::Forests;
-use shared_rows::Places;
 use plain_types::Items;
 use property_store::Field;
 use publish_board::Board;
+use shared_rows::Places;
 use std::alloc::{AllocError, Global};
 use std::hash::RandomState;
 
-/// What a server keeps of each session. What is asked of one table alone is asked of the table itself.
+/// The tables keep all that a server has of each session. A question about one table alone is asked of the
+/// table itself.
 pub struct Tables {
     pub forests: Forests,
     pub stores: BoundStores,
@@ -106,7 +107,7 @@ impl Tables {
     /// Lets a session fail.
     pub fn give_up(&mut self, place: usize)
         requires { IsPlaced self.old place }
-        ensures { self.new ≡ with_session self.old place gone }
+        ensures { self.new ≡ with_session self.old place failed_session }
     {
         self.clear(place);
         *self.failed.get_mut(place) = true;

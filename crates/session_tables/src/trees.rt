@@ -16,11 +16,10 @@ ghost use Rattle.session_tables.specs.Tables.{AreLaid, AreStored, ChangesOnly, I
 use crate::tables::Tables;
 use binding_graph::Change;
 use class_table::ClassTable;
-use plain_types::{Items, Text};
+use plain_types::{Code, Fault, Items, Text};
 use property_store::Property;
-use plain_types::{Code, Fault};
-use std::alloc::AllocError;
 use session_model::OBJECT_NAME;
+use std::alloc::AllocError;
 
 impl Tables {
     /// Makes an object below a parent, or a root, whose properties have their defaults, and returns its
@@ -36,7 +35,7 @@ impl Tables {
         ensures refused { OnRefused result (self.new ≡ self.old) }
         ensures only { ChangesOnly place self.old self.new }
     {
-        self.forests.sound(place);
+        self.forests.law_sound(place);
         let number = self.forests.add(place, parent, class)?;
         self.stores.add_object(place, number, class)?;
         Ok(number)

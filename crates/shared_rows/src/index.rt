@@ -2,8 +2,8 @@
 ghost use Rattle.std.specs.Prelude.{◌-◌, ◌<◌, ◌≤◌, IfErr, IfOk, IfSome, IfNone};
 ghost use Rattle.shared_rows.specs.Index.{IsAt, IsCountBelow, IsRisingIndex, IsWindow, HasNot};
 
-use crate::number::Number;
 use crate::GapBuffer;
+use crate::number::Number;
 
 /// A row, and the place that it belongs to.
 #[derive(Drop)]

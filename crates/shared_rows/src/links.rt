@@ -73,7 +73,7 @@ impl<K: Ord + Copy> Links<K> {
         Ok(())
     }
 
-    /// The same where there is room, which takes no memory.
+    /// Adds a link where it is not there yet and there is room, which takes no memory.
     pub fn insert_reserved(&mut self, link: K)
         requires { HasRoom self.old }
         ensures { self.new ≡ record self.old { links = with_link K.cmp self.old.links link } }
@@ -170,7 +170,7 @@ fn seat<K: Ord + Copy>(links: &GapBuffer<K>, link: K) -> Result<usize, usize>
     }
 }
 
-/// The same, with the look at the first link.
+/// Finds the position of a link with a look at the first one.
 fn seat_from_front<K: Ord + Copy>(links: &GapBuffer<K>, link: K) -> Result<usize, usize>
     requires { IsInOrder K.cmp links.now.items }
     ensures { IsSeat K.cmp links.now.items link result }
@@ -181,7 +181,7 @@ fn seat_from_front<K: Ord + Copy>(links: &GapBuffer<K>, link: K) -> Result<usize
     }
 }
 
-/// The same, with the look where the last change was, where the next one mostly is.
+/// Finds the position of a link with a look where the last change was, where the next one mostly is.
 fn seat_near<K: Ord + Copy>(links: &GapBuffer<K>, link: K) -> Result<usize, usize>
     requires { IsInOrder K.cmp links.now.items }
     ensures { IsSeat K.cmp links.now.items link result }
@@ -197,7 +197,7 @@ fn seat_near<K: Ord + Copy>(links: &GapBuffer<K>, link: K) -> Result<usize, usiz
     }
 }
 
-/// The same, by a search of all of them.
+/// Finds the position of a link by a search of all of them.
 fn seat_by_halves<K: Ord + Copy>(links: &GapBuffer<K>, link: K) -> Result<usize, usize>
     requires { IsInOrder K.cmp links.now.items }
     ensures { IsSeat K.cmp links.now.items link result }

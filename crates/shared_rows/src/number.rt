@@ -1,4 +1,4 @@
-//! What rows are known by.
+//! Rows are known by numbers.
 ghost use Rattle.std.specs.Prelude.{◌≡◌, ℕ};
 
 /// A type of numbers: as small as it is, an index of rows keeps one for each row.

@@ -8,8 +8,7 @@ ghost use Rattle.shared_rows.specs.Rows.{IsSound, added, inserted, key_of, row_u
 
 use crate::index::{Entry, Slot, count_below, position};
 use crate::number::{Number, Numbered};
-use crate::GapBuffer;
-use crate::Places;
+use crate::{GapBuffer, Places};
 use slab::Slab;
 use std::alloc::{AllocError, Global};
 use std::marker::Model;

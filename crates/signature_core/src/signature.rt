@@ -5,14 +5,13 @@ ghost use Rattle.signature_core.specs.Kinds.{fits, kind_name};
 
 use crate::kind::Kind;
 use crate::reading::signature;
-use plain_types::{Items, Text};
-use plain_types::{Code, Fault};
+use plain_types::{Code, Fault, Items, Text};
 use std::alloc::{AllocError, Global};
 
 /// The most parameters that a signature may have: a limit of our own.
 pub const PARAMS: usize = 10;
 
-/// What tells a method from the others of its class. `normalise` makes one of a text.
+/// A signature tells a method from the others of its class. `normalise` makes one of a text.
 pub struct Signature {
     /// The method's name.
     pub name: Text,

@@ -1,4 +1,4 @@
-//! What is known of a functor besides its closure.
+//! A functor has these parts besides its closure.
 ghost use Rattle.std.specs.Prelude.{◌≡◌, IfOk};
 
 use plain_types::{Items, Text};
@@ -9,15 +9,15 @@ use term_evaluation::copied_body;
 
 /// A functor as it is shown: plain data, by which two functors can be compared.
 pub struct Functor {
-    /// What a connection names it by, and its calls are printed with.
+    /// A connection names the functor by this, and its calls are printed with it.
     pub name: Text,
     /// The kinds of its parameters. A signal may be connected to it whose first parameters are of these
     /// kinds.
     pub params: Items<Kind>,
-    /// What it does, as a slot's body says what a slot does; `self` is its context object, and `state` is
-    /// what its connection keeps.
+    /// The body says what the functor does, as a slot's body does for a slot; `self` is its context object, and
+    /// `state` is the number that its connection keeps.
     pub body: Body,
-    /// What gives its connection the next state, over the state and the arguments.
+    /// This expression gives its connection the next state, over the state and the arguments.
     pub next: Expr,
 }
 

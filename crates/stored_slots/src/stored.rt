@@ -38,7 +38,7 @@ impl StoredFunctor {
         name == self.functor.name.as_str()
     }
 
-    /// What the closure answers.
+    /// Returns the answer of the closure.
     pub(crate) fn answer(
         &self,
         alloc: Global,

@@ -5,8 +5,7 @@ ghost use Rattle.stored_slots.specs.declared.limit.TheConstants.{FUNCTORS};
 use crate::functor::Functor;
 use crate::limit::FUNCTORS;
 use crate::stored::{Closure, StoredFunctor};
-use plain_types::{Items, Text};
-use plain_types::{Code, Fault};
+use plain_types::{Code, Fault, Items, Text};
 use signature_core::Kind;
 use std::alloc::{AllocError, Global};
 use term_core::{Action, Body, Expr};
@@ -124,9 +123,9 @@ impl Functors {
         Some(index as u32)
     }
 
-    /// What the functor at this index answers over a state to these arguments: the actions of its body
-    /// with both put in, and the state that follows. That is known of its closure by what `add` was
-    /// promised, and by nothing else. An error is want of memory, the closure's own among it.
+    /// Calls the functor at this index over a state with these arguments: returns the actions of its body with
+    /// both put in, and the state that follows. This is known of its closure by what `add` was promised, and by
+    /// nothing else. An error is want of memory, the closure's own among it.
     pub fn call(
         &self,
         index: u32,

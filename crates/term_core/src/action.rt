@@ -6,8 +6,7 @@ ghost use Rattle.term_core.specs.Act.{single_action, when, acts_of, count, count
 
 use crate::expr::Expr;
 use crate::target::Target;
-use plain_types::ConnectionType;
-use plain_types::{Items, Text};
+use plain_types::{ConnectionType, Items, Text};
 use signature_core::Signature;
 use std::marker::Model;
 
@@ -122,7 +121,7 @@ pub struct Action {
     pub step: Step,
 }
 
-/// What an action is: a single one, or a choice between two bodies.
+/// An action is a single one, or a choice between two bodies.
 #[cycle(action)]
 #[derive(Drop)]
 pub enum Step {

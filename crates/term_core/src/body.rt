@@ -10,12 +10,11 @@ use crate::forms::expression;
 use crate::json::{BAD, has_only};
 use crate::limits::ACTIONS;
 use crate::scope::Scope;
-use plain_types::Items;
-use plain_types::{Code, Fault};
+use plain_types::{Code, Fault, Items};
 use serde_json::Value as Json;
 use std::alloc::Global;
 
-/// What a slot or a functor does when it is run: its actions, one after another.
+/// A body lists the actions that a slot or a functor does when it is run, one after another.
 pub struct Body {
     /// How many parameters it has.
     pub params: usize,

@@ -11,8 +11,7 @@ use crate::limits::NODES;
 use crate::operator::Operator;
 use crate::scope::Scope;
 use crate::target::Target;
-use plain_types::Text;
-use plain_types::{Code, Fault};
+use plain_types::{Code, Fault, Text};
 use std::alloc::{AllocError, Global};
 use std::marker::Model;
 use variant_value::{TEXT_BYTES, Value};
@@ -76,9 +75,9 @@ impl Expr {
         Ok(expr)
     }
 
-    /// What gives a functor with `params` parameters its next state, over its state and its arguments.
-    /// JSON that has none of the forms is `BadValue`; so are properties, and an argument beyond the
-    /// parameters. More than [`NODES`] forms, or a text of more than `TEXT_BYTES`, is `Limit`, but only
+    /// Reads the expression that gives a functor with `params` parameters its next state, over its state and
+    /// its arguments. JSON that has none of the forms is `BadValue`; so are properties, and an argument beyond
+    /// the parameters. More than [`NODES`] forms, or a text of more than `TEXT_BYTES`, is `Limit`, but only
     /// where nothing is `BadValue`.
     pub fn next_from_json(
         alloc: Global,

@@ -7,8 +7,7 @@ ghost use Rattle.plain_types.specs.Answers.{Answers};
 ghost use Rattle.term_core.specs.Json.{has_only, name_in, natural_in, constant_in, target_in, child_target};
 
 use crate::target::Target;
-use plain_types::{Text, is_name};
-use plain_types::{Code, Fault};
+use plain_types::{Code, Fault, Text, is_name};
 use serde_json::{Map, Value as Json};
 use std::alloc::Global;
 use variant_value::Value;

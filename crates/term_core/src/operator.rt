@@ -2,7 +2,7 @@
 ghost use Rattle.std.specs.Prelude.{◌≡◌};
 ghost use Rattle.term_core.specs.Forms.{form_named};
 
-/// What is made of two operands.
+/// An operator makes a value of two operands.
 #[derive(Clone, Copy)]
 pub enum Operator {
     /// The sum of two numbers.

@@ -12,7 +12,7 @@ pub(crate) enum Scope {
     Slot(usize),
     /// The body of a functor with so many parameters.
     Functor(usize),
-    /// What gives a functor with so many parameters its next state.
+    /// The expression gives a functor with this many parameters its next state.
     Next(usize),
 }
 

@@ -8,18 +8,17 @@ ghost use Rattle.term_evaluation.specs.Outcomes.{Answer, Ends};
 
 use crate::halt::Halt;
 use crate::operations::{apply, truth};
-use plain_types::Text;
-use plain_types::{Code, Fault};
+use plain_types::{Code, Fault, Text};
 use std::alloc::Global;
 use term_core::{Expr, Node, Target};
 use variant_value::Value;
 
-/// What reads the properties that an expression names.
+/// A reader reads the properties that an expression names.
 pub trait Reads {
-    /// What the reader may answer beside the codes.
+    /// The reader may answer these besides the codes.
     type Own: Drop;
 
-    /// What reading a property of an object gives: its value, or why it has none.
+    /// Reading a property of an object gives its value, or why it has none.
     ghost reads: { Self → Target → List ℕ → Answer Self.Own };
 
     /// The value of a property of an object.

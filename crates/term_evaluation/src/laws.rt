@@ -1,5 +1,5 @@
-//! What holds of evaluation and of unfolding. There is nothing to run in these functions: the clause of each
-//! is a theorem.
+//! These laws hold of evaluation and of unfolding. There is nothing to run in these functions: the clause of
+//! each is a theorem.
 ghost use Rattle.term_evaluation.specs.Laws.{EvaluatesInPlace, FiniteReadsSuffice, MetSuffice, ReadsSuffice, StateKeepsActions};
 ghost use Rattle.term_evaluation.specs.Laws.{StateKeepsLimits, StateTakesNoArgument, UnfoldingKeepsActions, UnfoldingKeepsLimits};
 ghost use Rattle.term_evaluation.specs.Laws.{UnfoldingKeepsNodes, UnfoldingLeavesNoArgument, ValuesAreShort};
@@ -16,9 +16,9 @@ pub fn met_suffice<O>()
     ensures { MetSuffice O }
 {}
 
-/// So a reader may be any finite map that has the properties of the expression. A property that the map
-/// lacks cannot be read: it is `NoSuchProperty` where the map has another of that object, and
-/// `NoSuchObject` where it has none.
+/// A reader may be any finite map that has the properties of the expression. A property that the map lacks
+/// cannot be read: it is `NoSuchProperty` where the map has another of that object, and `NoSuchObject` where it
+/// has none.
 pub fn finite_reads_suffice<O>()
     ensures { FiniteReadsSuffice O }
 {}
@@ -49,7 +49,8 @@ pub fn unfolding_keeps_limits()
     ensures limits { UnfoldingKeepsLimits }
 {}
 
-/// So does a body with a number in the place of the state, and it takes no argument that it did not take.
+/// A body with a number in the place of the state keeps to the limits as the body does, and it takes no
+/// argument that it did not take.
 pub fn state_keeps_limits()
     ensures arguments { StateTakesNoArgument }
     ensures actions { StateKeepsActions }

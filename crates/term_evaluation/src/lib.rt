@@ -1,5 +1,5 @@
-//! What expressions and the bodies of slots mean: the properties that an expression reads, its value over
-//! what is read, and a body with its arguments put in.
+//! This crate gives expressions and the bodies of slots their meaning: the properties that an expression reads,
+//! its value over what is read, and a body with its arguments put in.
 #![tactic(auto)]
 
 mod both;

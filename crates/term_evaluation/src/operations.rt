@@ -1,4 +1,4 @@
-//! What operators make of two values.
+//! Operators make a value of two.
 ghost use Rattle.std.specs.Prelude.{◌≡◌, ◌≤ℤ◌, ◌+ℤ◌, ◌-ℤ◌, ◌++◌, ◌^◌, ◌-◌, pos, neg_ℤ, IfSome, bytes_eq, int_lt, option_map, option_and_then};
 ghost use Rattle.std.specs.Bool.{beq};
 ghost use Rattle.std.specs.Ordering.{int_eq};
@@ -8,14 +8,13 @@ ghost use Rattle.signature_core.specs.declared.kind.Kind.TheVariants as kind;
 ghost use Rattle.term_evaluation.specs.Stating.{state_in, state_value};
 ghost use Rattle.term_evaluation.specs.Operations.{of_two, are_equal, text_value, applied};
 
-use plain_types::Text;
-use plain_types::{Code, Fault};
+use plain_types::{Code, Fault, Text};
 use std::alloc::Global;
 use term_core::Operator;
 use variant_value::{TEXT_BYTES, Value};
 
-/// What the operator makes of its operands' values. Operands of another sort, and a number that no kind
-/// holds, are `BadValue`; a text of more than `TEXT_BYTES` is `Limit`.
+/// Applies the operator to its operands' values. Operands of another sort, and a number that no kind holds, are
+/// `BadValue`; a text of more than `TEXT_BYTES` is `Limit`.
 pub fn apply(alloc: Global, operator: Operator, a: &Value, b: &Value) -> Result<Value, Fault>
     ensures { Answers result (applied operator a.now b.now) }
 {

@@ -9,8 +9,7 @@ ghost use Rattle.term_evaluation.specs.Unfolding.{act_by, effect_by, unfolded_bo
 
 use crate::both::both;
 use crate::operations::state_value;
-use plain_types::ConnectionType;
-use plain_types::{Items, Text};
+use plain_types::{ConnectionType, Items, Text};
 use signature_core::Signature;
 use std::alloc::{AllocError, Global};
 use term_core::{Action, Body, Expr, Node, Operator, SingleAction, Step, Target};

@@ -1,15 +1,14 @@
-//! What three sessions publish and join, call by call, and a session that does as much of both as it may.
+//! Three sessions publish and join, call by call, and a session does as much of both as it may.
 ghost use Rattle.std.specs.Prelude.{◌≡◌, ◌<◌, length};
 
-use plain_types::{Items, Text};
+use plain_types::{Code, Fault, Items, Text};
 use publish_board::{Board, JOINS, PUBLICATIONS, Publication};
-use plain_types::{Code, Fault};
 use signature_core::Kind;
 use std::alloc::{AllocError, Global};
 use std::hash::RandomState;
 use std::test::Fail;
 
-/// What is asked of a board.
+/// A test asks this of a board.
 #[derive(Clone, Copy)]
 enum Asked {
     /// A name, an object and its signal; 0, or the number of the code.
@@ -347,7 +346,7 @@ fn joins_are_found_by_the_session_that_they_name(rt: HostRuntime) -> Result<(), 
     Ok(())
 }
 
-/// What a place answers where it joins and publishes as often as it may, always with object 5.
+/// A place that joins and publishes as often as it may answers these, always with object 5.
 const FULL: [Case; 10] = [
     (0, Counts, 11264),
     (0, Join("b", "x", 5, 1, 2), 14),

@@ -5,7 +5,7 @@ use term_evaluation::{
     unfolding_leaves_no_argument, values_are_short,
 };
 
-/// What the first action sets, sends first or tests.
+/// Returns the expression that the first action sets, sends first or tests.
 pub(crate) fn first_value(actions: &[Action]) -> Option<&Expr> {
     match &actions.first()?.step {
         Step::Single(SingleAction::Set { value, .. }) => Some(value),

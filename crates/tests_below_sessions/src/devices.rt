@@ -4,7 +4,7 @@ use std::alloc::Global;
 use std::io::ErrorKind;
 use wire_format::{Counted, Failed, Sink, Source, write_all};
 
-/// What a call of a device comes to, and how often the device has failed then.
+/// A call of a device answers its result, and how often the device has failed then.
 type Answer = (Result<usize, Failed>, u64);
 
 /// Whether a slice gives its bytes, two of them a call, and then none.

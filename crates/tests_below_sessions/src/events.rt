@@ -1,18 +1,18 @@
 //! The queues of two places, call by call, and a queue that is full.
 ghost use Rattle.std.specs.Prelude.{◌≡◌, ◌<◌, length};
 
-use plain_types::Callee;
 use event_queue::{EVENTS, Event, Priority, QueuedCall, Queues};
+use plain_types::Callee;
 use std::alloc::{AllocError, Global};
 use std::test::Fail;
 use variant_value::Args;
 
-/// What is asked of a table.
+/// A test asks this of a table.
 #[derive(Clone, Copy)]
 enum Asked {
     /// A call of method 7 of a receiver, for a sender.
     Call(u32, u32),
-    /// The same with a priority.
+    /// A call for an object is put into the queue with a priority.
     CallOf(Priority, u32, u32),
     Deletion(u32),
     /// The event, as `told` has it.
@@ -49,8 +49,8 @@ impl Bench {
     fn ask(&mut self, place: usize, asked: Asked) -> Result<u64, AllocError> {
         let place = place.min(1);
         match asked {
-            Call(object, sender) => self.post_call(place, Normal, object, sender),
-            CallOf(priority, object, sender) => self.post_call(place, priority, object, sender),
+            Call(object, sender) => self.enqueue_call(place, Normal, object, sender),
+            CallOf(priority, object, sender) => self.enqueue_call(place, priority, object, sender),
             Deletion(object) => Ok(self.table.post(place, Event::Deletion(object))? as u64),
             Take => Ok(told(self.table.take(place))),
             DropObject(object) => Ok(self.drop_object(place, object)),
@@ -81,7 +81,7 @@ impl Bench {
         self.answers(&FULL)
     }
 
-    fn post_call(
+    fn enqueue_call(
         &mut self,
         place: usize,
         priority: Priority,
@@ -247,7 +247,7 @@ fn events_of_a_higher_priority_are_taken_first(rt: HostRuntime) -> Result<(), Fa
     Ok(())
 }
 
-/// What a place answers where it holds as many events as it may, all of object 5.
+/// A place that holds as many events as it may, all of object 5, answers these.
 const FULL: [Case; 9] = [
     (0, Deletion(5), 0),
     (1, Deletion(5), 1),

@@ -1,8 +1,7 @@
 //! Expressions: how they are read, what they read, and their values.
 use crate::bodies::{branch, first_value};
 use crate::cases::{cases, part, shown, word};
-use plain_types::Text;
-use plain_types::{Code, Fault};
+use plain_types::{Code, Fault, Text};
 use serde_json::Value as Json;
 use std::alloc::{AllocError, Global};
 use std::test::Fail;
@@ -139,7 +138,7 @@ const BINDINGS: &str = r#"[
 [{"prop":"x","of":"sender"}, "E22"],
 [{"prop":"x","of":{"child":"c"}}, "E22"]]"#;
 
-/// What an evaluation ends with: a value with its kind, or the code of a fault.
+/// Writes how an evaluation ends: by a value with its kind, or by the code of a fault.
 fn ending<O: Drop>(alloc: Global, end: Result<Value, Halt<O>>) -> Result<String, AllocError> {
     match end {
         Ok(value) => shown(alloc, &value),
@@ -149,7 +148,7 @@ fn ending<O: Drop>(alloc: Global, end: Result<Value, Halt<O>>) -> Result<String,
     }
 }
 
-/// What the first value of actions ends with.
+/// Writes how the evaluation of the actions' first value ends.
 fn value_of(alloc: Global, actions: &[Action], args: &[Value]) -> Result<String, AllocError> {
     match first_value(actions) {
         Some(expr) => ending(alloc, evaluate(alloc, expr, args, &Cell)),
@@ -261,7 +260,7 @@ fn arguments_are_put_into_branches(rt: HostRuntime) -> Result<(), Fail> {
     Ok(())
 }
 
-/// What a binding ends with, or the code by which it is refused.
+/// Writes how a binding ends, or the code by which it is refused.
 fn bound(alloc: Global, json: &Json) -> Result<String, AllocError> {
     match Expr::from_json(alloc, json) {
         Ok(expr) => ending(alloc, evaluate(alloc, &expr.copy(alloc)?, &[], &NoObjects)),
@@ -305,7 +304,7 @@ fn sums(alloc: Global, count: usize, inner: &str) -> Result<Json, AllocError> {
     Json::from_str(alloc, &text).map_err(|_| AllocError)
 }
 
-/// So many sums, what stands in the innermost, and what they end with: 64 forms, 65, 65 of which one is
+/// Each case has this many sums, the innermost operand, and how they end: 64 forms, 65, 65 of which one is
 /// none, and as deep as the reader of JSON goes.
 const SUMS: [(usize, &str, &str); 4] = [
     (

@@ -1,5 +1,5 @@
-//! What no clause of gap buffers says: that calls succeed where memory is found, that a gap takes no more than two
-//! numbers, and that a long run of changes goes as on a plain list.
+//! These tests look at what no clause of gap buffers says: that calls succeed where memory is found, that a gap
+//! takes no more than two numbers, and that a long run of changes goes as on a plain list.
 use shared_rows::GapBuffer;
 use std::mem::size_of;
 use std::test::Fail;

@@ -1,13 +1,12 @@
-//! What bindings and groups of two places show and tell, call by call.
+//! These tests look at what bindings and groups of two places show and tell, call by call.
 ghost use Rattle.std.specs.Prelude.{◌≡◌, ◌+◌, ◌<◌, [], OnOk, length};
 ghost use Rattle.binding_graph.specs.Step.{InStep};
 ghost use Rattle.tests_of_bindings.specs.Opened.{AreTwo};
 
-use binding_graph::{Bindings, Change, Message, openings, steps};
+use binding_graph::{Bindings, Change, ChangeKind, law_openings, law_steps};
 use binding_values::{BindingError, is_bindable};
-use plain_types::{Items, Text};
+use plain_types::{Code, Fault, Items, Text};
 use property_store::{Field, Property, Stores};
-use plain_types::{Code, Fault};
 use signature_core::Kind;
 use std::alloc::{AllocError, Global};
 use std::marker::Model;
@@ -15,7 +14,7 @@ use std::test::Fail;
 use term_core::Expr;
 use variant_value::Value;
 
-/// What is asked of an object's property.
+/// A test asks this of an object's property.
 #[derive(Clone, Copy)]
 enum Asked {
     /// Whether it is a change.
@@ -89,7 +88,7 @@ fn open_place(stores: &mut Stores, bindings: &mut Bindings) -> Result<(), AllocE
     ensures stores { OnOk result (length stores.new.shelves.table.places ≡ length stores.old.shelves.table.places + 1) }
     ensures graphs { OnOk result (length bindings.new.graphs.places ≡ length bindings.old.graphs.places + 1) }
 {
-    openings();
+    law_openings();
     stores.ready()?;
     bindings.ready()?;
     bindings.open();
@@ -109,7 +108,7 @@ fn add(
     ensures step { InStep stores.new bindings.now }
     ensures places { length stores.new.shelves.table.places ≡ length stores.old.shelves.table.places }
 {
-    steps();
+    law_steps();
     if stores.fields(place, object).is_some() {
         return Ok(());
     }
@@ -166,7 +165,7 @@ impl Bench {
     fn write(&mut self, place: usize, at: Property, value: i32) -> u64
         requires { place < 2 }
     {
-        steps();
+        law_steps();
         let change = self
             .stores
             .write(place, at.object, at.number, Value::Int(value));
@@ -275,8 +274,8 @@ fn digit_behind(digits: u64, digit: u64) -> u64 {
 /// A change behind others.
 fn behind(digits: u64, change: &Change) -> u64 {
     let (kind, digit) = match &change.told {
-        Message::Error(error) => (1, digit_of(*error)),
-        Message::Value(value) => (2, told(value)),
+        ChangeKind::Error(error) => (1, digit_of(*error)),
+        ChangeKind::Value(value) => (2, told(value)),
     };
     let at = change.at;
     let digits = digit_behind(digit_behind(digits, kind), at.object as u64);
@@ -449,7 +448,7 @@ const EVALUATED: &[Case] = &[
 const TURN: &str =
     r#"{"if":[{"<":[{"prop":"x","of":2},{"const":5}]},{"prop":"y","of":2},{"prop":"y"}]}"#;
 
-/// What is evaluated is what was read last.
+/// The property that was read last is evaluated.
 const TURNED: &[Case] = &[
     (0, Bind(1, 0, TURN), 0),
     (0, Settle(1, 0), 0),

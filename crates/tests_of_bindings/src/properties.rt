@@ -1,15 +1,14 @@
 //! Tests of the properties of objects.
 ghost use Rattle.std.specs.Prelude.{◌≡◌, ◌<◌, [], OnOk, length};
 
-use plain_types::{Items, Text};
+use plain_types::{Fault, Items, Text};
 use property_store::{Field, Stores, Written};
-use plain_types::Fault;
 use signature_core::Kind;
 use std::alloc::{AllocError, Global};
 use std::test::Fail;
 use variant_value::Value;
 
-/// What is asked about object 3.
+/// A test asks this about object 3.
 #[derive(Clone, Copy)]
 enum Asked {
     /// Whether it is a change, or 2 where it is refused.
@@ -26,7 +25,7 @@ enum Asked {
     /// How many dynamic properties it has.
     DynamicNames,
     Next(u32),
-    /// What three calls tell together: 1 for its property 0, 10 for another one, 100 for all.
+    /// Three calls tell this together: 1 for its property 0, 10 for another one, 100 for all.
     TakeWritten,
     HasWritten,
     DropObject,

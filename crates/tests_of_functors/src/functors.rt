@@ -4,9 +4,8 @@ ghost use Rattle.term_core.specs.Term.{state};
 ghost use Rattle.term_evaluation.specs.Stating.{after};
 
 use crate::handing::answers;
-use plain_types::{Items, Text};
 use command_line::kept_state;
-use plain_types::{Code, Fault};
+use plain_types::{Code, Fault, Items, Text};
 use std::alloc::{AllocError, Global};
 use std::test::Fail;
 use stored_slots::{Closure, FUNCTORS, Functors};

@@ -7,8 +7,7 @@ ghost use Rattle.term_evaluation.specs.Stating.{after, with_state};
 ghost use Rattle.term_evaluation.specs.Unfolding.{unfolded_body};
 
 use crate::functors::number_set;
-use plain_types::{Items, Text};
-use plain_types::Fault;
+use plain_types::{Fault, Items, Text};
 use serde_json::Value as Json;
 use signature_core::Kind;
 use std::alloc::{AllocError, Global};

@@ -7,19 +7,19 @@ ghost use Rattle.session_engine.specs.Items.{IsRightItem};
 
 use crate::fakes::hashing;
 use crate::lines::{classes_of, given, text_of};
-use plain_types::{Items, Text};
 use command_line::DEMONSTRATION;
+use plain_types::{Items, Text};
 use server_world::{Entry, Server};
 use session_engine::{Engine, Item};
+use session_model::{Command, Post, Tagged};
 use signature_core::Kind;
 use std::alloc::{AllocError, Global};
 use std::mem::replace;
 use std::test::Fail;
 use stored_slots::Functors;
-use session_model::{Command, Post, Tagged};
 use variant_value::Value;
 
-/// What comes to a session, as a test writes it: a line of its own, or a number that another session posts
+/// A session receives these, as a test writes them: a line of its own, or a number that another session posts
 /// under the name `temp`.
 #[derive(Clone, Copy)]
 enum Coming<'a> {
@@ -89,7 +89,7 @@ fn place_of(engine: &mut Engine, name: &Text) -> Result<usize, AllocError>
     }
 }
 
-/// What a session is told of these on an engine, with ample memory.
+/// Returns what a session is told of these on an engine, with ample memory.
 fn told_by(
     alloc: Global,
     engine: &mut Engine,
@@ -117,7 +117,7 @@ fn told_alone(alloc: Global, name: &str, comings: &[Coming]) -> Result<String, A
     )
 }
 
-/// What comes to a session that joins what `a` publishes, and takes two of three changes of it.
+/// A session that joins what `a` publishes receives these, and takes two of three changes of it.
 const JOINER: [Coming<'static>; 7] = [
     Coming::Own(r#"{"class":"Cell","do":"new","session":"b"}"#),
     Coming::Own(
@@ -229,7 +229,7 @@ const SETTING: &str = r#"{"do":"set","object":1,"property":"x","session":"s@","v
 
 const SPINNING: &str = r#"{"do":"spin","session":"s@"}"#;
 
-/// What each is told last.
+/// Each session is told this last.
 const LAST: &str = r#"{"args":[%],"call":"seen(int)","object":2,"sender":0,"session":"s@"}
 {"reply":{"events":1,"left":0,"lost":0,"mismatched":0},"session":"s@"}
 "#;
@@ -255,7 +255,7 @@ fn before(session: u16) -> u16 {
     }
 }
 
-/// What a session writes to the property that it publishes.
+/// Returns the number that a session writes to the property that it publishes.
 fn written_by(session: u16) -> u16 {
     session.saturating_add(1)
 }
@@ -313,8 +313,8 @@ fn add_step(alloc: Global, items: &mut Vec<Item>, session: u16, step: u16) -> Re
     Ok(())
 }
 
-/// What comes to one of them: its own lines, and what the one before it posts, before its own turn where that
-/// one has its turn earlier.
+/// Returns the items of one session of the ring: its own lines, and the posts of the one before it, before its
+/// own turn where that one has its turn earlier.
 fn ring_items(alloc: Global, session: u16) -> Result<Vec<Item>, AllocError>
     ensures { IfOk result (λ items. All IsRightItem items.items) }
 {
@@ -325,7 +325,7 @@ fn ring_items(alloc: Global, session: u16) -> Result<Vec<Item>, AllocError>
     Ok(items)
 }
 
-/// What is told to one session of a run.
+/// Returns what is told to one session of a run.
 fn told_in(
     alloc: Global,
     name: &Text,

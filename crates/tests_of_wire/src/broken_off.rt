@@ -36,7 +36,7 @@ const SESSIONS: [Session; 3] = [
     (GIVEN, 10, Way::SliceOfB, GIVEN_BY_B),
 ];
 
-/// What happens at the call that is told by its number: the source fails, or the sink, or that takes nothing.
+/// Trouble comes at the call that is told by its number: the source fails, or the sink, or that takes nothing.
 #[derive(Clone, Copy)]
 enum Trouble {
     Reading,

@@ -7,10 +7,10 @@ use crate::fakes::hashing;
 use crate::lines::{given, lamps};
 use plain_types::{Code, Fault};
 use session_engine::Engine;
+use session_model::Tagged;
 use std::alloc::{AllocError, Global};
 use std::test::Fail;
 use stored_slots::Functors;
-use session_model::Tagged;
 
 fn fresh(alloc: Global) -> Result<Engine, AllocError> {
     let functors = Functors::new(alloc);
@@ -59,9 +59,9 @@ fn is_refused(
     refuses(engine, &given, fails)
 }
 
-/// What holds of every session is for proofs alone, and left behind here.
+/// Drops the law that every session is sound, which is for proofs alone.
 fn sound(engine: &Engine) {
-    engine.sound();
+    engine.law_sound();
 }
 
 /// Whether those sessions refuse that have failed, and no other, and the memory is known to be wanted.

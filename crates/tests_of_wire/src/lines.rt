@@ -1,8 +1,8 @@
 //! Commands and what is told, as lines.
 use class_table::ClassTable;
 use plain_types::{Items, Text};
-use std::alloc::{AllocError, Global};
 use session_model::{Line, Tagged};
+use std::alloc::{AllocError, Global};
 use wire_format::{Scratch, line_text, read_line};
 
 /// A class with two slots and a property, one below it, and one with two signals.
@@ -36,7 +36,7 @@ pub fn given(alloc: Global, line: &str) -> Result<Tagged, AllocError> {
     }
 }
 
-/// What a session is told, line by line.
+/// Writes what a session is told, line by line.
 pub fn text_of(alloc: Global, session: &Text, lines: &Items<Line>) -> Result<String, AllocError> {
     let mut text = String::new(alloc);
     for line in lines.as_slice() {

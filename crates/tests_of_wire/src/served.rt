@@ -109,7 +109,7 @@ fn end_of_fresh_run(
     Ok((ended, server.memory_refused()))
 }
 
-/// What comes of a run that is made in this way.
+/// Returns the outcome of a run that is made in this way.
 pub fn outcome_by(
     alloc: Global,
     host: Host,
@@ -135,7 +135,7 @@ pub fn outcome_of(
     outcome_by(alloc, host, reader, writer, Way::Whole)
 }
 
-/// What comes of an input all of which is there at once.
+/// Returns the outcome of an input all of which is there at once.
 pub fn answers(alloc: Global, host: Host, input: &str) -> Result<Outcome, AllocError> {
     let source = SlowSource::new(input.as_bytes(), 65_536, 0);
     outcome_of(alloc, host, source, SlowSink::new(alloc, 7, 0, 0))

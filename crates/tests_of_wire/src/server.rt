@@ -6,19 +6,19 @@ use server_world::{
     Entry, Report, Server, Tagged, influence_is_least, leaving_out_keeps_sessions,
     slicing_keeps_a_session,
 };
-use std::alloc::{AllocError, Global};
-use std::test::Fail;
-use stored_slots::Functors;
 use session_model::{
     actions_run_in_place, agenda_runs_to_its_end, commands_keep_sessions_sound, machine_is_lawful,
 };
+use std::alloc::{AllocError, Global};
+use std::test::Fail;
+use stored_slots::Functors;
 use wire_format::sessions_are_isolated;
 
 fn fresh(alloc: Global) -> Result<Server, AllocError> {
     Server::new(alloc, lamps(alloc)?, Functors::new(alloc), 1000, hashing()?)
 }
 
-/// What a server reports. No clause says here what that is, so that the tests look only at it.
+/// Returns the report of a server. No clause says here what that is, so that the tests look only at it.
 fn report_of(server: &mut Server, list: &[Tagged]) -> Report {
     server.run(list)
 }
@@ -31,7 +31,7 @@ fn commands(alloc: Global, lines: &str) -> Result<Vec<Tagged>, AllocError> {
     Ok(list)
 }
 
-/// What is told to each of these commands.
+/// Writes what is told to each of these commands.
 fn texts(alloc: Global, list: &[Tagged], entries: &[Entry]) -> Result<String, AllocError> {
     let mut text = String::new(alloc);
     for (given, entry) in list.iter().zip(entries) {
@@ -42,7 +42,7 @@ fn texts(alloc: Global, list: &[Tagged], entries: &[Entry]) -> Result<String, Al
     Ok(text)
 }
 
-/// What is reported to these commands.
+/// Writes what is reported to these commands.
 fn report_text(alloc: Global, list: &[Tagged], report: &Report) -> Result<String, AllocError> {
     if report.memory_refused || report.lines.len() != list.len() {
         return Err(AllocError);
@@ -59,7 +59,7 @@ fn text_reported(
     report_text(alloc, list, &report)
 }
 
-/// What one server reports to these lines.
+/// Returns what one server reports to these lines.
 fn reported(alloc: Global, server: &mut Server, lines: &str) -> Result<String, AllocError> {
     let list = commands(alloc, lines)?;
     text_reported(alloc, server, list.as_slice())
@@ -79,7 +79,7 @@ const RUNS: [&str; 3] = [
 {"args":[5],"do":"invoke","method":"pressed(int)","object":2,"session":"a"}"#,
 ];
 
-/// What they tell.
+/// Clients are told this.
 const TOLD: &str = r#"{"reply":1,"session":"a"}
 {"reply":1,"session":"b"}
 {"reply":2,"session":"a"}
@@ -120,7 +120,7 @@ fn notes(server: &mut Server) -> bool {
     !before && server.memory_refused()
 }
 
-/// What it reports to all runs, and then whether it notes.
+/// Returns what a server reports to all runs, and then whether it notes.
 fn reports_and_notes(alloc: Global, server: &mut Server) -> Result<(String, bool), AllocError> {
     let text = report_all(alloc, server)?;
     Ok((text, notes(server)))
@@ -140,7 +140,7 @@ fn runs_on_one_server_go_on_and_refused_memory_is_noted(rt: HostRuntime) -> Resu
     Ok(())
 }
 
-/// What two sessions are asked for when one of them was reset, and what they are told.
+/// Two sessions are asked this when one of them was reset, and are told `TOLD_BEHIND`.
 const BEHIND: &str = r#"{"do":"children","session":"a"}
 {"do":"children","session":"b"}"#;
 
@@ -155,7 +155,7 @@ fn resets(alloc: Global, server: &mut Server, names: &[&'static str]) -> Result<
     Ok(())
 }
 
-/// What a server reports when it has reset a session, and one that is not there.
+/// Returns what a server reports when it has reset a session, and one that is not there.
 fn told_behind_resets(alloc: Global) -> Result<String, AllocError> {
     let mut server = fresh(alloc)?;
     reported(alloc, &mut server, RUNS[0])?;

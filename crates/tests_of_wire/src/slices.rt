@@ -37,8 +37,8 @@ const SLICES: [Slice; 4] = [
     ("z", &[]),
 ];
 
-/// What a server reports, and which places are kept. No clause says here what that is, so that the test looks only
-/// at it.
+/// Returns what a server reports, and which places are kept. No clause says here what that is, so that the test
+/// looks only at it.
 fn kept_of(
     server: &mut Server,
     list: &[Tagged],

@@ -6,8 +6,7 @@ ghost use Rattle.plain_types.specs.Answers.{Answers};
 ghost use Rattle.variant_value.specs.Values.{IsOfKind, IsShort, is_same, value_of, json_of, kind_of, inferred, converted};
 ghost use Rattle.variant_value.specs.Values.{number_of, inferred_number, number_in, whole_number, text_of};
 
-use plain_types::Text;
-use plain_types::{Code, Fault};
+use plain_types::{Code, Fault, Text};
 use serde_json::Number;
 use signature_core::Kind;
 use std::alloc::{AllocError, Global};
@@ -16,7 +15,7 @@ use std::mem;
 /// The most bytes of UTF-8 that a text may have: a limit of our own.
 pub const TEXT_BYTES: usize = 4096;
 
-/// What a property holds, and what a signal carries.
+/// A property holds a value, and a signal carries some.
 #[derive(PartialEq)]
 pub enum Value {
     /// No value.
@@ -178,7 +177,7 @@ impl Value {
         }
     }
 
-    /// The same for all other values.
+    /// Puts a value of any other kind in the place of this one, and returns whether it is another.
     #[inline(never)]
     fn put_whole(&mut self, value: Value) -> bool
         ensures changed { result ≡ not (is_same self.old value) }

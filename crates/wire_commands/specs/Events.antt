@@ -1,7 +1,7 @@
 -- The commands of the event loop.
 use Rattle.std.specs.Prelude.{List, [], ◌∷◌, Option, Some, None, codes, option_map}
 use Rattle.session_model.specs.Asked.{Ask, Asked, Do, Spin}
-use Rattle.session_model.specs.declared.deed.Deed.TheVariants.{Block, DeleteLater}
+use Rattle.session_model.specs.declared.operation.Operation.TheVariants.{Block, DeleteLater}
 use Rattle.session_model.specs.declared.query.Query.TheVariants.{Status}
 use Rattle.wire_commands.specs.declared.keys.Holds.TheVariants.{Number, Truth}
 use Rattle.wire_commands.specs.Form.{Form}

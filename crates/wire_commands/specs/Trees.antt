@@ -1,7 +1,7 @@
 -- The commands of trees of objects.
 use Rattle.std.specs.Prelude.{List, [], ◌∷◌, Option, Some, None, codes, option_map}
 use Rattle.session_model.specs.Asked.{Asked, New, Delete, Do, Ask}
-use Rattle.session_model.specs.declared.deed.Deed.TheVariants.{SetParent}
+use Rattle.session_model.specs.declared.operation.Operation.TheVariants.{SetParent}
 use Rattle.session_model.specs.declared.query.Query.TheVariants.{Children, Find}
 use Rattle.wire_commands.specs.declared.keys.Holds.TheVariants.{Name, Text, Number, NumberOrNull}
 use Rattle.wire_commands.specs.Form.{Form}

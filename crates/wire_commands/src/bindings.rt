@@ -6,8 +6,8 @@ ghost use Rattle.wire_commands.specs.Bindings.{begin_of, bind_of, binding_error_
 
 use crate::held::Held;
 use crate::keys::{Holds, Key};
-use std::alloc::{AllocError, Global};
 use session_model::{Command, Query};
+use std::alloc::{AllocError, Global};
 
 pub(crate) const BIND: [Key; 3] = [
     Key::Needed("object", Holds::Number),

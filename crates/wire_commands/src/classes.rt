@@ -6,8 +6,8 @@ ghost use Rattle.wire_commands.specs.Classes.{meta_of};
 
 use crate::held::Held;
 use crate::keys::{Holds, Key};
-use std::alloc::{AllocError, Global};
 use session_model::{Command, Query};
+use std::alloc::{AllocError, Global};
 
 pub(crate) const META: [Key; 1] = [Key::Needed("class", Holds::Name)];
 

@@ -30,10 +30,10 @@ use crate::trees::{
     CHILDREN, DELETE, FIND, NEW, SET_PARENT, children_of, delete_of, find_of, new_of, set_parent_of,
 };
 use json_reading::{Member, text_at};
-use std::alloc::{AllocError, Global};
 use session_model::Command;
+use std::alloc::{AllocError, Global};
 
-/// What a line asks, by the word at its key `do`.
+/// A line asks for a command by the word at its key `do`.
 #[derive(Clone, Copy)]
 pub enum Word {
     New,
@@ -136,7 +136,7 @@ fn keys_of(word: Word) -> &'static [Key]
     }
 }
 
-/// What is asked by a word, with what is held at its keys.
+/// Returns the command that a word asks for, with the values at its keys.
 fn asked_with(
     alloc: Global,
     word: Word,
@@ -175,7 +175,7 @@ fn asked_with(
     }
 }
 
-/// What the members ask.
+/// Returns the command that the members ask for.
 #[inline(always)]
 #[tactic(auto, unfolding(crate::specs::Commands::asked_of))]
 pub fn command_in(alloc: Global, members: &[Member<'_>]) -> Result<Option<Command>, AllocError>

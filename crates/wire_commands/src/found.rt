@@ -1,4 +1,4 @@
-//! What a line has at the keys of its command.
+//! A line has fields at the keys of its command.
 ghost use Rattle.std.specs.Prelude.{◌≡◌, ◌≤◌, ◌<◌, ◌||◌, [], IsTrue, MatchOption, bytes_eq, codes, false, get_or, length, true};
 ghost use Rattle.std.specs.List.{list_any};
 ghost use Rattle.serde_json.specs.Data.{object};

@@ -1,4 +1,4 @@
-//! What a line holds at the keys of its command.
+//! A line holds values at the keys of its command.
 ghost use Rattle.std.specs.Prelude.{◌≡◌, ◌≤◌, IfOk, None, Some, if◌then◌else◌, length, map, option_map, take, true};
 ghost use Rattle.serde_json.specs.Data.{object};
 ghost use Rattle.serde_json.specs.View.{view};
@@ -11,14 +11,13 @@ ghost use Rattle.wire_commands.specs.Held.{priority_for, priority_in, reads, sig
 
 use crate::found::find_values;
 use crate::keys::{Holds, Key, MOST_KEYS};
-use plain_types::ConnectionType;
 use event_queue::Priority;
 use json_reading::{Field, Member, Scalar};
-use plain_types::{Items, Text, is_name};
+use plain_types::{ConnectionType, Items, Text, is_name};
 use serde_json::Value;
 use std::alloc::{AllocError, Global};
 
-/// What a key holds.
+/// A key holds one of these.
 #[derive(Clone, Copy, Default)]
 pub enum Held<'m, 'a> {
     #[default]
@@ -137,7 +136,7 @@ pub(crate) fn held_by<'m, 'a>(
     true
 }
 
-/// What a key holds, where this value is found at it. None, where it is not held as it must be.
+/// Returns what a key holds, where this value is found at it. None, where it is not held as it must be.
 #[inline(always)]
 fn held_as<'m, 'a>(found: Option<&'m Field<'a>>, key: &Key) -> Option<Held<'m, 'a>>
     ensures { option_map held_seen result

@@ -3,7 +3,7 @@
 /// The most keys that a command has, beside those that every command has.
 pub(crate) const MOST_KEYS: usize = 7;
 
-/// What a key holds.
+/// A key holds a value of one of these sorts.
 #[derive(Clone, Copy)]
 pub enum Holds {
     /// A name, as that of a class, of a property, of a functor, of a session or of what it publishes.

@@ -6,8 +6,8 @@ ghost use Rattle.wire_commands.specs.Properties.{set_of, get_of, dynamic_names_o
 
 use crate::held::Held;
 use crate::keys::{Holds, Key};
-use std::alloc::{AllocError, Global};
 use session_model::{Command, Query};
+use std::alloc::{AllocError, Global};
 
 pub(crate) const SET: [Key; 3] = [
     Key::Needed("object", Holds::Number),

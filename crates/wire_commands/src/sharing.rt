@@ -9,8 +9,8 @@ use crate::held::Held;
 use crate::keys::{Holds, Key};
 use plain_types::{Items, Text};
 use serde_json::Value;
-use std::alloc::{AllocError, Global};
 use session_model::Command;
+use std::alloc::{AllocError, Global};
 
 pub(crate) const PUBLISH: [Key; 3] = [
     Key::Needed("object", Holds::Number),

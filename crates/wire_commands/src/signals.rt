@@ -6,8 +6,8 @@ ghost use Rattle.wire_commands.specs.Signals.{connect_of, connect_functor_of, di
 
 use crate::held::Held;
 use crate::keys::{Holds, Key};
-use std::alloc::{AllocError, Global};
 use session_model::Command;
+use std::alloc::{AllocError, Global};
 
 pub(crate) const CONNECT: [Key; 7] = [
     Key::Needed("sender", Holds::Number),

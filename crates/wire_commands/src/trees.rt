@@ -6,8 +6,8 @@ ghost use Rattle.wire_commands.specs.Trees.{new_of, delete_of, set_parent_of, ch
 
 use crate::held::Held;
 use crate::keys::{Holds, Key};
-use std::alloc::{AllocError, Global};
 use session_model::{Command, Query};
+use std::alloc::{AllocError, Global};
 
 pub(crate) const NEW: [Key; 2] = [
     Key::Needed("class", Holds::Name),

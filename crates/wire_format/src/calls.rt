@@ -42,7 +42,7 @@ pub fn call_text<'a>(
     Some(&memory[..end])
 }
 
-/// What stands between the brackets, where that is nothing or one word.
+/// Returns the text between the brackets, where that is nothing or one word.
 #[inline(always)]
 fn word_of<'a>(args: &'a [Value], digits: &'a mut Digits) -> Option<&'a str>
     ensures { IfSome result (λ word. 91 ∷ (word.now ++ 93 ∷ []) ≡ compact_text (array_of json_of args.now)) }

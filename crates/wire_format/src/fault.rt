@@ -1,6 +1,5 @@
 //! Why a line is not read.
-use plain_types::Text;
-use plain_types::Code;
+use plain_types::{Code, Text};
 use std::alloc::AllocError;
 
 /// Why a line is no command, and for which session that is said.

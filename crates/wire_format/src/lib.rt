@@ -28,8 +28,8 @@ pub use traits::{Failed, Sink, Source};
 pub use whole::write_all;
 pub use writing::{line_text, write_line};
 
-/// What holds of inputs and what is written for them: where the lines of sessions are left out that
-/// no kept session joins, each kept session is told the same, byte for byte.
+/// Sessions are isolated in inputs and in what is written for them: where the lines of sessions are left out
+/// that no kept session joins, each kept session is told the same, byte for byte.
 ///
 /// There is nothing to run. The clauses are the laws.
 pub fn sessions_are_isolated()

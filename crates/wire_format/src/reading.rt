@@ -12,11 +12,10 @@ use crate::fault::{LineFault, ReadError};
 use crate::line::LINE_BYTES;
 use json::Scratch;
 use json_reading::{Member, name_at, plain_members, text_at, tree_members};
-use plain_types::Text;
-use plain_types::Code;
+use plain_types::{Code, Text};
 use serde_json::Value;
-use std::alloc::{AllocError, Global};
 use session_model::{Command, Tagged};
+use std::alloc::{AllocError, Global};
 use wire_commands::command_in;
 
 /// The command that the line is. A line that is too long, is no UTF-8 or is no JSON is

@@ -1,4 +1,4 @@
-//! What an answer is written as.
+//! An answer is written as a word, a number or a text.
 ghost use Rattle.std.specs.Prelude.{◌≡◌, IsTrue, option_map};
 ghost use Rattle.serde_json.specs.Data.{boolean};
 ghost use Rattle.serde_json.specs.Written.{compact_text};
@@ -13,10 +13,10 @@ use plain_types::Text;
 use session_model::{Answer, MetaObject, Spin, Status};
 use variant_value::Value;
 
-/// What an answer is written as.
+/// An answer is written as one of these.
 #[derive(Clone, Copy)]
 pub(crate) enum Shown<'a> {
-    /// As it stands here.
+    /// The answer is written as it stands here.
     Word(&'a str),
     /// Between quotes, with what JSON escapes.
     Text(&'a str),
@@ -27,7 +27,7 @@ pub(crate) enum Shown<'a> {
     Status(&'a Status),
 }
 
-/// What an answer is written as. The digits of a number are lent.
+/// Returns how an answer is written. The digits of a number are lent.
 pub(crate) fn shown_as<'a>(answer: &'a Answer, digits: &'a mut Digits) -> Shown<'a>
     ensures text { text_of_shown result ≡ compact_text (json_of_answer answer.now) }
     ensures plain { is_plain_shown result ≡ is_plain_answer answer.now }

@@ -12,11 +12,10 @@ use crate::shown::{Shown, error_name, shown_as, shown_value};
 use binding_values::BindingError;
 use itoa::Buffer as Digits;
 use json::Writer;
-use plain_types::Text;
-use plain_types::Code;
+use plain_types::{Code, Text};
+use session_model::{Answer, Call, Line, MetaObject, Spin, Status};
 use std::alloc::{AllocError, Global};
 use std::mem;
-use session_model::{Answer, Call, Line, MetaObject, Spin, Status};
 use variant_value::Value;
 
 /// The text of a line that a session is told, with its line feed: compact JSON, its keys in byte
@@ -373,7 +372,7 @@ fn push_text(alloc: Global, buffer: &mut String, text: &str) -> Result<(), Alloc
     Ok(())
 }
 
-/// The same of a text in which JSON escapes something. No copy of it is made.
+/// Appends a text in which JSON escapes something between quotes. No copy of it is made.
 #[cold]
 #[inline(never)]
 fn push_escaped(alloc: Global, buffer: &mut String, text: &str) -> Result<(), AllocError>

@@ -19,7 +19,7 @@ use Rattle.wire_format.specs.Command.{command_of, is_blank}
 use Rattle.wire_format.specs.Input.{Piece, lines_of, piece_from, piece_of, pieces_of}
 use Rattle.wire_format.specs.Output.{output, world_of, text_of_piece, world_after_piece}
 use Rattle.wire_format.proofs.ForCallers.{IsNamedPiece, piece_named, session_is_name, text_of_pieces, text_of_pieces-cons, text_of_pieces-nothing, world_after_pieces, world_after_pieces-cons, world_after_pieces-nothing, by_pieces, world_by_pieces}
-use Rattle.wire_lines.specs.Sending.{IsFront}
+use Rattle.wire_lines.specs.Sending.{IsPrefix}
 use Rattle.wire_lines.specs.Steps.{AreAnswered, IsAnswered, IsUnread, entry_text, read_lines}
 use Rattle.wire_lines.specs.Stream.{HaveNames, Later}
 
@@ -192,7 +192,7 @@ worlds_found a b (line ∷ lines) text answered found =
 
 -- what is said to the first lines of an input is a front of its output,
 pub front_found : (a b : Server) (input : List ℕ) (lines behind : List (Option Piece)) (text : List ℕ) → read_lines input ≡ lines ++ behind → AreAnswered a lines text b → IsFalse (was_refused b) →
-    IsFront text (output (settings a) (states a) input)
+    IsPrefix text (output (settings a) (states a) input)
 front_found a b input lines behind text is answered found = (
   text_of_pieces (settings a) (states b) (given behind),
   by_pieces (settings a) (states a) input

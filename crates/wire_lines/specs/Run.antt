@@ -13,7 +13,7 @@ use Rattle.wire_lines.specs.declared.fault.RunFault.{RunFault}
 use Rattle.wire_lines.specs.declared.fault.RunFault.TheVariants.{Read, Write, Endless, Memory}
 use Rattle.wire_lines.specs.declared.stream.Summary.{Summary}
 use Rattle.wire_lines.specs.Isolation.{IsToldAlone, IsToldAsWithout, IsToldBetween, IsToldInterleaved}
-use Rattle.wire_lines.specs.Sending.{IsFront}
+use Rattle.wire_lines.specs.Sending.{IsPrefix}
 use Rattle.wire_lines.specs.Spared.{Spares, SparesAll, first_lines}
 use Rattle.wire_lines.specs.Steps.{AreAnswered, IsAnswered, read_lines}
 use Rattle.wire_lines.specs.Stream.{Point, Done, Cut, IsOver}
@@ -24,7 +24,7 @@ WentWell r server = IsOk r × IsFalse (was_refused server)
 
 -- known bytes grow by a front of these, which may be all of them
 abbrev pub AppendsSome : Option (List ℕ) → Option (List ℕ) → List ℕ → Type 0
-AppendsSome old new bytes = (front : List ℕ) × IsFront front bytes × Appends old new front
+AppendsSome old new bytes = (front : List ℕ) × IsPrefix front bytes × Appends old new front
 
 -- the source failed once where that is the fault, and else not
 abbrev pub ReadFails : {T : Type 0} → ℕ → ℕ → Result T RunFault → Type 0

@@ -3,8 +3,8 @@ use Rattle.std.specs.Prelude.{◌≡◌, ℕ, List, ◌++◌, Option, Result, Ma
 use Rattle.std.specs.Io.KnownBytes.{Appends}
 
 -- the second begins with the first
-abbrev pub IsFront : List ℕ → List ℕ → Type 0
-IsFront front whole = (rest : List ℕ) × (whole ≡ front ++ rest)
+abbrev pub IsPrefix : List ℕ → List ℕ → Type 0
+IsPrefix front whole = (rest : List ℕ) × (whole ≡ front ++ rest)
 
 -- what the sink has taken, where that is known, and what is gathered for it
 pub record Out : Type 0 where
@@ -22,7 +22,7 @@ Sent old new text =
 -- so far only a front of all that, at the most
 abbrev pub SentFront : Out → Out → List ℕ → Type 0
 SentFront old new text =
-    (written : List ℕ) × Appends old.received new.received written × IsFront (written ++ new.gathered) (old.gathered ++ text)
+    (written : List ℕ) × Appends old.received new.received written × IsPrefix (written ++ new.gathered) (old.gathered ++ text)
 
 -- all is sent at `Ok`, and some front at `Err`
 abbrev pub SentAll : {T E : Type 0} → Out → Out → Result T E → List ℕ → Type 0

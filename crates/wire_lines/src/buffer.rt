@@ -7,8 +7,7 @@ ghost use Rattle.wire_lines.specs.Sending.{SentAll, out};
 
 use std::alloc::{AllocError, Global};
 use std::marker::Model;
-use wire_format::{Failed, Sink, write_all};
-use wire_format::LINE_BYTES;
+use wire_format::{Failed, LINE_BYTES, Sink, write_all};
 
 /// One byte more than a line may have, so that a line which is too long is known by what is kept.
 pub const BUFFER_BYTES: usize = LINE_BYTES + 1;
@@ -109,7 +108,7 @@ impl Buffer {
         self.send_past(writer, text)
     }
 
-    /// The same, where what is gathered is written first.
+    /// Sends text to the sink after the gathered bytes are written.
     #[cold]
     #[inline(never)]
     fn send_past<W: Sink>(&mut self, writer: &mut W, text: &[u8]) -> Result<(), Failed>

@@ -16,5 +16,6 @@ pub use limits::limits_of_runs_are_these;
 pub use slice::run_slice;
 pub use status::status_of;
 pub use stream::{Summary, run, run_bounded};
-pub use wire_format::{Counted, Failed, Sink, Source};
-pub use wire_format::{LINE_BYTES, LineFault, ReadError, line_text, read_line};
+pub use wire_format::{
+    Counted, Failed, LINE_BYTES, LineFault, ReadError, Sink, Source, line_text, read_line,
+};

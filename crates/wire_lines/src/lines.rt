@@ -10,8 +10,7 @@ use crate::fault::RunFault;
 use crate::output::Output;
 use server_world::Server;
 use std::alloc::{AllocError, Global};
-use wire_format::{Failed, Sink};
-use wire_format::is_blank;
+use wire_format::{Failed, Sink, is_blank};
 
 /// The lines of a run, and what is said to them.
 #[derive(Drop)]

@@ -1,4 +1,4 @@
-//! What is said, on its way to a sink.
+//! The output gathers lines on their way to a sink.
 ghost use Rattle.std.specs.Prelude.{◌≡◌, [], IsTrue, IfOk, List, ℕ, Some, Err, false};
 ghost use Rattle.std.specs.List.{flat_map};
 ghost use Rattle.server_world.specs.Server.{OnlyRefused, seen_as, settings};
@@ -20,12 +20,11 @@ use crate::buffer::{BUFFER_BYTES, Buffer};
 use crate::fault::RunFault;
 use plain_types::Code;
 use server_world::Server;
-use std::alloc::{AllocError, Global};
 use session_model::{Line, Tagged};
-use wire_format::{Failed, Sink};
+use std::alloc::{AllocError, Global};
 use wire_format::{
-    CALL_BYTES, Digits, Parts, ReadError, Scratch, call_text, error_parts, line_parts, read_line,
-    write_line,
+    CALL_BYTES, Digits, Failed, Parts, ReadError, Scratch, Sink, call_text, error_parts,
+    line_parts, read_line, write_line,
 };
 
 /// The text that is gathered for a sink.
@@ -36,7 +35,7 @@ pub struct Output {
     /// The text of a line that is not said in parts, in memory that serves for all of them. A line
     /// of more than [`BUFFER_BYTES`] makes it grow.
     text: String,
-    /// What the reading of a line writes to, kept for all of them.
+    /// The reading of a line writes to this, which is kept for all of them.
     scratch: Scratch,
 }
 
@@ -200,7 +199,7 @@ impl Output {
     }
 }
 
-/// What a run answers where only its sink may fail.
+/// Returns the result of a run where only its sink may fail.
 fn by_sink(sent: Result<(), Failed>) -> Result<(), RunFault>
     ensures { result ≡ by_sink sent }
 {

@@ -24,16 +24,15 @@ use crate::fault::RunFault;
 use crate::stream::{CHUNK_BYTES, MOST_LINES, MOST_READS, Summary, split_line};
 use plain_types::Text;
 use server_world::{Notes, Server};
-use std::alloc::{AllocError, Global};
 use session_model::Tagged;
-use wire_format::{Failed, Sink, Source};
-use wire_format::{ReadError, Scratch, is_blank, read_line};
+use std::alloc::{AllocError, Global};
+use wire_format::{Failed, ReadError, Scratch, Sink, Source, is_blank, read_line};
 
 /// The lines of an input, whose commands are done one after another, and what is noted of these.
 #[derive(Drop)]
 struct Slicing {
     alloc: Global,
-    /// What the reading of a line writes to, kept for all of them.
+    /// The reading of a line writes to this, which is kept for all of them.
     scratch: Scratch,
     notes: Notes,
     /// Where in the input the line of each noted command begins.
@@ -187,7 +186,7 @@ fn read_all<R: Source>(alloc: Global, reader: &mut R) -> Result<Vec<u8>, RunFaul
     read_by(alloc, &mut chunk, reader)
 }
 
-/// The same, so many of them at once as the chunk has.
+/// Reads all bytes of a source, as many at once as the chunk has.
 fn read_by<R: Source>(alloc: Global, chunk: &mut [u8], reader: &mut R) -> Result<Vec<u8>, RunFault>
     requires { 0 < length chunk.old }
     ensures bytes { IfOk result (λ bytes. (input : List ℕ) → R.left reader.old ≡ Some input → (bytes.items ≡ input) × (R.left reader.new ≡ Some [])) }
@@ -240,7 +239,7 @@ pub fn run_slice<R: Source, W: Sink>(
     ensures sound { AreSound (seen_by_name (seen_as server.new)) }
 {
     let ended = slice_input(alloc, reader, writer, server, session);
-    server.sound();
+    server.law_sound();
     ended
 }
 

@@ -25,7 +25,7 @@ pub const MOST_READS: u64 = 1 << 40;
 /// How many bytes a run asks its source for at once.
 pub const CHUNK_BYTES: usize = 65_536;
 
-/// What a run did.
+/// A run returns a summary.
 #[derive(Clone, Copy, PartialEq, Eq)]
 pub struct Summary {
     /// How many lines were read, those that were skipped among them.
@@ -147,7 +147,8 @@ impl Stream {
         Err(RunFault::Endless)
     }
 
-    /// The same, and then writes what is said so far, where no device has failed.
+    /// Answers each line of the input, up to its end or to the first fault, and then writes what is said so
+    /// far, where no device has failed.
     fn serve_to_end<R: Source, W: Sink>(
         &mut self,
         chunk: &mut [u8],
@@ -233,8 +234,8 @@ pub fn run<R: Source, W: Sink>(
     run_bounded(alloc, reader, writer, server, MOST_LINES, MOST_READS)
 }
 
-/// The same with other bounds: before a line is answered, the lines so far, skipped ones among them,
-/// are compared with `max_lines`, and before each read the calls so far with `max_reads`. Where one
+/// Reads lines as [`run`] does, at other bounds: before a line is answered, the lines so far, skipped ones
+/// among them, are compared with `max_lines`, and before each read the calls so far with `max_reads`. Where one
 /// of them has reached its bound, it ends with `Endless`.
 ///
 /// # Errors
@@ -262,7 +263,7 @@ pub fn run_bounded<R: Source, W: Sink>(
     ensures sound { AreSound (seen_by_name (seen_as server.new)) }
 {
     let ended = run_buffered(alloc, reader, writer, server, max_lines, max_reads);
-    server.sound();
+    server.law_sound();
     ended
 }
 

@@ -1,6 +1,6 @@
 use Rattle.std.proofs.Common.{◌≡◌, ◌<◌, ℕ, true}
 use Rattle.property_store.specs.Marks.{is_marked}
-use Rattle.binding_graph.specs.Woven.{StaysKept}
+use Rattle.binding_graph.specs.GraphAndCache.{StaysKept}
 use Rattle.binding_graph.proofs.removal.forget_object.Given as goal
 
 abbrev pub invariant-loop-number : goal.invariant-loop-number

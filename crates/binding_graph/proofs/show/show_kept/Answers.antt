@@ -1,6 +1,6 @@
 use Rattle.std.proofs.Common.{◌∙◌, Some, ap}
 use Rattle.property_store.specs.Table.{store_at}
-use Rattle.binding_values.specs.Kept.{kept_of}
+use Rattle.binding_values.specs.EvalResult.{kept_of}
 use Rattle.binding_graph.proofs.KnownLemmas.{shown_so}
 use Rattle.binding_graph.proofs.show.show_kept.Goals as goal
 

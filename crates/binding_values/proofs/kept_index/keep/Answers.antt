@@ -1,6 +1,6 @@
 use Rattle.std.proofs.Common.{◌∙◌, All, Contains, subst, sym}
 use Rattle.std.proofs.lemmas.Result.{on_ok_weaker}
-use Rattle.binding_values.specs.Kept.{kept_of}
+use Rattle.binding_values.specs.EvalResult.{kept_of}
 use Rattle.binding_values.specs.Readers.{edge_of}
 use Rattle.binding_values.specs.Reached.{HasReaders}
 use Rattle.binding_values.proofs.ReachedLemmas.{by_result, kept_already, kept_put, none_there, readers_more, readers_put, some_there}

@@ -1,6 +1,6 @@
 use Rattle.std.proofs.Common.{◌≡◌, ◌∙◌, ◌++◌, ◌∷◌, rules, ap, sym}
 use Rattle.std.specs.Vec.Iter.{into_iter_items}
-use Rattle.binding_values.specs.Kept.{kept_of}
+use Rattle.binding_values.specs.EvalResult.{kept_of}
 use Rattle.binding_values.proofs.ReachedLemmas.{kept_next}
 use Rattle.binding_values.proofs.kept_index.keep_all.Goals as goal
 

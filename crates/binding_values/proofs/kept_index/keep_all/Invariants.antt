@@ -1,7 +1,7 @@
 use Rattle.std.proofs.Common.{◌≡◌, ◌++◌}
 use Rattle.std.specs.Vec.Iter.{into_iter_items}
 use Rattle.property_store.specs.declared.property.Property.{Property}
-use Rattle.binding_values.specs.Kept.{kept_of}
+use Rattle.binding_values.specs.EvalResult.{kept_of}
 use Rattle.binding_values.specs.Reached.{HasReaders}
 use Rattle.binding_values.proofs.kept_index.keep_all.Given as goal
 

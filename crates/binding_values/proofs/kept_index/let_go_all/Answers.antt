@@ -1,6 +1,6 @@
 use Rattle.std.proofs.Common.{◌+◌, take, sym, subst}
 use Rattle.std.proofs.lemmas.List.{take_all}
-use Rattle.binding_values.specs.Kept.{kept_of}
+use Rattle.binding_values.specs.EvalResult.{kept_of}
 use Rattle.binding_values.specs.Reached.{AreLetGo}
 use Rattle.binding_values.proofs.ReachedLemmas.{gone_more, readers_without}
 use Rattle.binding_values.proofs.kept_index.let_go_all.Goals as goal

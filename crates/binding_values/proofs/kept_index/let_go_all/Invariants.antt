@@ -1,5 +1,5 @@
 use Rattle.std.proofs.Common.{take}
-use Rattle.binding_values.specs.Kept.{kept_of}
+use Rattle.binding_values.specs.EvalResult.{kept_of}
 use Rattle.binding_values.specs.Reached.{AreLetGo, HasReaders}
 use Rattle.binding_values.proofs.kept_index.let_go_all.Given as goal
 

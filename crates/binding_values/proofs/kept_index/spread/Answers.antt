@@ -1,6 +1,6 @@
 use Rattle.std.proofs.Common.{All, arith, subst}
 use Rattle.std.proofs.lemmas.List.{take_all}
-use Rattle.binding_values.specs.Kept.{kept_of}
+use Rattle.binding_values.specs.EvalResult.{kept_of}
 use Rattle.binding_values.specs.Readers.{IsUnread}
 use Rattle.binding_values.proofs.ReachedLemmas.{longer_length, longer_then, nothing_reads, unread_more}
 use Rattle.binding_values.proofs.kept_index.spread.Goals as goal

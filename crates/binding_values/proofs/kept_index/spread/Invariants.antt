@@ -1,5 +1,5 @@
 use Rattle.std.proofs.Common.{◌+◌, ◌-◌, ◌≤◌, All, length, take}
-use Rattle.binding_values.specs.Kept.{kept_of}
+use Rattle.binding_values.specs.EvalResult.{kept_of}
 use Rattle.binding_values.specs.Readers.{IsUnread}
 use Rattle.binding_values.specs.Reached.{AreLetGo, HasReaders, IsLonger}
 use Rattle.binding_values.proofs.kept_index.spread.Given as goal

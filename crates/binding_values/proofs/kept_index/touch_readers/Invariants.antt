@@ -1,5 +1,5 @@
 use Rattle.std.proofs.Common.{◌+◌, ◌≤◌, length}
-use Rattle.binding_values.specs.Kept.{Keeping}
+use Rattle.binding_values.specs.EvalResult.{Keeping}
 use Rattle.binding_values.specs.Readers.{AreAmong}
 use Rattle.binding_values.specs.Reached.{AreLetGo, HasReaders, IsLonger}
 use Rattle.binding_values.proofs.kept_index.touch_readers.Given as goal

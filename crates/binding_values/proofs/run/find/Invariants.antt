@@ -1,6 +1,6 @@
 use Rattle.std.proofs.Common.{◌≡◌}
 use Rattle.property_store.specs.Table.{store_at}
-use Rattle.binding_values.specs.Kept.{IsWithin, kept_of}
+use Rattle.binding_values.specs.EvalResult.{IsWithin, kept_of}
 use Rattle.binding_values.specs.Run.{IsRunning, bottom, work}
 use Rattle.binding_values.specs.Stored.{scene_of}
 use Rattle.binding_values.proofs.run.find.Given as goal

@@ -2,7 +2,7 @@ use Rattle.std.proofs.Common.{◌≡◌, ◌∙◌, All, IfNone, IfSome, Option,
 use Rattle.std.proofs.lemmas.Bool.{or_left, or_right}
 use Rattle.property_store.specs.Table.{store_at}
 use Rattle.property_store.specs.declared.property.Property.{Property}
-use Rattle.binding_values.specs.Kept.{kept_of}
+use Rattle.binding_values.specs.EvalResult.{kept_of}
 use Rattle.binding_values.specs.Run.{IsSettled, WaitsFor, ats}
 use Rattle.property_store.specs.Property.{among, is_property}
 use Rattle.binding_values.specs.Stored.{scene_of}

@@ -1,8 +1,8 @@
 use Rattle.std.proofs.Common.{◌≡◌, ◌∙◌, Result, Ok, Err, IfOk, List, sym, subst}
 use Rattle.property_store.specs.Table.{store_at}
-use Rattle.binding_values.specs.declared.kept.Kept.{Kept}
+use Rattle.binding_values.specs.declared.eval_result.EvalResult.{EvalResult}
 use Rattle.property_store.specs.declared.property.Property.{Property}
-use Rattle.binding_values.specs.Kept.{kept_of}
+use Rattle.binding_values.specs.EvalResult.{kept_of}
 use Rattle.binding_values.specs.Looking.{scene_in, values_in}
 use Rattle.term_evaluation.specs.Met.{EachButLast}
 use Rattle.binding_values.specs.Run.{IsSettled}
@@ -12,7 +12,7 @@ use Rattle.binding_values.proofs.MapLemmas.{some_kept}
 use Rattle.binding_values.proofs.StoredLemmas.{bound_there}
 use Rattle.binding_values.proofs.run.tried.Goals as goal
 
-carried : {E : Type 0} (P : Property → Type 0) (reads : List Property) (r : Result Kept E) → EachButLast P reads → IfOk r (λ kept. kept.reads ≡ reads) → IfOk r (λ kept. EachButLast P kept.reads)
+carried : {E : Type 0} (P : Property → Type 0) (reads : List Property) (r : Result EvalResult E) → EachButLast P reads → IfOk r (λ kept. kept.reads ≡ reads) → IfOk r (λ kept. EachButLast P kept.reads)
 carried P reads (Ok kept) h e = subst (EachButLast P) (sym e) h
 carried P reads (Err error) h e = tt
 

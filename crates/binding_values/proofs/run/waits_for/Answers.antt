@@ -3,7 +3,7 @@ use Rattle.std.proofs.lemmas.Bool.{cases_lt}
 use Rattle.std.proofs.lemmas.List.{get_or_default, take_all}
 use Rattle.term_core.specs.Term.{Term}
 use Rattle.property_store.specs.declared.property.Property.{Property}
-use Rattle.binding_values.specs.Kept.{Keeping, kept_of}
+use Rattle.binding_values.specs.EvalResult.{Keeping, kept_of}
 use Rattle.binding_values.specs.Looking.{scene_in}
 use Rattle.term_evaluation.specs.Met.{EachButLast}
 use Rattle.binding_values.specs.Run.{IsSettled, WaitsFor}

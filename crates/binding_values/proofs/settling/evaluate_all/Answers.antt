@@ -2,7 +2,7 @@ use Rattle.std.proofs.Common.{All, subst, take}
 use Rattle.std.proofs.lemmas.List.{take_all}
 use Rattle.std.proofs.lemmas.List.Elements.{All-more, All-weaker}
 use Rattle.property_store.specs.Table.{store_at}
-use Rattle.binding_values.specs.Kept.{kept_of}
+use Rattle.binding_values.specs.EvalResult.{kept_of}
 use Rattle.binding_values.specs.Run.{IsSettled}
 use Rattle.binding_values.specs.Stored.{scene_of}
 use Rattle.binding_values.proofs.SettlingLemmas.{still_settled}

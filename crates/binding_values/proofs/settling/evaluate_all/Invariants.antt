@@ -1,6 +1,6 @@
 use Rattle.std.proofs.Common.{All, take}
 use Rattle.property_store.specs.Table.{store_at}
-use Rattle.binding_values.specs.Kept.{IsClosed, IsRight, IsWithin, kept_of}
+use Rattle.binding_values.specs.EvalResult.{IsClosed, IsRight, IsWithin, kept_of}
 use Rattle.binding_values.specs.Run.{IsSettled}
 use Rattle.binding_values.specs.Stored.{scene_of}
 use Rattle.binding_values.proofs.settling.evaluate_all.Given as goal

@@ -1,6 +1,6 @@
 use Rattle.std.proofs.Common.{◌≡◌, ◌∙◌, All, subst}
 use Rattle.property_store.specs.Table.{store_at}
-use Rattle.binding_values.specs.Kept.{IsRight, IsWithin, Keeping, kept_of}
+use Rattle.binding_values.specs.EvalResult.{IsRight, IsWithin, Keeping, kept_of}
 use Rattle.binding_values.specs.Run.{IsSettled}
 use Rattle.binding_values.specs.Stored.{scene_of}
 use Rattle.binding_values.proofs.SettlingLemmas.{all_kept}

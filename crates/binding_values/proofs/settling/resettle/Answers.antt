@@ -1,6 +1,6 @@
 use Rattle.std.proofs.Common.{Result, Ok, Err, OnOk, All, subst}
 use Rattle.property_store.specs.Table.{store_at}
-use Rattle.binding_values.specs.Kept.{kept_of}
+use Rattle.binding_values.specs.EvalResult.{kept_of}
 use Rattle.binding_values.specs.Run.{IsSettled}
 use Rattle.binding_values.specs.Stored.{scene_of}
 use Rattle.binding_values.proofs.SettlingLemmas.{is_complete, is_same, rest_right, right_more, whole_more}

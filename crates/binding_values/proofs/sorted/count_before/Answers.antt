@@ -4,12 +4,12 @@ use Rattle.binding_values.proofs.SortedLemmas.{counted, search_before, search_be
 use Rattle.binding_values.proofs.sorted.count_before.Goals as goal
 
 pub returns-then-is_at : goal.returns-then-is_at
-returns-then-is_at g c = counted g.T.Placed.at c.args.rows.now c.guess-guess.result c.args.at c.requires c.is_at.result c.is_at.ensures c.if-is_at.true
+returns-then-is_at g c = counted g.T.HasProperty.at c.args.rows.now c.guess-guess.result c.args.at c.requires c.is_at.result c.is_at.ensures c.if-is_at.true
 
 pub loop-low-preserved-then-is_before : goal.loop-low-preserved-then-is_before
 loop-low-preserved-then-is_before g c =
-    search_behind g.T.Placed.at c.args.rows.now c.args.at c.requires c.loop-low.low c.loop-low.high _ c.index-rows-middle.result c.loop-low.invariant (omega arith) (omega arith) c.index-rows-middle.is (ap (λ p. is_before p c.args.at) (sym c.at.ensures) ∙ (sym c.is_before.ensures ∙ c.if-is_before.true))
+    search_behind g.T.HasProperty.at c.args.rows.now c.args.at c.requires c.loop-low.low c.loop-low.high _ c.index-rows-middle.result c.loop-low.invariant (omega arith) (omega arith) c.index-rows-middle.is (ap (λ p. is_before p c.args.at) (sym c.at.ensures) ∙ (sym c.is_before.ensures ∙ c.if-is_before.true))
 
 pub loop-low-preserved : goal.loop-low-preserved
 loop-low-preserved g c =
-    search_before g.T.Placed.at c.args.rows.now c.args.at c.requires c.loop-low.low c.loop-low.high _ c.index-rows-middle.result c.loop-low.invariant (omega arith) (omega arith) c.index-rows-middle.is (ap (λ p. is_before p c.args.at) (sym c.at.ensures) ∙ (sym c.is_before.ensures ∙ c.if-is_before.false))
+    search_before g.T.HasProperty.at c.args.rows.now c.args.at c.requires c.loop-low.low c.loop-low.high _ c.index-rows-middle.result c.loop-low.invariant (omega arith) (omega arith) c.index-rows-middle.is (ap (λ p. is_before p c.args.at) (sym c.at.ensures) ∙ (sym c.is_before.ensures ∙ c.if-is_before.false))

@@ -3,7 +3,7 @@ use Rattle.binding_values.proofs.SortedLemmas.{IsSearched}
 use Rattle.binding_values.proofs.sorted.count_before.Given as goal
 
 abbrev pub invariant-loop-low : goal.invariant-loop-low
-invariant-loop-low g l = IsSearched g.T.Placed.at l.rows l.at l.low l.high
+invariant-loop-low g l = IsSearched g.T.HasProperty.at l.rows l.at l.low l.high
 
 abbrev pub decreases-loop-low : goal.decreases-loop-low
 decreases-loop-low g l = l.high - l.low

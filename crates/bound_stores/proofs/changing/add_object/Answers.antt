@@ -1,7 +1,7 @@
 use Rattle.std.proofs.Common.{◌≡◌, ◌∙◌, [], sym, ap, rules}
 use Rattle.shared_rows.proofs.ForCallers as column
 use Rattle.property_store.specs.Store.{added}
-use Rattle.property_store.specs.Table.{Shelves, fields_of, store_at, with_store}
+use Rattle.property_store.specs.Table.{StoreTable, fields_of, store_at, with_store}
 use Rattle.binding_graph.specs.Graph.{no_graph}
 use Rattle.binding_graph.specs.Table.{graph_at}
 use Rattle.bound_stores.specs.Bound.{bound_at, seen_of}
@@ -16,7 +16,7 @@ returns-in-Err-clause-stays c = record {
   only =
       let new : c.settle.new.stores.shelves ≡ with_store c.args.stores.now.shelves c.args.place (added (store_at c.args.stores.now.shelves c.args.place) c.args.object (fields_of c.args.stores.now.shelves c.args.class)) = c.settle.ensures.stores ∙ c.in_ok-add_object.ensures.ok in
       forgotten_changes c.args.stores.now.shelves c.settle.new.stores.shelves c.args.bindings.now c.clear.new.self c.args.place c.requires.ready.store c.requires.ready.graph c.settle.new.bindings.graphs
-      (ap (λ (shelves : Shelves). shelves.layouts) new) (column.changes_with [] c.args.stores.now.shelves.table c.settle.new.stores.shelves.table c.args.place (added (store_at c.args.stores.now.shelves c.args.place) c.args.object (fields_of c.args.stores.now.shelves c.args.class)) c.requires.ready.store (ap (λ (shelves : Shelves). shelves.table) new))
+      (ap (λ (shelves : StoreTable). shelves.layouts) new) (column.changes_with [] c.args.stores.now.shelves.table c.settle.new.stores.shelves.table c.args.place (added (store_at c.args.stores.now.shelves c.args.place) c.args.object (fields_of c.args.stores.now.shelves c.args.class)) c.requires.ready.store (ap (λ (shelves : StoreTable). shelves.table) new))
       (column.changes_same no_graph c.args.bindings.now.graphs c.settle.new.bindings.graphs c.args.place c.in-Err.ensures.err) c.clear.ensures.cleared;
   all = search rules;
 }

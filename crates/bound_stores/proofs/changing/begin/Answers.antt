@@ -1,6 +1,6 @@
 use Rattle.std.proofs.Common.{◌≡◌, ◌∙◌, [], suc, refl, sym, ap, arith, rules}
 use Rattle.shared_rows.proofs.ForCallers as column
-use Rattle.property_store.specs.Table.{Shelves, store_at}
+use Rattle.property_store.specs.Table.{StoreTable, store_at}
 use Rattle.binding_graph.specs.Graph.{Graph, begun, no_graph}
 use Rattle.binding_graph.specs.Table.{graph_at}
 use Rattle.bound_stores.specs.Bound.{bound_at, seen_of}
@@ -28,7 +28,7 @@ returns-clause-ok c =
 pub returns-clause-stays : goal.returns-clause-stays
 returns-clause-stays c = record {
   only =
-      changes_seen c.args.stores.now.shelves c.begin.new.stores.shelves c.args.bindings.now c.begin.new.self c.args.place (ap (λ (shelves : Shelves). shelves.layouts) c.begin.ensures.stores.shelves) (column.changes_same [] c.args.stores.now.shelves.table c.begin.new.stores.shelves.table c.args.place (ap (λ (shelves : Shelves). shelves.table) c.begin.ensures.stores.shelves))
+      changes_seen c.args.stores.now.shelves c.begin.new.stores.shelves c.args.bindings.now c.begin.new.self c.args.place (ap (λ (shelves : StoreTable). shelves.layouts) c.begin.ensures.stores.shelves) (column.changes_same [] c.args.stores.now.shelves.table c.begin.new.stores.shelves.table c.args.place (ap (λ (shelves : StoreTable). shelves.table) c.begin.ensures.stores.shelves))
       (changes_either c.begin.result c.args.bindings.now.graphs c.begin.new.self.graphs c.args.place _ c.requires.ready.graph c.begin.ensures.ok c.begin.ensures.err);
   all = search rules;
 }

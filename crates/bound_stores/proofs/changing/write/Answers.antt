@@ -5,7 +5,7 @@ use Rattle.binding_values.specs.declared.binding.Binding.{Binding}
 use Rattle.binding_graph.specs.Graph.{unbound}
 use Rattle.property_store.specs.Property.{is_property}
 use Rattle.bound_stores.specs.Bound.{bound_at, seen_of, with_bound}
-use Rattle.bound_stores.specs.Changed.{alone}
+use Rattle.bound_stores.specs.WriteChanges.{alone}
 use Rattle.bound_stores.specs.Named.{TellsWritten}
 use Rattle.bound_stores.proofs.AloneLemmas.{alone_told, change_of, written_as}
 use Rattle.bound_stores.proofs.SeenLemmas.{changes_seen, forgotten_changes, put_told, settled_seen}

@@ -1,5 +1,5 @@
 use Rattle.std.proofs.Common.{◌∙◌, ap, refl, sym, subst}
-use Rattle.property_store.specs.Table.{Stock, store_at}
+use Rattle.property_store.specs.Table.{StoresView, store_at}
 use Rattle.property_store.proofs.ForCallers.{ok_or_none, ok_or_some}
 use Rattle.bound_stores.specs.Bound.{seen_of}
 use Rattle.bound_stores.specs.Named.{WritesDeclared}
@@ -14,7 +14,7 @@ returns-in-Ok-clause-writes c =
 
 pub returns-in-Err-clause-writes : goal.returns-in-Err-clause-writes
 returns-in-Err-clause-writes c =
-    not_named c.args.stores.now.shelves c.write_named.new.self.shelves c.args.bindings.now c.args.place c.args.object c.args.name.now c.args.value c.in-Err.unwritten (sym c.in-Err.is ∙ c.write_named.ensures.answer) (ap (λ (stores : Stock). stores.shelves) c.in-Err.ensures.err)
+    not_named c.args.stores.now.shelves c.write_named.new.self.shelves c.args.bindings.now c.args.place c.args.object c.args.name.now c.args.value c.in-Err.unwritten (sym c.in-Err.is ∙ c.write_named.ensures.answer) (ap (λ (stores : StoresView). stores.shelves) c.in-Err.ensures.err)
 
 pub returns-in_default-convert-clause-writes : goal.returns-in_default-convert-clause-writes
 returns-in_default-convert-clause-writes c = (

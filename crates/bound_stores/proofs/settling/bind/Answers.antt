@@ -1,5 +1,5 @@
 use Rattle.std.proofs.Common.{◌∙◌, ap, rules}
-use Rattle.property_store.specs.Table.{Shelves, store_at}
+use Rattle.property_store.specs.Table.{StoreTable, store_at}
 use Rattle.shared_rows.proofs.ForCallers as column
 use Rattle.binding_graph.specs.Graph.{no_graph}
 use Rattle.binding_values.specs.Binds.{with_binding}
@@ -24,7 +24,7 @@ returns-clause-ok c =
     let old = c.args.bindings.now.graphs in
     settled_after (store_at stores place) (store_at stores place) old c.note.new.bindings.graphs c.bind.new.self.graphs c.settle.new.bindings.graphs place
     (with_binding (record { at = c.args.at; expr = c.args.expr })) c.requires.ready.graph c.in_ok-note.ensures.ok c.in_ok-bind.ensures.ok
-    (c.in_ok-settle.ensures.ok ∙ ap (λ (stores : Shelves). with_graph c.bind.new.self.graphs place (settled_in (store_at stores place) (graph_at c.bind.new.self.graphs place))) c.note.ensures.stores)
+    (c.in_ok-settle.ensures.ok ∙ ap (λ (stores : StoreTable). with_graph c.bind.new.self.graphs place (settled_in (store_at stores place) (graph_at c.bind.new.self.graphs place))) c.note.ensures.stores)
 
 pub returns-clause-stays : goal.returns-clause-stays
 returns-clause-stays c = record {

@@ -1,7 +1,7 @@
 use Rattle.std.proofs.Common.{◌≡◌, ◌∙◌, [], Some, ap, filter, not, rules}
 use Rattle.shared_rows.proofs.ForCallers as column
 use Rattle.property_store.specs.Store.{written}
-use Rattle.property_store.specs.Table.{Shelves, store_at, with_store}
+use Rattle.property_store.specs.Table.{StoreTable, store_at, with_store}
 use Rattle.binding_values.specs.declared.binding.Binding.{Binding}
 use Rattle.binding_graph.specs.Graph.{settled_changes, settled_graph}
 use Rattle.property_store.specs.Property.{is_property}
@@ -57,8 +57,8 @@ returns-clause-stays c =
     c.settle.ensures.stores
     ∙ wrote_is stores c.note.new.stores.shelves c.take.new.stores.shelves c.args.bindings.now.graphs c.note.new.bindings.graphs c.args.place c.args.at c.requires.ready.store c.requires.ready.graph c.note.ensures.stores c.in_ok-note.ensures.ok c.in_ok-take.ensures.stored.shelves c.write.new.self.shelves c.args.value c.requires.fits c.write.ensures.new in
     record {
-      layouts = ap (λ (shelves : Shelves). shelves.layouts) new;
-      stores = column.changes_with [] stores.table c.settle.new.stores.shelves.table c.args.place _ c.requires.ready.store (ap (λ (shelves : Shelves). shelves.table) new);
+      layouts = ap (λ (shelves : StoreTable). shelves.layouts) new;
+      stores = column.changes_with [] stores.table c.settle.new.stores.shelves.table c.args.place _ c.requires.ready.store (ap (λ (shelves : StoreTable). shelves.table) new);
       graphs =
           changes_thrice c.args.bindings.now.graphs c.note.new.bindings.graphs c.take.new.self.graphs c.settle.new.bindings.graphs c.args.place _ _ c.requires.ready.graph c.in_ok-note.ensures.ok c.in_ok-take.ensures.graph
           (λ there. changes_either c.settle.result c.take.new.self.graphs c.settle.new.bindings.graphs c.args.place _ there c.settle.ensures.ok c.settle.ensures.err);

@@ -1,7 +1,7 @@
 use Rattle.std.proofs.Common.{arith}
 use Rattle.shared_rows.specs.Rows.{rows_at, without}
 use Rattle.shared_rows.proofs.RowsLemmas.{some_at}
-use Rattle.event_queue.specs.declared.event.Posted.{Posted}
+use Rattle.event_queue.specs.declared.event.QueuedEvent.{QueuedEvent}
 use Rattle.event_queue.proofs.OrderLemmas.{first_event, has_events, shown_without}
 use Rattle.event_queue.proofs.order.take_row.Goals as goal
 
@@ -17,4 +17,4 @@ pub returns-clause-rest : goal.returns-clause-rest
 returns-clause-rest c =
     let rows = rows_at c.args.rows.now c.args.place in
     has_events c.args.rows.now c.remove.new.self c.args.place (without rows c.at-key.result.0) _ c.requires c.remove.ensures.rest
-    (shown_without (λ (posted : Posted). posted.event) rows c.len.ensures.sound.apart 0 c.at-key.result.0 c.at-key.result.1.now (omega (arith, c.len.ensures.len, c.if-len-eq0.false)) c.at-key.ensures)
+    (shown_without (λ (posted : QueuedEvent). posted.event) rows c.len.ensures.sound.apart 0 c.at-key.result.0 c.at-key.result.1.now (omega (arith, c.len.ensures.len, c.if-len-eq0.false)) c.at-key.ensures)

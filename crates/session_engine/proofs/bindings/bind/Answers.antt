@@ -56,7 +56,7 @@ returns-in_err-tell g c =
     let middle = c.bind.new.self in
     let found =
     bound_found (state_at old caller.place) c.args.object c.args.property.now (view c.args.to.now) _ (rw c.as_str.ensures at c.in_ok-at.ensures) _ c.in_ok-expr.ensures.answers c.in_ok-check_reads.ensures in
-    starved_told caller (Bind c.args.object c.args.property.now (view c.args.to.now)) old middle c.tell.new.tables c.args.telling.now c.tell.new.telling
+    starved_told caller (Bind c.args.object c.args.property.now (view c.args.to.now)) old middle c.tell.new.tables c.args.output.now c.tell.new.output
     (told_items (settings_of caller.setup.now) (state_at middle caller.place) 0 c.in_ok-changes.changes) _ (a.Truth true) c.requires.placed c.requires.fresh
     (bind_found _ _ _ _ _ _ _ found ∙ c.in_ok-changes.ensures.refusal) (bind_done _ _ _ _ _ _ _ found)
     (comes_found caller old middle _ (Some c.in_ok-at.at) c.in_ok-changes.changes (state_with _ _ _ _ c.requires.placed c.in_ok-changes.ensures.ok) c.in_ok-changes.ensures.told)
@@ -69,7 +69,7 @@ returns g c =
     let middle = c.bind.new.self in
     let found =
     bound_found (state_at old caller.place) c.args.object c.args.property.now (view c.args.to.now) _ (rw c.as_str.ensures at c.in_ok-at.ensures) _ c.in_ok-expr.ensures.answers c.in_ok-check_reads.ensures in
-    performs_told caller (Bind c.args.object c.args.property.now (view c.args.to.now)) old middle c.tell.new.tables c.args.telling.now c.tell.new.telling
+    performs_told caller (Bind c.args.object c.args.property.now (view c.args.to.now)) old middle c.tell.new.tables c.args.output.now c.tell.new.output
     (told_items (settings_of caller.setup.now) (state_at middle caller.place) 0 c.in_ok-changes.changes) _ (a.Truth true) c.requires.placed c.requires.fresh
     (bind_found _ _ _ _ _ _ _ found ∙ c.in_ok-changes.ensures.refusal) (bind_done _ _ _ _ _ _ _ found)
     (comes_found caller old middle _ (Some c.in_ok-at.at) c.in_ok-changes.changes (state_with _ _ _ _ c.requires.placed c.in_ok-changes.ensures.ok) c.in_ok-changes.ensures.told)

@@ -16,7 +16,7 @@ returns-in-Reset g c =
     subst (λ command. Obeys c.args.caller.now (asked command) c.args.tables.now c.renew.new.tables c.args.memory_refused.now c.renew.new.memory_refused c.renew.result) (sym c.in-Reset.is) c.renew.ensures
 
 pub returns-in-Ok : goal.returns-in-Ok
-returns-in-Ok g c = obeys_replied _ _ c.args.tables.now c.perform.new.tables (sym c.if-failed.ensures) _ _ _ c.in-Ok.answer _ (rw c.new-actor.ensures at c.in-Ok.ensures) (ap (λ telling. telling.lines) c.in-Ok-tell.ensures.told)
+returns-in-Ok g c = obeys_replied _ _ c.args.tables.now c.perform.new.tables (sym c.if-failed.ensures) _ _ _ c.in-Ok.answer _ (rw c.new-actor.ensures at c.in-Ok.ensures) (ap (λ output. output.lines) c.in-Ok-tell.ensures.told)
 
 pub returns-in-Err-Refused : goal.returns-in-Err-Refused
 returns-in-Err-Refused g c = obeys_refusing _ _ c.args.tables.now c.perform.new.tables (sym c.if-failed.ensures) _ _ _ c.in-Err-Refused.code (rw (c.in-Err-Refused.field-0-is, c.new-actor.ensures) at c.in-Err-Refused.ensures)

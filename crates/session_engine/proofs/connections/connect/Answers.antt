@@ -1,10 +1,10 @@
 use Rattle.std.proofs.Common.{Ok, refl, ap, ◌∙◌}
-use Rattle.session_model.specs.declared.deed.Deed.TheVariants as d
-use Rattle.session_model.specs.Deeds.{found_refusal}
+use Rattle.session_model.specs.declared.operation.Operation.TheVariants as d
+use Rattle.session_model.specs.Operations.{found_refusal}
 use Rattle.session_model.specs.Methods.{◌>>=◌}
 use Rattle.session_model.proofs.ForCallers.{performs_connect, refusal_connect}
 use Rattle.session_tables.specs.Tables.{state_at}
-use Rattle.session_engine.proofs.CommandsLemmas.{behind_first, behind_second, deed_performed, found_fault, stopped}
+use Rattle.session_engine.proofs.CommandsLemmas.{behind_first, behind_second, operation_performed, found_fault, stopped}
 use Rattle.session_engine.proofs.connections.connect.Goals as goal
 
 pub returns-in_err-check_living : goal.returns-in_err-check_living
@@ -21,6 +21,6 @@ returns-in_err-new c =
     (refusal_connect _ _ _ _ _ _ _ _ _ _ ∙ ap (found_refusal (state_at c.args.tables.now c.args.caller.now.place)) (behind_second _ _ c.in_ok-check_living.ensures ∙ behind_second _ _ c.in_ok-check_living-2.ensures)) (λ code. refl) c.in_err-new.ensures
 
 pub returns : goal.returns
-returns c = deed_performed _ _ _ _ _ _ _ c.requires (refusal_connect _ _ _ _ _ _ _ _ _ _) (performs_connect _ _ _ _ _ _ _ _ _ _)
+returns c = operation_performed _ _ _ _ _ _ _ c.requires (refusal_connect _ _ _ _ _ _ _ _ _ _) (performs_connect _ _ _ _ _ _ _ _ _ _)
     (behind_second _ _ c.in_ok-check_living.ensures ∙ behind_second _ _ c.in_ok-check_living-2.ensures ∙ ap (λ found. found >>= λ found. Ok (d.Connect found c.args.options.unique)) c.in_ok-new.ensures)
     c.do_found.ensures.refusal c.do_found.ensures.answer c.do_found.ensures.ok c.do_found.ensures.err

@@ -1,13 +1,13 @@
 use Rattle.std.proofs.Common.{Ok, refl, ap, ◌∙◌}
 use Rattle.std.proofs.lemmas.Bool.{cond-false, cond-true}
-use Rattle.session_model.specs.declared.deed.Deed.TheVariants as d
+use Rattle.session_model.specs.declared.operation.Operation.TheVariants as d
 use Rattle.plain_types.specs.declared.code.Code.TheVariants.{UniqueFunctor}
 use Rattle.std.specs.Prelude.{Err, false, if◌then◌else◌}
-use Rattle.session_model.specs.Deeds.{found_refusal}
+use Rattle.session_model.specs.Operations.{found_refusal}
 use Rattle.session_model.specs.Methods.{◌>>=◌}
 use Rattle.session_model.proofs.ForCallers.{performs_connect_functor, refusal_connect_functor}
 use Rattle.session_tables.specs.Tables.{state_at}
-use Rattle.session_engine.proofs.CommandsLemmas.{behind_first, behind_second, deed_performed, found_fault, stopped}
+use Rattle.session_engine.proofs.CommandsLemmas.{behind_first, behind_second, operation_performed, found_fault, stopped}
 use Rattle.session_engine.proofs.connections.connect_functor.Goals as goal
 
 pub returns-in_err-check_living : goal.returns-in_err-check_living
@@ -29,6 +29,6 @@ returns-then-options c =
     (refusal_connect_functor _ _ _ _ _ _ _ _ _ _ ∙ ap (found_refusal (state_at c.args.tables.now c.args.caller.now.place)) (behind_second _ _ c.in_ok-check_living.ensures ∙ behind_second _ _ c.in_ok-check_living-2.ensures ∙ ap (λ found. found >>= λ new. if c.args.options.unique then Err UniqueFunctor else Ok (d.Connect new false)) c.in_ok-new.ensures ∙ cond-true c.args.options.unique _ _ c.if-options.true)) refl
 
 pub returns : goal.returns
-returns c = deed_performed _ _ _ _ _ _ _ c.requires (refusal_connect_functor _ _ _ _ _ _ _ _ _ _) (performs_connect_functor _ _ _ _ _ _ _ _ _ _)
+returns c = operation_performed _ _ _ _ _ _ _ c.requires (refusal_connect_functor _ _ _ _ _ _ _ _ _ _) (performs_connect_functor _ _ _ _ _ _ _ _ _ _)
     (behind_second _ _ c.in_ok-check_living.ensures ∙ behind_second _ _ c.in_ok-check_living-2.ensures ∙ ap (λ found. found >>= λ new. if c.args.options.unique then Err UniqueFunctor else Ok (d.Connect new false)) c.in_ok-new.ensures ∙ cond-false c.args.options.unique _ _ c.if-options.false)
     c.do_found.ensures.refusal c.do_found.ensures.answer c.do_found.ensures.ok c.do_found.ensures.err

@@ -1,10 +1,10 @@
 use Rattle.std.proofs.Common.{Ok, refl, ap, ◌∙◌}
-use Rattle.session_model.specs.declared.deed.Deed.TheVariants as d
-use Rattle.session_model.specs.Deeds.{found_refusal}
+use Rattle.session_model.specs.declared.operation.Operation.TheVariants as d
+use Rattle.session_model.specs.Operations.{found_refusal}
 use Rattle.session_model.specs.Methods.{◌>>=◌}
 use Rattle.session_model.proofs.ForCallers.{performs_disconnect, refusal_disconnect}
 use Rattle.session_tables.specs.Tables.{state_at}
-use Rattle.session_engine.proofs.CommandsLemmas.{behind_first, behind_second, deed_performed, found_fault, stopped}
+use Rattle.session_engine.proofs.CommandsLemmas.{behind_first, behind_second, operation_performed, found_fault, stopped}
 use Rattle.session_engine.proofs.connections.disconnect.Goals as goal
 
 pub returns-in_err-check_object : goal.returns-in_err-check_object
@@ -21,6 +21,6 @@ returns-in_err-pattern c =
     (refusal_disconnect _ _ _ _ _ _ _ ∙ ap (found_refusal (state_at c.args.tables.now c.args.caller.now.place)) (behind_second _ _ c.in_ok-check_object.ensures ∙ behind_second _ _ c.in_ok-check_named.ensures)) (λ code. refl) c.in_err-pattern.ensures
 
 pub returns : goal.returns
-returns c = deed_performed _ _ _ _ _ _ _ c.requires (refusal_disconnect _ _ _ _ _ _ _) (performs_disconnect _ _ _ _ _ _ _)
+returns c = operation_performed _ _ _ _ _ _ _ c.requires (refusal_disconnect _ _ _ _ _ _ _) (performs_disconnect _ _ _ _ _ _ _)
     (behind_second _ _ c.in_ok-check_object.ensures ∙ behind_second _ _ c.in_ok-check_named.ensures ∙ ap (λ found. found >>= λ found. Ok (d.Disconnect found)) c.in_ok-pattern.ensures)
-    c.do_deed.ensures.refusal c.do_deed.ensures.answer c.do_deed.ensures.ok c.do_deed.ensures.err
+    c.do_operation.ensures.refusal c.do_operation.ensures.answer c.do_operation.ensures.ok c.do_operation.ensures.err

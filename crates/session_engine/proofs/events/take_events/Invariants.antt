@@ -7,10 +7,10 @@ use Rattle.session_engine.proofs.events.take_events.Given as goal
 -- so far events were taken, each with a turn, and those that are left are still to be taken
 abbrev pub invariant-events : goal.invariant-events
 invariant-events g l = record {
-  so : SoFar l.actor.caller (here l.actor.caller (Spin ∷ []) l.fn.tables l.fn.telling) (here l.actor.caller (Spin ∷ []) l.tables l.telling) l.fn.tables l.tables l.fn.telling l.telling;
+  so : SoFar l.actor.caller (here l.actor.caller (Spin ∷ []) l.fn.tables l.fn.output) (here l.actor.caller (Spin ∷ []) l.tables l.output) l.fn.tables l.tables l.fn.output l.output;
   placed : IsPlaced l.tables l.actor.caller.place;
-  few : l.telling.turns + l.telling.taken < 2 ^ 32;
+  few : l.output.turns + l.output.taken < 2 ^ 32;
 }
 
 abbrev pub decreases-events : goal.decreases-events
-decreases-events g l = l.telling.turns
+decreases-events g l = l.output.turns

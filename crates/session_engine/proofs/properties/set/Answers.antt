@@ -1,12 +1,12 @@
 use Rattle.std.proofs.Common.{Ok, true, false, refl, sym, ap, ◌∙◌}
 use Rattle.std.specs.Result.{result_err}
 use Rattle.serde_json.specs.View.{view}
-use Rattle.session_model.specs.Doing.{in_state}
+use Rattle.session_model.specs.Execution.{in_state}
 use Rattle.session_model.specs.Methods.{◌>>=◌}
 use Rattle.session_model.specs.Writing.{Declared, Nothing, dynamic_writing}
 use Rattle.session_model.proofs.ForCallers.{refusal_set, nothing_written}
 use Rattle.session_tables.specs.Tables.{state_at}
-use Rattle.session_effects.specs.declared.announcing.News.TheVariants as news
+use Rattle.session_effects.specs.declared.announcing.PendingAnnouncements.TheVariants as news
 use Rattle.session_effects.specs.Setup.{settings_of}
 use Rattle.session_effects.proofs.ForCallers.{keeps_same}
 use Rattle.session_engine.proofs.CommandsLemmas.{found_fault, or_first, or_second, quietly, starved, stopped}
@@ -36,21 +36,21 @@ pub returns-in_default : goal.returns-in_default
 returns-in_default g c =
     let state = state_at c.args.tables.now c.args.actor.now.caller.place in
     let writes = c.in_ok-write_dynamic.ensures.writes in
-    performs_written c.args.actor.now.caller c.args.object c.args.property.now (view c.args.value.now) c.args.tables.now c.write_dynamic.new.tables c.write_dynamic.new.tables c.args.telling.now c.args.telling.now writes.0 false news.Nothing
+    performs_written c.args.actor.now.caller c.args.object c.args.property.now (view c.args.value.now) c.args.tables.now c.write_dynamic.new.tables c.write_dynamic.new.tables c.args.output.now c.args.output.now writes.0 false news.Nothing
     (dynamic_undeclared state c.args.object c.args.property.now c.in_ok-value.value writes.0 writes.1)
     c.in_ok-class.ensures.refusal c.requires.fresh
     (asked_dynamic state c.args.object c.args.property.now (view c.args.value.now) (rw c.as_str.ensures at c.in_default.ensures) ∙ ap (λ found. found >>= dynamic_writing state c.args.object c.args.property.now) c.in_ok-value.ensures.exact ∙ writes.1)
-    writes.2 c.requires.placed c.in_ok-write_dynamic.ensures.keeps tt (tells_none c.args.actor.now.caller c.write_dynamic.new.tables c.args.telling.now)
+    writes.2 c.requires.placed c.in_ok-write_dynamic.ensures.keeps tt (tells_none c.args.actor.now.caller c.write_dynamic.new.tables c.args.output.now)
 
 -- null leaves a declared property as it is
 pub returns-then-is_null : goal.returns-then-is_null
 returns-then-is_null g c =
     let caller = c.args.actor.now.caller in
     let state = state_at c.args.tables.now caller.place in
-    performs_written caller c.args.object c.args.property.now (view c.args.value.now) c.args.tables.now c.args.tables.now c.args.tables.now c.args.telling.now c.args.telling.now Nothing false news.Nothing refl
+    performs_written caller c.args.object c.args.property.now (view c.args.value.now) c.args.tables.now c.args.tables.now c.args.tables.now c.args.output.now c.args.output.now Nothing false news.Nothing refl
     c.in_ok-class.ensures.refusal c.requires.fresh
     (asked_nothing state c.args.object c.args.property.now (view c.args.value.now) _ (place_is (c.in-Some.number, c.in-Some.kind) _ (rw c.as_str.ensures at c.in-Some.ensures)) (sym c.if-is_null.ensures))
-    (λ depth doing. nothing_written (settings_of caller.setup.now) (in_state doing state) c.args.object depth) c.requires.placed (keeps_same _ _ _ refl) tt (tells_none caller c.args.tables.now c.args.telling.now)
+    (λ depth doing. nothing_written (settings_of caller.setup.now) (in_state doing state) c.args.object depth) c.requires.placed (keeps_same _ _ _ refl) tt (tells_none caller c.args.tables.now c.args.output.now)
 
 -- a declared property: what is no value of its kind is refused
 pub returns-in_err-value-2 : goal.returns-in_err-value-2
@@ -69,7 +69,7 @@ pub returns-in_err-notify : goal.returns-in_err-notify
 returns-in_err-notify g c =
     let caller = c.args.actor.now.caller in
     let state = state_at c.args.tables.now caller.place in
-    starved_written caller c.args.object c.args.property.now (view c.args.value.now) c.args.tables.now c.write_declared.new.tables c.notify.new.tables c.args.telling.now c.notify.new.telling
+    starved_written caller c.args.object c.args.property.now (view c.args.value.now) c.args.tables.now c.write_declared.new.tables c.notify.new.tables c.args.output.now c.notify.new.output
     (Declared c.in-Some.number c.in_ok-value-2.value) true c.in_ok-news.news refl
     c.in_ok-class.ensures.refusal c.requires.fresh
     (asked_value state c.args.object c.args.property.now (view c.args.value.now) _ (place_is (c.in-Some.number, c.in-Some.kind) _ (rw c.as_str.ensures at c.in-Some.ensures)) (sym c.if-is_null.ensures)
@@ -81,7 +81,7 @@ pub returns : goal.returns
 returns g c =
     let caller = c.args.actor.now.caller in
     let state = state_at c.args.tables.now caller.place in
-    performs_written caller c.args.object c.args.property.now (view c.args.value.now) c.args.tables.now c.write_declared.new.tables c.notify.new.tables c.args.telling.now c.notify.new.telling
+    performs_written caller c.args.object c.args.property.now (view c.args.value.now) c.args.tables.now c.write_declared.new.tables c.notify.new.tables c.args.output.now c.notify.new.output
     (Declared c.in-Some.number c.in_ok-value-2.value) true c.in_ok-news.news refl
     c.in_ok-class.ensures.refusal c.requires.fresh
     (asked_value state c.args.object c.args.property.now (view c.args.value.now) _ (place_is (c.in-Some.number, c.in-Some.kind) _ (rw c.as_str.ensures at c.in-Some.ensures)) (sym c.if-is_null.ensures)

@@ -16,7 +16,7 @@ returns-in_err-delete g c =
     let caller = c.args.actor.now.caller in
     let old = c.args.tables.now in
     let items = Delete c.args.object 0 ∷ [] in
-    starved_told caller (asked.Delete c.args.object) old old c.delete.new.tables c.args.telling.now c.delete.new.telling items (comes caller old old items) (a.Truth true) c.requires.placed c.requires.fresh
+    starved_told caller (asked.Delete c.args.object) old old c.delete.new.tables c.args.output.now c.delete.new.output items (comes caller old old items) (a.Truth true) c.requires.placed c.requires.fresh
     (refusal_delete _ _ _ _ ∙ sym c.in_ok-check_object.ensures) (performs_delete _ _ _ _) refl (keeps_same _ _ _ refl) _ _ _ c.from_residual-in_err-delete.ensures.1 c.in_err-delete.ensures
 
 pub returns : goal.returns
@@ -24,5 +24,5 @@ returns g c =
     let caller = c.args.actor.now.caller in
     let old = c.args.tables.now in
     let items = Delete c.args.object 0 ∷ [] in
-    performs_told caller (asked.Delete c.args.object) old old c.delete.new.tables c.args.telling.now c.delete.new.telling items (comes caller old old items) (a.Truth true) c.requires.placed c.requires.fresh
+    performs_told caller (asked.Delete c.args.object) old old c.delete.new.tables c.args.output.now c.delete.new.output items (comes caller old old items) (a.Truth true) c.requires.placed c.requires.fresh
     (refusal_delete _ _ _ _ ∙ sym c.in_ok-check_object.ensures) (performs_delete _ _ _ _) refl (keeps_same _ _ _ refl) _ c.in_ok-delete.ensures

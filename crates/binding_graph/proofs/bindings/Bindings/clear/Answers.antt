@@ -3,16 +3,16 @@ use Rattle.binding_graph.specs.Graph.{no_graph}
 use Rattle.binding_graph.specs.Cache.{no_cache}
 use Rattle.property_store.specs.Table.{store_at}
 use Rattle.property_store.specs.Marks.{marks_at}
-use Rattle.binding_graph.specs.Woven.{IsAt, Woven}
+use Rattle.binding_graph.specs.GraphAndCache.{IsAt, GraphAndCache}
 use Rattle.binding_graph.proofs.StepLemmas.{all_in_step}
-use Rattle.binding_graph.proofs.PlaceLemmas.{kept_here, nothing_drained, others_kept, place_there, with_in_step, with_woven_as}
+use Rattle.binding_graph.proofs.PlaceLemmas.{kept_here, nothing_drained, others_kept, place_there, with_in_step, with_pair_as}
 use Rattle.binding_graph.proofs.bindings.Bindings.clear.Goals as goal
 
 pub returns-clause-cleared : goal.returns-clause-cleared
-returns-clause-cleared c = rw (← c.self.view_is) (with_woven_as c.self.inside.graphs c.args.place c.new.result no_graph (ap (λ (woven : Woven). woven.graph) c.new.ensures))
+returns-clause-cleared c = rw (← c.self.view_is) (with_pair_as c.self.inside.graphs c.args.place c.new.result no_graph (ap (λ (pair : GraphAndCache). pair.graph) c.new.ensures))
 
 pub returns-clause-nothing : goal.returns-clause-nothing
-returns-clause-nothing c = kept_here c.self.inside.graphs c.args.place c.new.result (place_there c.self.inside.graphs c.args.place (rw (← c.self.view_is) at c.requires)) ∙ ap (λ (woven : Woven). woven.cache) c.new.ensures
+returns-clause-nothing c = kept_here c.self.inside.graphs c.args.place c.new.result (place_there c.self.inside.graphs c.args.place (rw (← c.self.view_is) at c.requires)) ∙ ap (λ (pair : GraphAndCache). pair.cache) c.new.ensures
 
 pub returns-clause-others : goal.returns-clause-others
 returns-clause-others c = rw (← c.self.view_is) (others_kept c.self.inside.graphs c.args.place c.new.result)

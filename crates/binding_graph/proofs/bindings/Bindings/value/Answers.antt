@@ -4,7 +4,7 @@ use Rattle.variant_value.specs.Values.{IsShort}
 use Rattle.binding_values.specs.declared.property.BindingError.{BindingError}
 use Rattle.property_store.specs.Table.{store_at}
 use Rattle.binding_graph.specs.Graph.{Graph, value_in}
-use Rattle.binding_graph.specs.Woven.{IsAt, no_woven}
+use Rattle.binding_graph.specs.GraphAndCache.{IsAt, no_graph_and_cache}
 use Rattle.binding_graph.proofs.ShownLemmas.{value_short}
 use Rattle.binding_graph.proofs.PlaceLemmas.{at_place, graph_now}
 use Rattle.binding_graph.proofs.bindings.Bindings.value.Goals as goal
@@ -14,10 +14,10 @@ carried (Ok found) v short is = subst (λ (f : Value × Option BindingError). Is
 carried (Err e) v short is = tt
 
 pub value-requires-clause-step : goal.value-requires-clause-step
-value-requires-clause-step c = subst (IsAt c.args.stores.now c.args.place) (sym (c.get-graph.ensures no_woven)) (at_place c.args.stores.now c.self.inside.graphs (rw (← c.self.view_is) at c.requires.step) c.args.place)
+value-requires-clause-step c = subst (IsAt c.args.stores.now c.args.place) (sym (c.get-graph.ensures no_graph_and_cache)) (at_place c.args.stores.now c.self.inside.graphs (rw (← c.self.view_is) at c.requires.step) c.args.place)
 
 pub returns-clause-value : goal.returns-clause-value
-returns-clause-value c = rw (← c.self.view_is) (subst (λ (graph : Graph). IfOk c.value.result (λ found. found ≡ value_in (store_at c.args.stores.now.shelves c.args.place) graph c.args.at)) (graph_now c.self.inside.graphs c.args.place c.get-graph.result.now (c.get-graph.ensures no_woven)) c.value.ensures)
+returns-clause-value c = rw (← c.self.view_is) (subst (λ (graph : Graph). IfOk c.value.result (λ found. found ≡ value_in (store_at c.args.stores.now.shelves c.args.place) graph c.args.at)) (graph_now c.self.inside.graphs c.args.place c.get-graph.result.now (c.get-graph.ensures no_graph_and_cache)) c.value.ensures)
 
 pub returns-clause-short : goal.returns-clause-short
 returns-clause-short c = carried c.value.result _ (value_short (store_at c.args.stores.now.shelves c.args.place) c.count.ensures.sound c.get-graph.result.now.graph c.count-2.ensures.sound c.args.at) c.value.ensures

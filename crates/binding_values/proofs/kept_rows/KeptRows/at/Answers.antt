@@ -1,10 +1,10 @@
 use Rattle.std.proofs.Common.{◌≡◌, ◌∙◌, Option, Some, None, Bor, ap, option_map, refl, sym}
 use Rattle.std.specs.Option.{option_copied}
-use Rattle.binding_values.specs.declared.kept.Kept.{Kept}
+use Rattle.binding_values.specs.declared.eval_result.EvalResult.{EvalResult}
 use Rattle.binding_values.proofs.KeepingLemmas.{kept_at, kept_in}
 use Rattle.binding_values.proofs.kept_rows.KeptRows.at.Goals as goal
 
-copied : (found : Option (Bor Kept)) → option_map (λ kept. kept.now) found ≡ option_copied found
+copied : (found : Option (Bor EvalResult)) → option_map (λ kept. kept.now) found ≡ option_copied found
 copied None = refl
 copied (Some kept) = refl
 

@@ -1,6 +1,6 @@
 use Rattle.std.proofs.Common.{[], sym, subst}
 use Rattle.property_store.specs.Table.{store_at}
-use Rattle.binding_values.specs.Kept.{kept_of}
+use Rattle.binding_values.specs.EvalResult.{kept_of}
 use Rattle.binding_values.specs.Stored.{scene_of}
 use Rattle.binding_values.specs.Right.{IsWhole, only}
 use Rattle.binding_values.proofs.SettlingLemmas.{bound_or_not}

@@ -1,6 +1,6 @@
 use Rattle.std.proofs.Common.{◌≡◌, Some, IfOk, subst}
 use Rattle.bound_stores.specs.Bound.{seen_of}
-use Rattle.bound_stores.specs.Changed.{told_at}
+use Rattle.bound_stores.specs.WriteChanges.{told_at}
 use Rattle.bound_stores.proofs.bound_stores.BoundStores.unbind.Goals as goal
 
 pub returns-clause-told : goal.returns-clause-told

@@ -65,7 +65,7 @@ returns-clause-later g c =
       settings = steps_settings old new ts c.loop-given.entries.items c.loop-given.invariant.steps;
       kept = steps_kept old new ts c.loop-given.entries.items c.loop-given.invariant.steps;
       knows = knows_all (settings new) new.engine;
-      sound = c.sound-2.ensures.sound;
+      sound = c.law_sound-2.ensures.sound;
     }
 
 pub returns-in_default-clause-later : goal.returns-in_default-clause-later
@@ -73,5 +73,5 @@ returns-in_default-clause-later g c = record {
   settings = c.note_memory_refused.ensures.settings;
   kept = λ was. c.note_memory_refused.ensures.refused.refused;
   knows = knows_all (settings (seen_as c.note_memory_refused.new.self)) (seen_as c.note_memory_refused.new.self).engine;
-  sound = c.sound.ensures.sound;
+  sound = c.law_sound.ensures.sound;
 }

@@ -29,7 +29,7 @@ returns-in-Ok-clause-later g c =
       settings = steps_settings old new (tags c.args.list.now) c.in-Ok.told.0.lines steps;
       kept = steps_kept old new (tags c.args.list.now) c.in-Ok.told.0.lines steps;
       knows = knows_all (settings new) new.engine;
-      sound = c.sound.ensures.sound;
+      sound = c.law_sound.ensures.sound;
     }
 
 pub returns-in-Err-clause-later : goal.returns-in-Err-clause-later
@@ -39,5 +39,5 @@ returns-in-Err-clause-later g c =
       settings = c.note_memory_refused.ensures.settings ∙ stops_settings (seen_as c.args.self.now) (seen_as c.run_noted.new.self) (tags c.args.list.now) c.in-Err.ensures.stopped;
       kept = λ was. c.note_memory_refused.ensures.refused.refused;
       knows = knows_all (settings new) new.engine;
-      sound = c.sound-in-Err.ensures.sound;
+      sound = c.law_sound-in-Err.ensures.sound;
     }

@@ -41,4 +41,4 @@ returns-clause-sound g c =
     sound_still c.args.self.now.core (engine_state c.self.inside.0.0.setup c.insert.new.self.keys c.open.new.self c.self.inside.0.0.memory_refused)
     (entered_sessions _ c.ready.new.self c.open.new.self c.args.name.now _ c.insert.new.self.keys c.ready.ensures.same c.self.invariant (ap (λ engine. place engine c.args.name.now) (ap seen_engine c.self.view_is) ∙ c.requires)
     c.in_ok-name.ensures c.in_ok-insert.ensures.keys c.open.ensures.opened ∙ ap sessions (ap seen_engine c.self.view_is))
-    (ap settings (ap seen_engine c.self.view_is)) c.sound.ensures.sound
+    (ap settings (ap seen_engine c.self.view_is)) c.law_sound.ensures.sound

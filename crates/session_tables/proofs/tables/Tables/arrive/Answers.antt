@@ -11,7 +11,7 @@ use Rattle.session_model.specs.Arriving.{reached_by}
 use Rattle.variant_value.specs.declared.value.Value.{Value}
 use Rattle.session_tables.specs.Reaching.{takes, takes_some}
 use Rattle.session_tables.specs.Tables.{session_at}
-use Rattle.session_tables.proofs.PostLemmas.{failed_only, failed_there, heard_one, map_err, map_ok, on_err, on_ok, takes_post}
+use Rattle.session_tables.proofs.PostLemmas.{failed_only, failed_there, after_posts_one, map_err, map_ok, on_err, on_ok, takes_post}
 use Rattle.session_tables.proofs.tables.Tables.arrive.Goals as goal
 
 pub returns-then-is_err-clause-only : goal.returns-then-is_err-clause-only
@@ -48,7 +48,7 @@ returns-else-is_err-clause-ok c =
     let told : List Kind → List Value → Post = λ kinds arguments. record { name = c.args.post.now.name; kinds = kinds; arguments = arguments } in
     let done : c.arrive-posted.new.queues ≡ with_queue old.queues at (reached_by classes rows from (told c.as_slice.result.now c.as_slice-2.result.now) queue c.joins-joins.result.now) =
     on_ok {P = c.arrive-posted.new.queues ≡ with_queue old.queues at (reached_by classes rows from (told c.as_slice.result.now c.as_slice-2.result.now) queue c.joins-joins.result.now)} c.arrive-posted.result (sym c.is_err.ensures.value ∙ c.if-is_err.false) c.arrive-posted.ensures.ok in
-    map_ok c.arrive-posted.result (λ value. heard_one classes from 0 old at c.args.post.now c.arrive-posted.new.queues (sym (c.get.ensures false) ∙ c.if-get.false) c.requires
+    map_ok c.arrive-posted.result (λ value. after_posts_one classes from 0 old at c.args.post.now c.arrive-posted.new.queues (sym (c.get.ensures false) ∙ c.if-get.false) c.requires
     (done ∙ ap (λ joins. with_queue old.queues at (reached_by classes rows from (told c.as_slice.result.now c.as_slice-2.result.now) queue joins)) c.joins-joins.ensures
     ∙ ap (λ kinds. with_queue old.queues at (reached_by classes rows from (told kinds c.as_slice-2.result.now) queue (desk_at old.desks at).joins)) c.as_slice.ensures
     ∙ ap (λ arguments. with_queue old.queues at (reached_by classes rows from (told c.args.post.now.kinds arguments) queue (desk_at old.desks at).joins)) c.as_slice-2.ensures))

@@ -10,7 +10,7 @@ use Rattle.session_tables.proofs.tables.Tables.make.Goals as goal
 pub add_object-requires-clause-absent : goal.add_object-requires-clause-absent
 add_object-requires-clause-absent c =
     let state = state_at c.args.self.now c.args.place in
-    ap (properties_of state.store) c.in_ok-number.ensures.number ∙ nothing_stored state c.requires.stored c.sound.ensures
+    ap (properties_of state.store) c.in_ok-number.ensures.number ∙ nothing_stored state c.requires.stored c.law_sound.ensures
 
 pub returns-in_err-number-clause-only : goal.returns-in_err-number-clause-only
 returns-in_err-number-clause-only c = grind (arith, common_steps, changes_with)

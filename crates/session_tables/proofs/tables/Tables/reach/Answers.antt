@@ -8,7 +8,7 @@ use Rattle.publish_board.specs.Table.{desk_at}
 use Rattle.session_model.specs.Arriving.{post_of, reached_by}
 use Rattle.session_tables.specs.Reaching.{ReachesBy, only_at, takes, takes_some}
 use Rattle.session_tables.specs.Tables.{session_at}
-use Rattle.session_tables.proofs.PostLemmas.{failed_only, on_err, on_ok, post_row, reach_failed, reach_heard, takes_post}
+use Rattle.session_tables.proofs.PostLemmas.{failed_only, on_err, on_ok, post_row, reach_failed, reach_after_posts, takes_post}
 use Rattle.session_tables.proofs.tables.Tables.reach.Goals as goal
 
 pub returns-then-is_err-clause-reaches : goal.returns-then-is_err-clause-reaches
@@ -46,5 +46,5 @@ returns-clause-reaches c =
     let done : c.arrive-posted.new.queues ≡ with_queue old.queues at (reached_by classes (forest_at old.forests at).rows from (post_of kinds args row) (queue_at old.queues at) c.joins-joins.result.now) =
     on_ok {P = c.arrive-posted.new.queues ≡ with_queue old.queues at (reached_by classes (forest_at old.forests at).rows from (post_of kinds args row) (queue_at old.queues at) c.joins-joins.result.now)} c.arrive-posted.result (sym c.is_err.ensures.value ∙ c.if-is_err.false) c.arrive-posted.ensures.ok in
     subst (λ posts. ReachesBy classes from place (only_at at posts) old (record old { queues = c.arrive-posted.new.queues }) c.args.failing c.args.failing) (sym post)
-    (reach_heard classes from place old at (post_of kinds args row) c.args.failing c.arrive-posted.new.queues c.if-at-sending.false (sym (c.get.ensures false) ∙ c.if-get.false) c.requires.there
+    (reach_after_posts classes from place old at (post_of kinds args row) c.args.failing c.arrive-posted.new.queues c.if-at-sending.false (sym (c.get.ensures false) ∙ c.if-get.false) c.requires.there
     (done ∙ ap (λ joins. with_queue old.queues at (reached_by classes (forest_at old.forests at).rows from (post_of kinds args row) (queue_at old.queues at) joins)) c.joins-joins.ensures))

@@ -1,0 +1,42 @@
+-- The bindings of a place, and what is kept of them.
+use Rattle.std.specs.Prelude.{◌==◌, ℕ, List, filter, map, not}
+use Rattle.shared_rows.specs.Table.{Table}
+use Rattle.property_store.specs.Marks.{Marks, marks_at}
+use Rattle.property_store.specs.Store.{Store}
+use Rattle.property_store.specs.Table.{StoresView, store_at}
+use Rattle.binding_values.specs.declared.eval_result.CacheEntry.{CacheEntry}
+use Rattle.binding_graph.specs.Cache.{Cache, IsInStep, no_cache}
+use Rattle.binding_graph.specs.Graph.{Graph, no_graph}
+use Rattle.binding_graph.specs.Table.{Graphs}
+
+pub record GraphAndCache : Type 0 where
+  pub graph : Graph
+  pub cache : Cache
+
+abbrev pub no_graph_and_cache : GraphAndCache
+no_graph_and_cache = record { graph = no_graph; cache = no_cache }
+
+-- the graphs of all places in one list, and what is kept in another
+abbrev pub split : Table GraphAndCache → Graphs
+split table = record {
+  graphs = record { places = map (λ pair. pair.graph) table.places; room = table.room };
+  caches = map (λ pair. pair.cache) table.places;
+}
+
+-- it is in step with the store of a place
+abbrev pub IsAt : StoresView → ℕ → GraphAndCache → Type 0
+IsAt stores place pair = IsInStep (store_at stores.shelves place) (marks_at stores.marks place) pair.graph pair.cache
+
+-- with what the properties of an object showed let go of
+abbrev pub without_shown : ℕ → Graph → Graph
+without_shown object graph = record graph { last = filter (λ shown. not (shown.at.object == object)) graph.last }
+
+-- where more is marked and less is kept, a place stays in step, whatever its store and its graph are
+abbrev pub StaysKept : Marks → List CacheEntry → Marks → List CacheEntry → Type 0
+StaysKept pending kept more less = (store : Store) (marks : Marks) (graph : Graph) (evaluations : ℕ)
+    → IsInStep store marks graph (record { kept = kept; pending = pending; evaluations = evaluations })
+    → IsInStep store marks graph (record { kept = less; pending = more; evaluations = evaluations })
+
+-- it stays in step with whatever store it was
+abbrev pub StaysAt : GraphAndCache → GraphAndCache → Type 0
+StaysAt old new = (store : Store) (marks : Marks) → IsInStep store marks old.graph old.cache → IsInStep store marks new.graph new.cache

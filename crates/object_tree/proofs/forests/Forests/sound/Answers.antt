@@ -1,5 +1,0 @@
-use Rattle.object_tree.proofs.KeptLemmas.{sound_anyhow}
-use Rattle.object_tree.proofs.forests.Forests.sound.Goals as goal
-
-pub returns : goal.returns
-returns c = sound_anyhow c.self.invariant c.self.view_is c.args.place c.requires

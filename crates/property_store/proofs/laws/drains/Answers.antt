@@ -1,5 +1,0 @@
-use Rattle.property_store.proofs.DrainLemmas.{drain_law}
-use Rattle.property_store.proofs.laws.drains.Goals as goal
-
-pub returns : goal.returns
-returns c = drain_law

@@ -1,8 +1,0 @@
-use Rattle.std.proofs.Common.{Ok, refl}
-use Rattle.session_model.specs.declared.deed.Deed.TheVariants.{SetParent}
-use Rattle.session_model.proofs.ForCallers.{performs_do, refusal_do}
-use Rattle.session_engine.proofs.CommandsLemmas.{deed_performed}
-use Rattle.session_engine.proofs.deeds.set_parent.Goals as goal
-
-pub returns : goal.returns
-returns c = deed_performed _ _ (Ok (SetParent c.args.object c.args.parent)) (SetParent c.args.object c.args.parent) _ _ _ c.requires (refusal_do _ _ _ _) (performs_do _ _ _ _) refl c.do_deed.ensures.refusal c.do_deed.ensures.answer c.do_deed.ensures.ok c.do_deed.ensures.err
