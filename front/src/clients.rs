@@ -75,9 +75,12 @@ impl Front {
         }
     }
 
-    /// Has a client looked after where something of it may be read.
-    pub fn touch_if_readable(&mut self, key: ClientKey) {
+    /// Reads more of a client whose last line the server was given, so that it keeps its place among those that wait.
+    pub fn read_on(&mut self, key: ClientKey) {
         if self.clients.get(key).map_or(false, |client| client.link.is_readable) {
+            if self.is_read(key) {
+                self.read_client(key);
+            }
             self.touch(key);
         }
     }

@@ -24,12 +24,14 @@ pub const UNDER_WAY_MOST: usize = 32;
 pub const UNDER_WAY_OF_ONE: usize = 8;
 /// Bytes of expected answers from which on a server is given no more.
 const EXPECTED_MOST: usize = 65_536;
-/// Bytes that each command counts for, in addition to its own and those of its answer.
-const COMMAND: u64 = 512;
-/// Bytes that a client may have had less than the others when it begins to wait.
-pub const CREDIT: u64 = 16_384;
+/// Bytes that each command counts for at least: else it counts for its own and those of its answer. So clients whose commands
+/// are small take turns command by command, whenever these are answered.
+const COMMAND: usize = 512;
 /// Bytes of a turn: no more than a command counts for, so that each turn is one command.
-pub const TURN: u64 = COMMAND;
+pub const TURN: u64 = COMMAND as u64;
+/// Bytes that a client may have had less than the others when it begins to wait. With those of one turn its first command
+/// goes before all others, and then it takes turns with them.
+pub const CREDIT: u64 = TURN;
 /// Places that speakers may have with one server, before those of the next one.
 const PLACES: u64 = 1 << 48;
 
@@ -66,6 +68,8 @@ pub struct Command {
     pub speaker: SpeakerKey,
     pub session: SessionKey,
     pub expected: usize,
+    /// Bytes of its answer that count no more, since the command counts for so many at least.
+    pub counted: usize,
     /// Bytes of its answer by now.
     pub told: usize,
     pub hears: Hears,
@@ -167,11 +171,12 @@ impl Turns {
     /// Counts a line of so many bytes that the server is given.
     pub fn give(&mut self, key: SpeakerKey, speaker: &mut Speaker, length: usize, session: SessionKey, hears: Hears) {
         speaker.under_way += 1;
-        speaker.served += COMMAND + length as u64;
+        speaker.served += length.max(COMMAND) as u64;
         self.put(Command {
             speaker: key,
             session,
             expected: speaker.expected,
+            counted: COMMAND.saturating_sub(length),
             told: 0,
             hears,
             is_spin: false,
@@ -223,7 +228,7 @@ impl Turns {
             self.expected = self.expected.saturating_sub(command.expected);
             if let Some(speaker) = speakers.get_mut(command.speaker) {
                 speaker.under_way = speaker.under_way.saturating_sub(1);
-                speaker.served += command.told as u64;
+                speaker.served += command.told.saturating_sub(command.counted) as u64;
                 speaker.expected = command.told.max(speaker.expected - speaker.expected / 8);
             }
         }
@@ -323,8 +328,31 @@ mod tests {
             shares.give();
             order.push(shares.answer(40));
         }
-        for run in order.windows(3) {
-            assert!(run[0] != run[1] || run[1] != run[2], "three commands of one client in a row: {order:?}");
+        for round in order.chunks(20) {
+            let had: std::collections::HashSet<usize> = round.iter().copied().collect();
+            assert_eq!(had.len(), 20, "the clients of a round: {round:?}");
+        }
+    }
+
+    /// A client that was quiet while others had many turns begins to ask for much: its first command goes first, and then it
+    /// takes turns.
+    #[test]
+    fn who_comes_late_takes_turns_command_by_command() {
+        let mut shares = Shares::clients(8, 400);
+        let late = shares.speakers.insert(Speaker::new(Owner::Gone, 0));
+        shares.turns.enter(&mut shares.speakers[late]);
+        shares.go_on(800);
+        shares.ask(late, 100);
+        let mut order = Vec::new();
+        for _ in 0..400 {
+            shares.give();
+            order.push(shares.answer(40));
+        }
+        let begun = order.iter().position(|key| *key == late).unwrap();
+        for end in begun..order.len() {
+            let had = |key: usize| order[begun..=end].iter().filter(|other| **other == key).count();
+            let least = (0..8).map(had).min().unwrap();
+            assert!(had(late) <= least + 2, "it has had {} and others {least}: {:?}", had(late), &order[begun..=end]);
         }
     }
 

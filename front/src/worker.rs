@@ -357,7 +357,7 @@ impl Front {
         }
         let speaker = &self.speakers[key];
         match speaker.owner {
-            Owner::Client(client) if speaker.waiting.is_empty() => self.touch_if_readable(client),
+            Owner::Client(client) if speaker.waiting.is_empty() => self.read_on(client),
             Owner::Gone | Owner::Inspector if speaker.waiting.is_empty() => {
                 if let Some(group) = group {
                     self.leave_group(group, key);

@@ -7,6 +7,8 @@ import resource
 import select
 import subprocess
 import sys
+from collections import Counter
+from contextlib import contextmanager
 from pathlib import Path
 
 from tests.support.lines import text_of
@@ -14,6 +16,7 @@ from tests.support.peaks import peak_of
 
 from .fronts import FRONT, NEW, PATIENCE, Client, FrontCases, error, reply
 from .grouped import WorkerCases, hello, servers_of, wait_until
+from .stand_servers import UNDER_WAY, in_steps, make_gate, open_gate, stopped, wait_until_read, wait_until_true, whole_lines
 
 WRITTEN = 100
 MEMBERS = 24
@@ -103,34 +106,49 @@ class Faults(FrontCases):
             self.assertEqual(sum("is closed" in line for line in process.log.lines() if closed not in line), 0, "closed otherwise")
 
     def test_by_turns(self):
-        """Equal clients take turns command by command."""
+        """Clients whose lines have all arrived take turns command by command, also where a front reads their lines in
+        several pieces."""
+        names, count = [f"c{number}" for number in range(1, 9)], 800
+        with self.in_steps(count * len(names)) as (path, process, given):
+            with stopped(self, process):
+                clients = [self.enterContext(Client(path)) for _ in names]
+                for number, client in enumerate(clients):
+                    client.say(*[NEW + " " * number] * count)  # the pieces of no two end at the same line
+            for name, client in zip(names, clients):
+                self.assertEqual([client.hear() for _ in range(count)], [reply(True, name)] * count, f"what {name} is told")
+            order = given()
+        for at in range(0, len(order), len(names)):
+            self.assertEqual(sorted(order[at : at + len(names)]), names, f"the round of commands from {at} on")
+
+    def test_late(self):
+        """A client whose lines arrive when others have had many turns takes turns with them: it goes first once, and then
+        it is never more than two commands ahead."""
+        names, count, gate = [f"c{number}" for number in range(1, 8)], 200, make_gate(self.room)
+        with self.in_steps(1_300, 704, gate) as (path, process, given):
+            with stopped(self, process):
+                clients = [self.enterContext(Client(path)) for _ in [*names, "c8"]]
+                for client in clients[:-1]:
+                    client.say(*[NEW] * count)
+            wait_until_true(self, lambda: len(given()) == 704 + UNDER_WAY, "the others have had their turns")
+            clients[-1].say(*[NEW] * count)
+            wait_until_read(self, clients[-1].link)
+            open_gate(gate)
+            for name, client in zip([*names, "c8"], clients):
+                self.assertEqual([client.hear() for _ in range(count)], [reply(True, name)] * count, f"what {name} is told")
+            order = given()
+        begun, end = order.index("c8"), min(max(at for at, it in enumerate(order) if it == name) for name in names)
+        self.assertEqual(begun, 704 + UNDER_WAY, "its first command")
+        self.assertGreater(end, begun + 400, "all wait for turns meanwhile")
+        for last in range(begun, end):
+            had = Counter(order[begun : last + 1])
+            self.assertLessEqual(had["c8"], min(had[name] for name in names) + 2, f"who has had turns: {order[begun : last + 1]}")
+
+    @contextmanager
+    def in_steps(self, total, pause=0, gate=""):
+        """A front with a server that answers in steps: its path, its process, and whose commands the server was given."""
         record = Path(self.room, "record")
-        with self.front(options=("--quiet", "--record", record)) as (path, _):
-            clients = [Client(path) for _ in range(8)]
-            for client in clients:
-                client.say(*[NEW] * 200)
-            for client in clients:
-                self.assertEqual([json.loads(client.hear())["reply"] for _ in range(200)], list(range(1, 201)), "what it is told")
-            given = [json.loads(line)["session"] for line in record.read_text().splitlines()]
-            for client in clients:
-                client.leave()
-        ends = [max(at for at, name in enumerate(given) if name == f"c{number}") for number in range(1, 9)]
-        begins = max(given.index(f"c{number}") for number in range(1, 9))
-        middle = given[begins : min(ends)]
-        runs = max((len(list(run)) for run in runs_of(middle)), default=0)
-        self.assertLessEqual(runs, 3, f"how many commands of one client in a row: {middle[:200]}")
-
-
-def runs_of(names):
-    """Equal names that follow each other."""
-    run = []
-    for name in names:
-        if run and run[-1] != name:
-            yield run
-            run = []
-        run.append(name)
-    if run:
-        yield run
+        with self.front(options=("--quiet", "--record", record), server=in_steps(total, pause, gate)) as (path, process):
+            yield path, process, lambda: [json.loads(line)["session"] for line in whole_lines(record)]
 
 
 class WorkerFaults(WorkerCases):
