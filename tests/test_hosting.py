@@ -4,6 +4,7 @@
 import json
 import os
 import re
+import select
 import shutil
 import signal
 import socket
@@ -162,6 +163,8 @@ class Units(FrontCases):
                 said = link.recv(4_096).decode()
                 self.assertIn("READY=1", said.splitlines(), "what it says first")
                 self.assertEqual(json.loads(client.ask(NEW))["reply"], 1, "a client")
+                while select.select([link], [], [], 0)[0]:  # what was said while this test waited for a processor
+                    link.recv(4_096)
                 begun, count = time.monotonic(), 5
                 for _ in range(count):
                     self.assertEqual(link.recv(4_096).decode().splitlines(), ["WATCHDOG=1"], "what it says then")

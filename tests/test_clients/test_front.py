@@ -313,6 +313,7 @@ class Clients(FrontCases):
                 clients = [Client(path) for _ in range(40)]
                 for client in clients:
                     client.say(NEW)
+                select.select([client.link for client in clients], [], [], PATIENCE)  # until the first one is answered
                 time.sleep(QUIET)
                 before = processor_seconds(process)
                 time.sleep(QUIET)

@@ -12,13 +12,14 @@ from pathlib import Path
 from tests.support.program import library
 
 from .fronts import FRONT, NEW, PATIENCE, STATUS, Client, FrontCases, front_of, reply
+from .stand_servers import wait_until_true
 
 USAGE = "usage: metad-front [options] SOCKET PROGRAM [ARGS...]\n"
 HELLO = "metad-front: the server wrote no line of the protocol: b'hello'\n"
 REFUSED = "metad: class file refused: C01 at class 0\nmetad-front: the server has ended with status 1\n"
 CALL = '{"args":[],"call":"note()","object":1,"sender":0,"session":"c1"}'
 SECONDS_TO_END = 5 + 10 + 5  # of the server, of monitors that read, and for a busy machine
-TAKING_ITS_TIME = "import signal, time; signal.signal(signal.SIGTERM, signal.SIG_IGN); time.sleep(100)"
+TAKING_ITS_TIME = "import signal, time; signal.signal(signal.SIGTERM, signal.SIG_IGN)"
 
 
 class Ends(FrontCases):
@@ -108,12 +109,11 @@ class Ends(FrontCases):
     def test_server_that_stays(self):
         """A server that does not end when it is asked to is killed."""
         path, note = Path(self.room, "socket"), Path(self.room, "pid")
-        script = f"import os; open({str(note)!r}, 'w').write(str(os.getpid())); {TAKING_ITS_TIME}"
+        script = f"{TAKING_ITS_TIME}; import os; open({str(note)!r}, 'w').write(str(os.getpid())); time.sleep(100)"
         process = front_of("--quiet", path, sys.executable, "-c", script)
         try:
             self.wait_for(path, process)
-            while not (note.exists() and note.read_text()):
-                self.assertIsNone(process.poll(), "the front has ended")
+            wait_until_true(self, lambda: note.exists() and note.read_text(), "the server passes over SIGTERM")
             process.terminate()
             self.assertEqual((*process.communicate(timeout=PATIENCE), process.returncode), ("", self.said(), 0), "its end")
             self.assertFalse(Path(f"/proc/{note.read_text()}").exists(), "its server is there")

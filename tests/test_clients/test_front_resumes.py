@@ -10,6 +10,7 @@ from pathlib import Path
 
 from .fronts import FRONT, NEW, PATIENCE, Client, FrontCases, Log, reply
 from .grouped import WorkerCases, hello, servers_of, wait_until
+from .stand_servers import make_gate, open_gate
 
 SHARE = '{"front":"share","session":"desk__team"}'
 NAMED = '{"class":"Probe","do":"new","session":"%s"}'
@@ -132,11 +133,14 @@ class Stuck(WorkerCases):
 
     def test_idle_worker(self):
         """A worker that has nothing to do is not ended."""
-        with self.workers(1, options=("--watchdog", "1")) as (path, process), Client(path) as client:
+        # on a busy machine a command may take as long as the watchdog waits: then the record brings the object back
+        options = ("--watchdog", "1", "--record", str(self.records))
+        with self.workers(1, options=options) as (path, process), Client(path) as client:
             self.assertEqual(client.ask(NEW), reply(1, "c1"), "an object")
-            before = servers_of(process)
+            before, said = servers_of(process), process.log.lines()
             time.sleep(1.5)
-            self.assertEqual((client.ask(NEW), servers_of(process)), (reply(2, "c1"), before), "the same server")
+            self.assertEqual((servers_of(process), process.log.lines()), (before, said), "the same server")
+            self.assertEqual(client.ask(NEW), reply(2, "c1"), "the next object")
 
     def test_only_server(self):
         """Without workers the front ends with its server."""
@@ -195,7 +199,7 @@ class Health(WorkerCases):
             self.assertEqual(client.ask(NEW), reply(1, "c1"), "an object")
             said = process.log.lines()
             for _ in range(3):
-                self.assertEqual(self.health(health), ['{"health":"alive"}'], "at first")
+                wait_until(self, lambda: self.health(health) == ['{"health":"alive"}'], "at first")
             os.kill(servers_of(process)[0], signal.SIGSTOP)
             self.assertEqual(self.health(health), ['{"health":"slow"}'], "where the server is stopped")
             os.kill(servers_of(process)[0], signal.SIGCONT)
@@ -205,16 +209,17 @@ class Health(WorkerCases):
 
     def test_workers(self):
         """It is replaying where a worker is started again, and alive then."""
-        health = Path(self.room, "health")
-        server = ["sh", "-c", f'test -e "$0" && sleep 1; touch "$0"; exec "{self.program}"', str(Path(self.room, "flag"))]
+        health, gate = Path(self.room, "health"), make_gate(self.room)
+        server = ["sh", "-c", f'test -e "$0" && cat "{gate}"; touch "$0"; exec "{self.program}"', str(Path(self.room, "flag"))]
         with self.workers(1, options=("--health", health, "--record", str(self.records)), server=server) as (path, process):
             with Client(path) as client:
                 self.assertEqual(client.ask(NEW), reply(1, "c1"), "an object")
-                self.assertEqual(self.health(health), ['{"health":"alive"}'], "at first")
+                wait_until(self, lambda: self.health(health) == ['{"health":"alive"}'], "at first")
                 os.kill(servers_of(process)[0], signal.SIGKILL)
                 wait_until(self, lambda: self.health(health) == ['{"health":"replaying"}'], "where it is brought back")
+                open_gate(gate)
                 self.assertEqual(client.ask(NEW), reply(2, "c1"), "the client")
-                self.assertEqual(self.health(health), ['{"health":"alive"}'], "then")
+                wait_until(self, lambda: self.health(health) == ['{"health":"alive"}'], "then")
 
     def test_not_shared(self):
         """Its session cannot be shared."""

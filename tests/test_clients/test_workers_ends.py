@@ -8,7 +8,6 @@ import signal
 import stat
 import subprocess
 import sys
-import time
 from pathlib import Path
 
 from tests.support.lines import text_of
@@ -16,7 +15,6 @@ from tests.support.lines import text_of
 from .fronts import NEW, PATIENCE, Client, error, reply
 from .grouped import Greeted, Killer, Named, Runs, WorkerCases, hello, seed_of, servers_of, wait_until, worker_of
 
-QUIET = 0.4
 KILLS = 100
 GROUPS, COMMANDS = 6, 60  # of a round
 RECORDED = "--record"
@@ -257,10 +255,10 @@ class Ends(WorkerCases):
                 clients = [Client(path) for _ in range(80)]
                 for client in clients:
                     client.say(NEW)
-                time.sleep(QUIET)
-                answered = select.select([client.link for client in clients], [], [], PATIENCE)[0]
+                wait_until(self, lambda: len(self.answered(clients)) > 9, "some are let in")
+                answered = self.answered(clients)
                 told = [client for client in clients if client.link in answered]
-                self.assertTrue(9 < len(told) < len(clients), "some are let in, and not all")
+                self.assertLess(len(told), len(clients), "not all are let in")
                 names = [json.loads(client.hear())["session"] for client in told]
                 self.kill_all(process)
                 self.assertEqual([it.ask(NEW) for it in told], [reply(2, name) for name in names], "those that are")
@@ -268,6 +266,10 @@ class Ends(WorkerCases):
                     client.leave()
             finally:
                 process.terminate()
+
+    def answered(self, clients):
+        """The connections of those that are answered by now."""
+        return select.select([client.link for client in clients], [], [], 0)[0]
 
     def test_monitors(self):
         """A monitor is told what all workers tell, each line once, also where one is brought back."""
