@@ -7,6 +7,7 @@ from pathlib import Path
 from tests.support.lines import text_of
 
 from .fronts import NEW, PATIENCE, STATUS, Client, FrontCases, classes_in, reply
+from .stand_servers import stopped
 
 TEXT = "n" * 4_096
 CALLS = 100
@@ -48,12 +49,13 @@ class Beside(FrontCases):
         of each."""
         for count, most in ((1, 32), (2, 16)):
             given = Path(self.room, f"given to {count}")
-            with self.front(server=["sh", "-c", 'cat > "$0"', given]) as (path, _):
+            with self.front(server=["sh", "-c", 'cat > "$0"', given]) as (path, process):
                 clients = [Client(path) for _ in range(count)]
                 try:
-                    for client in clients:
-                        self.let_in(path)
-                        client.say(*[STATUS] * 100)
+                    self.let_in(path)
+                    with stopped(self, process):
+                        for client in clients:
+                            client.say(*[STATUS] * 100)
                     self.wait_for_lines(given, most)
                     time.sleep(QUIET)
                     self.assertEqual(len(given.read_bytes().splitlines()), most, f"what the server is given for {count}")
