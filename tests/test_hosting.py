@@ -13,10 +13,10 @@ import sys
 import time
 from configparser import ConfigParser
 from contextlib import contextmanager
+from http.client import HTTPConnection
 from pathlib import Path
 
-from tests.test_clients import PYTHON
-from tests.test_clients.fronts import FRONT, NEW, PATIENCE, Client, FrontCases, Log, classes_in, front_help, parser, reply
+from tests.test_clients.fronts import FRONT, NEW, PATIENCE, Client, FrontCases, Log, classes_in, front_help, parser
 
 from .support.documents import version
 from .support.program import ROOT, SECONDS
@@ -97,7 +97,8 @@ class Units(FrontCases):
 
     def test_words(self):
         """The front takes the words that it is given, without a file of the environment and with those of the page."""
-        self.assertEqual(self.given({}), [INSTALLED, "--share", "health", "-", PROGRAM, *TURNS])
+        health = ["--health", f"/run/metad/{NAME}/health", "--health-mode", "666"]
+        self.assertEqual(self.given({}), [INSTALLED, *health, "-", PROGRAM, *TURNS])
         self.assertEqual(len(self.examples), 1, "the files of the page")
         taken = parser().parse_args(self.given(self.examples[0])[1:])
         self.assertEqual((taken.socket, taken.program, taken.args), ("-", PROGRAM, [*TURNS, "/etc/metad/classes.json"]))
@@ -120,9 +121,11 @@ class Units(FrontCases):
         own = {"OPTIONS": self.examples[0]["OPTIONS"].replace(f"/run/metad/{NAME}", self.room), "CLASSES": classes}
         more = [({"OPTIONS": "--workers 2"}, NEW)] if HAS_WORKERS else []
         for variables, wanted in (({}, NEW), (own, '{"class":"Lamp","do":"new"}'), *more):
-            with self.activated(variables) as path, Client(path) as client, Client(path) as check:
+            with self.activated(variables) as path, Client(path) as client:
                 self.assertEqual(json.loads(client.ask(wanted))["reply"], 1, "a client")
-                self.assertEqual(check.ask('{"front":"share","session":"health"}'), reply(True, "health"), "a check")
+                with Client(Path(self.room, "health")) as check:
+                    check.say("GET /live HTTP/1.0\r", "\r")
+                    self.assertTrue(check.until_closed().startswith(b"HTTP/1.0 200 OK\r\n"), "a check")
         self.assertIn('"class":"Lamp","do":"new"', Path(self.room, "record").read_text(), "the record")
 
     def test_turns(self):
@@ -153,6 +156,7 @@ class Units(FrontCases):
         for name in ("metad-front.service", "metad-front@.service"):
             service = sections_of(SYSTEMD / name)["Service"]
             self.assertEqual((service["Type"], service["WatchdogSec"], service["Restart"]), ("notify", "30", "on-failure"), name)
+            self.assertEqual(service["ExecReload"], "/bin/kill -HUP $MAINPID", name)
         if shutil.which("systemd-socket-activate") is None:
             self.skipTest("systemd-socket-activate is not on the path")
         place = str(Path(self.room, "notify"))
@@ -239,7 +243,8 @@ class Units(FrontCases):
         variables of its own. `activating` becomes what is started."""
         path, log = Path(self.room, "socket"), Log(Path(self.room, "log"))
         _, *words = self.given(variables)
-        words = [*before, str(FRONT), *(self.program if it == PROGRAM else it for it in words)]
+        words = [self.program if it == PROGRAM else it.replace(f"/run/metad/{NAME}", self.room) for it in words]
+        words = [*before, str(FRONT), *words]
         path.unlink(missing_ok=True)
         with log.path.open("wb") as stderr:
             given = ["systemd-socket-activate", *(f"--setenv={it}" for it in own), "--listen", str(path), *words]
@@ -322,42 +327,57 @@ class Cluster(FrontCases):
         self.assertEqual(self.door["command"], ["haproxy", "-db", "-f", f"{mounts['machine']}/machine.cfg"])
 
     def test_probes(self):
-        """The commands of the probes pass where front and server answer, fail where there is none, and do not end where the
-        server does not answer. The front is started by its container's words."""
-        path = Path(self.room, "metad.sock")
-        here = {"/run/metad": self.room, "/var/lib/metad": self.room}
+        """The probes pass where front and server answer, and fail where the server does not, and where there is no front. The
+        front is started by its container's words, at another address."""
+        path, log = Path(self.room, "metad.sock"), Log(Path(self.room, "log"))
+        here = {"/run/metad": self.room, "/var/lib/metad": self.room, f"0.0.0.0:{self.health_port()}": "127.0.0.1:0"}
         words = [self.here(it, here) for it in self.front["command"]]
         taken = parser().parse_args(words[1:])
         self.assertEqual((taken.socket, taken.args[0]), (str(path), "--turns"))
-        commands = [self.front[it]["exec"]["command"] for it in ("readinessProbe", "livenessProbe")]
-        for command in commands:
-            self.assertNotEqual(self.probe(command, here), 0, "where there is no front")
+        probes = [self.front[it]["httpGet"] for it in ("readinessProbe", "livenessProbe")]
+        self.assertEqual(probes, [{"path": "/", "port": "health"}, {"path": "/live", "port": "health"}])
         given = [FRONT, *(self.program if it == "/usr/local/bin/metad" else it for it in words[1:])]
-        with subprocess.Popen(given, stderr=subprocess.DEVNULL) as process:
+        with log.path.open("wb") as stderr, subprocess.Popen(given, stderr=stderr) as process:
             try:
-                self.wait_for(path, process)
-                self.assertEqual([self.probe(it, here) for it in commands], [0, 0], "where there is one")
+                log.wait_for(self, f"metad-front: listening at {path}", process)
+                (line,) = [line for line in log.lines() if "health at" in line]
+                port = int(line.rpartition(":")[2])
+                self.wait_for_probes(probes, port, [200, 200])
                 server = int(Path(f"/proc/{process.pid}/task/{process.pid}/children").read_text())
                 os.kill(server, signal.SIGSTOP)
-                for command in commands:
-                    with self.assertRaises(subprocess.TimeoutExpired, msg="where its server does not answer"):
-                        self.probe(command, here, seconds=4)
+                self.assertEqual([self.probe(it, port) for it in probes], [503, 503], "where its server does not answer")
                 os.kill(server, signal.SIGCONT)
+                self.wait_for_probes(probes, port, [200, 200])
             finally:
                 process.terminate()
-        record = [json.loads(it) for it in Path(self.room, "record").read_text().splitlines()]
-        self.assertEqual(record, 4 * [{"do": "status", "session": "health"}], "what the server was given")
+        with self.assertRaises(ConnectionRefusedError, msg="where there is no front"):
+            self.probe(probes[0], port)
+        self.assertEqual(Path(self.room, "record").read_text(), "", "what the server was given by clients")
+
+    def health_port(self):
+        (port,) = self.front["ports"]
+        self.assertEqual(port["name"], "health")
+        return port["containerPort"]
+
+    def wait_for_probes(self, probes, port, wanted):
+        """Waits until probes are answered so."""
+        until = time.monotonic() + PATIENCE
+        while [self.probe(it, port) for it in probes] != wanted:
+            self.assertLess(time.monotonic(), until, wanted)
+
+    def probe(self, asked, port):
+        """The status that a probe is answered."""
+        link = HTTPConnection("127.0.0.1", port, timeout=PATIENCE)
+        try:
+            link.request("GET", asked["path"])
+            return link.getresponse().status
+        finally:
+            link.close()
 
     def here(self, word, paths):
         for path, own in paths.items():
             word = word.replace(path, own)
         return word
-
-    def probe(self, command, paths, seconds=PATIENCE):
-        """The status of a probe's command."""
-        words = [sys.executable if it == "python3" else self.here(it, paths) for it in command]
-        own = {**os.environ, "PYTHONPATH": str(PYTHON)}
-        return subprocess.run(words, env=own, capture_output=True, timeout=seconds).returncode
 
     def test_client(self):
         """The client is where the container's Python looks for it, as packages have it."""

@@ -25,7 +25,6 @@ EDGE, CLIENTS_PLACE, MACHINES = example.EDGE, example.CLIENTS, example.MACHINES
 PORT, INNER_PORT, UP, DOWN = example.PORT, example.INNER_PORT, example.UP, example.DOWN
 NAMES = ("ann", "eve", "tom")  # which the page says to be on two, one and three
 CHILDREN = '{"do":"children"}'
-HEALTH_STATUS = '{"do":"status","session":"health"}'
 HAS_WORKERS = "--workers" in front_help()
 RULE = re.compile(r'^echo "(.*)" \| socat', re.MULTILINE)
 SOURCES = [f"127.77.1.{number}" for number in range(1, 61)]
@@ -141,17 +140,11 @@ class Machines(MachineCases):
         self.assertEqual(self.visit("ann")[1], home, "where a new client is at the end")
 
     def test_checks(self):
-        """Checks leave nothing behind: the server is told nothing of them but questions of one session, which is empty."""
+        """Checks leave nothing behind: of all that make the edge take a machine for one that is there, its server is given no
+        line of a session."""
         self.all.kill("two")
         self.bring_back("two")
-        record = self.room / "two.record"
-        before = len(record.read_text().splitlines())
-        self.all.wait_until("three more checks", lambda: len(record.read_text().splitlines()) >= before + 3)
-        self.assertEqual(set(record.read_text().splitlines()), {HEALTH_STATUS}, "what the server was given")
-        with Client(self.room / "two.front") as client:
-            client.ask('{"front":"share","session":"health"}')
-            status = json_reply(client.ask(STATUS))
-        self.assertEqual(set(status.values()), {0}, f"what is in their session: {status}")
+        self.assertEqual((self.room / "two.record").read_text(), "", "what the server was given")
 
     def test_other_checks(self):
         """What a connection of another kind leaves: the server is given its name, also where it says nothing but nonsense."""

@@ -108,8 +108,9 @@ class Files(ProgramCases):
         own["METAD_AUTHORITY"] = f"{self.room}/authority.crt"
         own["METAD_EDGE"] = "127.0.0.1:7070"
         for path in sorted(FOLDER.glob("*.cfg")):
-            more = own if path.name != "machine.cfg" else {}
-            words = [example.haproxy(), "-c", "-f", path]
+            more = own if path.name not in ("machine.cfg", "health.cfg") else {}
+            beside = ["-f", FOLDER / "machine.cfg"] if path.name == "health.cfg" else []
+            words = [example.haproxy(), "-c", *beside, "-f", path]
             ran = subprocess.run(words, capture_output=True, text=True, env={**os.environ, **more})
             self.assertEqual((ran.returncode, ran.stderr), (0, ""), f"{path.name}: {ran.stdout}")
 

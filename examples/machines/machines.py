@@ -19,10 +19,9 @@ HERE = Path(__file__).resolve().parent
 EDGE, CLIENTS = "edge", "clients"
 MACHINES = ("one", "two", "three")
 PLACES = (EDGE, *MACHINES, CLIENTS)
-PORT, INNER_PORT = 7070, 7071
+PORT, INNER_PORT, HEALTH_PORT = 7070, 7071, 7072
 PATIENCE, PAUSE = 30, 0.02
 OF_SYSTEM = "/usr/local/sbin:/usr/sbin:/sbin"  # where programs stand that a user's path may not have
-HEALTH = ("--share", "health")  # the session of the edge's checks
 UP, DOWN = ("UP", "L7OK"), ("DOWN",)  # what the edge says of a machine that has answered, and of one that has gone
 
 
@@ -102,11 +101,15 @@ class Machines:
     def start_machine(self, name: str) -> None:
         """Starts a machine: its front with a server, and what takes the edge's connections."""
         path = self.room / f"{name}.front"
-        options = ["--quiet", *HEALTH, "--record", str(self.room / f"{name}.record"), *self.options]
+        health = self.room / f"{name}.health"
+        options = ["--quiet", "--health", str(health), "--record", str(self.room / f"{name}.record"), *self.options]
         self.start(name, [*map(str, front_words()), *options, str(path), *self.program], f"{name}.log", {})
         self.wait_until(f"the front of {name}", lambda: answers(path))
-        at = {"METAD_AT": f"{self.places.addresses[name]}:{INNER_PORT}", "METAD_SOCKET": str(path)}
-        self.proxy(name, HERE / "machine.cfg", f"{name}.proxy.log", {**at, "METAD_EDGE": self.places.seen(EDGE)})
+        own = self.places.addresses[name]
+        at = {"METAD_AT": f"{own}:{INNER_PORT}", "METAD_SOCKET": str(path), "METAD_EDGE": self.places.seen(EDGE)}
+        more = {"METAD_HEALTH_AT": f"{own}:{HEALTH_PORT}", "METAD_HEALTH": str(health)}
+        files = ["-f", str(HERE / "machine.cfg"), "-f", str(HERE / "health.cfg")]
+        self.start(name, [haproxy(), "-db", *files], f"{name}.proxy.log", {**at, **more})
 
     def start_edge(self) -> None:
         """Starts the edge, and waits until it has asked all machines."""

@@ -1,6 +1,7 @@
 //! What the words of the command line say.
 
 use std::ffi::{OsStr, OsString};
+use std::net::{Ipv4Addr, SocketAddr};
 use std::path::PathBuf;
 
 use crate::groups::BETWEEN;
@@ -27,6 +28,13 @@ pub enum Words {
     Wrong(&'static str, String),
 }
 
+/// Where those connect who ask for the health of a front.
+#[derive(Debug, PartialEq, Eq)]
+pub enum Place {
+    Path(PathBuf),
+    Address(SocketAddr),
+}
+
 /// How a front is to serve.
 #[derive(Debug, Default, PartialEq, Eq)]
 pub struct Options {
@@ -43,7 +51,8 @@ pub struct Options {
     pub is_live: bool,
     pub is_resumed: bool,
     pub watchdog: Option<u64>,
-    pub health: Option<PathBuf>,
+    pub health: Option<Place>,
+    pub health_mode: Option<u32>,
     pub workers: Option<usize>,
     pub by_name: Option<bool>,
     pub control: Option<PathBuf>,
@@ -174,7 +183,8 @@ fn read_option(options: &mut Options, reader: &mut Reader, text: &str) -> Result
         "--inspect" => options.inspect = Some(port(name, &reader.value(name, own)?)?),
         "--workers" => options.workers = Some(workers(name, &reader.value(name, own)?)?),
         "--group-from" => options.by_name = Some(by_name(name, &reader.value(name, own)?)?),
-        "--health" => options.health = Some(path(name, OsStr::new(&reader.value(name, own)?))?),
+        "--health" => options.health = Some(place(name, &reader.value(name, own)?)?),
+        "--health-mode" => options.health_mode = Some(mode(name, &reader.value(name, own)?)?),
         "--watchdog" => options.watchdog = Some(seconds(name, &reader.value(name, own)?)?),
         "--control" => options.control = Some(path(name, OsStr::new(&reader.value(name, own)?))?),
         _ => return Ok(false),
@@ -190,6 +200,9 @@ fn check(options: &Options) -> Result<(), String> {
     }
     if options.monitor_mode.is_some() && options.monitor.is_none() {
         return wrong("--monitor-mode needs --monitor");
+    }
+    if options.health_mode.is_some() && !matches!(options.health, Some(Place::Path(_))) {
+        return wrong("--health-mode needs --health with a path");
     }
     if options.inspect.is_none() && (options.inspect_ask || options.inspect_write) {
         return wrong("--inspect-ask and --inspect-write need --inspect");
@@ -256,9 +269,20 @@ fn path(name: &str, word: &OsStr) -> Result<PathBuf, String> {
     Ok(PathBuf::from(word))
 }
 
+/// A port of this machine alone, the address of another one, as `0.0.0.0:8080`, or a path.
+fn place(name: &str, word: &str) -> Result<Place, String> {
+    if !word.is_empty() && word.bytes().all(|byte| byte.is_ascii_digit()) {
+        return Ok(Place::Address((Ipv4Addr::LOCALHOST, port(name, word)?).into()));
+    }
+    match word.parse() {
+        Ok(address) => Ok(Place::Address(address)),
+        Err(_) => Ok(Place::Path(path(name, OsStr::new(word))?)),
+    }
+}
+
 /// The name of a session that clients may share, which no client is given for itself.
 fn shared(name: &str, word: String) -> Result<String, String> {
-    if !is_name(&word) || is_own_name(&word) || word == crate::health::SESSION {
+    if !is_name(&word) || is_own_name(&word) {
         return wrong_value(name, &word, "name for a session, or one of those that clients are given");
     }
     Ok(word)

@@ -1,13 +1,17 @@
 //! The sockets at which others come in.
 
 use std::io::{self, ErrorKind};
-use std::os::unix::io::{AsRawFd, RawFd};
+use std::net::TcpListener;
+use std::os::unix::io::{AsRawFd, OwnedFd, RawFd};
+use std::os::unix::net::UnixListener;
 use std::time::{Duration, Instant};
 
-use mio::net::{UnixListener, UnixStream};
+use mio::net::UnixStream;
+use mio::unix::SourceFd;
 use mio::{Interest, Registry};
 
 use crate::front::Front;
+use crate::health::CHECKS_MOST;
 use crate::tokens::{token, Kind};
 
 /// Connections that are let in at one door before others have their turn.
@@ -25,17 +29,57 @@ pub enum Comers {
     Checks,
 }
 
+/// A socket at which others connect.
+pub enum Listener {
+    Unix(UnixListener),
+    /// Only those who ask for the health of the front come over the network.
+    Tcp(TcpListener),
+}
+
+impl Listener {
+    /// Where others connect, as people are shown it.
+    pub fn place(&self) -> String {
+        match self {
+            Listener::Unix(it) => {
+                let own = it.local_addr().ok();
+                own.as_ref().and_then(|own| own.as_pathname()).map_or_else(String::new, |path| path.display().to_string())
+            }
+            Listener::Tcp(it) => it.local_addr().map_or_else(|_| String::new(), |own| own.to_string()),
+        }
+    }
+
+    /// The next one who has connected.
+    fn accept(&self) -> io::Result<UnixStream> {
+        let stream = match self {
+            Listener::Unix(it) => it.accept()?.0,
+            Listener::Tcp(it) => OwnedFd::from(it.accept()?.0).into(), // both are read and written alike
+        };
+        stream.set_nonblocking(true)?;
+        Ok(UnixStream::from_std(stream))
+    }
+
+    fn number(&self) -> RawFd {
+        match self {
+            Listener::Unix(it) => it.as_raw_fd(),
+            Listener::Tcp(it) => it.as_raw_fd(),
+        }
+    }
+}
+
 struct Door {
-    listener: UnixListener,
+    listener: Listener,
     comers: Comers,
     /// Somebody may wait there.
     is_stirred: bool,
 }
 
-/// All doors. Where there is no room for one more connection, nobody is let in until somebody has gone.
+/// All doors. Where there is no room for one more connection, nobody is let in until somebody has gone, but for those who ask
+/// for the health of the front.
 #[derive(Default)]
 pub struct Doors {
     doors: Vec<Door>,
+    /// Doors that are opened once the servers serve.
+    later: Vec<(Listener, Comers)>,
     are_shut: bool,
     /// When letting in is tried again that was not possible. Nobody may be there who could go.
     again: Option<Instant>,
@@ -44,15 +88,19 @@ pub struct Doors {
 }
 
 impl Doors {
+    /// Lets in those who connect at a socket once the servers serve.
+    pub fn add_later(&mut self, listener: Listener, comers: Comers) {
+        self.later.push((listener, comers));
+    }
+
+    /// Whether no door was opened yet.
+    pub fn are_to_open(&self) -> bool {
+        !self.later.is_empty()
+    }
+
     /// Lets in those who connect at a socket.
-    pub fn add(
-        &mut self,
-        listener: std::os::unix::net::UnixListener,
-        comers: Comers,
-        registry: &Registry,
-    ) -> io::Result<()> {
-        let mut listener = UnixListener::from_std(listener);
-        registry.register(&mut listener, token(Kind::Door, self.doors.len()), Interest::READABLE)?;
+    fn add(&mut self, listener: Listener, comers: Comers, registry: &Registry) -> io::Result<()> {
+        registry.register(&mut SourceFd(&listener.number()), token(Kind::Door, self.doors.len()), Interest::READABLE)?;
         self.doors.push(Door { listener, comers, is_stirred: true });
         Ok(())
     }
@@ -71,7 +119,12 @@ impl Doors {
 
     /// Whether somebody may be let in.
     pub fn is_stirred(&self) -> bool {
-        !self.are_shut && self.doors.iter().any(|door| door.is_stirred)
+        self.doors.iter().any(|door| door.is_stirred && self.is_open(door))
+    }
+
+    /// Whether somebody may come in here. Those who ask for the health of the front always may.
+    fn is_open(&self, door: &Door) -> bool {
+        !self.are_shut || door.comers == Comers::Checks
     }
 
     /// Lets nobody in until somebody has gone.
@@ -102,23 +155,25 @@ impl Doors {
 
     /// The next one who comes in.
     fn next(&mut self, at: usize) -> Option<UnixStream> {
-        let door = &mut self.doors[at];
-        if self.are_shut || !door.is_stirred {
+        let door = &self.doors[at];
+        if !door.is_stirred || !self.is_open(door) {
             return None;
         }
         loop {
             match door.listener.accept() {
-                Ok((stream, _)) => {
-                    let number = stream.as_raw_fd();
-                    self.are_shut = self.files_most.map_or(false, |most| number >= most);
+                Ok(stream) => {
+                    let is_last = self.files_most.map_or(false, |most| stream.as_raw_fd() >= most);
+                    self.are_shut |= is_last && door.comers != Comers::Checks;
                     return Some(stream);
                 }
                 Err(error) if matches!(error.kind(), ErrorKind::Interrupted | ErrorKind::ConnectionAborted) => {}
                 Err(error) if error.kind() == ErrorKind::WouldBlock => {
-                    door.is_stirred = false;
+                    self.doors[at].is_stirred = false;
                     return None;
                 }
                 Err(_) => {
+                    // those who ask for the health of the front wait too
+                    self.doors[at].is_stirred = door.comers != Comers::Checks;
                     self.are_shut = true;
                     self.again = Some(Instant::now() + PAUSE);
                     return None;
@@ -129,6 +184,30 @@ impl Doors {
 }
 
 impl Front {
+    /// Opens the doors where all servers serve by now, and says where they are.
+    pub fn open_doors(&mut self) -> io::Result<()> {
+        if !self.doors.are_to_open() || !self.workers.iter().all(|worker| worker.has_written || !worker.is_first) {
+            return Ok(());
+        }
+        let mut places = Vec::new();
+        for (listener, comers) in std::mem::take(&mut self.doors.later) {
+            let place = listener.place();
+            self.doors.add(listener, comers, self.poll.registry())?;
+            let word = match comers {
+                Comers::Clients => "listening",
+                Comers::Monitors => "monitors",
+                Comers::Operators => "control",
+                Comers::Checks => "health",
+            };
+            self.log.say(&format!("{word} at {place}"));
+            if comers == Comers::Clients {
+                places.push(place);
+            }
+        }
+        self.notifier.ready(&format!("listening at {}", places.join(" and ")));
+        Ok(())
+    }
+
     /// Lets in those who have connected.
     pub fn let_in(&mut self) {
         for at in 0..self.doors.doors.len() {
@@ -137,6 +216,7 @@ impl Front {
                 match (self.doors.next(at), comers) {
                     (None, _) => break,
                     (Some(stream), Comers::Clients) => self.enter_client(stream),
+                    (Some(_), Comers::Checks) if self.checks >= CHECKS_MOST => {} // too many at once: this one is closed
                     (Some(stream), _) => self.enter_guest(stream, comers),
                 }
             }

@@ -44,6 +44,8 @@ pub enum Stop {
     Asked,
     /// It cannot go on.
     Ended(Ended),
+    /// Its server has ended with this status before it served anything.
+    NotServed(Ended, u8),
 }
 
 impl From<Ended> for Stop {
@@ -85,6 +87,10 @@ pub struct Front {
     pub page: Option<Child>,
     pub live: Live,
     pub notifier: Notifier,
+    /// The status of a server that has ended before it served anything.
+    pub not_served: Option<u8>,
+    /// Can be read once a hangup has come.
+    pub hangups: Option<std::os::unix::net::UnixStream>,
     /// How long a server may be silent that has a command under way.
     pub patience: Option<Duration>,
     /// Clients name sessions by themselves.
@@ -148,6 +154,8 @@ impl Front {
             page: None,
             live: Live::default(),
             notifier: Notifier::new(),
+            not_served: None,
+            hangups: None,
             patience: None,
             named_by_clients: false,
             shared: HashMap::new(),
@@ -177,6 +185,7 @@ impl Front {
     pub fn serve(&mut self) -> Result<(), Stop> {
         let mut events = Events::with_capacity(1_024);
         loop {
+            self.open_doors()?;
             let ticks = self.notifier.tick();
             let others = [self.next_due(), self.look_at_servers(), self.touch_held(), self.look_at_checks()];
             let due = [ticks, self.doors.look_again()].into_iter().chain(others).flatten().min();
@@ -237,6 +246,7 @@ impl Front {
             Kind::Alarm => return Err(Stop::Asked),
             Kind::Input => self.look_at_input()?,
             Kind::Inspector => self.stir_inspector(is_readable, is_hung_up),
+            Kind::Hangup => self.hear_hangup(),
         }
         Ok(())
     }

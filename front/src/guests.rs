@@ -58,9 +58,6 @@ impl Front {
         }
         self.guests.insert(key, Guest { name, link, errand, is_touched: false });
         self.touch_guest(key);
-        if comers == Comers::Checks {
-            self.check_health(key);
-        }
     }
 
     pub fn touch_guest(&mut self, key: usize) {
@@ -106,14 +103,21 @@ impl Front {
     /// Lets guests take what they are told, and lets those go that are done.
     pub fn settle_guests(&mut self) {
         for key in std::mem::take(&mut self.touched_guests) {
+            if let Some(guest) = self.guests.get_mut(&key) {
+                guest.is_touched = false;
+            }
             self.look_after_guest(key);
         }
     }
 
     fn look_after_guest(&mut self, key: usize) {
-        let lines = self.read_guest(key);
-        if let Some(line) = lines.first() {
-            self.hear_guest(key, line, &lines);
+        if matches!(self.guests.get(&key).map(|guest| &guest.errand), Some(Errand::Health(_))) {
+            self.read_check(key);
+        } else {
+            let lines = self.read_guest(key);
+            if let Some(line) = lines.first() {
+                self.hear_guest(key, line, &lines);
+            }
         }
         let guest = match self.guests.get_mut(&key) {
             Some(guest) => guest,
@@ -132,7 +136,6 @@ impl Front {
     fn read_guest(&mut self, key: usize) -> Queue {
         let mut lines = Queue::default();
         if let Some(guest) = self.guests.get_mut(&key) {
-            guest.is_touched = false;
             let link = &mut guest.link;
             if link.is_readable && !link.has_ended {
                 match link.read(&mut self.chunk) {
@@ -205,7 +208,9 @@ impl Front {
             self.checks -= usize::from(is_check);
             let (name, how, is_cut) = (guest.name, guest.link.how_done(), guest.link.is_cut);
             drop(guest.link);
-            self.doors.reopen();
+            if !is_check {
+                self.doors.reopen();
+            }
             if !is_check && !is_cut {
                 self.log.note(&format!("{name} {how}")); // of a cut one it was said when lines were left out
             }

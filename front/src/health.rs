@@ -1,32 +1,92 @@
-//! Where the health of a front is asked for, out of the reach of its clients: each server is asked for `status` over a
-//! session that no client can speak for.
+//! Where the health of a front is asked for, out of the reach of its clients: each server is asked for what asks for nothing,
+//! in the name of no session, so that no client can share, name or fill it.
 //!
-//! Whoever connects is told one line, and then the connection is closed: `{"health":"alive"}`, or `slow` where a server has
-//! not answered in time, `replaying` where groups are brought back or a server is started again, and `full` where no more
-//! clients are let in.
+//! Whoever connects asks by a request of HTTP/1.0, `GET /`, and is answered one word: `alive`, with the status 200; and with
+//! 503 `slow` where a server has not answered in time, `replaying` where groups are brought back or a server is started
+//! again, and `full` where no more clients are let in. `GET /live` is for those who would start the front anew or close its
+//! clients: there only `slow` has the status 503.
 
 use std::time::{Duration, Instant};
 
-use crate::front::Front;
+use crate::front::{Front, NO_SESSION};
 use crate::guests::Errand;
-use crate::people::{Owner, Session, Speaker};
+use crate::people::{Came, Owner, Speaker};
 
-/// The session over which servers are asked. Clients are given no such name, and it cannot be shared.
-pub const SESSION: &str = "front__health";
-const STATUS: &[u8] = b"{\"do\":\"status\"}";
-/// How long a server may take.
+/// What a server answers by an error, for no session, and what leaves nothing with it.
+pub const NOTHING: &[u8] = b"{\"do\":\"status\",\"session\":\"-\"}";
+/// Where it is asked for nothing but whether the front and its servers live.
+const LIVE: &[u8] = b"/live";
+/// Those who ask at once, at most.
+pub const CHECKS_MOST: usize = 8;
+/// Bytes that a request may have before it is whole.
+const REQUEST_MOST: usize = 8_192;
+/// How long a server may take, and how long a request.
 const PATIENCE: Duration = Duration::from_secs(2);
 
 /// What was asked for, and what is still to be answered.
 pub struct Check {
+    request: Vec<u8>,
+    is_asked: bool,
+    /// It asks only whether the front and its servers live.
+    is_of_life: bool,
     /// Servers that have not answered.
     pub awaited: usize,
     until: Instant,
 }
 
+impl Check {
+    /// A check that has not begun.
+    pub fn new() -> Check {
+        Check { request: Vec::new(), is_asked: false, is_of_life: false, awaited: 0, until: Instant::now() + PATIENCE }
+    }
+}
+
+/// A request's method and path, where the request is whole. Nothing where more of it is to come.
+fn asked_in(request: &[u8]) -> Option<(&[u8], &[u8])> {
+    let is_whole = request.windows(2).any(|it| it == b"\n\n") || request.windows(4).any(|it| it == b"\r\n\r\n");
+    let mut words = request.split(|byte| byte.is_ascii_whitespace());
+    is_whole.then(|| (words.next().unwrap_or_default(), words.next().unwrap_or_default()))
+}
+
+/// An answer that says a word. To a request for its head it says nothing but that.
+fn answer_of(status: &str, word: &str, is_head: bool) -> Vec<u8> {
+    let length = word.len() + 1;
+    let head = format!(
+        "HTTP/1.0 {status}\r\nContent-Type: text/plain\r\nContent-Length: {length}\r\nCache-Control: no-store\r\nConnection: close\r\n"
+    );
+    let body = if is_head { String::new() } else { format!("{word}\n") };
+    format!("{head}\r\n{body}").into_bytes()
+}
+
 impl Front {
+    /// Reads what somebody asks who asks for the health of the front.
+    pub fn read_check(&mut self, key: usize) {
+        let guest = match self.guests.get_mut(&key) {
+            Some(guest) if guest.link.is_readable && !guest.link.has_ended => guest,
+            _ => return,
+        };
+        let check = match &mut guest.errand {
+            Errand::Health(check) => check,
+            _ => return,
+        };
+        let count = match guest.link.read(&mut self.chunk) {
+            Came::Bytes(count) if !check.is_asked => count,
+            _ => return,
+        };
+        check.request.extend_from_slice(&self.chunk[..count]);
+        match asked_in(&check.request) {
+            Some((b"GET" | b"HEAD", path)) => {
+                (check.is_asked, check.is_of_life) = (true, path == LIVE);
+                self.check_health(key);
+            }
+            Some(_) => self.answer_check(key, "405 Method Not Allowed", "GET"),
+            None if check.request.len() > REQUEST_MOST => self.answer_check(key, "400 Bad Request", "long"),
+            None => {}
+        }
+    }
+
     /// Asks all servers on behalf of somebody who asks for the health of the front.
-    pub fn check_health(&mut self, guest: usize) {
+    fn check_health(&mut self, guest: usize) {
         let is_replaying = self.workers.iter().any(|worker| worker.server.is_none() || !worker.replays.is_empty());
         let state = match (is_replaying, self.doors.are_shut()) {
             (true, _) => Some("replaying"),
@@ -36,15 +96,12 @@ impl Front {
         if let Some(state) = state {
             return self.tell_health(guest, state);
         }
-        let check = Check { awaited: self.workers.len(), until: Instant::now() + PATIENCE };
-        if let Some(guest) = self.guests.get_mut(&guest) {
-            guest.errand = Errand::Health(check);
+        if let Some(Errand::Health(check)) = self.guests.get_mut(&guest).map(|guest| &mut guest.errand) {
+            (check.awaited, check.until) = (self.workers.len(), Instant::now() + PATIENCE);
         }
         for at in 0..self.workers.len() {
-            let session = self.sessions.insert(Session::new(SESSION, false));
-            self.sessions[session].holds = 1;
-            let mut speaker = Speaker::new(Owner::Health(guest), session);
-            speaker.waiting.push(STATUS);
+            let mut speaker = Speaker::new(Owner::Health(guest), NO_SESSION);
+            speaker.waiting.push(NOTHING);
             let key = self.speakers.insert(speaker);
             self.workers[at].turns.await_turn(key, &mut self.speakers[key]);
         }
@@ -53,8 +110,8 @@ impl Front {
     /// A server has answered.
     pub fn heard_health(&mut self, guest: usize) {
         let is_last = match self.guests.get_mut(&guest).map(|guest| &mut guest.errand) {
-            Some(Errand::Health(check)) => {
-                check.awaited = check.awaited.saturating_sub(1);
+            Some(Errand::Health(check)) if check.awaited > 0 => {
+                check.awaited -= 1;
                 check.awaited == 0
             }
             _ => false,
@@ -64,37 +121,71 @@ impl Front {
         }
     }
 
-    /// Tells those that a server is slow who have waited for too long; answers in what time others have.
+    /// Tells those that a server is slow who have waited for too long, and closes those who ask for nothing; answers in what
+    /// time others have.
     pub fn look_at_checks(&mut self) -> Option<Duration> {
         if self.checks == 0 {
             return None;
         }
         let now = Instant::now();
-        let awaited = self.guests.iter().filter_map(|(key, guest)| match &guest.errand {
-            Errand::Health(check) if check.awaited > 0 => Some((*key, check.until)),
+        let awaited = self.guests.iter().filter(|(_, guest)| !guest.link.has_ended);
+        let awaited = awaited.filter_map(|(key, guest)| match &guest.errand {
+            Errand::Health(check) => Some((*key, check.until, check.is_asked)),
             _ => None,
         });
-        let awaited: Vec<(usize, Instant)> = awaited.collect();
-        awaited.iter().filter(|(_, until)| *until <= now).for_each(|(key, _)| self.tell_health(*key, "slow"));
-        awaited.iter().filter(|(_, until)| *until > now).map(|(_, until)| *until - now).min()
+        let awaited: Vec<(usize, Instant, bool)> = awaited.collect();
+        for (key, _, is_asked) in awaited.iter().filter(|(_, until, _)| *until <= now) {
+            match is_asked {
+                true => self.tell_health(*key, "slow"),
+                false => self.answer_check(*key, "408 Request Timeout", "late"),
+            }
+        }
+        let next = awaited.iter().filter(|(_, until, _)| *until > now).map(|(_, until, _)| *until).min();
+        next.map(|until| until - now)
     }
 
     /// Tells somebody who asks how the front is.
     pub fn tell_health(&mut self, key: usize, state: &str) {
-        if let Some(guest) = self.guests.get_mut(&key) {
-            if let Errand::Health(check) = &mut guest.errand {
-                check.awaited = 0;
-            }
-            guest.link.tell(format!("{{\"health\":\"{state}\"}}\n").as_bytes());
+        let is_of_life = match self.guests.get(&key).map(|guest| &guest.errand) {
+            Some(Errand::Health(check)) => check.is_of_life,
+            _ => return,
+        };
+        let is_well = state == "alive" || is_of_life && state != "slow";
+        self.answer_check(key, if is_well { "200 OK" } else { "503 Service Unavailable" }, state);
+    }
+
+    fn answer_check(&mut self, key: usize, status: &str, word: &str) {
+        if let Some(guest) = self.guests.get_mut(&key).filter(|guest| guest.link.fault.is_empty()) {
+            let is_head = match &mut guest.errand {
+                Errand::Health(check) => {
+                    check.awaited = 0;
+                    check.request.starts_with(b"HEAD ")
+                }
+                _ => return,
+            };
+            guest.link.tell(&answer_of(status, word, is_head));
             guest.link.refuse("its question is answered");
             self.touch_guest(key);
         }
     }
 }
 
-impl Check {
-    /// A check that has not begun.
-    pub fn new() -> Check {
-        Check { awaited: 0, until: Instant::now() }
+#[cfg(test)]
+mod tests {
+    use super::*;
+
+    #[test]
+    fn a_request_is_whole_with_its_blank_line() {
+        for (request, asked) in [
+            ("GET / HTTP/1.0\r\n\r\n", Some(("GET", "/"))),
+            ("GET /live\n\n", Some(("GET", "/live"))),
+            ("HEAD / HTTP/1.1\r\nHost: a\r\n\r\nmore", Some(("HEAD", "/"))),
+            ("GET / HTTP/1.0\r\nHost: a\r\n", None),
+            ("", None),
+            ("\r\n\r\n", Some(("", ""))),
+        ] {
+            let wanted = asked.map(|(method, path)| (method.as_bytes(), path.as_bytes()));
+            assert_eq!(asked_in(request.as_bytes()), wanted, "{request:?}");
+        }
     }
 }

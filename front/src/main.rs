@@ -7,7 +7,8 @@
 //! done where a server ends, `records` what it was given and told, `replaying` brings another one there, and `moving` lets
 //! a group change its server. `naming` is for clients that name sessions by themselves, `control` where a running front is
 //! asked for groups, `asking` a run that asks, and `inspector` the process that shows all of it as a page, and `asked` what
-//! that one may ask for. `live` has clients told their events as they come.
+//! that one may ask for. `live` has clients told their events as they come. `rotating`
+//! opens records again by their names.
 
 #![forbid(unsafe_code)]
 
@@ -36,6 +37,7 @@ mod records;
 mod replaying;
 mod resuming;
 mod ring;
+mod rotating;
 mod server;
 mod sockets;
 mod spawn;
@@ -67,6 +69,10 @@ fn main() -> ExitCode {
             Err(Stop::Ended(Ended(why))) => {
                 say(&why);
                 1
+            }
+            Err(Stop::NotServed(Ended(why), status)) => {
+                say(&why);
+                status
             }
         },
     };

@@ -10,15 +10,18 @@ pub struct Notifier {
     /// How often it is told that the front is not stuck.
     every: Option<Duration>,
     due: Instant,
+    /// It was told that the front is ready.
+    is_ready: bool,
 }
 
 impl Notifier {
     pub fn new() -> Notifier {
-        Notifier { every: watchdog().map(|time| time / 2), due: Instant::now() }
+        Notifier { every: watchdog().map(|time| time / 2), due: Instant::now(), is_ready: false }
     }
 
     /// Clients can connect.
-    pub fn ready(&self, words: &str) {
+    pub fn ready(&mut self, words: &str) {
+        self.is_ready = true;
         let _ = notify(false, &[NotifyState::Ready, NotifyState::Status(words)]);
     }
 
@@ -29,7 +32,7 @@ impl Notifier {
 
     /// Tells that the front is not stuck, where it is time for that; answers in what time it is again.
     pub fn tick(&mut self) -> Option<Duration> {
-        let (every, now) = (self.every?, Instant::now());
+        let (every, now) = (self.every.filter(|_| self.is_ready)?, Instant::now());
         if now >= self.due {
             let _ = notify(false, &[NotifyState::Watchdog]);
             self.due = now + every;

@@ -15,16 +15,17 @@ use serde_json::json;
 use signal_hook::consts::{SIGHUP, SIGINT, SIGTERM};
 
 use crate::asked::Leave;
-use crate::command_line::{Options, PASSED};
-use crate::doors::Comers;
+use crate::command_line::{Options, Place, PASSED};
+use crate::doors::{Comers, Listener};
 use crate::front::{Front, Stop};
+use crate::health::CHECKS_MOST;
 use crate::inspector::{say_where, Inspector};
 use crate::log::{reason, Ended, Log};
 use crate::people::Link;
 use crate::pool::Pool;
 use crate::records::folder;
 use crate::server::{Record, Server};
-use crate::sockets::{listening, passed, Bound};
+use crate::sockets::{listening, listening_over_network, passed, Bound};
 use crate::spawn::{end_all, keep_open, started, SECONDS_TO_END};
 use crate::tokens::{token, Kind};
 
@@ -46,10 +47,11 @@ struct Kept {
 
 /// Serves until the front is asked to end, or cannot go on.
 pub fn serve(options: Options) -> Result<(), Stop> {
-    let mut alarm = alarmed()?;
+    let mut alarm = signalled(&[SIGINT, SIGTERM])?;
+    let hangups = signalled(&[SIGHUP])?;
     let mut kept = Kept::default();
     let mut front: Option<Front> = None;
-    let served = run(&options, &alarm, &mut kept, &mut front);
+    let served = run(&options, (&alarm, hangups), &mut kept, &mut front);
     let mut children: Vec<&mut Child> = Vec::new();
     if let Some(front) = &mut front {
         front.inspector = None;
@@ -63,50 +65,63 @@ pub fn serve(options: Options) -> Result<(), Stop> {
     match served {
         // the server was asked to end too, and was the first
         Err(Stop::Ended(_)) if matches!(alarm.read(&mut [0]), Ok(1..)) => Err(Stop::Asked),
+        Err(Stop::Ended(ended)) => match front.and_then(|front| front.not_served).filter(|status| *status > 0) {
+            Some(status) => Err(Stop::NotServed(ended, status)),
+            None => Err(Stop::Ended(ended)),
+        },
         other => other,
     }
 }
 
-fn run(options: &Options, alarm: &UnixStream, kept: &mut Kept, place: &mut Option<Front>) -> Result<(), Stop> {
-    let mut bind = |path: &PathBuf, mode| {
-        let (listener, bound) = listening(path, mode)?;
-        kept.bound.push(bound);
-        Ok::<_, Ended>(listener)
-    };
-    let is_passed = options.socket.as_os_str() == PASSED;
-    let listener = if is_passed { passed()? } else { bind(&options.socket, options.mode)? };
-    let monitors = options.monitor.as_ref().map(|path| bind(path, options.monitor_mode)).transpose()?;
-    let control = options.control.as_ref().map(|path| bind(path, Some(FOR_ITS_OWNER))).transpose()?;
-    let checks = options.health.as_ref().map(|path| bind(path, options.mode)).transpose()?;
+fn run(
+    options: &Options,
+    (alarm, hangups): (&UnixStream, UnixStream),
+    kept: &mut Kept,
+    place: &mut Option<Front>,
+) -> Result<(), Stop> {
+    let listeners = listeners(options, kept)?;
     let front = place.insert(front_of(options)?);
+    listeners.into_iter().for_each(|(listener, comers)| front.doors.add_later(listener, comers));
     begin_servers(front, options)?;
-    watch(front, options, alarm)?;
+    watch(front, options, alarm, &hangups)?;
+    front.hangups = Some(hangups);
     if options.is_resumed {
         front.resume()?;
     }
     if let Some(port) = options.inspect {
         front.page = Some(show(front, options, port)?);
     }
-    let at = listener.local_addr()?.as_pathname().map_or_else(String::new, |path| path.display().to_string());
-    front.doors.add(listener, Comers::Clients, front.poll.registry())?;
-    let others = [
-        (monitors, &options.monitor, Comers::Monitors, "monitors"),
-        (control, &options.control, Comers::Operators, "control"),
-        (checks, &options.health, Comers::Checks, "health"),
-    ];
-    for (listener, path, comers, word) in others {
-        if let (Some(listener), Some(path)) = (listener, path) {
-            front.doors.add(listener, comers, front.poll.registry())?;
-            front.log.say(&format!("{word} at {}", path.display()));
-        }
-    }
-    let words = format!("listening at {at}");
-    front.log.say(&words);
-    front.notifier.ready(&words);
     let served = front.serve();
     front.notifier.stopping();
     front.finish_monitors(TIME_TO_TAKE, TIME_TO_TAKE_ALL);
     served
+}
+
+/// The sockets at which others connect, and who does: clients last.
+fn listeners(options: &Options, kept: &mut Kept) -> Result<Vec<(Listener, Comers)>, Ended> {
+    let mut bind = |path: &PathBuf, mode| {
+        let (listener, bound) = listening(path, mode)?;
+        kept.bound.push(bound);
+        Ok::<_, Ended>(Listener::Unix(listener))
+    };
+    let clients = match options.socket.as_os_str() == PASSED {
+        true => passed()?.into_iter().map(Listener::Unix).collect(),
+        false => vec![bind(&options.socket, options.mode)?],
+    };
+    let mut all = Vec::new();
+    if let Some(path) = &options.monitor {
+        all.push((bind(path, options.monitor_mode)?, Comers::Monitors));
+    }
+    if let Some(path) = &options.control {
+        all.push((bind(path, Some(FOR_ITS_OWNER))?, Comers::Operators));
+    }
+    match &options.health {
+        Some(Place::Path(path)) => all.push((bind(path, options.health_mode.or(options.mode))?, Comers::Checks)),
+        Some(Place::Address(address)) => all.push((Listener::Tcp(listening_over_network(*address)?), Comers::Checks)),
+        None => {}
+    }
+    all.extend(clients.into_iter().map(|listener| (listener, Comers::Clients)));
+    Ok(all)
 }
 
 /// The front that the options ask for, without servers.
@@ -120,10 +135,12 @@ fn front_of(options: &Options) -> Result<Front, Stop> {
     if let Some(workers) = options.workers {
         let folder = options.record.as_ref().map(|path| folder(path)).transpose()?;
         front.pool = Some(Pool::new(workers, folder));
-        let files = getrlimit(Resource::RLIMIT_NOFILE).map_or(RLIM_INFINITY, |(soft, _)| soft);
-        if files != RLIM_INFINITY {
-            front.doors.files_most = Some(files.saturating_sub(FILES_KEPT) as i32);
-        }
+    }
+    let kept_for_servers = if options.workers.is_some() { FILES_KEPT } else { 0 };
+    let kept_for_checks = if options.health.is_some() { CHECKS_MOST as u64 + 1 } else { 0 };
+    let files = getrlimit(Resource::RLIMIT_NOFILE).map_or(RLIM_INFINITY, |(soft, _)| soft);
+    if files != RLIM_INFINITY && kept_for_servers + kept_for_checks > 0 {
+        front.doors.files_most = Some(files.saturating_sub(kept_for_servers + kept_for_checks) as i32);
     }
     Ok(front)
 }
@@ -135,32 +152,34 @@ fn begin_servers(front: &mut Front, options: &Options) -> Result<(), Stop> {
         let (program, args) = &front.server_words;
         let server = Server::start(program, args, record)?;
         front.begin_server(at, server)?;
+        front.greet_server(at);
     }
     Ok(())
 }
 
 /// Waits for signals, and for the end of standard input where the front is tied to it.
-fn watch(front: &mut Front, options: &Options, alarm: &UnixStream) -> io::Result<()> {
+fn watch(front: &mut Front, options: &Options, alarm: &UnixStream, hangups: &UnixStream) -> io::Result<()> {
     let registry = front.poll.registry();
     let watch = |number, token: Token| registry.register(&mut mio::unix::SourceFd(&number), token, Interest::READABLE);
     watch(alarm.as_raw_fd(), token(Kind::Alarm, 0))?;
+    watch(hangups.as_raw_fd(), token(Kind::Hangup, 0))?;
     if options.is_tied {
         watch(0, token(Kind::Input, 0))?;
     }
     Ok(())
 }
 
-/// A socket that can be read once the front was asked to end. Who started it may have it pass over hangups.
-fn alarmed() -> io::Result<UnixStream> {
-    let (alarm, bell) = UnixStream::pair()?;
-    alarm.set_nonblocking(true)?;
+/// A socket that can be read once one of these signals has come. Who started the front may have it pass over some.
+fn signalled(numbers: &[i32]) -> io::Result<UnixStream> {
+    let (heard, bell) = UnixStream::pair()?;
+    heard.set_nonblocking(true)?;
     let passed_over = signals_passed_over();
-    for number in [SIGINT, SIGTERM, SIGHUP] {
+    for &number in numbers {
         if passed_over >> (number - 1) & 1 == 0 {
             signal_hook::low_level::pipe::register(number, bell.try_clone()?)?;
         }
     }
-    Ok(alarm)
+    Ok(heard)
 }
 
 /// The signals that are passed over, a bit for each.

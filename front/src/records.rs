@@ -78,7 +78,7 @@ impl GroupRecord {
         options
             .mode(0o600)
             .custom_flags(RECORD_FLAGS.bits())
-            .create(true)
+            .create(!self.is_there) // else the beginning would be missing in a new file
             .append(self.is_there)
             .write(true)
             .truncate(!self.is_there);
@@ -100,8 +100,25 @@ impl GroupRecord {
         self.fresh.clear();
         (self.size, self.count, self.is_whole) = (0, 0, true);
         if let Some(path) = self.path.as_ref().filter(|_| self.is_there) {
-            let _ = OpenOptions::new().write(true).open(path).and_then(|file| file.set_len(0));
+            self.is_there = OpenOptions::new().write(true).open(path).and_then(|file| file.set_len(0)).is_ok();
         }
+    }
+
+    /// Whether there is a file of it.
+    pub fn is_in_file(&self) -> bool {
+        self.is_there
+    }
+
+    /// Whether its file is still there with all of it. Else it ends: a file that begins later could bring nothing back.
+    pub fn is_still_there(&mut self, log: &mut Log) -> bool {
+        self.write(log);
+        let size = self.path.as_ref().and_then(|path| fs::symlink_metadata(path).ok()).map(|found| found.len());
+        if self.is_whole && size != Some(self.size) {
+            self.is_whole = false;
+            let path = self.path.as_ref().map_or_else(String::new, |path| path.display().to_string());
+            log.say(&format!("{path} is not what it was; its group cannot be brought back until its sessions are reset"));
+        }
+        self.is_whole
     }
 
     /// Takes the file away.

@@ -46,6 +46,24 @@ impl Record {
         Ok(Record { path: path.to_path_buf(), file: Some(file) })
     }
 
+    /// Closes the file, and goes on at the end of the one that now has its name. That one is made where there is none. Where
+    /// it cannot be opened, the record goes on as it was.
+    pub fn open_again(&mut self, log: &mut Log) {
+        let mut options = OpenOptions::new();
+        let opened = options.append(true).create(true).mode(0o600).custom_flags(RECORD_FLAGS.bits()).open(&self.path);
+        let path = self.path.display();
+        match opened {
+            Ok(file) => {
+                self.file = Some(file);
+                log.say(&format!("hangup: {path} is opened again"));
+            }
+            Err(error) => {
+                let goes_on = if self.file.is_some() { "the file that was open is written on" } else { "nothing is recorded" };
+                log.say(&format!("hangup: {path} cannot be opened again: {}; {goes_on}", reason(&error)));
+            }
+        }
+    }
+
     /// Writes lines, before the server is given them.
     fn write(&mut self, lines: &[u8], log: &mut Log) {
         let written = self.file.as_mut().map_or(Ok(()), |file| file.write_all(lines));
@@ -108,7 +126,7 @@ pub struct Server {
     /// What it has not taken yet.
     pub given: Pending,
     pub written: Written,
-    record: Option<Record>,
+    pub record: Option<Record>,
     /// Bytes at the end of what it was given that are not recorded yet.
     unrecorded: usize,
     watches_writing: bool,
@@ -151,6 +169,25 @@ impl Server {
         length
     }
 
+    /// Appends a line of the front's own, which is not recorded.
+    pub fn give_unrecorded(&mut self, line: &[u8], log: &mut Log) -> usize {
+        self.write_record(log);
+        let bytes = self.given.end();
+        bytes.extend_from_slice(line);
+        bytes.push(b'\n');
+        line.len()
+    }
+
+    /// Records what is not recorded yet, all of which is at the end of what it was given.
+    fn write_record(&mut self, log: &mut Log) {
+        if self.unrecorded > 0 {
+            if let Some(record) = &mut self.record {
+                record.write(self.given.last(self.unrecorded), log);
+            }
+            self.unrecorded = 0;
+        }
+    }
+
     /// The last line that it was given, of so many bytes, without its end.
     pub fn last(&self, length: usize) -> &[u8] {
         &self.given.last(length + 1)[..length]
@@ -158,12 +195,7 @@ impl Server {
 
     /// Lets it take what it was given, as far as it does at once.
     pub fn push(&mut self, registry: &Registry, token: Token, log: &mut Log) {
-        if self.unrecorded > 0 {
-            if let Some(record) = &mut self.record {
-                record.write(self.given.last(self.unrecorded), log);
-            }
-            self.unrecorded = 0;
-        }
+        self.write_record(log);
         if self.given.is_empty() {
             return;
         }

@@ -3,6 +3,7 @@
 use std::env;
 use std::fs::{self, File, Permissions};
 use std::io::{self, ErrorKind};
+use std::net::{SocketAddr, TcpListener};
 use std::os::unix::fs::{FileTypeExt, MetadataExt, PermissionsExt};
 use std::os::unix::io::{AsRawFd, RawFd};
 use std::os::unix::net::UnixListener;
@@ -24,8 +25,9 @@ const WAITING_MOST: i32 = 1_024;
 const FIRST_PASSED: RawFd = 3;
 const TRIES: usize = 10;
 const PAUSE: Duration = Duration::from_millis(100);
-const NOT_PASSED: &str = "no socket was passed: LISTEN_PID has to be the front's, and LISTEN_FDS to be 1";
-const NOT_LISTENING: &str = "what was passed is no Unix-domain socket at which somebody listens";
+/// Sockets that are passed, at most.
+const PASSED_MOST: RawFd = 1_024;
+const NOT_PASSED: &str = "no socket was passed: LISTEN_PID has to be the front's, and LISTEN_FDS the number of sockets";
 
 /// A socket of the front's own at a path, which goes with this value unless something else is there meanwhile.
 pub struct Bound {
@@ -60,6 +62,12 @@ fn bind(path: &Path, mode: Option<u32>) -> io::Result<(UnixListener, Bound)> {
     let listener = UnixListener::from(socket);
     listener.set_nonblocking(true)?;
     Ok((listener, bound))
+}
+
+/// A socket at this address where those can connect who ask for the health of the front.
+pub fn listening_over_network(address: SocketAddr) -> Result<TcpListener, Ended> {
+    let bound = TcpListener::bind(address).and_then(|listener| listener.set_nonblocking(true).map(|()| listener));
+    bound.map_err(|error| Ended(format!("{address} cannot be bound: {}", reason(&error))))
 }
 
 /// Keeps other fronts from binding in a folder meanwhile, where the folder can be read: of two that begin at once, one must
@@ -107,24 +115,41 @@ fn place_of(path: &Path) -> io::Result<(u64, u64)> {
     Ok((found.dev(), found.ino()))
 }
 
-/// The socket that systemd has passed, which stays where it is at the end.
-pub fn passed() -> Result<UnixListener, Ended> {
-    let is = |name: &str, value: &str| env::var(name).map_or(false, |it| it == value);
-    if !is("LISTEN_PID", &std::process::id().to_string()) || !is("LISTEN_FDS", "1") {
+/// The sockets that systemd has passed, which stay where they are at the end.
+pub fn passed() -> Result<Vec<UnixListener>, Ended> {
+    let is_own = env::var("LISTEN_PID").map_or(false, |it| it == std::process::id().to_string());
+    let count = env::var("LISTEN_FDS").ok().filter(|_| is_own).and_then(|it| it.parse::<RawFd>().ok()).unwrap_or(0);
+    let count = count.min(PASSED_MOST);
+    if count < 1 {
         return Err(Ended(NOT_PASSED.to_string()));
     }
-    let listens = getsockopt(FIRST_PASSED, AcceptConn)
-        .map_err(|error| Ended(format!("what was passed is no socket: {}", reason(&error.into()))))?;
-    let is_stream = getsockopt(FIRST_PASSED, SockType) == Ok(Kind::Stream);
-    let family = getsockname::<SockaddrStorage>(FIRST_PASSED).ok().and_then(|it| it.family());
-    if !(listens && is_stream && family == Some(AddressFamily::Unix)) {
-        return Err(Ended(NOT_LISTENING.to_string()));
+    (FIRST_PASSED..FIRST_PASSED + count).try_for_each(check_passed)?;
+    let mut listeners = ListenFd::from_env();
+    (0..count as usize).map(|at| take_passed(&mut listeners, at)).collect()
+}
+
+/// Whether somebody listens at what was passed by this number, over the Unix domain.
+fn check_passed(number: RawFd) -> Result<(), Ended> {
+    let listens = getsockopt(number, AcceptConn)
+        .map_err(|error| Ended(format!("file {number}, which was passed, is no socket: {}", reason(&error.into()))))?;
+    let is_stream = getsockopt(number, SockType) == Ok(Kind::Stream);
+    let family = getsockname::<SockaddrStorage>(number).ok().and_then(|it| it.family());
+    match listens && is_stream && family == Some(AddressFamily::Unix) {
+        true => Ok(()),
+        false => Err(not_listening(number)),
     }
-    let listener = ListenFd::from_env().take_unix_listener(0);
-    let listener = listener.ok().flatten().ok_or_else(|| Ended(NOT_LISTENING.to_string()))?;
-    let not_set = |error: io::Error| Ended(format!("what was passed cannot be used: {}", reason(&error)));
+}
+
+fn take_passed(listeners: &mut ListenFd, at: usize) -> Result<UnixListener, Ended> {
+    let number = FIRST_PASSED + at as RawFd;
+    let listener = listeners.take_unix_listener(at).ok().flatten().ok_or_else(|| not_listening(number))?;
+    let not_set = |error: io::Error| Ended(format!("file {number}, which was passed, cannot be used: {}", reason(&error)));
     listener.set_nonblocking(true).map_err(not_set)?;
     Ok(listener)
+}
+
+fn not_listening(number: RawFd) -> Ended {
+    Ended(format!("file {number}, which was passed, is no Unix-domain socket at which somebody listens"))
 }
 
 /// Whether a file is one of those that end, and whose end can be waited for.

@@ -13,9 +13,10 @@ pub enum Kind {
     Alarm,
     Input,
     Inspector,
+    Hangup,
 }
 
-const KINDS: [Kind; 8] = [
+const KINDS: [Kind; 9] = [
     Kind::Client,
     Kind::Guest,
     Kind::ServerOutput,
@@ -24,6 +25,7 @@ const KINDS: [Kind; 8] = [
     Kind::Alarm,
     Kind::Input,
     Kind::Inspector,
+    Kind::Hangup,
 ];
 
 /// The token of a source: which one it is of its kind.

@@ -6,6 +6,7 @@ use std::time::{Duration, Instant};
 use memchr::memchr;
 
 use crate::front::Front;
+use crate::health::NOTHING;
 use crate::lines::{is_answer, put_with_member, session_of, shown, NOBODY, RESET};
 use crate::live::SPIN;
 use crate::log::Ended;
@@ -81,7 +82,12 @@ impl Front {
             };
             let ended = match server.read() {
                 Brought::Nothing => return Ok(()),
-                Brought::End => Err(Ended(server.how_ended())),
+                Brought::End => {
+                    let ended = Ended(server.how_ended());
+                    let status = server.status().and_then(|status| status.code());
+                    self.not_served = status.and_then(|status| status.try_into().ok()).filter(|_| !self.workers[at].has_written);
+                    Err(ended)
+                }
                 Brought::Lines(whole, is_full) => {
                     let heard = self.hear(at, whole);
                     if heard.is_ok() && !is_full && !is_hung_up {
@@ -155,7 +161,7 @@ impl Front {
     fn check(&self, at: usize, line: &[u8]) -> Result<(), Ended> {
         let command = self.command(at, line)?;
         let session = &self.sessions[command.session];
-        if command.hears.is_silent() || session.ends(line) || session_of(line)? == session.name {
+        if session.ends(line) || session_of(line)? == session.name || command.hears.is_silent() {
             return Ok(());
         }
         Err(Ended(format!("the server did not tell {} in its turn: {}", session.name, shown(line))))
@@ -300,17 +306,19 @@ impl Front {
             None => return,
         };
         let line = apart.as_deref().or_else(|| speaker.waiting.first()).unwrap_or_default();
-        let is_named = self.named_by_clients && !is_check || is_replay;
+        let is_named = self.named_by_clients || is_replay;
         let member = &self.sessions[session].member;
-        let length = match is_named {
-            true => server.give(|out| out.extend_from_slice(line)),
-            false => server.give(|out| put_with_member(out, line, member)),
+        let length = match (is_check, is_named) {
+            (true, _) => server.give_unrecorded(line, &mut self.log),
+            (_, true) => server.give(|out| out.extend_from_slice(line)),
+            (_, false) => server.give(|out| put_with_member(out, line, member)),
         };
         if !is_spin {
             speaker.waiting.pop();
         }
         let hears = match speaker.owner {
             Owner::Replay(replay) => Hears::Replay(replay),
+            Owner::Health(_) => Hears::Nobody,
             _ => Hears::Clients,
         };
         if self.patience.is_some() && worker.turns.under_way.is_empty() {
@@ -389,6 +397,18 @@ impl Front {
                 worker.turns.give(worker.sweeper, sweeper, length, 0, Hears::Nobody);
             }
         }
+    }
+
+    /// Gives a server a line of the front's own, by whose answer the front knows that it serves.
+    pub fn greet_server(&mut self, at: usize) {
+        let worker = &mut self.workers[at];
+        if let Some(server) = &mut worker.server {
+            let length = server.give_unrecorded(NOTHING, &mut self.log);
+            let sweeper = &mut self.speakers[worker.sweeper];
+            worker.silent_since = Instant::now();
+            worker.turns.give(worker.sweeper, sweeper, length, 0, Hears::Nobody);
+        }
+        self.push(at);
     }
 
     /// Ends servers that have been silent for too long; answers in what time to look again.

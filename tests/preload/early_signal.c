@@ -1,17 +1,23 @@
-/* For a library that is preloaded into a program: SIGTERM comes to it right before it waits for events the
-   third time. What the program does on the signal in its own code is then still to be done when it waits. */
+/* For a library that is preloaded into a program: once there is a file where EARLY_SIGNAL says, SIGTERM comes to the
+   program right before it waits for events the next time. What the program does on the signal in its own code is then
+   still to be done when it waits. */
 #define _GNU_SOURCE
 #include <dlfcn.h>
 #include <signal.h>
+#include <stdlib.h>
 #include <sys/epoll.h>
+#include <unistd.h>
 
 int epoll_wait(int epoll, struct epoll_event *events, int most, int timeout)
 {
-    static int waits;
+    static int has_come;
     static int (*next)(int, struct epoll_event *, int, int);
+    const char *note = getenv("EARLY_SIGNAL");
     if (!next)
         next = (int (*)(int, struct epoll_event *, int, int))dlsym(RTLD_NEXT, "epoll_wait");
-    if (++waits == 3)
+    if (!has_come && note && access(note, F_OK) == 0) {
+        has_come = 1;
         raise(SIGTERM);
+    }
     return next(epoll, events, most, timeout);
 }

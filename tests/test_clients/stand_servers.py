@@ -10,7 +10,7 @@ import time
 from contextlib import contextmanager
 from pathlib import Path
 
-from .fronts import PATIENCE
+from .fronts import GREETED_BY_PYTHON, PATIENCE
 
 UNDER_WAY = 32  # commands that a front gives a server ahead
 OF_ONE = 8  # those of one client among these, where there are others
@@ -32,7 +32,7 @@ for line in sys.stdin.buffer:
 def in_steps(total, pause=0, gate=""):
     """A server that answers as many commands at once as a front gives it of one client, and from the last of so many on all.
     After so many answers it waits until somebody opens the gate, a named pipe, and closes it."""
-    return [sys.executable, "-c", IN_STEPS, *map(str, (OF_ONE, total, pause, gate))]
+    return [sys.executable, "-c", GREETED_BY_PYTHON + IN_STEPS, *map(str, (OF_ONE, total, pause, gate))]
 
 
 def wait_until_true(test, holds, what):

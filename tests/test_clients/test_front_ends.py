@@ -2,7 +2,9 @@
 
 import json
 import os
+import select
 import signal
+import socket
 import subprocess
 import sys
 import time
@@ -11,8 +13,8 @@ from pathlib import Path
 
 from tests.support.program import library
 
-from .fronts import FRONT, NEW, PATIENCE, STATUS, Client, FrontCases, front_of, reply
-from .stand_servers import wait_until_true
+from .fronts import FRONT, GREETED_BY_PYTHON, GREETED_BY_SHELL, NEW, PATIENCE, STATUS, Client, FrontCases, front_of, reply
+from .stand_servers import make_gate, open_gate, wait_until_true
 
 USAGE = "usage: metad-front [options] SOCKET PROGRAM [ARGS...]\n"
 HELLO = "metad-front: the server wrote no line of the protocol: b'hello'\n"
@@ -60,8 +62,8 @@ class Ends(FrontCases):
             self.assertFalse(Path(self.room, "socket").exists(), "its socket is there")
 
     def test_signals(self):
-        """An interrupt, SIGTERM and SIGHUP end the front in order, and its server with it."""
-        for number in (signal.SIGINT, signal.SIGTERM, signal.SIGHUP):
+        """An interrupt and SIGTERM end the front in order, and its server with it."""
+        for number in (signal.SIGINT, signal.SIGTERM):
             with self.subTest(signal=number), self.served() as (process, client, server):
                 process.send_signal(number)
                 said = process.communicate(timeout=PATIENCE)
@@ -69,7 +71,7 @@ class Ends(FrontCases):
                 self.assertFalse(Path(self.room, "socket").exists(), "its socket is there")
                 self.assertFalse(Path(f"/proc/{server}").exists(), "its server is there")
                 self.assertEqual(client.until_closed(), b"", "the end for a client")
-        self.tell("cases: 3")
+        self.tell("cases: 2")
 
     def test_tied(self):
         """A front that is tied ends with its standard input, and passes over what stands there; that can be no file."""
@@ -109,7 +111,7 @@ class Ends(FrontCases):
     def test_server_that_stays(self):
         """A server that does not end when it is asked to is killed."""
         path, note = Path(self.room, "socket"), Path(self.room, "pid")
-        script = f"{TAKING_ITS_TIME}; import os; open({str(note)!r}, 'w').write(str(os.getpid())); time.sleep(100)"
+        script = f"{GREETED_BY_PYTHON}{TAKING_ITS_TIME}; import os; open({str(note)!r}, 'w').write(str(os.getpid())); time.sleep(100)"
         process = front_of("--quiet", path, sys.executable, "-c", script)
         try:
             self.wait_for(path, process)
@@ -124,8 +126,8 @@ class Ends(FrontCases):
     def test_asked_meanwhile(self):
         """The front ends in its time whatever its clients and its server do: beside clients that flood it, do not read and do
         not end their lines, and with a server that is stopped, that writes without an end, or that passes over SIGTERM."""
-        stopped = f'kill -STOP $$; exec "{self.program}"'
-        endless = f'trap "" TERM; read line; while :; do echo \'{CALL}\'; done'
+        stopped = f'{GREETED_BY_SHELL}kill -STOP $$; exec "{self.program}"'
+        endless = f'trap "" TERM; {GREETED_BY_SHELL}read line; while :; do echo \'{CALL}\'; done'
         for what, script in (("stopped", stopped), ("endless", endless), ("usual", f'exec "{self.program}"')):
             with self.subTest(server=what):
                 path, monitor = Path(self.room, "socket"), Path(self.room, "monitor")
@@ -150,14 +152,17 @@ class Ends(FrontCases):
                     process.communicate()
 
     def test_asked_early(self):
-        """The front ends too where it is asked to right before it waits: the third time, when the connection by which
-        it is found to listen has come and gone."""
-        path = Path(self.room, "socket")
-        process = front_of("--quiet", path, self.program, env={**os.environ, "LD_PRELOAD": library("early_signal")})
+        """The front ends too where it is asked to right before it waits."""
+        path, note = Path(self.room, "socket"), Path(self.room, "note")
+        own = {**os.environ, "LD_PRELOAD": library("early_signal"), "EARLY_SIGNAL": str(note)}
+        process = front_of("--quiet", path, self.program, env=own)
         try:
-            self.wait_for(path, process)
+            self.assertEqual(process.stderr.readline(), self.said(), "what it says")
+            with Client(path) as client:
+                self.assertEqual(client.ask(NEW), reply(1, "c1"), "an object")
+                note.touch()  # from now on the next wait comes with a signal
             said = process.communicate(timeout=PATIENCE)
-            self.assertEqual((process.returncode, *said), (0, "", self.said()), "the front's end")
+            self.assertEqual((process.returncode, *said), (0, "", ""), "the front's end")
             self.assertFalse(path.exists(), "its socket is there")
         finally:
             process.kill()
@@ -204,9 +209,9 @@ class Ends(FrontCases):
             ((Path(room, 200 * "x"), self.program), None),
             (("--monitor", path, path, self.program), f"metad-front: {path} cannot be bound: somebody answers there\n"),
             (("--record", room, path, self.program), f"metad-front: {room} cannot be written: Is a directory\n"),
-            (("--quiet", path, self.program, "/dev/null"), self.said() + REFUSED),
-            (("--quiet", path, self.program, "--turns", "0"), None),
-            (("--quiet", path, "echo", "hello"), self.said() + HELLO),
+            (("--quiet", path, "echo", "hello"), HELLO),
+            (("--quiet", path, "false"), "metad-front: the server has ended with status 1\n"),
+            (("--quiet", path, "true"), "metad-front: the server has ended with status 0\n"),
         ):
             with self.subTest(words=given):
                 ran = subprocess.run([FRONT, *given], capture_output=True, text=True, timeout=PATIENCE)
@@ -216,6 +221,45 @@ class Ends(FrontCases):
                 self.assertEqual(sorted(ran.stderr.splitlines()), wanted_lines, "what it says")
                 self.assertTrue(ran.stderr, "it says nothing")
         self.assertTrue(taken.exists(), "what stood there is gone")
+
+    def test_not_served(self):
+        """A server that refuses its class file or its words ends the front with the server's own message and status. The
+        front does not say that it listens, with or without workers."""
+        path = Path(self.room, "socket")
+        for given, status, wanted in (
+            (("--quiet", path, self.program, "/dev/null"), 1, REFUSED),
+            (("--quiet", "--workers", "2", path, self.program, "/dev/null"), 1, REFUSED),
+            (("--quiet", path, self.program, "--turns", "0"), 2, "metad-front: the server has ended with status 2\n"),
+            (("--quiet", path, "sh", "-c", "read line; exit 7"), 7, "metad-front: the server has ended with status 7\n"),
+        ):
+            with self.subTest(words=given):
+                ran = subprocess.run([FRONT, *given], capture_output=True, text=True, timeout=PATIENCE)
+                self.assertEqual((ran.returncode, ran.stdout, path.exists()), (status, "", False), f"its status: {ran.stderr}")
+                self.assertLessEqual(set(wanted.splitlines()), set(ran.stderr.splitlines()), "what it says")
+                self.assertNotIn("listening", ran.stderr, "what it says")
+
+    def test_listening(self):
+        """The front says that it listens, and tells systemd that it is ready, once its server serves and no sooner. Who has
+        connected before is served then."""
+        path, place, gate = Path(self.room, "socket"), Path(self.room, "notify"), make_gate(self.room)
+        with socket.socket(socket.AF_UNIX, socket.SOCK_DGRAM) as link:
+            link.bind(str(place))
+            own = {**os.environ, "NOTIFY_SOCKET": str(place), "WATCHDOG_USEC": "100000"}
+            process = front_of("--quiet", path, "sh", "-c", f'cat "{gate}"; exec "{self.program}"', env=own)
+            try:
+                self.wait_for(path, process)
+                with Client(path) as client:
+                    client.say(NEW)
+                    ready = select.select([link, process.stderr, client.link], [], [], 0.5)[0]
+                    self.assertEqual(ready, [], "what is said before the server serves")
+                    open_gate(gate)
+                    link.settimeout(PATIENCE)
+                    self.assertEqual(link.recv(4_096).decode(), f"READY=1\nSTATUS=listening at {path}\n", "what systemd is told")
+                    self.assertEqual(process.stderr.readline(), self.said(), "what it says")
+                    self.assertEqual(client.hear(), reply(1, "c2"), "an early client, which came after the one that waited")
+            finally:
+                process.terminate()
+                process.communicate(timeout=PATIENCE)
 
     def test_help(self):
         """The help comes on standard output, wherever it is asked for; where that cannot be written, it is told."""
@@ -240,6 +284,6 @@ class Ends(FrontCases):
         path = Path(self.room, "socket")
         show = 'import json, sys; print(json.dumps({"reply": sys.argv[1:], "session": "c1"}, separators=(",", ":")), flush=True); input()'
         for words in ((), ("--quiet", "-h", "--", "x y", "--share", "")):
-            script = f"import sys; sys.stdin.readline()\n{show}"
+            script = f"{GREETED_BY_PYTHON}sys.stdin.readline()\n{show}"
             with self.front("-c", script, *words, server=[sys.executable]) as (path, _), Client(path) as client:
                 self.assertEqual(client.ask(STATUS), reply(list(words), "c1"), "its words")

@@ -14,7 +14,7 @@ from pathlib import Path
 from tests.support.lines import text_of
 from tests.support.peaks import peak_of
 
-from .fronts import FRONT, NEW, PATIENCE, Client, FrontCases, error, reply
+from .fronts import FRONT, GREETED_BY_PYTHON, NEW, PATIENCE, Client, FrontCases, error, reply
 from .grouped import WorkerCases, hello, servers_of, wait_until
 from .stand_servers import UNDER_WAY, in_steps, make_gate, open_gate, stopped, wait_until_read, wait_until_true, whole_lines
 
@@ -91,7 +91,7 @@ class Faults(FrontCases):
         """All who speak for a shared session and do not read leave no more than a bound unread: those that have left most
         are closed, and one that reads is told all."""
         share = '{"front":"share","session":"team"}'
-        server = [sys.executable, "-c", TELLS_MUCH]
+        server = [sys.executable, "-c", GREETED_BY_PYTHON + TELLS_MUCH]
         with self.front(options=("--share", "team"), server=server) as (path, process), Client(path) as reads:
             self.assertEqual([reads.ask(share), reads.ask(NEW)], [reply(True, "team"), reply(0, "team")], "one that reads")
             members = [self.enterContext(Client(path)) for _ in range(MEMBERS)]

@@ -10,7 +10,6 @@ from pathlib import Path
 
 from .fronts import FRONT, NEW, PATIENCE, Client, FrontCases, Log, reply
 from .grouped import WorkerCases, hello, servers_of, wait_until
-from .stand_servers import make_gate, open_gate
 
 SHARE = '{"front":"share","session":"desk__team"}'
 NAMED = '{"class":"Probe","do":"new","session":"%s"}'
@@ -182,46 +181,3 @@ class Systemd(FrontCases):
             self.assertEqual(process.wait(PATIENCE), 0, "its end")
         self.assertNotIn("NOTIFY_SOCKET", note.read_text(), "what its server has")
         self.assertNotIn("WATCHDOG", note.read_text(), "what its server has")
-
-
-class Health(WorkerCases):
-    """What a front says of its health."""
-
-    def health(self, path):
-        with Client(path) as client:
-            return client.told()
-
-    def test_alive(self):
-        """It is alive, slow where a server does not answer, and alive again; clients have no part in that, and nothing is
-        said of who asks."""
-        health = Path(self.room, "health")
-        with self.front(options=("--health", health, "--mode", "600")) as (path, process), Client(path) as client:
-            self.assertEqual(client.ask(NEW), reply(1, "c1"), "an object")
-            said = process.log.lines()
-            for _ in range(3):
-                wait_until(self, lambda: self.health(health) == ['{"health":"alive"}'], "at first")
-            os.kill(servers_of(process)[0], signal.SIGSTOP)
-            self.assertEqual(self.health(health), ['{"health":"slow"}'], "where the server is stopped")
-            os.kill(servers_of(process)[0], signal.SIGCONT)
-            wait_until(self, lambda: self.health(health) == ['{"health":"alive"}'], "where it goes on")
-            self.assertEqual(client.ask(NEW), reply(2, "c1"), "the client")
-            self.assertEqual(process.log.lines(), said, "what is said")
-
-    def test_workers(self):
-        """It is replaying where a worker is started again, and alive then."""
-        health, gate = Path(self.room, "health"), make_gate(self.room)
-        server = ["sh", "-c", f'test -e "$0" && cat "{gate}"; touch "$0"; exec "{self.program}"', str(Path(self.room, "flag"))]
-        with self.workers(1, options=("--health", health, "--record", str(self.records)), server=server) as (path, process):
-            with Client(path) as client:
-                self.assertEqual(client.ask(NEW), reply(1, "c1"), "an object")
-                wait_until(self, lambda: self.health(health) == ['{"health":"alive"}'], "at first")
-                os.kill(servers_of(process)[0], signal.SIGKILL)
-                wait_until(self, lambda: self.health(health) == ['{"health":"replaying"}'], "where it is brought back")
-                open_gate(gate)
-                self.assertEqual(client.ask(NEW), reply(2, "c1"), "the client")
-                wait_until(self, lambda: self.health(health) == ['{"health":"alive"}'], "then")
-
-    def test_not_shared(self):
-        """Its session cannot be shared."""
-        ran = subprocess.run([FRONT, "--share", "front__health", "s", "p"], capture_output=True, text=True, timeout=PATIENCE)
-        self.assertEqual((ran.returncode, ran.stdout), (2, ""), ran.stderr)

@@ -65,7 +65,8 @@ class Departed(FrontCases):
                 self.assertEqual(last.ask(NEW), reply(1, "c4"), "an object")
                 wanted = '{"class":"Probe","do":"new","session":"c4"}'
                 self.wait_until_given(given, [wanted])
-                self.assertEqual(given.read_text(), f"{wanted}\n", "what the server is given")
+                own = text_of({"do": "status", "session": "-"})  # by which the front knows that the server serves
+                self.assertEqual(given.read_text().splitlines(), [own, wanted], "what the server is given")
 
     def test_who_listens(self):
         """Who has joined a client that has gone hears nothing more, and its join stays; who it had joined goes on."""

@@ -15,14 +15,18 @@ from .fronts import FRONT, NEW, PASSED, PATIENCE, Client, FrontCases, Log, front
 
 PASS = """
 import os, sys
-number, pid, count, *words = sys.argv[1:]
-os.dup2(int(number), 3)
+numbers, pid, count, *words = sys.argv[1:]
+for at, number in enumerate(numbers.split(",")):
+    os.dup2(int(number), 100 + at)
+for at, number in enumerate(numbers.split(",")):
+    os.dup2(100 + at, 3 + at)
+os.closerange(3 + len(numbers.split(",")), 200)
 os.environ.update(LISTEN_PID=pid or str(os.getpid()), LISTEN_FDS=count)
 os.execv(words[0], words)
 """
-NOT_PASSED = "metad-front: no socket was passed: LISTEN_PID has to be the front's, and LISTEN_FDS to be 1\n"
-NOT_LISTENING = "metad-front: what was passed is no Unix-domain socket at which somebody listens\n"
-NO_SOCKET = "metad-front: what was passed is no socket: Socket operation on non-socket\n"
+NOT_PASSED = "metad-front: no socket was passed: LISTEN_PID has to be the front's, and LISTEN_FDS the number of sockets\n"
+NOT_LISTENING = "metad-front: file %d, which was passed, is no Unix-domain socket at which somebody listens\n"
+NO_SOCKET = "metad-front: file %d, which was passed, is no socket: %s\n"
 SHOW_ENVIRONMENT = 'for it in LISTEN_PID LISTEN_FDS LISTEN_FDNAMES; do eval "test -z \\"\\${$it+set}\\"" || exit 7; done; exec "$0"'
 
 
@@ -123,11 +127,11 @@ class Sockets(FrontCases):
                 os.umask(before)
 
     @contextmanager
-    def passed(self, number, *words, pid="", count="1"):
-        """A front to which a file is passed as systemd does it."""
-        given = [sys.executable, "-c", PASS, str(number), pid, count, str(FRONT), *words]
+    def passed(self, numbers, *words, pid="", count=None):
+        """A front to which files are passed as systemd does it."""
+        given = [sys.executable, "-c", PASS, ",".join(map(str, numbers)), pid, count or str(len(numbers)), str(FRONT), *words]
         pipe = subprocess.PIPE
-        with subprocess.Popen(given, stdout=pipe, stderr=pipe, text=True, pass_fds=[number, 3]) as process:
+        with subprocess.Popen(given, stdout=pipe, stderr=pipe, text=True, pass_fds=numbers) as process:
             try:
                 yield process
             finally:
@@ -141,7 +145,7 @@ class Sockets(FrontCases):
             listener.listen()
             with Client(path) as early:
                 early.say(NEW)
-                with self.passed(listener.fileno(), "--quiet", "-", "sh", "-c", SHOW_ENVIRONMENT, self.program) as process:
+                with self.passed([listener.fileno()], "--quiet", "-", "sh", "-c", SHOW_ENVIRONMENT, self.program) as process:
                     self.assertEqual(early.hear(), reply(1, "c1"), "the early client")
                     with Client(path) as later:
                         self.assertEqual(later.ask(NEW), reply(1, "c2"), "a later client")
@@ -149,6 +153,39 @@ class Sockets(FrontCases):
                     said = process.communicate(timeout=PATIENCE)
                     self.assertEqual((process.returncode, *said), (0, "", f"metad-front: listening at {path}\n"), "its end")
             self.assertTrue(path.is_socket(), "the socket is gone")
+
+    def test_two_passed(self):
+        """Clients of each of two sockets that are passed have sessions of one server, and both sockets stay at the end."""
+        paths = [Path(self.room, name) for name in ("first", "second")]
+        with bound_at(paths[0]) as first, bound_at(paths[1]) as second:
+            first.listen()
+            second.listen()
+            with self.passed([first.fileno(), second.fileno()], "--quiet", "-", self.program) as process:
+                said = [process.stderr.readline() for _ in paths]
+                self.assertEqual(said, [f"metad-front: listening at {path}\n" for path in paths], "what it says")
+                clients = [self.enterContext(Client(path)) for path in paths for _ in range(2)]
+                self.assertEqual(sorted(client.name() for client in clients), ["c1", "c2", "c3", "c4"], "their sessions")
+                cell, join = '{"class":"Cell","do":"new"}', '{"do":"join","from":"%s","name":"level","types":["int"],"object":1,"method":"seen(int)"}'
+                self.assertEqual([clients[0].ask(cell), clients[2].ask(cell)], [reply(1, clients[0].name()), reply(1, clients[2].name())], "objects")
+                self.assertEqual(clients[2].ask(join % clients[0].name()), reply(True, clients[2].name()), "a join of the other's")
+                process.terminate()
+                self.assertEqual((process.communicate(timeout=PATIENCE), process.returncode), (("", ""), 0), "its end")
+        self.assertEqual([path.is_socket() for path in paths], [True, True], "the sockets")
+
+    def test_one_of_two(self):
+        """Where one of several files that are passed is no socket that listens, the front ends and names it."""
+        with bound_at(Path(self.room, "socket")) as link, socket.socket() as network, open(os.devnull, "rb") as file:
+            link.listen()
+            network.bind(("127.0.0.1", 0))
+            network.listen()
+            for second, count, wanted in (
+                (network, None, NOT_LISTENING % 4),
+                (file, None, NO_SOCKET % (4, "Socket operation on non-socket")),
+                (link, "3", NOT_LISTENING % 5),
+            ):
+                with self.passed([link.fileno(), second.fileno()], "-", self.program, count=count) as process:
+                    said = process.communicate(timeout=PATIENCE)
+                    self.assertEqual((process.returncode, *said), (1, "", wanted), f"what is said of {second}")
 
     def test_units(self):
         """The units of the examples: a front that is passed its socket, with words that it takes."""
@@ -167,11 +204,12 @@ class Sockets(FrontCases):
             network.listen()
             for source, keys, wanted in (
                 (link, {"pid": "1"}, NOT_PASSED),
-                (link, {"count": "2"}, NOT_PASSED),
-                (link, {}, NOT_LISTENING),
-                (network, {}, NOT_LISTENING),
-                (file, {}, NO_SOCKET),
+                (link, {"count": "0"}, NOT_PASSED),
+                (link, {"count": "two"}, NOT_PASSED),
+                (link, {}, NOT_LISTENING % 3),
+                (network, {}, NOT_LISTENING % 3),
+                (file, {}, NO_SOCKET % (3, "Socket operation on non-socket")),
             ):
-                with self.passed(source.fileno(), "-", self.program, **keys) as process:
+                with self.passed([source.fileno()], "-", self.program, **keys) as process:
                     said = process.communicate(timeout=PATIENCE)
                     self.assertEqual((process.returncode, *said), (1, "", wanted), f"what is said of {source} with {keys}")

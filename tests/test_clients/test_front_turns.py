@@ -6,7 +6,7 @@ from pathlib import Path
 
 from tests.support.lines import text_of
 
-from .fronts import NEW, PATIENCE, STATUS, Client, FrontCases, classes_in, reply
+from .fronts import GREETED_BY_SHELL, NEW, PATIENCE, STATUS, Client, FrontCases, classes_in, reply
 from .stand_servers import stopped
 
 TEXT = "n" * 4_096
@@ -49,7 +49,7 @@ class Beside(FrontCases):
         of each."""
         for count, most in ((1, 32), (2, 16)):
             given = Path(self.room, f"given to {count}")
-            with self.front(server=["sh", "-c", 'cat > "$0"', given]) as (path, process):
+            with self.front(server=["sh", "-c", GREETED_BY_SHELL + 'cat > "$0"', given]) as (path, process):
                 clients = [Client(path) for _ in range(count)]
                 try:
                     self.let_in(path)

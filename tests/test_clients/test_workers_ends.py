@@ -27,6 +27,9 @@ import os, sys, time
 path, later, together = sys.argv[1:]
 is_first = not os.path.exists(path)
 open(path, "w").close()
+if is_first:  # only then the front asks for something of its own
+    sys.stdin.readline()
+    print('{"error":"E02","session":"-"}', flush=True)
 for at, line in enumerate(sys.stdin, 1):
     told = '"object":1,"sender":0,"session":"%s"}' % line.split('"session":"')[1].split('"')[0]
     print('{"args":[%s],"call":"one()",%s' % ("" if is_first else later, told), flush=is_first)

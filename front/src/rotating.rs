@@ -1,0 +1,50 @@
+//! What a hangup (SIGHUP) asks for: that records are opened again by their names, as `logrotate` wants it.
+
+use std::io::Read;
+
+use crate::front::Front;
+
+impl Front {
+    /// Takes the hangups that have come, which ask for the same.
+    pub fn hear_hangup(&mut self) {
+        let hangups = match &mut self.hangups {
+            Some(hangups) => hangups,
+            None => return,
+        };
+        let mut has_come = false;
+        while let Ok(1..) = hangups.read(&mut self.chunk) {
+            has_come = true;
+        }
+        if has_come {
+            self.open_records_again();
+        }
+    }
+
+    /// Opens the record of the only server again, or looks whether the records of groups are where they were.
+    fn open_records_again(&mut self) {
+        match self.pool.as_ref().map(|pool| pool.folder.clone()) {
+            Some(Some(folder)) => {
+                let records = self.groups.iter_mut().filter_map(|(_, group)| group.record.as_mut());
+                let (mut count, mut gone) = (0, 0);
+                for record in records.filter(|record| record.is_in_file()) {
+                    count += 1;
+                    gone += usize::from(!record.is_still_there(&mut self.log));
+                }
+                let folder = folder.display();
+                self.log.say(&format!("hangup: {} of {count} records are where they were in {folder}", count - gone));
+            }
+            Some(None) => self.say_nothing_is_recorded(),
+            None => {
+                let server = self.workers.first_mut().and_then(|worker| worker.server.as_mut());
+                match server.and_then(|server| server.record.as_mut()) {
+                    Some(record) => record.open_again(&mut self.log),
+                    None => self.say_nothing_is_recorded(),
+                }
+            }
+        }
+    }
+
+    fn say_nothing_is_recorded(&mut self) {
+        self.log.say("hangup: there is no record that could be opened again");
+    }
+}
