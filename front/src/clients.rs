@@ -96,6 +96,25 @@ impl Front {
         }
     }
 
+    /// Lets a client read an answer, after which it is to be looked after unless it is held.
+    pub fn tell_client(&mut self, key: ClientKey, line: &[u8]) {
+        if let Some(client) = self.clients.get_mut(key) {
+            client.link.tell(line);
+        }
+    }
+
+    /// Has a client looked after that was answered, unless its answers wait for further ones. It may have waited for this one
+    /// alone before it is closed.
+    pub fn touch_unless_held(&mut self, key: ClientKey) {
+        let is_held = self.clients.get(key).map_or(false, |client| {
+            let link = &client.link;
+            link.held_since.is_some() && !link.is_due && !link.has_ended && link.unread.len() <= HELD_MOST
+        });
+        if !is_held || !self.awaits(key) {
+            self.touch(key);
+        }
+    }
+
     /// Takes note of what a client's connection is ready for.
     pub fn stir_client(&mut self, key: ClientKey, is_readable: bool, is_hung_up: bool) {
         if let Some(client) = self.clients.get_mut(key) {

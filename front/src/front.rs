@@ -11,6 +11,7 @@ use mio::{Events, Poll};
 use slab::Slab;
 
 use crate::doors::Doors;
+use crate::eagerness::{Eagerness, LOOK};
 use crate::groups::Group;
 use crate::guests::Guest;
 use crate::inspector::Inspector;
@@ -28,10 +29,6 @@ use crate::worker::Worker;
 pub const CHUNK: usize = 16_384;
 /// How often the front goes on by itself before it looks again at what has come.
 const ROUNDS: usize = 8;
-/// How long the front looks for what may come at once, and how much less eagerly after it was in vain.
-const EAGER: Duration = Duration::from_micros(25);
-const IN_VAIN: i32 = 16;
-const EAGER_MOST: i32 = 16;
 /// Events are waited for in these, without the rest of one.
 const MILLISECOND: Duration = Duration::from_millis(1);
 /// The session of commands of the front itself.
@@ -113,8 +110,8 @@ pub struct Front {
     pub touched: Vec<ClientKey>,
     /// Clients whose answers wait for further ones, and since when.
     pub held: VecDeque<(Instant, ClientKey)>,
-    /// Whether the front looks for what may come at once: where it is more than 0.
-    pub eagerness: i32,
+    /// Whether the front looks for what may come at once.
+    pub eagerness: Eagerness,
     /// When events were waited for the last time.
     pub now: Instant,
     pub touched_guests: Vec<usize>,
@@ -167,7 +164,7 @@ impl Front {
             unread: 0,
             touched: Vec::new(),
             held: VecDeque::new(),
-            eagerness: 0,
+            eagerness: Eagerness::new(),
             now: Instant::now(),
             touched_guests: Vec::new(),
             chunk: vec![0; CHUNK],
@@ -186,10 +183,7 @@ impl Front {
         let mut events = Events::with_capacity(1_024);
         loop {
             self.open_doors()?;
-            let ticks = self.notifier.tick();
-            let others = [self.next_due(), self.look_at_servers(), self.touch_held(), self.look_at_checks()];
-            let due = [ticks, self.doors.look_again()].into_iter().chain(others).flatten().min();
-            let due = due.map(|time| time + MILLISECOND); // so that less than one is not taken for nothing
+            let due = self.due().map(|time| time + MILLISECOND); // so that less than one is not taken for nothing
             let timeout = if self.is_stirred() { Some(Duration::ZERO) } else { due };
             match self.wait(&mut events, timeout) {
                 Err(error) if error.kind() != io::ErrorKind::Interrupted => return Err(error.into()),
@@ -212,25 +206,41 @@ impl Front {
         }
     }
 
+    /// Does what it is time for; answers in what time there is more to be done.
+    fn due(&mut self) -> Option<Duration> {
+        let mut due = self.touch_held();
+        let others = [
+            self.notifier.tick(),
+            self.doors.look_again(),
+            self.next_due(),
+            self.look_at_servers(),
+            self.look_at_checks(),
+        ];
+        for other in others.into_iter().flatten() {
+            due = Some(due.map_or(other, |due| due.min(other)));
+        }
+        due
+    }
+
     /// Waits until something comes. Where one client and one server talk with each other, what comes next is often there
-    /// within microseconds, so the front looks for it for a short time before it sleeps, unless that was in vain lately.
+    /// within microseconds, so the front may look for it for a short time before it sleeps.
     fn wait(&mut self, events: &mut Events, timeout: Option<Duration>) -> io::Result<()> {
         let under_way: usize = self.workers.iter().map(|worker| worker.turns.under_way.len()).sum();
-        if timeout != Some(Duration::ZERO) && under_way <= 1 && !events.is_empty() {
-            self.eagerness += 1;
-            let begun = Instant::now();
-            while self.eagerness > 0 {
-                self.poll.poll(events, Some(Duration::ZERO))?;
-                if !events.is_empty() {
-                    self.eagerness = self.eagerness.min(EAGER_MOST);
-                    return Ok(());
-                }
-                if begun.elapsed() > EAGER {
-                    self.eagerness -= IN_VAIN;
-                }
-            }
+        if timeout == Some(Duration::ZERO) || under_way > 1 || events.is_empty() {
+            return self.poll.poll(events, timeout);
         }
-        self.poll.poll(events, timeout)
+        let begun = Instant::now();
+        let is_eager = self.eagerness.is_eager();
+        let mut is_found = false;
+        while is_eager && !is_found && begun.elapsed() < LOOK {
+            self.poll.poll(events, Some(Duration::ZERO))?;
+            is_found = !events.is_empty();
+        }
+        if !is_found {
+            self.poll.poll(events, timeout)?;
+        }
+        self.eagerness.waited(begun.elapsed());
+        Ok(())
     }
 
     /// Does what a source is ready for.

@@ -8,7 +8,7 @@
 //! a group change its server. `naming` is for clients that name sessions by themselves, `control` where a running front is
 //! asked for groups, `asking` a run that asks, and `inspector` the process that shows all of it as a page, and `asked` what
 //! that one may ask for. `live` has clients told their events as they come. `rotating`
-//! opens records again by their names.
+//! opens records again by their names, and `eagerness` says whether the loop looks before it sleeps.
 
 #![forbid(unsafe_code)]
 
@@ -18,6 +18,7 @@ mod clients;
 mod command_line;
 mod control;
 mod doors;
+mod eagerness;
 mod front;
 mod groups;
 mod guests;

@@ -229,7 +229,7 @@ impl Front {
             if command.is_spin {
                 self.tell_spin(command.session, fresh);
             } else if let Owner::Client(client) = self.speakers[command.speaker].owner {
-                self.deliver(client, fresh);
+                self.tell_client(client, fresh);
             }
         }
         self.workers[at].turns.answer(&mut self.speakers);
@@ -244,7 +244,7 @@ impl Front {
             self.heard_cause(command, fresh);
         }
         match self.speakers.get(command.speaker).map(|speaker| speaker.owner) {
-            Some(Owner::Client(client)) => self.touch(client), // which may have waited for this alone before it is closed
+            Some(Owner::Client(client)) => self.touch_unless_held(client),
             Some(Owner::Health(guest)) => {
                 self.speakers[command.speaker].owner = Owner::Gone;
                 self.heard_health(guest);

@@ -10,7 +10,7 @@ from pathlib import Path
 
 from .fronts import FRONT, NEW, PATIENCE, STATUS, Client, Log, error, reply
 from .grouped import WorkerCases, servers_of, wait_until
-from .stand_servers import make_gate, open_gate
+from .stand_servers import make_gate, open_gate, stopped
 
 GET = "GET / HTTP/1.0\r\n\r\n"
 CHECKS_MOST = 8
@@ -132,10 +132,10 @@ class Health(WorkerCases):
 
     def test_many_at_once(self):
         """Those who ask for nothing take no more than some places, and none of a client."""
-        with self.front(options=("--quiet", "--health", self.place)) as (path, _):
-            idle = [self.enterContext(Client(self.place)) for _ in range(CHECKS_MOST)]
-            with Client(self.place) as more:
-                self.assertEqual(more.until_closed(), b"", "one more")
+        with self.front(options=("--quiet", "--health", self.place)) as (path, process):
+            with stopped(self, process):
+                *idle, more = [self.enterContext(Client(self.place)) for _ in range(CHECKS_MOST + 1)]
+            self.assertEqual(more.until_closed(), b"", "one more")
             with Client(path) as client:
                 self.assertEqual(client.ask(NEW), reply(1, "c1"), "a client")
             for link in idle:
