@@ -9,7 +9,6 @@ import shutil
 import signal
 import socket
 import subprocess
-import sys
 import time
 from configparser import ConfigParser
 from contextlib import contextmanager

@@ -209,13 +209,8 @@ impl Front {
     /// Does what it is time for; answers in what time there is more to be done.
     fn due(&mut self) -> Option<Duration> {
         let mut due = self.touch_held();
-        let others = [
-            self.notifier.tick(),
-            self.doors.look_again(),
-            self.next_due(),
-            self.look_at_servers(),
-            self.look_at_checks(),
-        ];
+        let others =
+            [self.notifier.tick(), self.doors.look_again(), self.next_due(), self.look_at_servers(), self.look_at_checks()];
         for other in others.into_iter().flatten() {
             due = Some(due.map_or(other, |due| due.min(other)));
         }

@@ -58,7 +58,8 @@ impl Record {
                 log.say(&format!("hangup: {path} is opened again"));
             }
             Err(error) => {
-                let goes_on = if self.file.is_some() { "the file that was open is written on" } else { "nothing is recorded" };
+                let goes_on =
+                    if self.file.is_some() { "the file that was open is written on" } else { "nothing is recorded" };
                 log.say(&format!("hangup: {path} cannot be opened again: {}; {goes_on}", reason(&error)));
             }
         }

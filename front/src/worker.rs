@@ -85,7 +85,8 @@ impl Front {
                 Brought::End => {
                     let ended = Ended(server.how_ended());
                     let status = server.status().and_then(|status| status.code());
-                    self.not_served = status.and_then(|status| status.try_into().ok()).filter(|_| !self.workers[at].has_written);
+                    self.not_served =
+                        status.and_then(|status| status.try_into().ok()).filter(|_| !self.workers[at].has_written);
                     Err(ended)
                 }
                 Brought::Lines(whole, is_full) => {

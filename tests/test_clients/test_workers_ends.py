@@ -12,7 +12,7 @@ from pathlib import Path
 
 from tests.support.lines import text_of
 
-from .fronts import NEW, PATIENCE, Client, error, reply
+from .fronts import NEW, Client, error, reply
 from .grouped import Greeted, Killer, Named, Runs, WorkerCases, hello, seed_of, servers_of, wait_until, worker_of
 
 KILLS = 100
