@@ -7,11 +7,13 @@ use std::time::Duration;
 
 /// How long the front looks at most before it sleeps.
 pub const LOOK: Duration = Duration::from_micros(25);
+/// Waits without looking after one in which it was in vain.
+const IN_VAIN: u32 = 16;
 /// Waits of each way while both are tried, and of the better one then.
-const TRIED: u32 = 64;
-const TAKEN: u32 = 4_096;
+const TRIED: u32 = 128;
+const TAKEN: u32 = 2_048;
 /// Longer waits are for somebody who has nothing to say yet, and count as this one.
-const LONGEST: Duration = Duration::from_micros(200);
+const LONGEST: Duration = Duration::from_micros(60);
 /// What looking has to take at most, in tenths of the time without it, so that it is worth the processor's time.
 const WORTH: u32 = 8;
 
@@ -28,6 +30,8 @@ pub struct Eagerness {
     phase: Phase,
     left: u32,
     is_eager: bool,
+    /// Waits in which the front does not look, since it did so in vain.
+    rest: u32,
     /// All waits of this try together, without and with looking.
     slept: Duration,
     looked: Duration,
@@ -36,16 +40,17 @@ pub struct Eagerness {
 impl Eagerness {
     pub fn new() -> Eagerness {
         let none = Duration::ZERO;
-        Eagerness { phase: Phase::TriesSleep, left: TRIED, is_eager: false, slept: none, looked: none }
+        Eagerness { phase: Phase::TriesSleep, left: TRIED, is_eager: false, rest: 0, slept: none, looked: none }
     }
 
     /// Whether the front looks before it sleeps.
-    pub fn is_eager(&self) -> bool {
-        self.is_eager
+    pub fn looks(&self) -> bool {
+        self.is_eager && self.rest == 0
     }
 
     /// Counts a wait.
     pub fn waited(&mut self, time: Duration) {
+        self.rest = if self.looks() && time > LOOK { IN_VAIN } else { self.rest.saturating_sub(1) };
         match self.phase {
             Phase::TriesSleep => self.slept += time.min(LONGEST),
             Phase::TriesLooking => self.looked += time.min(LONGEST),
@@ -74,9 +79,9 @@ mod tests {
     fn looks(eagerness: &mut Eagerness, waits: u32, slept: u64, looked: u64) -> u32 {
         let mut count = 0;
         for _ in 0..waits {
-            let is_eager = eagerness.is_eager();
-            count += u32::from(is_eager);
-            eagerness.waited(Duration::from_micros(if is_eager { looked } else { slept }));
+            let looks = eagerness.looks();
+            count += u32::from(looks);
+            eagerness.waited(Duration::from_micros(if looks { looked } else { slept }));
         }
         count
     }
@@ -86,9 +91,10 @@ mod tests {
         let all = 2 * TRIED + TAKEN;
         let mut eagerness = Eagerness::new();
         assert_eq!(looks(&mut eagerness, all, 30, 8), TRIED + TAKEN);
-        assert_eq!(looks(&mut eagerness, all, 8, 30), TRIED);
         assert_eq!(looks(&mut eagerness, all, 10, 9), TRIED, "what is hardly quicker");
-        assert_eq!(looks(&mut eagerness, all, 2_000, 2_000), TRIED, "somebody who asks now and then");
+        let in_vain = TRIED / (IN_VAIN + 1) + 1;
+        assert_eq!(looks(&mut eagerness, all, 8, 30), in_vain);
+        assert_eq!(looks(&mut eagerness, all, 2_000, 2_000), in_vain, "somebody who asks now and then");
         assert_eq!(looks(&mut eagerness, all, 30, 8), TRIED + TAKEN);
     }
 }

@@ -225,9 +225,9 @@ impl Front {
             return self.poll.poll(events, timeout);
         }
         let begun = Instant::now();
-        let is_eager = self.eagerness.is_eager();
+        let looks = self.eagerness.looks();
         let mut is_found = false;
-        while is_eager && !is_found && begun.elapsed() < LOOK {
+        while looks && !is_found && begun.elapsed() < LOOK {
             self.poll.poll(events, Some(Duration::ZERO))?;
             is_found = !events.is_empty();
         }
