@@ -126,7 +126,7 @@ class Way(Cases):
 
     def test_functions(self) -> None:
         """Each is in the file that is named with it, and each row of the tables names one."""
-        for title, least in (("One line's way", 20), ("The way of a `bind`", 15)):
+        for title, least in (("One line's way", 20), ("The way of a `bind`", 10)):
             way = section(ARCHITECTURE.read_text(), title)
             gone = [it for it in OF_SOURCE.findall(way) if not self.is_there(*it)]
             self.assertEqual(gone, [], "functions that are not there")

@@ -20,7 +20,6 @@ from pathlib import Path
 MOST_CLAUSES = 8
 # Calls over two tables side by side, which say of each what they require and leave: none may grow, and none join them.
 LONGER = {
-    "bound_stores": {"bind": 9},
     "session_tables": {"bind": 9},
 }
 MOST_IN_CRATE = 1_500

@@ -5,4 +5,17 @@ pub mod ReachingLemmas
 pub mod PostLemmas
 pub mod NamedLemmas
 pub mod JoiningLemmas
+pub mod AloneLemmas
+pub mod CellLemmas
+pub mod InvariantLemmas
+pub mod FittingLemmas
+pub mod DeclaredLemmas
+pub mod PlaceLemmas
+pub mod ReadingLemmas
+pub mod SeenLemmas
+pub mod SettledLemmas
+pub mod ShowingLemmas
+pub mod TakenLemmas
+pub mod WrittenLemmas
+pub mod BoundLemmas
 pub mod ForCallers

@@ -13,33 +13,26 @@ use Rattle.event_queue.specs.Queue.{empty_queue}
 use Rattle.object_tree.specs.Forest.{empty_forest}
 use Rattle.publish_board.specs.Desk.{no_desk}
 use Rattle.binding_graph.specs.Graph.{Graph, unbound}
-use Rattle.bound_stores.specs.declared.write_changes.WriteChanges.{WriteChanges}
-use Rattle.bound_stores.specs.Bound.{BoundShelves, bound_at, stored_at, with_bound}
-use Rattle.bound_stores.specs.Named as bound
-use Rattle.session_model.specs.Writing.{DeclaredField, declared}
+use Rattle.session_tables.specs.declared.write_changes.WriteChanges.{WriteChanges}
+use Rattle.session_tables.specs.Bound.{BoundShelves, bound_at, stored_at, with_bound}
+use Rattle.session_tables.proofs.DeclaredLemmas as bound
+use Rattle.session_model.specs.Writing as writing
+use Rattle.session_model.specs.Writing.{DeclaredField, declared, with_writing}
 use Rattle.session_tables.specs.declared.tables.Tables.{Tables}
 use Rattle.session_tables.specs.Named.{DoesNotFit, Tells, WritesDeclared}
 use Rattle.session_tables.specs.Tables.{state_at, with_state}
 use Rattle.session_tables.proofs.PropertyLemmas.{declared_pair, pair_of}
-use Rattle.session_tables.proofs.TablesLemmas.{columns}
-
--- where the stores alone have changed
-abbrev pub with_stores : Tables → BoundShelves → Tables
-with_stores tables stores = record tables { stores = stores }
-
-pub state_with_stores : (tables : Tables) (place : ℕ) (store : Store) (graph : Graph) → with_stores tables (with_bound tables.stores place store graph) ≡ with_state tables place (record (state_at tables place) { store = store; graph = graph })
-state_with_stores tables place store graph = sym (columns (with_stores tables (with_bound tables.stores place store graph)) (with_state tables place (record (state_at tables place) { store = store; graph = graph }))
-    (column.with_same empty_forest tables.forests place) refl (column.with_same no_rows tables.connections place) (column.with_same empty_queue tables.queues place) (column.with_same no_desk tables.desks place) refl)
+use Rattle.session_tables.proofs.BoundLemmas.{state_with_stores, with_stores}
 
 module _ (place object : ℕ) (name : List ℕ) (value : Value) (old : Tables) where
   -- the property of a name, as a state sees it
-  record IsDeclared (number : ℕ) (kind : Kind) : Type 0 where
-    of : DeclaredField
-    is : declared (state_at old place) object name ≡ Some of
-    number_is : of.number ≡ number
-    kind_is : of.kind ≡ kind
+  pub record IsDeclared (number : ℕ) (kind : Kind) : Type 0 where
+    pub of : DeclaredField
+    pub is : declared (state_at old place) object name ≡ Some of
+    pub number_is : of.number ≡ number
+    pub kind_is : of.kind ≡ kind
 
-  declared_as : (number : ℕ) (kind : Kind) → declared_at (stored_at old.stores place) object name ≡ Some (number, kind) → IsDeclared number kind
+  pub declared_as : (number : ℕ) (kind : Kind) → declared_at (stored_at old.stores place) object name ≡ Some (number, kind) → IsDeclared number kind
   declared_as number kind is =
       let found = mapped pair_of (declared (state_at old place) object name) (number, kind) (sym (declared_pair (state_at old place) object name) ∙ is) in
       record { of = found.x; is = found.is; number_is = ap (λ (pair : ℕ × Kind). pair.0) found.gives; kind_is = ap (λ (pair : ℕ × Kind). pair.1) found.gives }
@@ -62,6 +55,21 @@ module _ (place object : ℕ) (name : List ℕ) (value : Value) (old : Tables) w
         new = ap (with_stores old) is
             ∙ state_with_stores old place (store.changed (with_value there.of.number its.fit) object (stored_at old.stores place)) (unbound (bound_at old.stores place) (record { object = object; number = there.of.number }));
         told = subst (λ number. Tells (record { object = object; number = number }) (state_at old place) (state_at (with_stores old new) place) changed) (sym there.number_is) its.told;
+      }
+
+  -- also where it was written by its number
+  pub writes_again : (new : Tables) (number : ℕ) (kind : Kind) (fit : Value) (changed : WriteChanges) → declared_at (stored_at old.stores place) object name ≡ Some (number, kind) → converted kind value ≡ Some fit
+      → new ≡ with_state old place (with_writing (state_at old place) object (writing.Declared number fit)) → Tells (record { object = object; number = number }) (state_at old place) (state_at new place) changed → WritesDeclared place object name value old number changed new
+  writes_again new number kind fit changed named fits is told =
+      let there = declared_as number kind named in
+      record {
+        of = there.of;
+        written = fit;
+        named = there.is;
+        number = sym there.number_is;
+        fits = ap (λ kind. converted kind value) there.kind_is ∙ fits;
+        new = is ∙ ap (λ number. with_state old place (with_writing (state_at old place) object (writing.Declared number fit))) (sym there.number_is);
+        told = subst (λ number. Tells (record { object = object; number = number }) (state_at old place) (state_at new place) changed) (sym there.number_is) told;
       }
 
   -- and what does not fit does not

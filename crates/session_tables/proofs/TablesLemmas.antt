@@ -10,7 +10,7 @@ use Rattle.event_queue.specs.Queue.{Queue, empty_queue}
 use Rattle.object_tree.specs.Forest.{Forest, empty_forest}
 use Rattle.property_store.specs.Store.{Store}
 use Rattle.binding_graph.specs.Graph.{Graph, no_graph}
-use Rattle.bound_stores.specs.Bound.{BoundShelves}
+use Rattle.session_tables.specs.Bound.{BoundShelves}
 use Rattle.publish_board.specs.Desk.{Desk, no_desk}
 use Rattle.session_model.specs.State.{State}
 use Rattle.session_tables.specs.declared.tables.Tables.{Tables}

@@ -5,3 +5,8 @@ pub mod Tables
 pub mod Reaching
 pub mod Named
 pub mod Joining
+pub mod Bound
+pub mod WriteChanges
+pub mod Coded
+pub mod Reading
+pub mod Settled

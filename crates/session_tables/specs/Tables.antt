@@ -4,7 +4,7 @@ use Rattle.shared_rows.specs.Table as places
 use Rattle.shared_rows.specs.Table.{ChangesAt, IsPlace, with_place}
 use Rattle.binding_graph.specs.Graph.{no_graph}
 use Rattle.binding_graph.specs.Table.{graph_at}
-use Rattle.bound_stores.specs.Bound.{with_bound}
+use Rattle.session_tables.specs.Bound.{with_bound}
 use Rattle.class_table.specs.declared.class.Class.{Class}
 use Rattle.connection_list.specs.Rows.{no_rows}
 use Rattle.connection_list.specs.Table.{rows_at, with_rows}

@@ -11,8 +11,10 @@ ghost use Rattle.session_model.specs.State.{with_binding, with_binding_taken, wi
 ghost use Rattle.session_tables.specs.Refused.{OnRefused};
 ghost use Rattle.session_tables.specs.Tables.{ChangesOnly, IsPlaced, state_at, with_state};
 
+use crate::settling;
 use crate::tables::Tables;
 use binding_graph::Change;
+use binding_values::is_bindable;
 use plain_types::{Code, Fault, Items};
 use property_store::Property;
 use std::alloc::AllocError;
@@ -38,7 +40,7 @@ impl Tables {
         ensures { result ≡ bindable_property (state_at self.now place) object name.now }
     {
         let at = self.asked_property(place, object, name)?;
-        if !self.stores.is_bindable(place, at) {
+        if !is_bindable(&self.stores.stores, place, at) {
             return Err(Code::NotBindable);
         }
         Ok(at)
@@ -57,7 +59,20 @@ impl Tables {
         ensures only { ChangesOnly place self.old self.new }
         ensures failed { self.new.failed ≡ self.old.failed }
     {
-        self.stores.bind(place, at, expr)
+        match settling::bind(
+            &mut self.stores.stores,
+            &mut self.stores.bindings,
+            place,
+            at,
+            expr,
+        ) {
+            Ok(told) => Ok(told),
+            Err(Fault::Refused(code)) => Err(Fault::Refused(code)),
+            Err(Fault::Memory) => {
+                self.stores.bindings.clear(place);
+                Err(Fault::Memory)
+            }
+        }
     }
 
     /// Binds a property no longer, which keeps the value that it shows, and returns what has changed by it.
@@ -68,7 +83,18 @@ impl Tables {
         ensures only { ChangesOnly place self.old self.new }
         ensures failed { self.new.failed ≡ self.old.failed }
     {
-        self.stores.unbind(place, at)
+        match settling::unbind(
+            &mut self.stores.stores,
+            &mut self.stores.bindings,
+            place,
+            at,
+        ) {
+            Ok(told) => Ok(told),
+            Err(error) => {
+                self.stores.bindings.clear(place);
+                Err(error)
+            }
+        }
     }
 
     /// Begins a group, within which changes are not told, and returns how many are open then. More than
@@ -82,7 +108,7 @@ impl Tables {
         ensures only { ChangesOnly place self.old self.new }
         ensures failed { self.new.failed ≡ self.old.failed }
     {
-        self.stores.begin(place)
+        self.stores.bindings.begin(place, &mut self.stores.stores)
     }
 
     /// Ends the group that was begun last, and returns how many are left, and, where it was the outermost, what
@@ -98,6 +124,13 @@ impl Tables {
         ensures only { ChangesOnly place self.old self.new }
         ensures failed { self.new.failed ≡ self.old.failed }
     {
-        self.stores.end(place)
+        match settling::end(&mut self.stores.stores, &mut self.stores.bindings, place) {
+            Ok(left) => Ok(left),
+            Err(Fault::Refused(code)) => Err(Fault::Refused(code)),
+            Err(Fault::Memory) => {
+                self.stores.bindings.clear(place);
+                Err(Fault::Memory)
+            }
+        }
     }
 }

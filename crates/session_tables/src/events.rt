@@ -80,9 +80,9 @@ impl Tables {
         let events = self.queues.counts(place);
         let desk = self.desks.counts(place);
         Status {
-            bindings: self.stores.count(place) as u32,
+            bindings: self.stores.bindings.count(place) as u32,
             connections: self.connections.count(place) as u32,
-            group: self.stores.depth(place),
+            group: self.stores.bindings.depth(place),
             joins: desk.joins as u32,
             lost: events.lost,
             mismatched: events.mismatched,

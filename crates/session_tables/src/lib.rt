@@ -4,16 +4,21 @@
 #![tactic(auto)]
 
 mod bindings;
+mod bound_stores;
 mod desks;
 mod events;
 mod named;
 mod posts;
 mod properties;
+mod reading;
+mod settling;
 mod signals;
 mod tables;
 mod trees;
+mod write_changes;
 
-pub use bound_stores::WriteChanges;
+pub use bound_stores::BoundStores;
 pub use named::NamedWrite;
 pub use posts::Sending;
 pub use tables::Tables;
+pub use write_changes::WriteChanges;

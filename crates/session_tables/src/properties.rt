@@ -1,19 +1,23 @@
 //! The properties of objects.
-ghost use Rattle.std.specs.Prelude.{◌≡◌, IfOk, OnOk, OnErr, Some, option_map};
+ghost use Rattle.std.specs.Prelude.{◌≡◌, IfOk, IsFalse, OnOk, OnErr, Some, option_map};
 ghost use Rattle.std.specs.Option.{unwrap_or};
 ghost use Rattle.variant_value.specs.declared.value.Value.TheVariants.{Invalid};
-ghost use Rattle.plain_types.specs.Answers.{RefusedBy};
+ghost use Rattle.plain_types.specs.Answers.{OnMemory, RefusedBy};
 ghost use Rattle.variant_value.specs.Values.{IsShort};
 ghost use Rattle.property_store.specs.Store.{dynamic_refusal, fitting};
 ghost use Rattle.session_model.specs.Showing.{named_value};
 ghost use Rattle.session_model.specs.Writing.{Declared, Dynamic, Removed, declared, with_writing};
 ghost use Rattle.session_tables.specs.Named.{Tells, WritesNamed};
+ghost use Rattle.session_tables.specs.Settled.{is_idle};
 ghost use Rattle.session_tables.specs.Tables.{ChangesOnly, IsPlaced, state_at, with_state};
 
+use crate::bound_stores::is_idle;
 use crate::named::NamedWrite;
+use crate::settling;
 use crate::tables::Tables;
-use bound_stores::WriteChanges;
-use plain_types::{Fault, Text};
+use crate::write_changes::WriteChanges;
+use binding_graph::law_steps;
+use plain_types::{Code, Fault, Text};
 use property_store::{Property, Unwritten};
 use signature_core::Kind;
 use std::alloc::AllocError;
@@ -25,7 +29,7 @@ impl Tables {
         requires { IsPlaced self.now place }
         ensures { result ≡ option_map (λ of. (of.number, of.kind)) (declared (state_at self.now place) object name.now) }
     {
-        self.stores.declared(place, object, name)
+        self.stores.stores.declared(place, object, name)
     }
 
     /// A copy of the value of the property of this name: of a declared one what it shows, of a dynamic one
@@ -56,10 +60,28 @@ impl Tables {
         ensures told { IfOk result (Tells (record { object = object; number = number }) (state_at self.old place) (state_at self.new place)) }
         ensures ok { OnOk result (self.new ≡ with_state self.old place
             (with_writing (state_at self.old place) object (Declared number value))) }
+        ensures idle { OnErr result (IsFalse (is_idle (state_at self.old place).graph)) }
         ensures only { ChangesOnly place self.old self.new }
         ensures failed { self.new.failed ≡ self.old.failed }
     {
-        self.stores.write(place, Property { object, number }, value)
+        law_steps();
+        if is_idle(&self.stores.stores, &self.stores.bindings, place) {
+            let is_change = self.stores.stores.write(place, object, number, value);
+            return Ok(WriteChanges::alone(is_change.unwrap_or(false)));
+        }
+        match settling::write(
+            &mut self.stores.stores,
+            &mut self.stores.bindings,
+            place,
+            Property { object, number },
+            value,
+        ) {
+            Ok(told) => Ok(WriteChanges::Several(told)),
+            Err(error) => {
+                self.stores.bindings.clear(place);
+                Err(error)
+            }
+        }
     }
 
     /// Gives the declared property of this name a value as one of its kind, in the same way.
@@ -73,14 +95,29 @@ impl Tables {
         requires place { IsPlaced self.old place }
         requires short { IsShort value }
         ensures writes { WritesNamed place object name.now value self.old result self.new }
+        ensures idle { OnMemory result (IsFalse (is_idle (state_at self.old place).graph)) }
         ensures only { ChangesOnly place self.old self.new }
         ensures failed { self.new.failed ≡ self.old.failed }
     {
-        match self.stores.write_named(place, object, name, value)? {
-            Ok((number, changed)) => Ok(NamedWrite::Declared { number, changed }),
-            Err(Unwritten::Undeclared(value)) => Ok(NamedWrite::Undeclared(value)),
-            Err(Unwritten::Refused(code)) => Err(Fault::Refused(code)),
+        law_steps();
+        if is_idle(&self.stores.stores, &self.stores.bindings, place) {
+            match self.stores.stores.write_named(place, object, name, value) {
+                Ok((number, is_change)) => {
+                    let changed = WriteChanges::alone(is_change);
+                    return Ok(NamedWrite::Declared { number, changed });
+                }
+                Err(Unwritten::Undeclared(value)) => return Ok(NamedWrite::Undeclared(value)),
+                Err(Unwritten::Refused(code)) => return Err(Fault::Refused(code)),
+            }
         }
+        let Some((number, kind)) = self.stores.stores.declared(place, object, name) else {
+            return Ok(NamedWrite::Undeclared(value));
+        };
+        let Ok(value) = value.convert(kind) else {
+            return Err(Fault::Refused(Code::BadValue));
+        };
+        let changed = self.write(place, object, number, value)?;
+        Ok(NamedWrite::Declared { number, changed })
     }
 
     /// Gives a dynamic property a value, and makes it where the object has none of this name. The
@@ -99,7 +136,8 @@ impl Tables {
             (with_writing (state_at self.old place) object (Dynamic name value))) }
         ensures err { OnErr result (self.new ≡ self.old) }
     {
-        self.stores.set_dynamic(place, object, name, value)
+        law_steps();
+        self.stores.stores.set_dynamic(place, object, name, value)
     }
 
     /// Takes the dynamic property of this name away, where there is one.
@@ -108,6 +146,7 @@ impl Tables {
         ensures { self.new ≡ with_state self.old place
             (with_writing (state_at self.old place) object (Removed name.now)) }
     {
-        self.stores.remove_dynamic(place, object, name);
+        law_steps();
+        self.stores.stores.remove_dynamic(place, object, name);
     }
 }

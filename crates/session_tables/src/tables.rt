@@ -4,7 +4,7 @@ ghost use Rattle.session_tables.specs.Session.{fresh, failed_session};
 ghost use Rattle.session_tables.specs.Tables.{AreSame, HasRoom, IsPlaced, failed_at, opened, with_session, with_state};
 ghost use Rattle.session_model.specs.State.{empty};
 
-use bound_stores::BoundStores;
+use crate::bound_stores::BoundStores;
 use connection_list::Connections;
 use event_queue::Queues;
 use object_tree::Forests;

@@ -1,5 +1,5 @@
 //! The trees of objects.
-ghost use Rattle.std.specs.Prelude.{◌≡◌, ◌+◌, ◌&&◌, IfOk, OnOk, OnErr, None};
+ghost use Rattle.std.specs.Prelude.{◌≡◌, ◌+◌, ◌&&◌, IfOk, IsFalse, OnOk, OnErr, None};
 ghost use Rattle.std.specs.Result.{result_err};
 ghost use Rattle.plain_types.specs.Answers.{RefusedBy};
 ghost use Rattle.object_tree.specs.Changes.{marked};
@@ -11,6 +11,7 @@ ghost use Rattle.session_model.specs.Absence.{absence};
 ghost use Rattle.session_model.specs.Trees.{has_title, is_of_class};
 ghost use Rattle.session_tables.specs.Classes.{HasClass};
 ghost use Rattle.session_tables.specs.Refused.{OnRefused};
+ghost use Rattle.session_tables.specs.Settled.{is_idle};
 ghost use Rattle.session_tables.specs.Tables.{AreLaid, AreStored, ChangesOnly, IsPlaced, state_at, with_state};
 
 use crate::tables::Tables;
@@ -63,12 +64,14 @@ impl Tables {
     }
 
     /// Takes an object out with its properties and their bindings, and returns what has changed by it; its
-    /// children become roots. It is never inlined, so that deletions which nest keep nothing of it on the stack.
+    /// children become roots. Where nothing is bound and no group is open this takes no memory. It is never
+    /// inlined, so that deletions which nest keep nothing of it on the stack.
     #[inline(never)]
     pub fn remove(&mut self, place: usize, object: u32) -> Result<Items<Change>, AllocError>
         requires { IsPlaced self.old place }
         ensures told { IfOk result (λ told. told ≡ changes (state_at self.old place) (state_at self.new place) None) }
         ensures ok { OnOk result (self.new ≡ with_state self.old place (without_object (state_at self.old place) object)) }
+        ensures idle { OnErr result (IsFalse (is_idle (state_at self.old place).graph)) }
         ensures only { ChangesOnly place self.old self.new }
         ensures failed { self.new.failed ≡ self.old.failed }
     {

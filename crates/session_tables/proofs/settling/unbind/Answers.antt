@@ -1,0 +1,34 @@
+use Rattle.std.proofs.Common.{◌≡◌, ◌∙◌, ap, filter, not, rules}
+use Rattle.property_store.specs.Table.{store_at}
+use Rattle.binding_graph.specs.Graph.{taken}
+use Rattle.binding_graph.specs.Table.{graph_at, with_graph}
+use Rattle.binding_values.specs.declared.binding.Binding.{Binding}
+use Rattle.property_store.specs.Property.{is_property}
+use Rattle.session_tables.specs.Settled.{settled_in}
+use Rattle.session_tables.proofs.TakenLemmas.{took_at}
+use Rattle.session_tables.proofs.PlaceLemmas.{changes_either, changes_thrice, settled_after, where_ok_too}
+use Rattle.session_tables.proofs.settling.unbind.Goals as goal
+
+pub returns-clause-ok : goal.returns-clause-ok
+returns-clause-ok c =
+    let stores = c.args.stores.now.shelves in
+    let place = c.args.place in
+    let old = c.args.bindings.now.graphs in
+    let store = store_at stores place in
+    let after : store_at c.take.new.stores.shelves place ≡ taken store (graph_at old place) c.args.at =
+    took_at stores c.note.new.stores.shelves c.take.new.stores.shelves old c.note.new.bindings.graphs place c.args.at c.requires.ready.store c.requires.ready.graph c.note.ensures.stores c.in_ok-note.ensures.ok c.in_ok-take.ensures.stored.shelves in
+    where_ok_too c.settle.result
+    (λ is. settled_after store (taken store (graph_at old place) c.args.at) old c.note.new.bindings.graphs c.take.new.self.graphs c.settle.new.bindings.graphs place
+    (filter (λ (binding : Binding). not (is_property c.args.at binding.at))) c.requires.ready.graph c.in_ok-note.ensures.ok c.in_ok-take.ensures.graph
+    (is ∙ ap (λ store. with_graph c.take.new.self.graphs place (settled_in store (graph_at c.take.new.self.graphs place))) after))
+    c.settle.ensures.ok
+
+pub returns-clause-stays : goal.returns-clause-stays
+returns-clause-stays c = record {
+  layouts = search rules;
+  stores = search rules;
+  graphs =
+      changes_thrice c.args.bindings.now.graphs c.note.new.bindings.graphs c.take.new.self.graphs c.settle.new.bindings.graphs c.args.place _ _ c.requires.ready.graph c.in_ok-note.ensures.ok c.in_ok-take.ensures.graph
+      (λ there. changes_either c.settle.result c.take.new.self.graphs c.settle.new.bindings.graphs c.args.place _ there c.settle.ensures.ok c.settle.ensures.err);
+  step = search rules;
+}

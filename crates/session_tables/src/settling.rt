@@ -1,0 +1,189 @@
+//! How a place is changed, and what is told of that. Where memory runs out in one of these calls, the place may be left
+//! without what its properties showed; then its bindings are to be cleared.
+ghost use Rattle.std.specs.Prelude.{◌≡◌, IfOk, IfSome, IsTrue, Some, None, OnErr, OnOk, length};
+ghost use Rattle.shared_rows.specs.Table.{IsPlace};
+ghost use Rattle.plain_types.specs.Answers.{RefusedBy};
+ghost use Rattle.term_core.specs.Forms.{is_within_limits};
+ghost use Rattle.property_store.specs.Store.{Store, fitting, without, written};
+ghost use Rattle.variant_value.specs.Values.{IsShort};
+ghost use Rattle.property_store.specs.Table.{StoresView, store_at, with_store};
+ghost use Rattle.binding_graph.specs.Graph.{Graph, bind_refusal, bound, end_refusal, ended, no_graph};
+ghost use Rattle.binding_graph.specs.Graph.{settled_changes, settled_graph, taken, unbound, without_object};
+ghost use Rattle.binding_graph.specs.Step.{InStep};
+ghost use Rattle.binding_values.specs.Stored.{is_bindable};
+ghost use Rattle.binding_graph.specs.Table.{graph_at, with_graph};
+ghost use Rattle.session_tables.specs.WriteChanges.{told_of};
+ghost use Rattle.session_tables.specs.Settled.{ChangesInStep, IsInStepAt, IsSettledAt, LeavesStores, settled_in};
+
+use binding_graph::{Bindings, Change, law_steps};
+use plain_types::{Fault, Items};
+use property_store::{Property, Stores};
+use std::alloc::AllocError;
+use term_core::Expr;
+use variant_value::Value;
+
+/// Keeps nothing of a place that is settled, where nothing is bound and no group is open.
+fn tidy(bindings: &mut Bindings, place: usize)
+    requires { IsPlace bindings.old.graphs place }
+    ensures tidied { (store : Store) (graph : Graph) → graph_at bindings.old.graphs place ≡ settled_graph store graph
+        → bindings.new.graphs ≡ with_graph bindings.old.graphs place (settled_in store graph) }
+    ensures step { (stores : StoresView) → InStep stores bindings.old → InStep stores bindings.new }
+{
+    if bindings.count(place) == 0 && bindings.depth(place) == 0 {
+        bindings.clear(place);
+    }
+}
+
+/// Settles a place, and keeps nothing where nothing is bound and no group is open.
+pub(crate) fn settle(
+    stores: &mut Stores,
+    bindings: &mut Bindings,
+    place: usize,
+    written: Option<Property>,
+) -> Result<Items<Change>, AllocError>
+    requires ready { IsInStepAt place stores.old bindings.old }
+    ensures told { IfOk result (λ told. told ≡ settled_changes (store_at stores.old.shelves place) (graph_at bindings.old.graphs place) written) }
+    ensures ok { OnOk result (bindings.new.graphs
+        ≡ with_graph bindings.old.graphs place (settled_in (store_at stores.old.shelves place) (graph_at bindings.old.graphs place))) }
+    ensures stores { stores.new.shelves ≡ stores.old.shelves }
+    ensures err { OnErr result (bindings.new.graphs ≡ bindings.old.graphs) }
+    ensures step { InStep stores.new bindings.new }
+{
+    let told = bindings.settle(place, stores, written)?;
+    tidy(bindings, place);
+    Ok(told)
+}
+
+/// Keeps what properties show, where nothing is bound.
+pub(crate) fn note(
+    stores: &mut Stores,
+    bindings: &mut Bindings,
+    place: usize,
+) -> Result<(), AllocError>
+    requires ready { IsSettledAt place stores.old bindings.old }
+    ensures ok { OnOk result (bindings.new.graphs
+        ≡ with_graph bindings.old.graphs place (settled_graph (store_at stores.old.shelves place) (graph_at bindings.old.graphs place))) }
+    ensures stores { stores.new.shelves ≡ stores.old.shelves }
+    ensures none { OnErr result (length (graph_at bindings.old.graphs place).bindings ≡ 0) }
+    ensures err { OnErr result (bindings.new.graphs ≡ bindings.old.graphs) }
+    ensures step { InStep stores.new bindings.new }
+{
+    if bindings.count(place) == 0 {
+        bindings.settle(place, stores, None)?;
+    }
+    Ok(())
+}
+
+/// Binds a property to an expression, whatever it was bound to, and tells what has changed by it.
+pub(crate) fn bind(
+    stores: &mut Stores,
+    bindings: &mut Bindings,
+    place: usize,
+    at: Property,
+    expr: Expr,
+) -> Result<Items<Change>, Fault>
+    requires ready { IsSettledAt place stores.old bindings.old }
+    requires bindable { IsTrue (is_bindable (store_at stores.old.shelves place) at) }
+    requires limited { IsTrue (is_within_limits expr) }
+    ensures refused { RefusedBy (bind_refusal (graph_at bindings.old.graphs place) at) result }
+    ensures unchanged { IfSome (bind_refusal (graph_at bindings.old.graphs place) at) (λ code. bindings.new.graphs ≡ bindings.old.graphs) }
+    ensures told { IfOk result (λ told. told ≡ told_of (store_at stores.old.shelves place) (graph_at bindings.old.graphs place)
+        (store_at stores.old.shelves place) (bound (graph_at bindings.old.graphs place) at expr) (Some at)) }
+    ensures ok { OnOk result (bindings.new.graphs ≡ with_graph bindings.old.graphs place
+        (settled_in (store_at stores.old.shelves place) (bound (graph_at bindings.old.graphs place) at expr))) }
+    ensures stays { LeavesStores place stores.old stores.new bindings.old bindings.new }
+{
+    note(stores, bindings, place)?;
+    bindings.bind(place, stores, at, expr)?;
+    Ok(settle(stores, bindings, place, Some(at))?)
+}
+
+/// Binds a property no longer, which keeps the value that it shows, and tells what has changed by it.
+pub(crate) fn unbind(
+    stores: &mut Stores,
+    bindings: &mut Bindings,
+    place: usize,
+    at: Property,
+) -> Result<Items<Change>, AllocError>
+    requires ready { IsSettledAt place stores.old bindings.old }
+    ensures told { IfOk result (λ told. told ≡ told_of (store_at stores.old.shelves place) (graph_at bindings.old.graphs place)
+        (taken (store_at stores.old.shelves place) (graph_at bindings.old.graphs place) at) (unbound (graph_at bindings.old.graphs place) at) (Some at)) }
+    ensures ok { OnOk result (bindings.new.graphs ≡ with_graph bindings.old.graphs place
+        (settled_in (taken (store_at stores.old.shelves place) (graph_at bindings.old.graphs place) at) (unbound (graph_at bindings.old.graphs place) at))) }
+    ensures stores { OnOk result (stores.new.shelves
+        ≡ with_store stores.old.shelves place (taken (store_at stores.old.shelves place) (graph_at bindings.old.graphs place) at)) }
+    ensures stays { ChangesInStep place stores.old stores.new bindings.old bindings.new }
+{
+    note(stores, bindings, place)?;
+    bindings.take(place, stores, at)?;
+    settle(stores, bindings, place, Some(at))
+}
+
+/// Gives a declared property a value of its kind, which is bound no longer then, and tells what has changed
+/// by it.
+pub(crate) fn write(
+    stores: &mut Stores,
+    bindings: &mut Bindings,
+    place: usize,
+    at: Property,
+    value: Value,
+) -> Result<Items<Change>, AllocError>
+    requires ready { IsSettledAt place stores.old bindings.old }
+    requires fits { fitting (store_at stores.old.shelves place) at.object at.number value ≡ Some value }
+    requires short { IsShort value }
+    ensures told { IfOk result (λ told. told ≡ told_of (store_at stores.old.shelves place) (graph_at bindings.old.graphs place)
+        (written (store_at stores.old.shelves place) at.object at.number value) (unbound (graph_at bindings.old.graphs place) at) (Some at)) }
+    ensures ok { OnOk result (bindings.new.graphs ≡ with_graph bindings.old.graphs place
+        (settled_in (written (store_at stores.old.shelves place) at.object at.number value) (unbound (graph_at bindings.old.graphs place) at))) }
+    ensures stores { OnOk result (stores.new.shelves
+        ≡ with_store stores.old.shelves place (written (store_at stores.old.shelves place) at.object at.number value)) }
+    ensures stays { ChangesInStep place stores.old stores.new bindings.old bindings.new }
+{
+    law_steps();
+    note(stores, bindings, place)?;
+    bindings.take(place, stores, at)?;
+    let _ = stores.write(place, at.object, at.number, value);
+    settle(stores, bindings, place, Some(at))
+}
+
+/// Takes an object out with its bindings, and tells what has changed by it.
+pub(crate) fn remove(
+    stores: &mut Stores,
+    bindings: &mut Bindings,
+    place: usize,
+    object: u32,
+) -> Result<Items<Change>, AllocError>
+    requires ready { IsSettledAt place stores.old bindings.old }
+    ensures told { IfOk result (λ told. told ≡ told_of (store_at stores.old.shelves place) (graph_at bindings.old.graphs place)
+        (without object (store_at stores.old.shelves place)) (without_object object (graph_at bindings.old.graphs place)) None) }
+    ensures ok { OnOk result (bindings.new.graphs ≡ with_graph bindings.old.graphs place
+        (settled_in (without object (store_at stores.old.shelves place)) (without_object object (graph_at bindings.old.graphs place)))) }
+    ensures stores { OnOk result (stores.new.shelves ≡ with_store stores.old.shelves place (without object (store_at stores.old.shelves place))) }
+    ensures stays { ChangesInStep place stores.old stores.new bindings.old bindings.new }
+{
+    note(stores, bindings, place)?;
+    let told = bindings.remove(place, stores, object)?;
+    tidy(bindings, place);
+    Ok(told)
+}
+
+/// Ends the group that was opened last, and tells, where it was the outermost, what has changed since that
+/// began; with it how many are left.
+pub(crate) fn end(
+    stores: &mut Stores,
+    bindings: &mut Bindings,
+    place: usize,
+) -> Result<(u32, Items<Change>), Fault>
+    requires ready { IsInStepAt place stores.old bindings.old }
+    ensures refused { RefusedBy (end_refusal (graph_at bindings.old.graphs place)) result }
+    ensures unchanged { IfSome (end_refusal (graph_at bindings.old.graphs place)) (λ code. bindings.new.graphs ≡ bindings.old.graphs) }
+    ensures depth { IfOk result (λ left. left.0 ≡ (ended (graph_at bindings.old.graphs place)).depth) }
+    ensures told { IfOk result (λ told. told.1 ≡ settled_changes (store_at stores.old.shelves place) (ended (graph_at bindings.old.graphs place)) None) }
+    ensures ok { OnOk result (bindings.new.graphs
+        ≡ with_graph bindings.old.graphs place (settled_in (store_at stores.old.shelves place) (ended (graph_at bindings.old.graphs place)))) }
+    ensures stays { LeavesStores place stores.old stores.new bindings.old bindings.new }
+{
+    let left = bindings.end(place, stores)?;
+    let told = settle(stores, bindings, place, None)?;
+    Ok((left, told))
+}
