@@ -55,7 +55,7 @@ bin/metad-front: tools/front.py $(shell find front -name target -prune -o -type 
 	mkdir -p bin
 	python3 tools/front.py build
 
-# the tests beside the front's code
+# the tests in the front's sources
 test_front:
 	python3 tools/front.py test
 
@@ -76,7 +76,7 @@ budget:
 	$(NEEDS) python3=$(PYTHON)
 	python3 tools/budget.py .
 
-# is looked at before anything is built for tests
+# is checked before anything is built for tests
 needs_of_tests:
 	$(NEEDS) python3=$(PYTHON_OF_TESTS)
 
@@ -123,7 +123,7 @@ PAGE = inspecting/page
 OF_PAGE = $(patsubst clients/%,%,$(wildcard clients/$(PAGE)/* clients/inspecting/*.json))
 OF_TOOLS = $(TOOLS) $(patsubst clients/%,%,$(wildcard $(PARTS:%=clients/%/*.py))) $(OF_PAGE)
 
-# takes bin/metad and bin/metad-front as they are
+# uses the present bin/metad and bin/metad-front
 install:
 	@test -f bin/metad || { echo "bin/metad is not there yet: make builds it"; exit 1; }
 	@test -f bin/metad-front || { echo "bin/metad-front is not there yet: make front builds it"; exit 1; }

@@ -35,19 +35,19 @@ TICK = os.sysconf("SC_CLK_TCK")
 
 
 def load(*words: object) -> List[float]:
-    """What the loading program prints."""
+    """The numbers that the loading program prints."""
     ran = subprocess.run([LOAD, *map(str, words)], capture_output=True, text=True, check=True)
     return [float(it) for it in ran.stdout.split()]
 
 
 def seconds_of(number: int) -> float:
-    """What a process has taken of the processor."""
+    """The processor time that a process has used."""
     fields = Path(f"/proc/{number}/stat").read_text().rsplit(")", 1)[1].split()
     return (int(fields[11]) + int(fields[12])) / TICK
 
 
 def memory_of(number: int) -> int:
-    """The bytes that a process has for itself."""
+    """The bytes of memory that a process has for itself."""
     lines = Path(f"/proc/{number}/smaps_rollup").read_text().splitlines()
     return 1024 * sum(int(it.split()[1]) for it in lines if it.startswith(("Private_Clean:", "Private_Dirty:")))
 
@@ -118,7 +118,7 @@ def beside_bus(room: Path, program: str) -> float:
 
 
 def times(room: Path, program: str) -> float:
-    """What a line takes of the front, as a multiple of what it takes of the server."""
+    """The front's processor time for a line, as a multiple of the server's."""
     shares = []
     with front_at(room / "times", program) as front:
         server = server_of(front)
@@ -130,7 +130,7 @@ def times(room: Path, program: str) -> float:
 
 
 def throughput(room: Path, program: str) -> float:
-    """Lines a second of many clients, as a share of those of a server that sends back what it is sent."""
+    """Lines a second of many clients, as a share of those of a server that sends back all that it receives."""
     shares = []
     with front_at(room / "many", program), echo_at(room / "echo"):
         for _ in range(TURNS):
@@ -140,7 +140,7 @@ def throughput(room: Path, program: str) -> float:
 
 
 def rounds(room: Path, program: str) -> Tuple[float, float]:
-    """How many commands the server is given, at most in 99 of 100 cases, from one command of a client to its next one, in
+    """The most commands that the server is given, in 99 of 100 cases, between one command of a client and its next one, in
     rounds of all clients: with one and with several commands under way of each. It is read from the record, so the speed
     of the machine has no part in it."""
     found = []
@@ -159,7 +159,7 @@ def rounds(room: Path, program: str) -> Tuple[float, float]:
 
 
 def quiet(room: Path, program: str) -> float:
-    """What 99 of 100 commands of a quiet client take at most beside busy ones, as a multiple of that alone."""
+    """The time of 99 of 100 commands of a quiet client next to busy ones, as a multiple of its time alone."""
     shares = []
     with front_at(room / "quiet", program):
         for _ in range(TURNS):
@@ -173,7 +173,7 @@ def quiet(room: Path, program: str) -> float:
 
 
 def clients_at(path: Path, count: int, *lines: bytes) -> List[socket.socket]:
-    """Clients that have given these lines, and were answered."""
+    """Clients that have sent these lines and received the answers."""
     made = []
     for _ in range(count):
         link = socket.socket(socket.AF_UNIX)
@@ -186,12 +186,12 @@ def clients_at(path: Path, count: int, *lines: bytes) -> List[socket.socket]:
 
 
 def live(room: Path, program: str) -> Tuple[float, float]:
-    """The share of a processor that idle subscribers take of front and server, and the milliseconds in which one of them
+    """The share of a processor that front and server use for idle subscribers, and the milliseconds until one of them
     is notified."""
     with front_at(room / "live", program) as front:
         server = server_of(front)
         (host,) = clients_at(room / "live", 1, CELL, PUBLISH)
-        name = b"c2"  # of the first to have come, since the one who looked whether the front listens is c1
+        name = b"c2"  # of the first subscriber; c1 looked whether the front listens
         guests = clients_at(room / "live", LIVE, b'{"front":"hello","live":true}\n', CELL, JOIN.replace(b"c1", name))
         before = seconds_of(front.pid) + seconds_of(server)
         time.sleep(IDLE_SECONDS)
@@ -211,7 +211,7 @@ def live(room: Path, program: str) -> Tuple[float, float]:
 
 
 def recovery(room: Path, program: str) -> float:
-    """How long a worker takes to be where it was, as a multiple of what the program alone needs for its lines."""
+    """The time until a worker is where it was, as a multiple of the time that the program alone needs for the lines."""
     record, log = room / "records", room / "log"
     words = [FRONT, "--workers", "1", "--record", record, room / "recovered", program]
     with log.open("wb") as said, subprocess.Popen([str(it) for it in words], stderr=said) as front:
@@ -238,7 +238,7 @@ def recovery(room: Path, program: str) -> float:
 
 
 def memory(room: Path, program: str) -> float:
-    """The bytes of the front that belong to a client."""
+    """The bytes of the front's memory for each client."""
     with front_at(room / "memory", program) as front:
         clients = clients_at(room / "memory", 10, CELL)
         before = memory_of(front.pid)
@@ -260,7 +260,7 @@ ROWS: Dict[str, Tuple[Callable[[Path, str], object], str]] = {
 
 
 def build() -> None:
-    """Builds what loads the front."""
+    """Builds the program that loads the front."""
     subprocess.run([sys.executable, str(ROOT / "tools" / "front.py"), "load"], check=True)
 
 

@@ -1,4 +1,4 @@
-"""What hard use of a front needs: a front with its log and its figures, and clients whose every line is known before."""
+"""The parts of hard use of a front: a front with its log and its figures, and clients whose every line is known before."""
 
 from __future__ import annotations
 
@@ -17,7 +17,7 @@ from metad.fronts import front_words
 PATIENCE = 60  # seconds in which something has to come
 AHEAD = 8  # commands of a pump that are under way
 CHUNK = 262_144
-EARLY = 0.05  # seconds between two looks at what is to come
+EARLY = 0.05  # seconds between two checks of a condition
 BEGINS = (
     '{"class":"Cell","do":"new"%s}',
     '{"do":"connect","method":"seen(int)","receiver":1,"sender":1,"signal":"xChanged(int)"%s}',
@@ -25,7 +25,7 @@ BEGINS = (
 
 
 class Failed(Exception):
-    """What the front did that it must not do."""
+    """The front did something that it must not do."""
 
 
 def wait_until(holds: Callable[[], bool], what: str, pause: Callable[[float], object] = time.sleep) -> None:
@@ -57,7 +57,7 @@ class Front:
             self.kill()
 
     def is_listening(self, begun: int) -> bool:
-        """Whether it has said so, after so many bytes of the log."""
+        """Whether the log says so, after so many bytes of it."""
         self.check()
         return b": listening at " in self.log.read_bytes()[begun:]
 
@@ -81,7 +81,7 @@ class Front:
         return len(os.listdir(f"/proc/{self.process.pid}/fd"))
 
     def check(self) -> None:
-        """The front has not ended."""
+        """Fails if the front has ended."""
         if self.process.poll() is not None:
             raise Failed(f"the front has ended with status {self.process.returncode}: {self.log.read_text()[-2_000:]}")
 
@@ -109,7 +109,7 @@ def connected(path: Path) -> socket.socket:
 
 
 def ask(link: socket.socket, line: str) -> Dict[str, object]:
-    """What a line is answered, where nothing else is told meanwhile."""
+    """The answer to a line, if no other line comes before it."""
     link.sendall(line.encode() + b"\n")
     told = b""
     while not told.endswith(b"\n"):
@@ -123,9 +123,9 @@ def ask(link: socket.socket, line: str) -> Dict[str, object]:
 
 
 class Pump:
-    """A client that counts up a property of its object, and hears of each change by a call and a reply.
+    """A client that counts up a property of its object, and receives a call and a reply for each change.
 
-    So each line that it is told is known before. One that names its session by itself goes on where it was.
+    So each line that it receives is known before. A client that names its session continues with the number that it finds.
     """
 
     def __init__(self, path: Path, hello: str = "", named: str = "", is_begun: bool = False, ahead: int = AHEAD) -> None:
@@ -139,7 +139,7 @@ class Pump:
         self.held = b""
 
     def begin(self, is_begun: bool) -> None:
-        """Makes the object, or finds it as it was."""
+        """Makes the object, or finds the one that is there."""
         if is_begun:
             found = ask(self.link, f'{{"do":"get","object":1,"property":"x"{self.own}}}').get("reply")
             if not isinstance(found, int):
@@ -151,7 +151,7 @@ class Pump:
                     raise Failed(f"{self.name} cannot begin")
 
     def lines(self, number: int) -> bytes:
-        """What is told when the property becomes this number."""
+        """The lines that come when the property gets this number."""
         call = f'{{"args":[{number}],"call":"seen(int)","object":1,"sender":1,"session":"{self.name}"}}\n'
         return f'{call}{{"reply":true,"session":"{self.name}"}}\n'.encode()
 
@@ -163,7 +163,7 @@ class Pump:
                 raise Failed(f"{self.name} cannot write {AHEAD} lines")
 
     def hear(self) -> bool:
-        """Reads what it is told, which has to be what it is to be told; whether it may go on."""
+        """Reads lines, and compares them with those that have to come; returns whether the connection is open."""
         try:
             piece = self.link.recv(CHUNK)
         except ConnectionError:
@@ -195,13 +195,13 @@ class Pumps:
         pump.push()
 
     def drop(self, pump: Pump) -> None:
-        """Lets one vanish, with commands under way."""
+        """Disconnects one of them, with commands under way."""
         self.all.remove(pump)
         self.selector.unregister(pump.link)
         pump.link.close()
 
     def drive(self, seconds: float, goes_on: bool = True) -> None:
-        """Lets them go on for some time; those that the front closes are a fault."""
+        """Drives them for some time; it is a fault if the front closes one."""
         until = time.monotonic() + seconds
         while time.monotonic() < until:
             for key, _ in self.selector.select(EARLY):
@@ -219,7 +219,7 @@ class Pumps:
                 raise Failed(f"commands are not answered within {PATIENCE} seconds")
 
     def hear_ends(self) -> None:
-        """Hears what is left, where the front has ended."""
+        """Reads what is left, after the front has ended."""
         for pump in self.all:
             pump.link.settimeout(PATIENCE)
             while pump.hear():
@@ -234,5 +234,5 @@ class Pumps:
 
 
 def group_hello(group: str, is_live: bool = False) -> str:
-    """The first line of a client of a group."""
+    """The first line of a group's client."""
     return json.dumps({"front": "hello", "group": group, **({"live": True} if is_live else {})})

@@ -20,7 +20,7 @@ NAME = re.compile(r"[A-Za-z_][A-Za-z0-9_]{0,63}\Z")
 
 
 def answer(line: bytes) -> bytes:
-    """What a line is answered."""
+    """The answer to a line."""
     found = object_in(line) if len(line) <= LINE_MOST else None
     if found is None:
         return b'{"error":"E01","session":"-"}\n'

@@ -1,4 +1,4 @@
-"""Lines that no honest client writes, with some that one does, and what a program alone is to be given for them."""
+"""Lines that no honest client writes, mixed with some honest ones, and the lines that a program alone has to be given."""
 
 from __future__ import annotations
 
@@ -29,7 +29,7 @@ FORMS = (
 
 
 class Strange(ValueError):
-    """A word that is no JSON."""
+    """A word that is not JSON."""
 
 
 def strange(word: str) -> None:
@@ -37,7 +37,7 @@ def strange(word: str) -> None:
 
 
 class Lines(random.Random):
-    """Makes the lines of one client, who means others by their names."""
+    """Makes the lines of one client, which names the others in them."""
 
     others: List[str] = []
 
@@ -57,11 +57,11 @@ class Lines(random.Random):
         return json.dumps({**self.command(), "session": self.choice(self.others)}).encode()
 
     def long(self) -> bytes:
-        """A line that is about as long as one may be."""
+        """A line of about the greatest length that is allowed."""
         return b'{"do":"status"' + b" " * (LINE_MOST - 60 + self.randrange(90)) + b"}"
 
     def command(self) -> dict[str, Any]:
-        """A command that a client may mean."""
+        """A command that a client may really give."""
         number, other = self.randrange(1, OBJECTS), self.randrange(1, OBJECTS)
         return self.choice((
             {"do": "new", "class": "Cell"}, {"do": "new", "class": "Probe", "parent": number}, {"do": "children", "object": number},
@@ -73,7 +73,7 @@ class Lines(random.Random):
 
 
 def object_in(line: bytes) -> Any:
-    """The object that a line is, as any reader of JSON has it; None where it is none."""
+    """The object that a line is, as any reader of JSON reads it; None if it is none."""
     try:
         found = json.loads(line.strip(b" \t\r").decode(), parse_constant=strange)
     except (ValueError, RecursionError):
@@ -82,7 +82,7 @@ def object_in(line: bytes) -> Any:
 
 
 def with_session(line: bytes, name: str) -> bytes:
-    """A line as the client's own session has it: an object names that session, and all else is as it is."""
+    """A line as the server gets it for the client's own session: an object names that session, and all else is unchanged."""
     found = object_in(line)
     if found is None:
         return line
@@ -93,7 +93,7 @@ def with_session(line: bytes, name: str) -> bytes:
 
 
 def told_alone(program: str, lines: List[bytes], name: str) -> List[bytes]:
-    """What the program writes that is given the lines of one client alone."""
+    """The lines that the program writes when it is given one client's lines alone."""
     given = b"".join(with_session(line, name) + b"\n" for line in lines)
     ran = subprocess.run([program], input=given, stdout=subprocess.PIPE, check=True)
     return ran.stdout.splitlines(keepends=True)

@@ -1,4 +1,4 @@
-"""A mixed load for long: clients that come, go and vanish, with moves, killed workers, monitors and checks of health."""
+"""A long mixed load: clients that connect, leave and vanish, with moves, killed workers, monitors and checks of health."""
 
 from __future__ import annotations
 
@@ -15,15 +15,15 @@ from hard_clients import Failed, Front, Pump, Pumps, ask, connected, group_hello
 from hard_lines import Lines
 
 ACTORS, GROUPS = 40, 60
-LIFE = (0.2, 10.0)  # seconds that one stays
+LIFE = (0.2, 10.0)  # seconds that a client stays
 PAUSE = 0.05
 KILL_EVERY = 45.0  # seconds
 HEALTH = ("alive", "slow", "replaying", "full")
-MORE = 1_024, 0.1  # KiB, and the share, that memory may grow
+MORE = 1_024, 0.1  # KiB, and the share, by which memory may grow
 
 
 class Soak:
-    """The clients that are there, and what they do."""
+    """The clients that are connected, and their work."""
 
     def __init__(self, front: Front, room: Path, chance: random.Random) -> None:
         self.front = front
@@ -40,7 +40,7 @@ class Soak:
         return time.monotonic() + self.chance.uniform(*LIFE)
 
     def step(self) -> None:
-        """What is done in a moment."""
+        """Does one step of the work."""
         if len(self.until) + len(self.others) < ACTORS:
             others = (self.half, self.rubbish, self.share, self.monitor, self.check, self.move)
             kind = self.chance.choice((*[self.pump] * 3, *others))
@@ -53,7 +53,7 @@ class Soak:
         self.let_go(time.monotonic())
 
     def let_go(self, now: float) -> None:
-        """Those whose time has come vanish, some of them with commands under way."""
+        """Clients whose time is over vanish, some of them with commands under way."""
         for pump in [it for it, until in self.until.items() if until < now]:
             del self.until[pump]
             self.commands += pump.answered
@@ -76,7 +76,7 @@ class Soak:
         self.stay(link)
 
     def rubbish(self) -> None:
-        """Random lines, of which no answer is read."""
+        """Random lines, whose answers are not read."""
         lines = Lines(self.chance.random())
         lines.others = ["c1", "g1__c2", "team"]
         link = connected(self.front.path)
@@ -102,13 +102,13 @@ class Soak:
             raise Failed(f"its health is {answer!r}")
 
     def names(self, link: socket.socket) -> Set[str]:
-        """The groups that are there."""
+        """The names of the present groups."""
         rows = ask(link, '{"front":"groups"}')["reply"]
         assert isinstance(rows, list)
         return {row["group"] for row in rows}
 
     def move(self) -> None:
-        """A group is moved, if there is one."""
+        """Moves a group, if there is one."""
         with connected(self.room / "control") as link:
             names = sorted(self.names(link))
             if names:
@@ -117,7 +117,7 @@ class Soak:
                 self.wait_for_answer(link)
 
     def wait_for_answer(self, link: socket.socket) -> None:
-        """Lets all go on until a move is answered."""
+        """Lets all clients continue until a move is answered."""
         told = b""
         link.setblocking(False)
 
@@ -135,7 +135,7 @@ class Soak:
             raise Failed(f"a group has not moved: {found}")
 
     def kill(self) -> None:
-        """A worker is killed, and brought back."""
+        """Kills a worker, and waits until it is brought back."""
         before = self.front.said("is where it was")
         os.kill(self.chance.choice(self.front.servers()), signal.SIGKILL)
         wait_until(lambda: self.front.said("is where it was") > before, "a worker is where it was", self.pumps.drive)
@@ -143,7 +143,7 @@ class Soak:
         self.kill_at = time.monotonic() + KILL_EVERY
 
     def rest(self) -> Tuple[int, int]:
-        """All go; how much memory, in KiB, and how many files the front has then."""
+        """Closes all clients; returns the front's memory in KiB, and the number of its open files."""
         self.pumps.drain()
         self.let_go(float("inf"))
         with connected(self.room / "control") as link:
@@ -153,7 +153,7 @@ class Soak:
 
 
 def soak(room: Path, program: str, chance: random.Random, seconds: int) -> str:
-    """Lets them go on for so long, and compares the front at rest after the first quarter and at the end."""
+    """Runs for so long, and compares the front at rest after the first quarter with the front at the end."""
     paths = [word for name in ("control", "monitor", "health") for word in (f"--{name}", str(room / name))]
     options = ("--workers", "2", "--record", str(room / "records"), "--share", "team", "--share", "one", *paths)
     with Front(room, [program], *options) as front:

@@ -1,4 +1,4 @@
-"""Clients that mean harm to a front by what they leave undone: half lines, answers that nobody reads, floods and storms."""
+"""Clients that harm a front by what they leave undone: half lines, answers that nobody reads, floods and storms."""
 
 from __future__ import annotations
 
@@ -15,7 +15,7 @@ from hard_clients import Failed, Front, Pump, Pumps, connected, wait_until
 FILES = 1_024  # that the front may have open
 AT_ONCE = 1_200  # connections of a storm
 HALVES, HALF = 200, 60_000
-DEAF, CALLS, TEXT = 20, 250, 60_000  # clients that do not read, and what each is told: 15 MB
+DEAF, CALLS, TEXT = 20, 250, 60_000  # clients that do not read, and what is sent to each: 15 MB
 FLOODS = 8
 MEMORY_MOST = 640 * 1_024  # KiB of the front
 BELL = {"name": "Bell", "super": "QObject", "signals": ["rung(QString)"], "slots": [{"sig": "hear(QString)", "body": []}]}
@@ -30,7 +30,7 @@ FLOOD = b'{"do":"status"}\n' * 1_000
 
 
 def deaf(path: Path) -> socket.socket:
-    """A client that is told much, and reads nothing of it."""
+    """A client that is sent much, and reads nothing of it."""
     link = connected(path)
     link.sendall(NEW + CONNECT * CALLS)
     reader = link.makefile("rb")
@@ -60,7 +60,7 @@ def flood(link: socket.socket) -> None:
 
 
 def storms(path: Path, ended: threading.Event, counts: List[int]) -> None:
-    """Connects and goes as quickly as that can be done, and now and then many times at once."""
+    """Connects and disconnects as quickly as possible, and sometimes many times at once."""
     while not ended.is_set():
         links = []
         for at in range(AT_ONCE if len(counts) % 50 == 49 else 20):
@@ -75,8 +75,8 @@ def storms(path: Path, ended: threading.Event, counts: List[int]) -> None:
 
 
 def storm(room: Path, program: str, seconds: int, part: int) -> str:
-    """All of them at once, beside a client that means well, which is served all the time. Of those that are told much there
-    is the share 1/part."""
+    """Runs all of them at once, next to an honest client that has to be served all the time. There are 1/part as many clients
+    that do not read."""
     classes = room / "classes.json"
     classes.write_text(json.dumps({"classes": [BELL, CELL]}))
     limit = ("sh", "-c", f'ulimit -n {FILES}; exec "$@"', "sh")
@@ -108,7 +108,7 @@ def storm(room: Path, program: str, seconds: int, part: int) -> str:
 
 
 def rage(pumps: Pumps, floods: List[socket.socket], told: List[socket.socket], seconds: int) -> None:
-    """Lets the floods go on, and the one that means well: until all are told something of the much that they asked for, and
+    """Runs the floods and the honest client until each of the clients that do not read has been sent some of its lines, and
     for some seconds more."""
 
     def go_on(_pause: float) -> None:

@@ -44,7 +44,7 @@ STATUS = '{"do":"status"}'
 
 
 class Run:
-    """What the words ask for."""
+    """The trial that the command line asks for."""
 
     def __init__(self, given: argparse.Namespace, room: Path) -> None:
         self.program = str(Path(given.program).resolve())
@@ -55,7 +55,7 @@ class Run:
         self.room = room
 
     def share(self, count: int) -> int:
-        """The share of a count that is done."""
+        """This run's share of a count."""
         return max(1, count // self.part)
 
 
@@ -76,7 +76,7 @@ def read(link: socket.socket, told: List[bytes]) -> None:
 
 
 def rubbish(run: Run) -> str:
-    """Each client is told what the program tells it alone, however the lines of all of them come."""
+    """Each client receives what the program alone would send it, however the lines of all of them are mixed."""
     with Front(run.room, [run.program]) as front:
         came = rubbish_at(run, front)
         front.end()
@@ -84,7 +84,7 @@ def rubbish(run: Run) -> str:
 
 
 def rubbish_at(run: Run, front: Front) -> str:
-    """The clients of that, and what came of them."""
+    """Runs the clients of that trial; returns its result."""
     links = [connected(front.path) for _ in range(WRITERS)]
     names = [str(ask(link, STATUS)["session"]) for link in links]
     writers = [Lines(f"{run.seed} {at}") for at in range(WRITERS)]
@@ -110,7 +110,7 @@ def rubbish_at(run: Run, front: Front) -> str:
 
 
 def compare(name: str, told: List[bytes], wanted: List[bytes]) -> None:
-    """A client was told the lines that it was to be told."""
+    """Compares the lines that a client has received with those that had to come."""
     for at, (one, other) in enumerate(zip(told, wanted)):
         if one != other:
             raise Failed(f"line {at + 1} that {name} is told is {one[:300]!r}, and has to be {other[:300]!r}")
@@ -119,7 +119,7 @@ def compare(name: str, told: List[bytes], wanted: List[bytes]) -> None:
 
 
 def kills(run: Run) -> str:
-    """Workers are killed one after another while all clients go on."""
+    """Workers are killed one after another while all clients continue."""
     count = run.share(KILLS)
     with Front(run.room, [run.program], "--workers", str(WORKERS), "--record", str(run.room / "killed")) as front:
         pumps = Pumps([Pump(front.path, group_hello(f"g{at % GROUPS}")) for at in range(GROUPS * OF_EACH)])
@@ -137,7 +137,7 @@ def kills(run: Run) -> str:
 
 
 def resume(run: Run) -> str:
-    """Fronts are killed one after another; what was answered is there afterwards, and sessions go on."""
+    """Fronts are killed one after another; what was answered is there afterwards, and sessions continue."""
     options = ("--workers", "2", "--group-from", "name", "--record", str(run.room / "resumed"), "--resume")
     last = [0] * NAMED
     count = run.share(FRONTS)

@@ -29,7 +29,7 @@ import metad  # noqa: E402
 from metad import aio  # noqa: E402
 
 COUNT, SECONDS, ROUNDS = 100, 5.0, 300
-PAUSE = 0.002  # seconds between a told event and the next signal
+PAUSE = 0.002  # seconds between an event and the next signal
 LEVEL, SIGNAL, SLOT = "level", "xChanged(int)", "seen(int)"
 HELLO = b'{"front":"hello","live":true}\n'
 NEW = b'{"do":"new","class":"Cell"}\n'
@@ -39,7 +39,7 @@ SET = b'{"do":"set","object":1,"property":"x","value":%d}\n'
 
 
 def processor_seconds(number: int) -> float:
-    """What a process has taken of the processor, all its threads together."""
+    """The processor time that a process has used, in all its threads."""
     tasks = Path(f"/proc/{number}/task").glob("*/schedstat")
     return sum(int(task.read_text().split()[0]) for task in tasks) / 1e9
 
@@ -80,7 +80,7 @@ async def wait_in_tasks(path: str, host: str, count: int) -> None:
 
 
 def answer(path: str, host: str, how: str) -> None:
-    """A client that says when it was told each event."""
+    """A client that reports when it has received each event."""
     session = subscribe(path, host, how)
     session.on(1, SLOT, lambda call: print(time.monotonic_ns(), flush=True))
     print("listening", flush=True)
@@ -89,7 +89,7 @@ def answer(path: str, host: str, how: str) -> None:
 
 
 async def answer_in_task(path: str, host: str) -> None:
-    """The same in asyncio, where nothing waits."""
+    """A client that reports when it has received each event, in asyncio, where nothing blocks."""
     server = await aio.connect(path)
     session = server.session("guest", lambda call: print(time.monotonic_ns(), flush=True))
     await session.join(host, LEVEL, ["int"], await session.new("Cell"), SLOT)
@@ -99,7 +99,7 @@ async def answer_in_task(path: str, host: str) -> None:
 
 
 def part(kind: str, path: str, host: str, count: int) -> None:
-    """What a process of the measurement does."""
+    """The work of one process of the measurement."""
     if kind == "threads":
         wait_in_threads(path, host, count)
     elif kind == "tasks":
@@ -110,11 +110,11 @@ def part(kind: str, path: str, host: str, count: int) -> None:
         answer(path, host, kind)
 
 
-# ---- what is measured ----
+# ---- measurements ----
 
 
 class Plain:
-    """A connection with a front, over which lines are written as they are."""
+    """A connection with a front, over which lines are sent unchanged."""
 
     def __init__(self, path: str) -> None:
         self.link = socket.socket(socket.AF_UNIX)
@@ -122,7 +122,7 @@ class Plain:
         self.reader = self.link.makefile("rb")
 
     def ask(self, line: bytes) -> bytes:
-        """Writes a line; the answer to it."""
+        """Sends a line; returns the answer."""
         self.link.sendall(line)
         return self.reader.readline()
 
@@ -153,7 +153,7 @@ class Measured:
         return process
 
     def idle(self, kind: str, count: int, seconds: float) -> Dict[str, float]:
-        """Shares of a processor that are taken while so many wait."""
+        """The shares of a processor that are used while so many wait."""
         process, front = self.started(kind, count), self.front._process.pid
         try:
             time.sleep(1)
@@ -166,7 +166,7 @@ class Measured:
             process.communicate()
 
     def times(self, kind: str, rounds: int) -> List[float]:
-        """Milliseconds from the command that sends a signal to the function that is told."""
+        """Milliseconds from the command that sends a signal to the function that is called for it."""
         process = self.started(kind, 1)
         assert process.stdout
         found = []
@@ -183,7 +183,7 @@ class Measured:
             process.communicate()
 
     def plain_times(self, rounds: int) -> List[float]:
-        """Milliseconds from the line that sends a signal to the line that tells it, over sockets without this client."""
+        """Milliseconds from the line that sends a signal to the line that reports it, over sockets without this client."""
         host, guest = Plain(self.front.path), Plain(self.front.path)
         guest.ask(HELLO)
         name = json.loads(host.ask(NEW))["session"]
@@ -210,14 +210,14 @@ class Measured:
 
 
 def show(what: str, times: List[float]) -> None:
-    """Prints some times: the middle one, and what one and 99 of 100 take at most."""
+    """Prints some times: the median, and the most that one and 99 of 100 take."""
     times = sorted(times)
     low, high = times[len(times) // 100], times[int(0.99 * len(times))]
     print(f"{what}: {statistics.median(times):.2f} ms, 1 of 100 within {low:.2f} ms, 99 of 100 within {high:.2f} ms", flush=True)
 
 
 def measure(given: argparse.Namespace) -> None:
-    """Measures, and prints what came of it."""
+    """Measures, and prints the results."""
     measured = Measured(given.program)
     try:
         for kind, said in (("threads", "threads"), ("tasks", "asyncio")):

@@ -1,4 +1,4 @@
-"""Which worker of a front a group of sessions belongs to, as the front's page says it."""
+"""Computes to which worker of a front a group of sessions belongs, as the front's page says it."""
 
 from __future__ import annotations
 
@@ -9,12 +9,12 @@ POINTS = 128  # of each worker
 
 
 def point_of(text: str) -> int:
-    """Where a text is on the ring."""
+    """The point of a text on the ring."""
     return int.from_bytes(blake2b(text.encode(), digest_size=8).digest(), "big")
 
 
 class Ring:
-    """Which of so many workers each group belongs to."""
+    """Assigns groups to so many workers."""
 
     def __init__(self, count: int) -> None:
         found = sorted((point_of(f"{number}/{point}"), number) for number in range(1, count + 1) for point in range(POINTS))

@@ -1,4 +1,4 @@
-"""That crates.txt is true: it names for each crate those that its sources name, and lower ones only."""
+"""Checks that crates.txt is true: it names for each crate those that its sources name, and lower ones only."""
 
 import re
 from pathlib import Path
@@ -19,7 +19,7 @@ def lines_of(root: Path) -> Dict[str, List[str]]:
 
 
 def named_by(crate: Path) -> Set[str]:
-    """All that the sources of a crate name as crates are named."""
+    """All crates that the sources of a crate name."""
     found: Set[str] = set()
     for path in crate.rglob("*"):
         if "out" in path.relative_to(crate).parts or path.suffix not in (".rt", ".antt"):
@@ -32,7 +32,7 @@ def named_by(crate: Path) -> Set[str]:
 
 
 def faults_in(root: Path) -> List[str]:
-    """What is wrong with crates.txt, one text each."""
+    """The faults of crates.txt, one text each."""
     lines = lines_of(root)
     known = {*lines, *(name for names in lines.values() for name in names)}
     faults, earlier = [], set()

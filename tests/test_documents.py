@@ -122,7 +122,7 @@ class Imports(Cases):
 
 
 class Way(Cases):
-    """The functions that docs/ARCHITECTURE.md leads two lines through."""
+    """The functions on the way of two lines in docs/ARCHITECTURE.md."""
 
     def test_functions(self) -> None:
         """Each is in the file that is named with it, and each row of the tables names one."""

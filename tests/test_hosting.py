@@ -166,7 +166,7 @@ class Units(FrontCases):
                 said = link.recv(4_096).decode()
                 self.assertIn("READY=1", said.splitlines(), "what it says first")
                 self.assertEqual(json.loads(client.ask(NEW))["reply"], 1, "a client")
-                while select.select([link], [], [], 0)[0]:  # what was said while this test waited for a processor
+                while select.select([link], [], [], 0)[0]:  # messages that came while this test waited for a processor
                     link.recv(4_096)
                 begun, count = time.monotonic(), 5
                 for _ in range(count):

@@ -140,7 +140,7 @@ class Machines(MachineCases):
         self.assertEqual(self.visit("ann")[1], home, "where a new client is at the end")
 
     def test_checks(self):
-        """Checks leave nothing behind: of all that make the edge take a machine for one that is there, its server is given no
+        """Checks leave nothing behind: for all the checks by which the edge finds a machine alive, its server is given no
         line of a session."""
         self.all.kill("two")
         self.bring_back("two")

@@ -249,7 +249,8 @@ class Pipes(ProgramCases):
         self.tell(f"turns: {len(TALK)}")
 
     def test_terminal(self):
-        """At a terminal the end of the input is typed once. A run is proved to call its source once there; this shows that it reads the device once too."""
+        """At a terminal the end of the input is typed once. A run is proved to call its source once there; this shows that it
+        reads the device once too."""
         keyboard, terminal = os.openpty()
         with ExitStack() as opened:
             for descriptor in (keyboard, terminal):

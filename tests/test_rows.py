@@ -134,7 +134,7 @@ def lay_out_guide(room, program):
 
 
 def not_laid_out(room, commands):
-    """What a recipe starts of `bin` and does not find there, in words, or None. It might wait for that without an end."""
+    """A program of `bin` that a recipe starts and that is not there, or None. The recipe might wait for it without end."""
     started = sorted(set(STARTED.findall("\n".join(commands))))
     return next((f"it starts {it}, which is not there" for it in started if not Path(room, it).exists()), None)
 

@@ -1,4 +1,4 @@
-"""What comes unasked in a live session is said while the shell waits for its next line."""
+"""Shows the lines of a live session as they come, while the shell waits for its next line."""
 
 from __future__ import annotations
 
@@ -11,13 +11,13 @@ from typing import Iterator, Optional
 from .prompting import Prompt
 from .shell import Shell
 
-SPIN = {"do": "spin"}  # what the front asks for by itself
+SPIN = {"do": "spin"}  # the command that the front gives by itself
 WAKES = signal.SIGUSR1  # of the main thread, while that waits for a key
 PAUSE = 0.05  # seconds between two such signals, of which one may come just before the wait for a key
 
 
 class Arrivals:
-    """Says what comes while the shell reads lines of an input that is no terminal. A thread of its own does it then."""
+    """Shows what comes while the shell reads lines of an input that is no terminal, by a thread of its own."""
 
     def __init__(self, shell: Shell) -> None:
         self.shell = shell
@@ -28,14 +28,14 @@ class Arrivals:
         self._reading.acquire()
 
     def begin(self) -> None:
-        """Begins to say what comes, in a live session."""
+        """Begins to show what comes, in a live session."""
         if self._connection.is_live:
-            self.shell.session(self.shell.name)  # which is told
+            self.shell.session(self.shell.name)  # makes the session, which receives what comes
             threading.Thread(target=self._watch, name="shell arrivals", daemon=True).start()
 
     @contextmanager
     def waiting(self) -> Iterator[None]:
-        """While the shell waits for a line; what has come is said first."""
+        """Lets lines be shown while the shell waits for a line; shows first what has come."""
         self.tell()
         self._reading.release()
         try:
@@ -46,7 +46,7 @@ class Arrivals:
             raise self._fault
 
     def tell(self) -> None:
-        """Says what has come."""
+        """Shows what has come."""
         self._connection.tell()
         code = self._connection.live_fault
         if code is not None and not self._is_failure_said:
@@ -55,7 +55,7 @@ class Arrivals:
             self.shell.say("note", "    events are not shown as they come any more; after a reset write `spin`")
 
     def is_due(self) -> bool:
-        """Whether something has come that was not said."""
+        """Whether something has come that was not shown."""
         return self._connection.has_untold() or (self._connection.live_fault is not None and not self._is_failure_said)
 
     def _watch(self) -> None:
@@ -73,13 +73,13 @@ class Arrivals:
             self._fault = fault
 
     def bring(self) -> None:
-        """Says what has come as soon as the shell waits for a line."""
+        """Shows what has come as soon as the shell waits for a line."""
         with self._reading:
             self.tell()
 
 
 class TypedArrivals(Arrivals):
-    """Says what comes while a line is typed at a prompt: by the main thread, which a signal wakes."""
+    """Shows what comes while a line is typed at a prompt: by the main thread, which a signal wakes."""
 
     def __init__(self, shell: Shell, prompt: Prompt) -> None:
         super().__init__(shell)
@@ -98,7 +98,7 @@ class TypedArrivals(Arrivals):
             time.sleep(PAUSE)
 
     def _woken(self, _number: int, _frame: object) -> None:
-        """Makes room for what has come, and shows again what is typed."""
+        """Hides the typed line, shows what has come, and shows the line again."""
         if self._prompt.can_be_hidden() and self.is_due():
             with self._prompt.hidden():
                 self.tell()

@@ -1,4 +1,4 @@
-"""The prompt of a terminal, which makes room for what is said while a line is typed, and then shows the line again."""
+"""The prompt of a terminal, which is hidden while a message is shown, and then shown again with the typed line."""
 
 from __future__ import annotations
 
@@ -17,7 +17,7 @@ CLEAR = b"\r\x1b[K"
 
 
 class Editor:
-    """The line editor that Python has loaded, by its own names: what Python's module does not offer."""
+    """The functions of the line editor that Python has loaded, as far as Python's module does not offer them."""
 
     def __init__(self) -> None:
         library = ctypes.CDLL(readline.__file__)
@@ -32,19 +32,19 @@ class Editor:
         return bool(self._state.value & AT_A_PROMPT) and not self._state.value & COMPLETING
 
     def clear(self) -> None:
-        """Takes the prompt and what is typed off the screen."""
+        """Removes the prompt and the typed text from the screen."""
         self._clear()
         self._flush(None)
 
     def show(self) -> None:
-        """Shows them again, with the cursor where it was."""
+        """Shows them again, with the cursor at its place."""
         self._begin()
         self._show()
         self._flush(None)
 
 
 def editor() -> Optional[Editor]:
-    """The line editor, where it has all that is needed: GNU readline has, as a library."""
+    """The line editor, if it has all that is needed: GNU readline has, as a library."""
     try:
         return None if readline is None else Editor()
     except (AttributeError, OSError, TypeError, ValueError):
@@ -82,7 +82,7 @@ class Prompt:
 
     @contextmanager
     def hidden(self) -> Iterator[None]:
-        """Has the prompt and what is typed make room meanwhile, where they are shown."""
+        """Hides the prompt and the typed text meanwhile, if they are shown."""
         if not self.is_shown:
             yield
             return

@@ -1,7 +1,7 @@
-//! What the page's process asks for: a line with a number, the name of a session, and a command.
+//! Requests of the page's process: each line has a number, the name of a session, and a command.
 //!
-//! Browsers talk to that process, so the front does not trust it. Whatever it writes, a server is given only commands that are
-//! allowed here: the front reads each of them, writes it anew, and puts the session in by itself.
+//! Browsers talk to that process, so the front does not trust it. Whatever the process writes, a server is given only commands
+//! that are allowed here: the front reads each of them, writes it anew, and puts the session in by itself.
 
 use std::collections::BTreeMap;
 
@@ -9,11 +9,11 @@ use serde_json::value::RawValue;
 
 use crate::lines::{object_of, LINE_MOST};
 
-/// Digits of the number of a command, at most.
+/// The most digits that the number of a command may have.
 const DIGITS_MOST: usize = 15;
-/// Bytes that a line may need beside a command, for the name of its session.
+/// Bytes that a line may need in addition to its command, for the name of its session.
 const BESIDE: usize = 128;
-/// What asks a session and changes nothing there, with its keys, and what may change something.
+/// The commands that only read a session, and those that may change something, each with its keys.
 const READING: [(&str, &[&str]); 6] = [
     ("children", &["object"]),
     ("get", &["object", "property"]),
@@ -25,7 +25,7 @@ const READING: [(&str, &[&str]); 6] = [
 const WRITING: [(&str, &[&str]); 2] =
     [("invoke", &["object", "method", "args", "type"]), ("set", &["object", "property", "value"])];
 
-/// What the page may do in addition to looking.
+/// The rights of the page in addition to looking.
 #[derive(Clone, Copy, Debug, Default)]
 pub struct Leave {
     pub ask: bool,
@@ -33,8 +33,8 @@ pub struct Leave {
 }
 
 impl Leave {
-    /// The command that a text is, written anew; nothing where it is not allowed, or where the server would not read it. Keys
-    /// that are there twice are written once, with the last value, and values as they were.
+    /// Reads a command and writes it anew; returns nothing if it is not allowed, or if the server could not read it. A key
+    /// that is there twice is written once, with its last value. Values are written unchanged.
     pub fn command_in(self, text: &[u8]) -> Option<Vec<u8>> {
         object_of(text)?;
         let members: BTreeMap<String, &RawValue> = serde_json::from_slice(text).ok()?;
@@ -50,8 +50,8 @@ impl Leave {
     }
 }
 
-/// A line of the process: a number, a session and a command, none of which but the number was looked at. A line without a
-/// number asks for nothing, and can only come from a broken process.
+/// Splits a line of the process into a number, a session and a command; only the number is checked. A line without a
+/// number is no request, and can only come from a broken process.
 pub fn asked_in(line: &[u8]) -> Option<(u64, &[u8], &[u8])> {
     let mut parts = line.splitn(3, |byte| *byte == b' ');
     let digits = parts.next().filter(|it| it.len() <= DIGITS_MOST && it.iter().all(u8::is_ascii_digit))?;
@@ -123,7 +123,7 @@ mod tests {
         }
     }
 
-    /// Random pieces of JSON: what is allowed is a command of a word that may be, and says the same as the text.
+    /// Random pieces of JSON: whatever is allowed is an allowed command, and says the same as the text.
     #[test]
     fn random_texts_give_only_what_is_allowed() {
         let pieces = [

@@ -11,7 +11,7 @@ use crate::log::{reason, Ended};
 
 const COLUMNS: [&str; 5] = ["group", "worker", "sessions", "clients", "lines"];
 
-/// What a front answers to this.
+/// Sends this to a front and returns its answer.
 fn answer(path: &Path, asked: &Value) -> Result<Value, Ended> {
     let ask = || -> io::Result<Vec<u8>> {
         let mut link = UnixStream::connect(path)?;
@@ -30,13 +30,13 @@ fn answer(path: &Path, asked: &Value) -> Result<Value, Ended> {
     }
 }
 
-/// Has a group moved to another worker; answers where it is.
+/// Moves a group to another worker; returns a line that says where the group is.
 pub fn move_group(path: &Path, group: &str, worker: usize) -> Result<String, Ended> {
     let told = answer(path, &json!({"front": "move", "group": group, "worker": worker}))?;
     Ok(format!("{} is with worker {}\n", cell(&told["group"]), told["worker"]))
 }
 
-/// A table of which group is with which worker.
+/// A table of the groups and the worker of each.
 pub fn groups(path: &Path) -> Result<String, Ended> {
     let told = answer(path, &json!({"front": "groups"}))?;
     let rows = told["reply"].as_array().into_iter().flatten().map(|row| COLUMNS.map(|column| cell(&row[column])));

@@ -1,4 +1,4 @@
-//! Clients that come, write, read and go, each with a session of its own or for one that is shared.
+//! Clients that connect, write, read and leave, each with a session of its own or with a shared one.
 
 use std::time::Duration;
 
@@ -13,24 +13,24 @@ use crate::people::{
 };
 use crate::tokens::{token, Kind};
 
-/// How long answers wait for further ones, at most: longer where others wait for turns, and never so long as this.
+/// The longest time that answers wait for further ones. It grows with the speakers that wait for turns, up to the last value.
 const HELD: Duration = Duration::from_millis(1);
 const HELD_FOR_EACH: Duration = Duration::from_micros(20);
 const HELD_LONGEST: Duration = Duration::from_millis(20);
-/// Those whose clients have gone and whose commands are still to be done, from which on no more clients are let in.
+/// No more clients are let in when this many disconnected clients still have commands to be done.
 const LEFT_MOST: usize = 2_000;
-/// How many bytes of answers wait, at most.
+/// The most bytes of answers that wait.
 const HELD_MOST: usize = 4_096;
-/// A line that asks the front for nothing that it does.
+/// The first line asks for something that the front does not do.
 pub const NOT_KNOWN: &str = "F01";
-/// A line that asks for a session that is not shared.
+/// The first line asks for a session that is not shared.
 const NOT_SHARED: &str = "F02";
-/// A line that asks for a group of a name that no group has.
+/// The first line asks for a group by a name that no group can have.
 const NO_GROUP: &str = "F03";
 pub const ASKS_NOTHING: &str = "its first line asks for nothing that there is";
 
 impl Front {
-    /// Takes a new client.
+    /// Adds a new client.
     pub fn enter_client(&mut self, stream: UnixStream) {
         self.count += 1;
         let number = self.count;
@@ -44,7 +44,7 @@ impl Front {
         self.log.note(&format!("c{number} has come"));
     }
 
-    /// Who speaks for a new client, which has a session of its own.
+    /// Makes the speaker of a new client, which has a session of its own.
     fn speaker_for(&mut self, client: ClientKey, number: u64) -> SpeakerKey {
         let name = format!("c{number}");
         let mut session = Session::new(&name, false);
@@ -65,7 +65,7 @@ impl Front {
         speaker
     }
 
-    /// Has a client looked after.
+    /// Puts a client on the list of those to be looked after.
     pub fn touch(&mut self, key: ClientKey) {
         if let Some(client) = self.clients.get_mut(key) {
             if !client.is_touched {
@@ -75,7 +75,7 @@ impl Front {
         }
     }
 
-    /// Reads more of a client whose last line the server was given, so that it keeps its place among those that wait.
+    /// Reads more from a client whose last line was given to the server, so that it keeps its place among those that wait.
     pub fn read_on(&mut self, key: ClientKey) {
         if self.clients.get(key).map_or(false, |client| client.link.is_readable) {
             if self.is_read(key) {
@@ -85,7 +85,7 @@ impl Front {
         }
     }
 
-    /// Lets a client read lines.
+    /// Sends lines to a client.
     pub fn deliver(&mut self, key: ClientKey, lines: &[u8]) {
         if let Some(client) = self.clients.get_mut(key) {
             client.link.tell(lines);
@@ -96,15 +96,15 @@ impl Front {
         }
     }
 
-    /// Lets a client read an answer, after which it is to be looked after unless it is held.
+    /// Sends an answer to a client, and puts the client on the list to be looked after unless its answers are held.
     pub fn tell_client(&mut self, key: ClientKey, line: &[u8]) {
         if let Some(client) = self.clients.get_mut(key) {
             client.link.tell(line);
         }
     }
 
-    /// Has a client looked after that was answered, unless its answers wait for further ones. It may have waited for this one
-    /// alone before it is closed.
+    /// Puts an answered client on the list to be looked after, unless its answers wait for further ones. This answer may have
+    /// been all that it waited for before it is closed.
     pub fn touch_unless_held(&mut self, key: ClientKey) {
         let is_held = self.clients.get(key).map_or(false, |client| {
             let link = &client.link;
@@ -115,7 +115,7 @@ impl Front {
         }
     }
 
-    /// Takes note of what a client's connection is ready for.
+    /// Records what a client's connection is ready for.
     pub fn stir_client(&mut self, key: ClientKey, is_readable: bool, is_hung_up: bool) {
         if let Some(client) = self.clients.get_mut(key) {
             client.link.stir(is_readable, is_hung_up);
@@ -123,7 +123,7 @@ impl Front {
         self.touch(key);
     }
 
-    /// Looks after the clients that something has come of.
+    /// Looks after the clients on the list.
     pub fn settle(&mut self) {
         let mut touched = std::mem::take(&mut self.touched);
         for key in touched.drain(..) {
@@ -133,7 +133,7 @@ impl Front {
         self.touched = touched;
     }
 
-    /// Lets a client take what it is told, reads it where that is its turn, and lets it go where it is done.
+    /// Writes to a client what it has not read, reads from it if that is allowed now, and closes it when it is done.
     fn look_after(&mut self, key: ClientKey) {
         let client = match self.clients.get_mut(key) {
             Some(client) => client,
@@ -166,12 +166,12 @@ impl Front {
             Speech::Named(_) => self.await_turns(key, is_slow),
         }
         if self.clients[key].link.is_readable && self.is_read(key) {
-            self.touch(key); // more of a long line is there
+            self.touch(key); // there is more of a long line
         }
     }
 
-    /// Whether a client's answers wait for further ones, so that fewer writes give them: for a short time, where more of what
-    /// it has asked for is under way.
+    /// Whether a client's answers wait for further ones, so that fewer writes send them. They wait for a short time, if more
+    /// of the client's commands are under way.
     fn is_held(&mut self, key: ClientKey) -> bool {
         let link = &self.clients[key].link;
         let unread = link.unread.len();
@@ -186,13 +186,13 @@ impl Front {
         true
     }
 
-    /// How long answers wait for further ones now.
+    /// How long answers wait at present.
     fn hold_time(&self) -> Duration {
         let waiting: usize = self.workers.iter().map(|worker| worker.turns.waiting()).sum();
         (HELD + HELD_FOR_EACH * waiting as u32).min(HELD_LONGEST)
     }
 
-    /// Has the clients looked after whose answers have waited for long enough; answers in what time others have.
+    /// Looks after the clients whose answers have waited long enough; returns the time until the next ones have.
     pub fn touch_held(&mut self) -> Option<Duration> {
         let hold_time = self.hold_time();
         while let Some(&(since, key)) = self.held.front() {
@@ -209,7 +209,7 @@ impl Front {
         None
     }
 
-    /// Counts what a client has not read. Where all clients together leave too much, the one that leaves most is closed.
+    /// Counts what a client has not read. If all clients together leave too much unread, the one with the most is closed.
     fn count_unread(&mut self, key: ClientKey) {
         let link = &mut self.clients[key].link;
         self.unread = self.unread + link.unread.len() - link.counted;
@@ -224,7 +224,7 @@ impl Front {
         }
     }
 
-    /// Lets a speaker wait for its turn.
+    /// Queues a speaker for its turn.
     pub fn await_turn(&mut self, key: SpeakerKey, is_slow: bool) {
         let speaker = &mut self.speakers[key];
         speaker.is_slow = is_slow;
@@ -232,7 +232,7 @@ impl Front {
         self.workers[at].turns.await_turn(key, speaker);
     }
 
-    /// Whether a client is read now: not while what it has written waits, and not while it has much to read.
+    /// Whether a client is read now: not while its lines wait, and not while it has much to read.
     fn is_read(&self, key: ClientKey) -> bool {
         let client = &self.clients[key];
         let waits = match &client.speech {
@@ -242,7 +242,7 @@ impl Front {
         !(waits || client.link.has_ended || client.link.unread.len() > UNREAD_SLOW)
     }
 
-    /// Whether a client is still to be answered something.
+    /// Whether a client still waits for an answer.
     fn awaits(&self, key: ClientKey) -> bool {
         match &self.clients[key].speech {
             Speech::One(speaker) => self.speakers[*speaker].awaits(),
@@ -250,7 +250,7 @@ impl Front {
         }
     }
 
-    /// Reads what a client has written, and lets its lines wait for their turns.
+    /// Reads what a client has written, and queues its lines for their turns.
     fn read_client(&mut self, key: ClientKey) {
         let client = &mut self.clients[key];
         let came = client.link.read(&mut self.chunk);
@@ -278,7 +278,7 @@ impl Front {
         }
     }
 
-    /// Hears the first lines of a client.
+    /// Reads the first lines of a client.
     fn hear_first(&mut self, key: ClientKey, speaker: SpeakerKey) {
         let asked = self.speakers[speaker].waiting.first().and_then(asked_of_front);
         if let Some(asked) = asked {
@@ -297,7 +297,7 @@ impl Front {
         self.spin_first(speaker);
     }
 
-    /// Does what a client's first line asks of the front.
+    /// Does what a client's first line asks the front for.
     fn do_for(&mut self, key: ClientKey, speaker: SpeakerKey, asked: &Map<String, Value>) {
         let is_live = asked.get("live").map_or(false, |live| *live == true);
         let mut asked = asked.clone();
@@ -319,7 +319,7 @@ impl Front {
         }
     }
 
-    /// Puts a client's session into the group that it asks for.
+    /// Puts a client's session into the group that the client asks for.
     fn greet(&mut self, key: ClientKey, speaker: SpeakerKey, asked: &Map<String, Value>, is_live: bool) {
         let session = self.speakers[speaker].session;
         let group = asked.get("group").and_then(Value::as_str).filter(|group| is_group(group));
@@ -339,7 +339,7 @@ impl Front {
         }
     }
 
-    /// Lets a client speak for a shared session.
+    /// Makes a client a member of a shared session.
     fn share(&mut self, key: ClientKey, speaker: SpeakerKey, session: SessionKey, is_live: bool) {
         let own = std::mem::replace(&mut self.speakers[speaker].session, session);
         if let Some(inspector) = &mut self.inspector {
@@ -355,7 +355,7 @@ impl Front {
         self.answer_for(key, session, is_live);
     }
 
-    /// Tells a client for which session it speaks, and has it told the events of it where it asks for that.
+    /// Tells a client the name of its session, and makes the session live if the client asks for that.
     fn answer_for(&mut self, key: ClientKey, session: SessionKey, is_live: bool) {
         if let (true, Speech::One(speaker)) = (is_live, &self.clients[key].speech) {
             self.let_live(*speaker);
@@ -367,14 +367,14 @@ impl Front {
         self.log.note(&format!("c{} speaks for {}", client.number, session.name));
     }
 
-    /// Refuses a client's first line.
+    /// Refuses a client's first line, and closes the client.
     pub fn refuse(&mut self, key: ClientKey, code: &str, fault: &str) {
         let link = &mut self.clients[key].link;
         link.tell(&refusal(code));
         link.refuse(fault);
     }
 
-    /// Lets a client go. Its commands under way are done, and nobody is told of them.
+    /// Closes a client. Its commands under way are still done, and nobody receives their answers.
     fn close_client(&mut self, key: ClientKey) {
         let client = self.clients.remove(key);
         self.unread -= client.link.counted;
@@ -390,7 +390,7 @@ impl Front {
         }
     }
 
-    /// Has nobody speak for a session any more in the name of a client that has gone. What it has written and has left is
+    /// Ends a disconnected client's part in a session. What the client has written and left is still done.
     /// still done.
     fn leave_session(&mut self, client: ClientKey, key: SpeakerKey, is_left: bool) {
         let speaker = &mut self.speakers[key];
@@ -421,7 +421,7 @@ impl Front {
         self.count_left(key);
     }
 
-    /// Counts one whose client has gone and whose commands are still to be done. Where these are many, no more are let in.
+    /// Counts a disconnected client's speaker whose commands are still to be done. If there are many, no more clients come in.
     fn count_left(&mut self, key: SpeakerKey) {
         if let Some(speaker) = self.speakers.get_mut(key).filter(|speaker| speaker.owner == Owner::Gone) {
             speaker.is_left = true;
@@ -432,7 +432,7 @@ impl Front {
         }
     }
 
-    /// Forgets a speaker whose client has gone, and of which nothing is under way any more.
+    /// Drops a speaker whose client has disconnected and that has nothing under way any more.
     pub fn drop_if_over(&mut self, key: SpeakerKey) {
         let is_over = |speaker: &Speaker| speaker.owner == Owner::Gone && !speaker.awaits();
         if !self.speakers.get(key).map_or(false, is_over) {
@@ -446,7 +446,7 @@ impl Front {
         self.let_go_of(speaker.session);
     }
 
-    /// Forgets a session that nothing refers to any more.
+    /// Drops a session that nothing refers to any more.
     pub fn let_go_of(&mut self, key: SessionKey) {
         let session = &mut self.sessions[key];
         session.holds = session.holds.saturating_sub(1);

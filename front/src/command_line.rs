@@ -1,4 +1,4 @@
-//! What the words of the command line say.
+//! Reads the words of the command line.
 
 use std::ffi::{OsStr, OsString};
 use std::net::{Ipv4Addr, SocketAddr};
@@ -9,33 +9,33 @@ use crate::lines::{is_name, is_own_name};
 use crate::log::{quoted, say, write_all};
 use crate::sockets::is_pipe;
 
-/// What is written where the words ask for help.
+/// The text that is written if the words ask for help.
 pub const HELP: &str = include_str!("help.txt");
 pub const USAGE: &str = "usage: metad-front [options] SOCKET PROGRAM [ARGS...]";
 const ASKING: &str = "usage: metad-front --control SOCKET (--groups | --move GROUP WORKER)";
-/// Stands for a socket that the front was passed.
+/// Stands for sockets that were passed to the front.
 pub const PASSED: &str = "-";
 const WORKERS_MOST: usize = 64;
 
-/// What the words ask for.
+/// The request that the words make.
 #[derive(Debug)]
 pub enum Words {
     Help,
     Serve(Box<Options>),
     Groups(PathBuf),
     Move(PathBuf, String, usize),
-    /// Nothing, since they are wrong: a line of usage, and what is wrong.
+    /// The words are wrong: a line of usage, and the mistake.
     Wrong(&'static str, String),
 }
 
-/// Where those connect who ask for the health of a front.
+/// The place where a front is asked for its health.
 #[derive(Debug, PartialEq, Eq)]
 pub enum Place {
     Path(PathBuf),
     Address(SocketAddr),
 }
 
-/// How a front is to serve.
+/// The settings of a front that serves.
 #[derive(Debug, Default, PartialEq, Eq)]
 pub struct Options {
     pub mode: Option<u32>,
@@ -61,7 +61,7 @@ pub struct Options {
     pub args: Vec<OsString>,
 }
 
-/// Says what is wrong with the words; answers the status that the run ends with.
+/// Prints what is wrong with the words; returns the exit status of the run.
 pub fn say_wrong(usage: &str, fault: &str) -> u8 {
     write_all(&format!("{usage}\n"));
     say(&format!("error: {fault}"));
@@ -80,7 +80,7 @@ pub fn read(words: &[OsString]) -> Words {
     }
 }
 
-/// Whether the words ask a running front for something: whether that is before all that is no option for it.
+/// Whether the words ask a running front for something: whether such an option comes before the first other word.
 fn asks(words: &[OsString]) -> bool {
     let mut left = words.iter().map(|word| word.to_string_lossy());
     while let Some(word) = left.next() {
@@ -94,13 +94,13 @@ fn asks(words: &[OsString]) -> bool {
     false
 }
 
-/// The options that stand before other words, one after the other.
+/// Reads the options at the beginning of the words, one after the other.
 struct Reader<'a> {
     words: std::slice::Iter<'a, OsString>,
 }
 
 impl<'a> Reader<'a> {
-    /// The value of an option: what is behind its `=`, or the next word, which is no option.
+    /// The value of an option: the text after its `=`, or the next word if that is no option.
     fn value(&mut self, name: &str, own: Option<String>) -> Result<String, String> {
         if let Some(own) = own {
             return Ok(own);
@@ -116,7 +116,7 @@ impl<'a> Reader<'a> {
     }
 }
 
-/// Whether a word is read as an option: it begins with `-`, and is no number below zero and has no space.
+/// Whether a word is read as an option: it begins with `-`, is no negative number, and contains no space.
 fn is_option(word: &str) -> bool {
     let is_number = word.len() > 1
         && word[1..].parse::<f64>().is_ok()
@@ -124,7 +124,7 @@ fn is_option(word: &str) -> bool {
     word.len() > 1 && word.starts_with('-') && !is_number && !word.contains(' ')
 }
 
-/// How a front is to serve; nothing, where the words ask for help.
+/// Reads the settings of a front; returns nothing if the words ask for help.
 fn served(words: &[OsString]) -> Result<Option<Options>, String> {
     let mut options = Options::default();
     let (mut places, mut unknown) = (Vec::new(), Vec::new());
@@ -155,7 +155,7 @@ fn served(words: &[OsString]) -> Result<Option<Options>, String> {
     Ok(Some(options))
 }
 
-/// Reads an option; whether there is one of this name.
+/// Reads an option; returns whether there is one of this name.
 fn read_option(options: &mut Options, reader: &mut Reader, text: &str) -> Result<bool, String> {
     let (name, own) = match text.split_once('=') {
         Some((name, value)) => (name, Some(value.to_string())),
@@ -192,7 +192,7 @@ fn read_option(options: &mut Options, reader: &mut Reader, text: &str) -> Result
     Ok(true)
 }
 
-/// What is wrong with options beside each other.
+/// Checks which options may be combined.
 fn check(options: &Options) -> Result<(), String> {
     let wrong = |fault: &str| Err(fault.to_string());
     if options.socket == OsStr::new(PASSED) && options.mode.is_some() {
@@ -216,7 +216,7 @@ fn check(options: &Options) -> Result<(), String> {
     check_workers(options)
 }
 
-/// What is wrong with the options for several servers.
+/// Checks the options for several servers.
 fn check_workers(options: &Options) -> Result<(), String> {
     let wrong = |fault: &str| Err(fault.to_string());
     let by_name = options.by_name == Some(true);
@@ -251,7 +251,7 @@ fn wrong_value<T>(name: &str, word: &str, what: &str) -> Result<T, String> {
     Err(format!("argument {name}: {} is no {what}", quoted(word)))
 }
 
-/// The rights that a word in octal digits says.
+/// Reads permissions in octal digits.
 fn mode(name: &str, word: &str) -> Result<u32, String> {
     let digits = if word.len() == 4 { word.strip_prefix('0').unwrap_or(word) } else { word };
     let is_mode = (1..=3).contains(&digits.len()) && digits.bytes().all(|byte| (b'0'..=b'7').contains(&byte));
@@ -261,7 +261,7 @@ fn mode(name: &str, word: &str) -> Result<u32, String> {
     }
 }
 
-/// A path, which is not empty.
+/// Reads a path, which must not be empty.
 fn path(name: &str, word: &OsStr) -> Result<PathBuf, String> {
     if word.is_empty() {
         return Err(format!("argument {name}: a path is not empty"));
@@ -269,7 +269,7 @@ fn path(name: &str, word: &OsStr) -> Result<PathBuf, String> {
     Ok(PathBuf::from(word))
 }
 
-/// A port of this machine alone, the address of another one, as `0.0.0.0:8080`, or a path.
+/// Reads a port of this machine, the address of another one such as `0.0.0.0:8080`, or a path.
 fn place(name: &str, word: &str) -> Result<Place, String> {
     if !word.is_empty() && word.bytes().all(|byte| byte.is_ascii_digit()) {
         return Ok(Place::Address((Ipv4Addr::LOCALHOST, port(name, word)?).into()));
@@ -280,7 +280,7 @@ fn place(name: &str, word: &str) -> Result<Place, String> {
     }
 }
 
-/// The name of a session that clients may share, which no client is given for itself.
+/// Reads the name of a session that clients may share, which must not be one that the front gives to a client.
 fn shared(name: &str, word: String) -> Result<String, String> {
     if !is_name(&word) || is_own_name(&word) {
         return wrong_value(name, &word, "name for a session, or one of those that clients are given");
@@ -296,7 +296,7 @@ fn port(name: &str, word: &str) -> Result<u16, String> {
     }
 }
 
-/// How many servers there are to be.
+/// Reads the number of servers.
 fn workers(name: &str, word: &str) -> Result<usize, String> {
     match count_in(word) {
         Some(count) if count <= WORKERS_MOST => Ok(count),
@@ -304,7 +304,7 @@ fn workers(name: &str, word: &str) -> Result<usize, String> {
     }
 }
 
-/// In how many seconds a server has to write something.
+/// Reads the number of seconds in which a server has to write something.
 fn seconds(name: &str, word: &str) -> Result<u64, String> {
     match word.parse() {
         Ok(seconds @ 1..=86_400) if word.bytes().all(|byte| byte.is_ascii_digit()) => Ok(seconds),
@@ -312,7 +312,7 @@ fn seconds(name: &str, word: &str) -> Result<u64, String> {
     }
 }
 
-/// A number of one or two digits that does not begin with 0.
+/// Reads a number of one or two digits that does not begin with 0.
 fn count_in(word: &str) -> Option<usize> {
     let is_number =
         (1..=2).contains(&word.len()) && word.bytes().all(|byte| byte.is_ascii_digit()) && !word.starts_with('0');
@@ -329,7 +329,7 @@ fn by_name(name: &str, word: &str) -> Result<bool, String> {
 
 // ---- asking ----
 
-/// What a running front is asked for.
+/// Reads a request to a running front.
 fn asked(words: &[OsString]) -> Result<Words, String> {
     let (mut control, mut moved, mut groups) = (None, None, false);
     let mut reader = Reader { words: words.iter() };
@@ -359,7 +359,7 @@ fn asked(words: &[OsString]) -> Result<Words, String> {
     }
 }
 
-/// The words that a message shows as they are.
+/// Words that messages show unchanged.
 #[cfg(test)]
 mod tests {
     use super::*;

@@ -1,4 +1,4 @@
-//! Where a running front is asked which groups there are, and to move one: a JSON line of the front's own each way.
+//! The control socket: operators list the groups of a running front, or move one, by lines of JSON in both directions.
 
 use serde_json::{json, Map, Value};
 
@@ -8,11 +8,11 @@ use crate::guests::Errand;
 use crate::lines::{asked_of_front, has_only, line_of, NOBODY};
 use crate::people::{ClientKey, GroupKey, Owner};
 
-/// Why a group does not move: a code and a text.
+/// The reason why a group does not move: a code and a text.
 type Refusal = (&'static str, String);
 
 impl Front {
-    /// Does what a line of an operator asks for.
+    /// Does what an operator's line asks for.
     pub fn do_for_operator(&mut self, key: usize, line: &[u8]) {
         let asked = asked_of_front(line).unwrap_or_default();
         if has_only(&asked, &["front"]) && asked["front"] == "groups" {
@@ -32,7 +32,7 @@ impl Front {
         }
     }
 
-    /// Which groups there are, and where.
+    /// The groups and where they are.
     fn rows(&self) -> Vec<Value> {
         let shown = self.groups.iter().filter(|(_, group)| !group.name.starts_with(NOBODY));
         let mut keys: Vec<(&str, GroupKey)> = shown.map(|(key, group)| (group.name.as_str(), key)).collect();
@@ -57,7 +57,7 @@ impl Front {
         })
     }
 
-    /// Moves a group, and answers when it is where it is to be.
+    /// Moves a group, and sends the answer when the group has arrived.
     fn move_for(&mut self, key: usize, asked: &Map<String, Value>) {
         match self.move_of(asked) {
             Err((code, why)) => self.answer_operator(key, &json!({"error": code, "why": why})),
@@ -77,7 +77,7 @@ impl Front {
         }
     }
 
-    /// The group that is to move, and the place of the worker that is to have it.
+    /// Finds the group to be moved, and the worker that is to have it.
     fn move_of(&self, asked: &Map<String, Value>) -> Result<(GroupKey, usize), Refusal> {
         let refused = |code, why: &str| Err((code, why.to_string()));
         let pool = match self.pool.as_ref().filter(|pool| pool.folder.is_some()) {
@@ -103,7 +103,7 @@ impl Front {
         Ok((key, target))
     }
 
-    /// Answers that a group has moved, or why it has not.
+    /// Sends the answer that a group has moved, or why it has not.
     pub fn answer_move(&mut self, guest: usize, key: GroupKey, fault: &str) {
         if let Some(Errand::Operator(moves)) = self.guests.get_mut(&guest).map(|guest| &mut guest.errand) {
             *moves = moves.saturating_sub(1);

@@ -1,4 +1,4 @@
-//! The sockets at which others come in.
+//! The sockets at which clients, guests and health checks connect.
 
 use std::io::{self, ErrorKind};
 use std::net::TcpListener;
@@ -14,30 +14,30 @@ use crate::front::Front;
 use crate::health::CHECKS_MOST;
 use crate::tokens::{token, Kind};
 
-/// Connections that are let in at one door before others have their turn.
+/// Connections that are accepted at one door before the other doors have their turn.
 const AT_ONCE: usize = 64;
-/// How long nobody is let in where that was not possible, unless somebody goes before.
+/// After a failed accept nobody is let in for this time, unless somebody disconnects before.
 const PAUSE: Duration = Duration::from_secs(1);
 
-/// Who comes in at a door.
+/// The kinds of connections that a door accepts.
 #[derive(Clone, Copy, Debug, PartialEq, Eq)]
 pub enum Comers {
     Clients,
     Monitors,
     Operators,
-    /// Those who ask for the health of the front.
+    /// Checks of the front's health.
     Checks,
 }
 
-/// A socket at which others connect.
+/// A socket that is listened at.
 pub enum Listener {
     Unix(UnixListener),
-    /// Only those who ask for the health of the front come over the network.
+    /// Over the network the front accepts only checks of its health.
     Tcp(TcpListener),
 }
 
 impl Listener {
-    /// Where others connect, as people are shown it.
+    /// The socket's place, as messages show it.
     pub fn place(&self) -> String {
         match self {
             Listener::Unix(it) => {
@@ -48,7 +48,7 @@ impl Listener {
         }
     }
 
-    /// The next one who has connected.
+    /// Accepts the next connection.
     fn accept(&self) -> io::Result<UnixStream> {
         let stream = match self {
             Listener::Unix(it) => it.accept()?.0,
@@ -69,71 +69,71 @@ impl Listener {
 struct Door {
     listener: Listener,
     comers: Comers,
-    /// Somebody may wait there.
+    /// Somebody may be waiting there.
     is_stirred: bool,
 }
 
-/// All doors. Where there is no room for one more connection, nobody is let in until somebody has gone, but for those who ask
-/// for the health of the front.
+/// All doors. If there is no room for another connection, nobody is let in until somebody disconnects, except for checks of
+/// the front's health.
 #[derive(Default)]
 pub struct Doors {
     doors: Vec<Door>,
-    /// Doors that are opened once the servers serve.
+    /// Doors that are opened when the servers serve.
     later: Vec<(Listener, Comers)>,
     are_shut: bool,
-    /// When letting in is tried again that was not possible. Nobody may be there who could go.
+    /// When to try again after a failed accept. There may be nobody whose leaving would make room.
     again: Option<Instant>,
-    /// Numbers of files from here on are kept for others than those who come in.
+    /// File numbers from here on are reserved for other uses than connections.
     pub files_most: Option<RawFd>,
 }
 
 impl Doors {
-    /// Lets in those who connect at a socket once the servers serve.
+    /// Adds a socket whose door is opened when the servers serve.
     pub fn add_later(&mut self, listener: Listener, comers: Comers) {
         self.later.push((listener, comers));
     }
 
-    /// Whether no door was opened yet.
+    /// Whether the doors are still to be opened.
     pub fn are_to_open(&self) -> bool {
         !self.later.is_empty()
     }
 
-    /// Lets in those who connect at a socket.
+    /// Opens a door at a socket.
     fn add(&mut self, listener: Listener, comers: Comers, registry: &Registry) -> io::Result<()> {
         registry.register(&mut SourceFd(&listener.number()), token(Kind::Door, self.doors.len()), Interest::READABLE)?;
         self.doors.push(Door { listener, comers, is_stirred: true });
         Ok(())
     }
 
-    /// Somebody waits at a door.
+    /// Records that somebody waits at a door.
     pub fn stir(&mut self, at: usize) {
         if let Some(door) = self.doors.get_mut(at) {
             door.is_stirred = true;
         }
     }
 
-    /// Whether nobody is let in.
+    /// Whether nobody is let in at present.
     pub fn are_shut(&self) -> bool {
         self.are_shut
     }
 
-    /// Whether somebody may be let in.
+    /// Whether somebody may be waiting whom the front can let in.
     pub fn is_stirred(&self) -> bool {
         self.doors.iter().any(|door| door.is_stirred && self.is_open(door))
     }
 
-    /// Whether somebody may come in here. Those who ask for the health of the front always may.
+    /// Whether a door lets people in. Doors for checks of the front's health always do.
     fn is_open(&self, door: &Door) -> bool {
         !self.are_shut || door.comers == Comers::Checks
     }
 
-    /// Lets nobody in until somebody has gone.
+    /// Lets nobody in until somebody disconnects.
     pub fn shut(&mut self) {
         self.again = None;
         self.are_shut = true;
     }
 
-    /// Tries again to let somebody in, where it is time for that; answers in what time it is.
+    /// Tries again to accept, if it is time for that; returns the time until the next try.
     pub fn look_again(&mut self) -> Option<Duration> {
         let again = self.again?;
         let left = again.saturating_duration_since(Instant::now());
@@ -144,7 +144,7 @@ impl Doors {
         Some(left)
     }
 
-    /// Lets others in again, since somebody has gone.
+    /// Lets people in again, because somebody has disconnected.
     pub fn reopen(&mut self) {
         self.again = None;
         if self.are_shut {
@@ -153,7 +153,7 @@ impl Doors {
         }
     }
 
-    /// The next one who comes in.
+    /// Accepts the next connection at a door.
     fn next(&mut self, at: usize) -> Option<UnixStream> {
         let door = &self.doors[at];
         if !door.is_stirred || !self.is_open(door) {
@@ -172,7 +172,7 @@ impl Doors {
                     return None;
                 }
                 Err(_) => {
-                    // those who ask for the health of the front wait too
+                    // checks of the front's health wait too
                     self.doors[at].is_stirred = door.comers != Comers::Checks;
                     self.are_shut = true;
                     self.again = Some(Instant::now() + PAUSE);
@@ -184,7 +184,7 @@ impl Doors {
 }
 
 impl Front {
-    /// Opens the doors where all servers serve by now, and says where they are.
+    /// Opens the doors when all servers serve, and says where they are.
     pub fn open_doors(&mut self) -> io::Result<()> {
         if !self.doors.are_to_open() || !self.workers.iter().all(|worker| worker.has_written || !worker.is_first) {
             return Ok(());
@@ -208,7 +208,7 @@ impl Front {
         Ok(())
     }
 
-    /// Lets in those who have connected.
+    /// Accepts the connections that wait.
     pub fn let_in(&mut self) {
         for at in 0..self.doors.doors.len() {
             let comers = self.doors.doors[at].comers;

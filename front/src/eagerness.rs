@@ -1,23 +1,23 @@
-//! Whether the front looks for what comes next at once before it sleeps, where one client and one server talk with each other.
+//! Decides whether the front polls for events before it sleeps, while one client and one server talk with each other.
 //!
-//! Where a processor is free, looking saves the time in which a sleeper is woken. Where all are busy, it takes the processor
-//! from the one for whom the front waits. So the front tries both from time to time, and takes what was quicker.
+//! If a processor is free, polling saves the time that it takes to wake a sleeping process. If all are busy, it takes the
+//! processor from the process that the front waits for. The front tries both ways from time to time, and keeps the faster one.
 
 use std::time::Duration;
 
-/// How long the front looks at most before it sleeps.
+/// The longest time that the front polls before it sleeps.
 pub const LOOK: Duration = Duration::from_micros(25);
-/// Waits without looking after one in which it was in vain.
+/// After a poll that found nothing, the front does not poll in this many waits.
 const IN_VAIN: u32 = 16;
-/// Waits of each way while both are tried, and of the better one then.
+/// The number of waits in which each way is tried, and then of waits by the faster way.
 const TRIED: u32 = 128;
 const TAKEN: u32 = 2_048;
-/// Longer waits are for somebody who has nothing to say yet, and count as this one.
+/// Longer waits count as this one: they are for somebody who has nothing to say yet.
 const LONGEST: Duration = Duration::from_micros(60);
-/// What looking has to take at most, in tenths of the time without it, so that it is worth the processor's time.
+/// Polling is used if it takes at most this many tenths of the time without it, so that it is worth the processor's time.
 const WORTH: u32 = 8;
 
-/// What is under way.
+/// The present step of the trial.
 #[derive(Clone, Copy, Debug, PartialEq, Eq)]
 enum Phase {
     TriesSleep,
@@ -25,14 +25,14 @@ enum Phase {
     Takes,
 }
 
-/// Which of both ways is taken, and how long waits were.
+/// The way that is taken at present, and the times of waits.
 pub struct Eagerness {
     phase: Phase,
     left: u32,
     is_eager: bool,
-    /// Waits in which the front does not look, since it did so in vain.
+    /// Waits that are left in which the front does not poll, because polling found nothing.
     rest: u32,
-    /// All waits of this try together, without and with looking.
+    /// The total time of the waits in this trial, without and with polling.
     slept: Duration,
     looked: Duration,
 }
@@ -43,7 +43,7 @@ impl Eagerness {
         Eagerness { phase: Phase::TriesSleep, left: TRIED, is_eager: false, rest: 0, slept: none, looked: none }
     }
 
-    /// Whether the front looks before it sleeps.
+    /// Whether the front polls before it sleeps.
     pub fn looks(&self) -> bool {
         self.is_eager && self.rest == 0
     }
@@ -75,7 +75,7 @@ impl Eagerness {
 mod tests {
     use super::*;
 
-    /// How many of so many waits the front looks, where waits take so many microseconds without and with that.
+    /// In how many of these waits the front polls, if waits take so many microseconds without and with polling.
     fn looks(eagerness: &mut Eagerness, waits: u32, slept: u64, looked: u64) -> u32 {
         let mut count = 0;
         for _ in 0..waits {

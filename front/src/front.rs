@@ -1,4 +1,4 @@
-//! What goes between the clients and the servers: all that the front knows, and its loop.
+//! The front's state, and its loop between the clients and the servers.
 
 use std::collections::{HashMap, HashSet, VecDeque};
 use std::ffi::OsString;
@@ -25,23 +25,23 @@ use crate::replaying::Replay;
 use crate::tokens::{read, Kind};
 use crate::worker::Worker;
 
-/// Bytes that are read of a client at once: no more than a line may have.
+/// Bytes that are read from a client at once: no more than a line may have.
 pub const CHUNK: usize = 16_384;
-/// How often the front goes on by itself before it looks again at what has come.
+/// How often the front repeats its own work before it looks for new events.
 const ROUNDS: usize = 8;
-/// Events are waited for in these, without the rest of one.
+/// The unit of the time to wait for events; fractions are dropped.
 const MILLISECOND: Duration = Duration::from_millis(1);
-/// The session of commands of the front itself.
+/// The session of the front's own commands.
 pub const NO_SESSION: SessionKey = 0;
 
-/// Why the front stops.
+/// The reasons why the front stops.
 #[derive(Debug, PartialEq, Eq)]
 pub enum Stop {
-    /// It was asked to.
+    /// It was asked to stop.
     Asked,
-    /// It cannot go on.
+    /// It cannot continue.
     Ended(Ended),
-    /// Its server has ended with this status before it served anything.
+    /// Its server ended with this status before it served anything.
     NotServed(Ended, u8),
 }
 
@@ -57,7 +57,7 @@ impl From<io::Error> for Stop {
     }
 }
 
-/// The clients of one server, or of several, and what goes between.
+/// A front with its clients and one server, or several.
 pub struct Front {
     pub poll: Poll,
     pub log: Log,
@@ -68,41 +68,41 @@ pub struct Front {
     pub guests: HashMap<usize, Guest>,
     pub next_guest: usize,
     pub workers: Vec<Worker>,
-    /// The words that start a server.
+    /// The command line of a server.
     pub server_words: (OsString, Vec<OsString>),
-    /// What there is only where there may be several servers.
+    /// The state that only a front with workers has.
     pub pool: Option<Pool>,
     pub groups: Slab<Group>,
-    /// Groups of whose records something is to be written.
+    /// Groups whose records are to be written.
     pub changed: HashSet<GroupKey>,
-    /// Joins of other groups that were mentioned.
+    /// The number of joins of other groups that the log has mentioned.
     pub in_vain: usize,
     pub replays: HashMap<ReplayKey, Replay>,
     pub next_replay: ReplayKey,
     pub inspector: Option<Inspector>,
-    /// The process of the page, also where it is not told anything any more.
+    /// The process of the page. It stays here after the front stops writing to it.
     pub page: Option<Child>,
     pub live: Live,
     pub notifier: Notifier,
-    /// The status of a server that has ended before it served anything.
+    /// The exit status of a server that ended before it served anything.
     pub not_served: Option<u8>,
-    /// Can be read once a hangup has come.
+    /// Becomes readable when a hangup has come.
     pub hangups: Option<std::os::unix::net::UnixStream>,
-    /// How long a server may be silent that has a command under way.
+    /// The longest time that a server with a command under way may be silent.
     pub patience: Option<Duration>,
-    /// Clients name sessions by themselves.
+    /// Clients name their sessions.
     pub named_by_clients: bool,
     /// Sessions that clients may share.
     pub shared: HashMap<String, SessionKey>,
-    /// Clients so far.
+    /// The number of clients so far.
     pub count: u64,
-    /// Monitors and operators so far.
+    /// The numbers of guests so far, by kind.
     pub guest_counts: [usize; 3],
-    /// Monitors that are there.
+    /// The number of connected monitors.
     pub monitors: usize,
-    /// Those who ask for the health of the front and are there.
+    /// The number of connected checks of the front's health.
     pub checks: usize,
-    /// Those whose clients have gone and whose commands are still to be done.
+    /// The number of disconnected clients whose commands are still to be done.
     pub left: usize,
     /// Bytes that all clients together have not read.
     pub unread: usize,
@@ -110,19 +110,19 @@ pub struct Front {
     pub touched: Vec<ClientKey>,
     /// Clients whose answers wait for further ones, and since when.
     pub held: VecDeque<(Instant, ClientKey)>,
-    /// Whether the front looks for what may come at once.
+    /// Whether the front polls before it sleeps.
     pub eagerness: Eagerness,
-    /// When events were waited for the last time.
+    /// When the front last began to wait for events.
     pub now: Instant,
     pub touched_guests: Vec<usize>,
-    /// Where what a client wrote is read to.
+    /// The buffer into which a client's bytes are read.
     pub chunk: Vec<u8>,
-    /// Lines that were read of a client and are still to be sorted.
+    /// Lines of a client that were read and are still to be sorted.
     pub sorted: Queue,
 }
 
 impl Front {
-    /// A front with so many servers, none of which has begun.
+    /// Makes a front with this many workers, none of which has a server yet.
     pub fn new(count: usize, server_words: (OsString, Vec<OsString>), log: Log) -> io::Result<Front> {
         let (mut speakers, mut sessions) = (Slab::new(), Slab::new());
         sessions.insert(Session::new("", true));
@@ -178,12 +178,12 @@ impl Front {
         self.shared.insert(name.to_string(), key);
     }
 
-    /// Serves until a server ends in whose place none comes, or the front is asked to end.
+    /// Serves until a server ends and is not replaced, or until the front is asked to end.
     pub fn serve(&mut self) -> Result<(), Stop> {
         let mut events = Events::with_capacity(1_024);
         loop {
             self.open_doors()?;
-            let due = self.due().map(|time| time + MILLISECOND); // so that less than one is not taken for nothing
+            let due = self.due().map(|time| time + MILLISECOND); // so that less than a millisecond does not count as no time
             let timeout = if self.is_stirred() { Some(Duration::ZERO) } else { due };
             match self.wait(&mut events, timeout) {
                 Err(error) if error.kind() != io::ErrorKind::Interrupted => return Err(error.into()),
@@ -206,7 +206,7 @@ impl Front {
         }
     }
 
-    /// Does what it is time for; answers in what time there is more to be done.
+    /// Does what is due now; returns the time until more is due.
     fn due(&mut self) -> Option<Duration> {
         let mut due = self.touch_held();
         let others =
@@ -217,8 +217,8 @@ impl Front {
         due
     }
 
-    /// Waits until something comes. Where one client and one server talk with each other, what comes next is often there
-    /// within microseconds, so the front may look for it for a short time before it sleeps.
+    /// Waits for events. If one client and one server talk with each other, the next event often comes within microseconds, so
+    /// the front may poll for a short time before it sleeps.
     fn wait(&mut self, events: &mut Events, timeout: Option<Duration>) -> io::Result<()> {
         let under_way: usize = self.workers.iter().map(|worker| worker.turns.under_way.len()).sum();
         if timeout == Some(Duration::ZERO) || under_way > 1 || events.is_empty() {
@@ -238,7 +238,7 @@ impl Front {
         Ok(())
     }
 
-    /// Does what a source is ready for.
+    /// Handles an event.
     fn stir(&mut self, event: &Event) -> Result<(), Stop> {
         let (kind, key) = read(event.token());
         let (is_readable, is_hung_up) = (event.is_readable(), event.is_read_closed() || event.is_error());
@@ -256,7 +256,7 @@ impl Front {
         Ok(())
     }
 
-    /// Does what is to be done after what has come.
+    /// Does the work that the events have caused.
     fn work(&mut self) -> Result<(), Stop> {
         self.settle();
         self.settle_guests();
@@ -268,7 +268,7 @@ impl Front {
         Ok(())
     }
 
-    /// Whether what was done has more to be done, as where a group is closed or has moved.
+    /// Whether that work has caused further work, as when a group was closed or has moved.
     fn is_stirred(&mut self) -> bool {
         let has_released = self.pool.as_mut().map_or(false, |pool| std::mem::take(&mut pool.has_released));
         has_released
@@ -278,7 +278,7 @@ impl Front {
             || self.doors.is_stirred()
     }
 
-    /// In what time a process is to be started, if one is.
+    /// The time until the next process is to be started, if one is.
     fn next_due(&self) -> Option<Duration> {
         self.pool.as_ref()?;
         let missing = self.workers.iter().filter(|worker| worker.server.is_none());
@@ -286,7 +286,7 @@ impl Front {
         Some(due.saturating_duration_since(Instant::now()))
     }
 
-    /// Ends the front where standard input has ended; what stands there is passed over.
+    /// Ends the front when standard input ends; its contents are ignored.
     fn look_at_input(&mut self) -> Result<(), Stop> {
         use nix::poll::{poll, PollFd, PollFlags};
         let mut looked_at = [PollFd::new(0, PollFlags::POLLIN)];

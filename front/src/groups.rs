@@ -1,6 +1,6 @@
-//! Groups of sessions, which can join each other, and on which of several servers each of them is.
+//! Groups of sessions that can join each other, each on one of several servers.
 //!
-//! A session's group is named by what is before the first `__` of its name, or by the whole name where there is none.
+//! The name of a session's group is the part of its name before the first `__`, or the whole name if it has none.
 
 use std::collections::{HashMap, HashSet};
 
@@ -15,11 +15,11 @@ use crate::records::GroupRecord;
 use crate::ring::stranger;
 use crate::turns::Command;
 
-/// What is between the name of a group and the rest of a session's.
+/// Separates the name of a group from the rest of a session's name.
 pub const BETWEEN: &str = "__";
-/// Groups of each group whose joins are said to be in vain.
+/// The most other groups that the log mentions for each group, in warnings that a join is in vain.
 const PAIRS_MOST: usize = 256;
-/// Joins of other groups that are mentioned, of all groups.
+/// The most joins between groups that the log mentions in all.
 const IN_VAIN_MOST: usize = 1_000;
 
 /// The name of a session's group.
@@ -30,13 +30,13 @@ pub fn group_of(session: &str) -> &str {
     }
 }
 
-/// Whether a client may ask for a group of this name: it is read from the names of its sessions as it is, and is none that a
-/// client has as a group by itself.
+/// Whether a client may ask for a group of this name: the names of its sessions give this name back, and the front gives it to
+/// no client's own group.
 pub fn is_group(name: &str) -> bool {
     is_name(name) && !name.contains(BETWEEN) && !name.ends_with('_') && !is_own_name(name)
 }
 
-/// Whether a line puts its session back to its beginning.
+/// Whether a line resets its session.
 fn is_reset(line: &[u8]) -> bool {
     let command = may_have(line, "reset").then(|| object_of(line)).flatten();
     command.map_or(false, |it| has_only(&it, &["do", "session"]) && it["do"] == "reset")
@@ -45,28 +45,28 @@ fn is_reset(line: &[u8]) -> bool {
 /// Sessions that can join each other, and are on one server.
 pub struct Group {
     pub name: String,
-    /// Which group it is of all that there were.
+    /// A number that no other group of this front has or had.
     pub number: u64,
-    /// The place of its worker among all.
+    /// The index of its worker.
     pub worker: usize,
     pub record: Option<GroupRecord>,
     pub sessions: HashMap<String, SessionKey>,
     pub speakers: HashSet<SpeakerKey>,
     /// Sessions that may hold something.
     pub filled: HashSet<String>,
-    /// Those that have held something since the record began.
+    /// Sessions that have held something since the record began.
     pub named: HashSet<String>,
-    /// Lines that the server was given.
+    /// The number of lines that were given to the server.
     pub lines: u64,
     pub under_way: usize,
-    /// Its commands wait until it was brought back, or is elsewhere.
+    /// Its commands wait until it has been brought back or has moved.
     pub is_held: bool,
-    /// Commands that a server has not answered that has ended.
+    /// Commands that were given to a server that ended before it answered.
     pub lost: Vec<Command>,
-    /// It begins to move once nothing is under way.
+    /// The group moves when nothing is under way.
     pub moves_when_idle: bool,
     pub moving: Option<Move>,
-    /// Groups whose publications were joined in vain.
+    /// Groups whose publications this one has joined in vain.
     others: HashSet<String>,
 }
 
@@ -91,7 +91,7 @@ impl Group {
         }
     }
 
-    /// Counts a line that the server is given.
+    /// Counts and records a line that is given to the server.
     pub fn given(&mut self, key: GroupKey, session: &str, line: &[u8], changed: &mut HashSet<GroupKey>, log: &mut Log) {
         self.under_way += 1;
         self.fill(session, line);
@@ -101,7 +101,7 @@ impl Group {
         }
     }
 
-    /// Notes which session may hold something after a line that the server is given.
+    /// Updates which sessions may hold something, after a line that is given to the server.
     pub fn fill(&mut self, session: &str, line: &[u8]) {
         self.lines += 1;
         if is_reset(line) {
@@ -114,7 +114,7 @@ impl Group {
         }
     }
 
-    /// Records lines that the server has told.
+    /// Records lines that the server has written.
     pub fn told(&mut self, key: GroupKey, lines: &[u8], changed: &mut HashSet<GroupKey>, log: &mut Log) {
         if let Some(record) = &mut self.record {
             record.told(lines, log);
@@ -122,20 +122,20 @@ impl Group {
         }
     }
 
-    /// Whether its record can bring it back.
+    /// Whether its record can bring the group back.
     pub fn is_recorded(&self) -> bool {
         self.record.as_ref().map_or(false, |record| record.is_whole)
     }
 
-    /// Whether a join of this other group is the first one, and so is to be mentioned.
+    /// Whether this is the first join of that other group, which the log mentions.
     fn is_new(&mut self, other: &str) -> bool {
         self.others.len() < PAIRS_MOST && self.others.insert(other.to_string())
     }
 }
 
 impl Front {
-    /// The next line of a speaker where it is changed: what it joins of another group is nobody's, so that it is answered as
-    /// ever, and where that group is makes no difference.
+    /// The next line of a speaker, if it has to be changed: it joins or leaves a publication of another group, and is sent as
+    /// if that were nobody's. So the answer is as usual, and does not depend on where the other group is.
     pub fn kept_apart(&mut self, key: SpeakerKey) -> Option<Vec<u8>> {
         let speaker = &self.speakers[key];
         let group = speaker.group?;
@@ -164,7 +164,7 @@ impl Front {
         Some(changed)
     }
 
-    /// Takes one more who speaks for a session of a group.
+    /// Adds a speaker to a group.
     pub fn enter_speaker(&mut self, group: GroupKey, key: SpeakerKey) {
         let found = &mut self.groups[group];
         let speaker = &mut self.speakers[key];
@@ -175,7 +175,7 @@ impl Front {
         }
     }
 
-    /// Lets go who speaks for no session of a group any more.
+    /// Removes a speaker from a group.
     pub fn leave_group(&mut self, group: GroupKey, key: SpeakerKey) {
         let found = &mut self.groups[group];
         if found.speakers.remove(&key) {

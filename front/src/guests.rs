@@ -1,5 +1,5 @@
-//! Those who are connected and speak for no session: monitors, who are told what the servers write, and operators, who ask
-//! the front for groups.
+//! Connections that speak for no session: monitors, which receive what the servers write, operators, which ask the front about
+//! groups, and checks of the front's health.
 
 use std::os::unix::io::AsRawFd;
 use std::time::{Duration, Instant};
@@ -16,20 +16,20 @@ use crate::people::{Came, Link};
 use crate::queue::Queue;
 use crate::tokens::{token, Kind};
 
-/// A monitor's last line, behind which lines were left out.
+/// The code of a monitor's last line, which says that the lines after it were left out.
 const LEFT_OUT: &str = "F10";
 
-/// What somebody is here for.
+/// The purpose of a guest.
 pub enum Errand {
-    /// To be told the lines of all sessions, or of one.
+    /// A monitor of all sessions, or of one.
     Monitor(Option<String>),
-    /// To ask for groups; so many of the moves that it has asked for have not ended.
+    /// An operator, with the number of its moves that have not ended.
     Operator(usize),
-    /// To ask for the health of the front.
+    /// A check of the front's health.
     Health(Check),
 }
 
-/// Somebody who is connected and speaks for no session.
+/// A connection that speaks for no session.
 pub struct Guest {
     name: String,
     pub link: Link,
@@ -38,7 +38,7 @@ pub struct Guest {
 }
 
 impl Front {
-    /// Takes a new guest.
+    /// Adds a new guest.
     pub fn enter_guest(&mut self, stream: UnixStream, comers: Comers) {
         let (place, kind, errand) = match comers {
             Comers::Operators => (1, "operator", Errand::Operator(0)),
@@ -67,7 +67,7 @@ impl Front {
         }
     }
 
-    /// Takes note of what a guest's connection is ready for.
+    /// Records what a guest's connection is ready for.
     pub fn stir_guest(&mut self, key: usize, is_readable: bool, is_hung_up: bool) {
         if let Some(guest) = self.guests.get_mut(&key) {
             guest.link.stir(is_readable, is_hung_up);
@@ -75,12 +75,12 @@ impl Front {
         self.touch_guest(key);
     }
 
-    /// Whether there is anybody to be told what the servers write.
+    /// Whether any monitor is connected.
     pub fn has_monitors(&self) -> bool {
         self.monitors > 0
     }
 
-    /// Tells lines of a server to the monitors whom they concern.
+    /// Sends a server's lines to the monitors that ask for them.
     pub fn tell_monitors(&mut self, session: &str, lines: &[u8]) {
         for (key, guest) in &mut self.guests {
             let is_concerned = match &guest.errand {
@@ -100,7 +100,7 @@ impl Front {
         }
     }
 
-    /// Lets guests take what they are told, and lets those go that are done.
+    /// Writes to guests what they have not read, and closes those that are done.
     pub fn settle_guests(&mut self) {
         for key in std::mem::take(&mut self.touched_guests) {
             if let Some(guest) = self.guests.get_mut(&key) {
@@ -132,7 +132,7 @@ impl Front {
         }
     }
 
-    /// The lines that a guest has written.
+    /// Reads the lines that a guest has written.
     fn read_guest(&mut self, key: usize) -> Queue {
         let mut lines = Queue::default();
         if let Some(guest) = self.guests.get_mut(&key) {
@@ -148,7 +148,7 @@ impl Front {
         lines
     }
 
-    /// Does what a guest's lines ask for: all of an operator, and the first one of a monitor.
+    /// Does what a guest's lines ask for: all of an operator's, and a monitor's first one.
     fn hear_guest(&mut self, key: usize, first: &[u8], lines: &Queue) {
         let guest = match self.guests.get_mut(&key) {
             Some(guest) => guest,
@@ -174,8 +174,8 @@ impl Front {
         }
     }
 
-    /// Lets monitors take what is left for them, when the front ends: until none has taken anything for the time of a pause,
-    /// and for at most the other time.
+    /// Lets monitors read what is left for them when the front ends: until none has read anything for the time of a pause, and
+    /// for at most the other time.
     pub fn finish_monitors(&mut self, pause: Duration, most: Duration) {
         let end = Instant::now() + most;
         let (mut until, mut left) = (Instant::now() + pause, usize::MAX);
@@ -200,7 +200,7 @@ impl Front {
         }
     }
 
-    /// Lets a guest go.
+    /// Closes a guest.
     fn close_guest(&mut self, key: usize) {
         if let Some(guest) = self.guests.remove(&key) {
             let is_check = matches!(guest.errand, Errand::Health(_));
@@ -212,7 +212,7 @@ impl Front {
                 self.doors.reopen();
             }
             if !is_check && !is_cut {
-                self.log.note(&format!("{name} {how}")); // of a cut one it was said when lines were left out
+                self.log.note(&format!("{name} {how}")); // for one that was cut off this was logged when lines were left out
             }
         }
     }

@@ -1,9 +1,9 @@
-//! Where the health of a front is asked for, out of the reach of its clients: each server is asked for what asks for nothing,
-//! in the name of no session, so that no client can share, name or fill it.
+//! Checks of a front's health, separate from its clients: each server is asked a question that changes nothing, for no
+//! session, so clients can neither share, name nor fill what is asked.
 //!
-//! Whoever connects asks by a request of HTTP/1.0, `GET /`, and is answered one word: `alive`, with the status 200; and with
-//! 503 `slow` where a server has not answered in time, `replaying` where groups are brought back or a server is started
-//! again, and `full` where no more clients are let in. `GET /live` is for those who would start the front anew or close its
+//! A check is a request of HTTP/1.0, `GET /`. The answer is one word: `alive` with the status 200, or with the status 503
+//! `slow` if a server has not answered in time, `replaying` if groups are being brought back or a server is being started
+//! again, and `full` if no more clients are let in. `GET /live` is for supervisors that would restart the front or close its
 //! clients: there only `slow` has the status 503.
 
 use std::time::{Duration, Instant};
@@ -12,43 +12,43 @@ use crate::front::{Front, NO_SESSION};
 use crate::guests::Errand;
 use crate::people::{Came, Owner, Speaker};
 
-/// What a server answers by an error, for no session, and what leaves nothing with it.
+/// A command for no session. The server answers it by an error, and keeps nothing of it.
 pub const NOTHING: &[u8] = b"{\"do\":\"status\",\"session\":\"-\"}";
-/// Where it is asked for nothing but whether the front and its servers live.
+/// The path of a request that asks only whether the front and its servers live.
 const LIVE: &[u8] = b"/live";
-/// Those who ask at once, at most.
+/// The most checks that are answered at the same time.
 pub const CHECKS_MOST: usize = 8;
-/// Bytes that a request may have before it is whole.
+/// The most bytes that a request may have before it is complete.
 const REQUEST_MOST: usize = 8_192;
-/// How long a server may take, and how long a request.
+/// The longest time that a server may take to answer, and that a request may take to arrive.
 const PATIENCE: Duration = Duration::from_secs(2);
 
-/// What was asked for, and what is still to be answered.
+/// The state of a check.
 pub struct Check {
     request: Vec<u8>,
     is_asked: bool,
     /// It asks only whether the front and its servers live.
     is_of_life: bool,
-    /// Servers that have not answered.
+    /// The number of servers that have not answered.
     pub awaited: usize,
     until: Instant,
 }
 
 impl Check {
-    /// A check that has not begun.
+    /// Makes a check that has not begun.
     pub fn new() -> Check {
         Check { request: Vec::new(), is_asked: false, is_of_life: false, awaited: 0, until: Instant::now() + PATIENCE }
     }
 }
 
-/// A request's method and path, where the request is whole. Nothing where more of it is to come.
+/// The method and path of a request, or nothing if the request is not complete yet.
 fn asked_in(request: &[u8]) -> Option<(&[u8], &[u8])> {
     let is_whole = request.windows(2).any(|it| it == b"\n\n") || request.windows(4).any(|it| it == b"\r\n\r\n");
     let mut words = request.split(|byte| byte.is_ascii_whitespace());
     is_whole.then(|| (words.next().unwrap_or_default(), words.next().unwrap_or_default()))
 }
 
-/// An answer that says a word. To a request for its head it says nothing but that.
+/// An answer of one word. The answer to a `HEAD` request leaves the word out.
 fn answer_of(status: &str, word: &str, is_head: bool) -> Vec<u8> {
     let length = word.len() + 1;
     let head = format!(
@@ -59,7 +59,7 @@ fn answer_of(status: &str, word: &str, is_head: bool) -> Vec<u8> {
 }
 
 impl Front {
-    /// Reads what somebody asks who asks for the health of the front.
+    /// Reads the request of a check.
     pub fn read_check(&mut self, key: usize) {
         let guest = match self.guests.get_mut(&key) {
             Some(guest) if guest.link.is_readable && !guest.link.has_ended => guest,
@@ -85,7 +85,7 @@ impl Front {
         }
     }
 
-    /// Asks all servers on behalf of somebody who asks for the health of the front.
+    /// Asks all servers for a check.
     fn check_health(&mut self, guest: usize) {
         let is_replaying = self.workers.iter().any(|worker| worker.server.is_none() || !worker.replays.is_empty());
         let state = match (is_replaying, self.doors.are_shut()) {
@@ -107,7 +107,7 @@ impl Front {
         }
     }
 
-    /// A server has answered.
+    /// Counts a server's answer to a check.
     pub fn heard_health(&mut self, guest: usize) {
         let is_last = match self.guests.get_mut(&guest).map(|guest| &mut guest.errand) {
             Some(Errand::Health(check)) if check.awaited > 0 => {
@@ -121,8 +121,8 @@ impl Front {
         }
     }
 
-    /// Tells those that a server is slow who have waited for too long, and closes those who ask for nothing; answers in what
-    /// time others have.
+    /// Answers `slow` to checks that have waited too long for a server, and closes those that sent no request in time; returns
+    /// the time until the next is due.
     pub fn look_at_checks(&mut self) -> Option<Duration> {
         if self.checks == 0 {
             return None;
@@ -144,7 +144,7 @@ impl Front {
         next.map(|until| until - now)
     }
 
-    /// Tells somebody who asks how the front is.
+    /// Sends the front's health to a check.
     pub fn tell_health(&mut self, key: usize, state: &str) {
         let is_of_life = match self.guests.get(&key).map(|guest| &guest.errand) {
             Some(Errand::Health(check)) => check.is_of_life,

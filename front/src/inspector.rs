@@ -1,9 +1,9 @@
-//! The process that shows the server as a page: it is told all lines given and written, and nobody waits for it.
+//! The process that shows the server as a page: it receives all lines given and written, and the front never waits for it.
 //!
-//! It is told lines by a socket of its own. A line that the server was given has `>` before it, or `?` and a number where
-//! the process itself has asked for it; one that the server wrote stands as it is. `@` is before the time, in millionths of a
-//! second, of the lines after it, and `!` before what the front says by itself, an object: how it begins, which session has
-//! gone, what was refused, and how many lines were left out. The process writes what it asks for: a number, a session and a
+//! The process receives lines by a socket of its own. A line that the server was given begins with `>`, or with `?` and a
+//! number if the process itself asked for it; a line that the server wrote is unchanged. `@` begins the time, in microseconds,
+//! of the lines after it, and `!` an object by the front itself: how the front begins, the session of a client that has left,
+//! what was refused, and how many lines were left out. The process writes requests: a number, a session and a
 //! command, each of which the front checks, as `asked` says.
 
 use std::collections::{BTreeSet, HashMap};
@@ -21,48 +21,48 @@ use crate::queue::Queue;
 use crate::spawn::kill_at_once;
 use crate::turns::Turns;
 
-/// Bytes that the process has not taken, above which lines are left out.
+/// If the process has more unread bytes than this, lines are left out.
 const LEFT_MOST: usize = 4 * 1024 * 1024;
-/// How little it has not taken, before it is told lines again.
+/// The process receives lines again when it has at most this many unread bytes.
 const ROOM: usize = 1024 * 1024;
-/// Commands of it that wait for one session.
+/// The most commands of it that may wait for one session.
 const ASKS_MOST: usize = 1_024;
-/// Bytes of its commands that wait, for all sessions together.
+/// The most bytes of its commands that may wait, for all sessions together.
 const WAITING_BYTES_MOST: usize = 1024 * 1024;
 const DOES_NOT_READ: &str = "it does not read";
 const NO_REQUEST: &str = "it sent a line that is no request";
 
-/// What the process is not told, since it has left too much.
+/// Lines that were not sent to the process because it had too much unread.
 #[derive(Default)]
 struct LeftOut {
     lines: usize,
     sessions: BTreeSet<String>,
 }
 
-/// The process that shows a front, as the front sees it.
+/// The front's side of the process that shows it.
 pub struct Inspector {
-    /// The socket by which it is told, as long as it is there.
+    /// The socket to the process, while it is connected.
     link: Option<Link>,
     leave: Leave,
     left_out: Option<LeftOut>,
-    /// What it is told in this round of the front.
+    /// Lines for the process from this round of the front.
     fresh: Vec<u8>,
-    /// Whether a time is in that.
+    /// Whether those lines contain a time.
     is_timed: bool,
     begun: Instant,
-    /// The sessions of clients that are there.
+    /// The sessions of connected clients.
     pub sessions: HashMap<String, SessionKey>,
     askers: HashMap<SessionKey, SpeakerKey>,
     /// Bytes of its commands that wait.
     held: usize,
-    /// It has asked for something that it may not, which was said.
+    /// The log has said that it asks for something that is not allowed.
     has_warned: bool,
-    /// Why it is dropped, where it has not ended by itself.
+    /// Why it was dropped, if it has not ended by itself.
     fault: &'static str,
 }
 
 impl Inspector {
-    /// Begins to tell a process, by saying how the front begins.
+    /// Begins to write to the process, first how the front begins.
     pub fn new(link: Link, leave: Leave, begins: &Value) -> Inspector {
         let mut inspector = Inspector {
             link: Some(link),
@@ -81,9 +81,9 @@ impl Inspector {
         inspector
     }
 
-    // ---- what it is told ----
+    // ---- lines for the process ----
 
-    /// Tells it a line that the server is given.
+    /// Sends it a line that is given to the server.
     pub fn given(&mut self, speaker: &mut Speaker, session: &Session, line: &[u8]) {
         let begun = match (speaker.owner, &mut speaker.more) {
             (Owner::Inspector, Some(more)) => more.numbers.pop_front(),
@@ -103,12 +103,12 @@ impl Inspector {
         }
     }
 
-    /// So many bytes of its commands wait no longer.
+    /// Counts bytes of its commands that no longer wait.
     pub fn release(&mut self, size: usize) {
         self.held = self.held.saturating_sub(size);
     }
 
-    /// Tells it lines that the server has written.
+    /// Sends it lines that the server has written.
     pub fn told(&mut self, lines: &[u8], turns: &Turns, sessions: &Slab<Session>) {
         if self.left_out.is_some() {
             let under_way = turns.under_way.iter().map(|command| &sessions[command.session]);
@@ -119,7 +119,7 @@ impl Inspector {
         }
     }
 
-    /// Counts lines that it is not told, and keeps the names of their sessions, except of those whose clients have gone.
+    /// Counts lines that are left out, and keeps the names of their sessions, except those of disconnected clients.
     fn leave_out<'a>(&mut self, count: usize, sessions: impl Iterator<Item = &'a Session>) {
         let known = &self.sessions;
         let is_there = |it: &&Session| known.contains_key(&it.name) || it.is_shared && !it.name.is_empty();
@@ -129,14 +129,14 @@ impl Inspector {
         }
     }
 
-    /// Tells it the time of the lines after this.
+    /// Sends it the time of the lines that follow.
     fn tell_time(&mut self) {
         self.is_timed = true;
         let time = self.begun.elapsed().as_micros();
         self.fresh.extend_from_slice(format!("@{time}\n").as_bytes());
     }
 
-    /// Tells it something by the front itself. One that reads nothing at all is dropped.
+    /// Sends it an object by the front itself. A process that reads nothing at all is dropped.
     fn note(&mut self, said: &Value) {
         if self.link.as_ref().map_or(0, |link| link.unread.len()) > 2 * LEFT_MOST {
             self.link = None;
@@ -148,7 +148,7 @@ impl Inspector {
         }
     }
 
-    /// Lets it take what it is told. Where it has left too much, lines are left out until it has taken nearly all.
+    /// Writes to it. If too much is unread, lines are left out until it has read nearly all.
     fn settle(&mut self, turns: &Turns, speakers: &Slab<Speaker>, sessions: &Slab<Session>, registry: &mio::Registry) {
         self.is_timed = false;
         let left = self.push(registry);
@@ -162,12 +162,12 @@ impl Inspector {
                 });
                 let under_way: Vec<Value> = under_way.collect();
                 self.note(&json!({"left": left_out.lines, "sessions": left_out.sessions, "under_way": under_way}));
-                self.push(registry); // where it has taken all, nothing else may come for long
+                self.push(registry); // it has read all, and nothing else may come for long
             }
         }
     }
 
-    /// Lets it take as much as it does at once; answers how much it has not taken.
+    /// Writes as much as it takes now; returns how much is unread.
     fn push(&mut self, registry: &mio::Registry) -> usize {
         match &mut self.link {
             Some(link) => {
@@ -182,7 +182,7 @@ impl Inspector {
 }
 
 impl Front {
-    /// Hears the process and lets it take what it is told, or says that it is not there any more.
+    /// Reads from the process and writes to it, or logs that it has ended.
     pub fn settle_inspector(&mut self) {
         self.hear_inspector();
         let inspector = match &mut self.inspector {
@@ -196,8 +196,8 @@ impl Front {
         }
     }
 
-    /// Goes on without the process: because it has ended, or for a fault, which the log names. What it has asked for and what
-    /// still waits is dropped.
+    /// Continues without the process: it has ended, or is dropped for a fault that the log names. Its commands that still wait
+    /// are dropped.
     fn end_inspector(&mut self, fault: &str) {
         if let Some(mut inspector) = self.inspector.take() {
             for speaker in std::mem::take(&mut inspector.askers).into_values() {
@@ -211,7 +211,7 @@ impl Front {
         }
     }
 
-    /// Forgets who speaks for a session in the name of the process; answers the numbers of what it has asked for in vain.
+    /// Drops its speaker for a session; returns the numbers of the commands that are now not given to the server.
     fn drop_asker(&mut self, key: SpeakerKey) -> Vec<u64> {
         let speaker = &mut self.speakers[key];
         speaker.owner = Owner::Gone;
@@ -227,20 +227,20 @@ impl Front {
         numbers.into_iter().map(|(number, _)| number).collect()
     }
 
-    /// Takes note of what the socket of the process is ready for.
+    /// Records what its socket is ready for.
     pub fn stir_inspector(&mut self, is_readable: bool, is_hung_up: bool) {
         if let Some(link) = self.inspector.as_mut().and_then(|inspector| inspector.link.as_mut()) {
             link.stir(is_readable, is_hung_up);
         }
     }
 
-    /// Whether something that the process has written may still be read.
+    /// Whether more of what it has written may be read now.
     pub fn is_inspector_heard(&self) -> bool {
         let link = self.inspector.as_ref().and_then(|inspector| inspector.link.as_ref());
         link.map_or(false, |link| link.is_readable && !link.has_ended)
     }
 
-    /// Hears some of what the process has written: no more at once than of a client.
+    /// Reads from the process, at most as much at once as from a client.
     fn hear_inspector(&mut self) {
         if !self.is_inspector_heard() {
             return;
@@ -256,8 +256,8 @@ impl Front {
         }
     }
 
-    /// Queues a command that the process asks for, as one of a member of that session. Refused are commands that are not
-    /// allowed, and those for a session that was given none yet, which would begin it. Answers whether the line is a request.
+    /// Queues a command that the process asks for, like one of a member of that session. Refuses commands that are not allowed
+    /// and those for a session that was given none yet, since they would begin it. Returns whether the line is a request.
     fn ask(&mut self, line: &[u8]) -> bool {
         let (number, name, text) = match asked_in(line) {
             Some(asked) => asked,
@@ -278,7 +278,7 @@ impl Front {
         true
     }
 
-    /// Says once that the process asks for what it may not.
+    /// Logs once that the process asks for something that is not allowed.
     fn warn_of_inspector(&mut self) {
         if let Some(inspector) = self.inspector.as_mut().filter(|inspector| !inspector.has_warned) {
             inspector.has_warned = true;
@@ -286,7 +286,7 @@ impl Front {
         }
     }
 
-    /// Lets a command wait for its turn, where there is such a session and room for the command; says whether it waits.
+    /// Queues a command for its turn, if there is such a session and room for the command; returns whether it is queued.
     fn let_ask(&mut self, name: &str, number: u64, command: &[u8]) -> bool {
         let named = self.inspector.as_ref().and_then(|inspector| inspector.sessions.get(name));
         let session = match named.or_else(|| self.shared.get(name)).copied() {
@@ -316,7 +316,7 @@ impl Front {
         }
     }
 
-    /// Who speaks for this session in the name of the process.
+    /// The process's speaker for this session.
     fn asker_of(&mut self, session: SessionKey) -> SpeakerKey {
         let known = self.inspector.as_ref().and_then(|inspector| inspector.askers.get(&session).copied());
         if let Some(key) = known {
@@ -330,7 +330,7 @@ impl Front {
         key
     }
 
-    /// Asks for nothing more of a session whose client has gone: it is not entered once more.
+    /// Drops what the process knows and asks of a session whose client has disconnected.
     pub fn forget_session(&mut self, session: SessionKey) {
         let name = self.sessions[session].name.clone();
         let asker = match &mut self.inspector {
@@ -351,7 +351,7 @@ impl Front {
     }
 }
 
-/// Ends what the log of a front says when it starts to show itself.
+/// Logs where the front is shown.
 pub fn say_where(log: &mut Log, port: u16, token: &str) {
     log.say(&format!("shown at http://127.0.0.1:{port}/{token}/"));
 }

@@ -5,13 +5,13 @@ use serde_json::{Map, Value};
 
 use crate::log::{bytes_as_text, Ended};
 
-/// Bytes that a line of input may have, without its end.
+/// The most bytes that a line of input may have, without its end.
 pub const LINE_MOST: usize = 65_536;
-/// Stands for a line that is too long: the server answers it by the same code.
+/// Replaces a line that is too long: the server answers it by the same code.
 pub const TOO_LONG: &[u8] = b"too long";
-/// The session of errors of lines that are no command of a session.
+/// The session of errors for lines that are no command of a session.
 pub const NOBODY: &str = "-";
-/// The command that puts a session back to its beginning.
+/// The command that resets a session.
 pub const RESET: &[u8] = b"{\"do\":\"reset\"}";
 
 const SESSION: &[u8] = b"\"session\":\"";
@@ -25,12 +25,12 @@ pub fn stripped(line: &[u8]) -> &[u8] {
     &line[start..end]
 }
 
-/// Whether a line asks for nothing, since it is only white space.
+/// Whether a line is only white space, and so needs no answer.
 pub fn is_blank(line: &[u8]) -> bool {
     stripped(line).is_empty()
 }
 
-/// Appends a line with one more member where the line is an object, and unchanged otherwise. Where a key stands twice the
+/// Appends a line with an additional member if the line is an object, and unchanged otherwise. If a key occurs twice the
 /// last one counts, so this member wins over one that the line already has.
 pub fn put_with_member(out: &mut Vec<u8>, line: &[u8], member: &[u8]) {
     let text = stripped(line);
@@ -47,7 +47,7 @@ pub fn put_with_member(out: &mut Vec<u8>, line: &[u8], member: &[u8]) {
     out.push(b'}');
 }
 
-/// How a line names a session.
+/// The member by which a line names a session.
 pub fn member_of(session: &str) -> Vec<u8> {
     format!("\"session\":\"{session}\"").into_bytes()
 }
@@ -72,7 +72,7 @@ fn session_at_end(line: &[u8]) -> Option<&str> {
     (is_named && is_end(tail)).then_some(name)
 }
 
-/// Whether nothing stands here but perhaps a warning, and the end of the line.
+/// Whether the rest of a line is only its end, perhaps after a warning.
 fn is_end(tail: &[u8]) -> bool {
     let warning = tail.strip_prefix(b",\"warning\":\"".as_slice());
     let tail = match warning.and_then(|it| it.iter().position(|&byte| byte == b'"').map(|end| (it, end))) {
@@ -86,14 +86,14 @@ fn is_word(byte: u8) -> bool {
     byte.is_ascii_alphanumeric() || byte == b'_'
 }
 
-/// The first of these lines as people are shown it, and no more than its beginning.
+/// The beginning of the first of these lines, for messages.
 pub fn shown(lines: &[u8]) -> String {
     let first = &lines[..lines.len().min(200)];
     let end = first.iter().position(|&byte| byte == b'\n').unwrap_or(first.len());
     bytes_as_text(&first[..end])
 }
 
-/// The object that a line is, if it is one, as the server reads it: JSON as `serde_json` has it, where the last one of
+/// The object that a line is, if it is one, read as the server reads it: JSON by the rules of `serde_json`, where the last of
 /// equal keys counts.
 pub fn object_of(line: &[u8]) -> Option<Map<String, Value>> {
     match serde_json::from_slice(line) {
@@ -102,12 +102,12 @@ pub fn object_of(line: &[u8]) -> Option<Map<String, Value>> {
     }
 }
 
-/// Whether a word of letters may be in a text of this line, as it is or by escapes.
+/// Whether a word of letters may occur in a text of this line, plain or with escapes.
 pub fn may_have(line: &[u8], word: &str) -> bool {
     memmem::find(line, word.as_bytes()).is_some() || memmem::find(line, b"\\u").is_some()
 }
 
-/// What a line asks of the front itself, if it does: an object with `front` and without the `do` of a command.
+/// A request to the front itself, if the line is one: an object with `front` and without the `do` of a command.
 pub fn asked_of_front(line: &[u8]) -> Option<Map<String, Value>> {
     let asked = may_have(line, "front").then(|| object_of(line)).flatten()?;
     (asked.contains_key("front") && !asked.contains_key("do")).then_some(asked)
@@ -118,7 +118,7 @@ pub fn has_only(object: &Map<String, Value>, keys: &[&str]) -> bool {
     object.len() == keys.len() && keys.iter().all(|key| object.contains_key(*key))
 }
 
-/// Whether this is a name as sessions have one.
+/// Whether a text can be the name of a session.
 pub fn is_name(text: &str) -> bool {
     let starts = text.bytes().next().map_or(false, |first| first.is_ascii_alphabetic() || first == b'_');
     starts && text.len() <= NAME_MOST && text.bytes().all(is_word)
@@ -129,19 +129,19 @@ pub fn is_own_name(text: &str) -> bool {
     text.len() > 1 && text.starts_with('c') && text[1..].bytes().all(|byte| byte.is_ascii_digit())
 }
 
-/// A line of the front's own, in the form that the server's lines have.
+/// A line by the front, in the form of the server's lines.
 pub fn line_of(value: &Value) -> Vec<u8> {
     let mut line = value.to_string().into_bytes();
     line.push(b'\n');
     line
 }
 
-/// The line that tells why the front refused a line.
+/// The line that says why the front refused a line.
 pub fn refusal(code: &str) -> Vec<u8> {
     error_line(code, NOBODY)
 }
 
-/// The line that tells a session an error of the front.
+/// The line that gives a session an error of the front.
 pub fn error_line(code: &str, session: &str) -> Vec<u8> {
     format!("{{\"error\":\"{code}\",\"session\":\"{session}\"}}\n").into_bytes()
 }
@@ -170,7 +170,7 @@ mod tests {
         }
     }
 
-    /// Lines of random pieces: one in which a session was named is JSON exactly where it was before, and names that session.
+    /// Lines of random pieces: with a session put in, a line is JSON if it was JSON before, and names that session.
     #[test]
     fn random_lines_name_the_session_that_the_front_put_in() {
         let pieces = [

@@ -1,8 +1,8 @@
-//! Live sessions: those whose clients are told their events as they come, without asking.
+//! Live sessions, whose clients receive events as they come, without asking.
 //!
 //! The front gives a live session `spin` whenever events may have arrived for it: after a command that may have posted
 //! some, of its own or of a session that it has joined, and after a `spin` that has left some. Many causes make one `spin`.
-//! Clients are told the calls that come of it as of any command, and the reply only where events were delivered, marked as
+//! Clients receive its calls as those of any command. They receive the reply only if events were delivered, marked as
 //! the front's own. For everybody else these are commands of the session like any other: they take turns and are recorded.
 
 use std::collections::{HashMap, HashSet};
@@ -15,11 +15,11 @@ use crate::lines::{is_answer, is_name, may_have, object_of};
 use crate::people::{SessionKey, SpeakerKey, Speech};
 use crate::turns::Command;
 
-/// The command that has a session's events delivered.
+/// The command that delivers a session's events.
 pub const SPIN: &[u8] = b"{\"do\":\"spin\"}";
-/// Commands of a client that go before a `spin` of the front, at most.
+/// The most commands of a client that go before a `spin` of the front.
 const BEFORE_SPIN: usize = 64;
-/// Commands that post no event, whatever they are given.
+/// Commands that never post an event, whatever their arguments.
 const POST_NOTHING: [&[u8]; 18] = [
     b"begin",
     b"bindingError",
@@ -41,16 +41,16 @@ const POST_NOTHING: [&[u8]; 18] = [
     b"unpublish",
 ];
 
-/// Which live sessions have joined which sessions.
+/// The live sessions, and which sessions they have joined.
 #[derive(Default)]
 pub struct Live {
-    /// Whether all clients are told their events.
+    /// Whether the sessions of all clients are live.
     pub are_all: bool,
-    /// Live sessions that are there.
+    /// The number of live sessions.
     count: usize,
-    /// Those that listen to a session, by its name.
+    /// The live sessions that have joined a session, by its name.
     listeners: HashMap<String, HashSet<SessionKey>>,
-    /// What each of them listens to.
+    /// The names that each live session has joined.
     joined: HashMap<SessionKey, HashSet<String>>,
 }
 
@@ -75,7 +75,7 @@ impl Live {
     }
 }
 
-/// Whether a command may post events. A line that is written in an unusual way may.
+/// Whether a command may post events. The answer is yes if the line is written in an unusual way.
 fn may_post(line: &[u8]) -> bool {
     let mut found = memmem::find_iter(line, b"\"do\":\"");
     let word = match (found.next(), found.next(), memchr::memchr(b'\\', line)) {
@@ -86,7 +86,7 @@ fn may_post(line: &[u8]) -> bool {
     !POST_NOTHING.contains(&&word[..end])
 }
 
-/// The session that a command joins, if it does.
+/// The session that a command joins, if it is a join.
 fn joined_by(line: &[u8]) -> Option<String> {
     let command = may_have(line, "join")
         .then(|| object_of(line))
@@ -102,7 +102,7 @@ fn events_in(line: &[u8]) -> (u64, u64) {
     (count("events"), count("left"))
 }
 
-/// An answer, marked as one to the front's own `spin`. Its keys stay in their order.
+/// An answer with the mark of the front's own `spin`. The order of its keys stays.
 fn marked(line: &[u8]) -> Vec<u8> {
     match line
         .strip_prefix(b"{\"error\":".as_slice())
@@ -114,7 +114,7 @@ fn marked(line: &[u8]) -> Vec<u8> {
 }
 
 impl Front {
-    /// Has the clients of a session told its events as they come.
+    /// Makes a session live.
     pub fn let_live(&mut self, speaker: SpeakerKey) {
         let session = &mut self.sessions[self.speakers[speaker].session];
         self.speakers[speaker].is_live = true;
@@ -122,7 +122,7 @@ impl Front {
         session.is_live = true;
     }
 
-    /// Notes what a line that a server is given may cause for live sessions; whether it may post events.
+    /// Records what a line that is given to a server may cause for live sessions; returns whether it may post events.
     pub fn note_cause(&mut self, session: SessionKey, line: &[u8]) -> bool {
         if self.sessions[session].is_live {
             if let Some(from) = joined_by(line) {
@@ -141,7 +141,7 @@ impl Front {
         spins
     }
 
-    /// Goes on after a command was answered that may have posted events.
+    /// Continues after an answer to a command that may have posted events.
     pub fn heard_cause(&mut self, command: Command, line: &[u8]) {
         let session = command.session;
         if command.is_spin {
@@ -158,7 +158,7 @@ impl Front {
         }
     }
 
-    /// Tells the live clients of a session the answer to the front's own `spin`, where events were delivered or it failed.
+    /// Sends the answer to the front's own `spin` to the live clients of a session, if events were delivered or it failed.
     pub fn tell_spin(&mut self, session: SessionKey, line: &[u8]) {
         let is_error = line.starts_with(b"{\"error\":");
         if !is_error && events_in(line).0 == 0 {
@@ -183,7 +183,7 @@ impl Front {
         }
     }
 
-    /// Has events told that were posted in a shared session before this live client came.
+    /// Delivers the events that were posted in a shared session before this live client came.
     pub fn spin_first(&mut self, speaker: SpeakerKey) {
         let session = self.speakers[speaker].session;
         let found = &self.sessions[session];
@@ -192,7 +192,7 @@ impl Front {
         }
     }
 
-    /// Has `spin` given for a session, once for all causes until then, where a live client speaks for it.
+    /// Plans a `spin` for a session, one for all causes until then, if a live client speaks for it.
     fn owe_spin(&mut self, session: SessionKey) {
         let found = match self.sessions.get(session) {
             Some(found) if found.is_live => found,
@@ -218,7 +218,7 @@ impl Front {
         }
     }
 
-    /// Has no events told any more for a session.
+    /// Ends the live mode of a session.
     pub fn end_live(&mut self, session: SessionKey) {
         let found = &mut self.sessions[session];
         if found.is_live {

@@ -1,4 +1,4 @@
-//! What the front says on standard error, and why it ends.
+//! The front's messages on standard error, and the reasons why it ends.
 
 use std::io;
 
@@ -7,16 +7,16 @@ use nix::poll::{poll, PollFd, PollFlags};
 pub const NAME: &str = "metad-front";
 const STANDARD_ERROR: i32 = 2;
 
-/// Why the front, or one of its servers, ends, as a text for people.
+/// The reason why the front, or one of its servers, ends, as a text for people.
 #[derive(Debug, Clone, PartialEq, Eq)]
 pub struct Ended(pub String);
 
-/// Says something on standard error, where that is open.
+/// Writes a message to standard error, if that is open.
 pub fn say(words: &str) {
     write_all(&format!("{NAME}: {words}\n"));
 }
 
-/// Writes a text to standard error, where that is open.
+/// Writes a text to standard error, if that is open.
 pub fn write_all(text: &str) {
     let mut rest = text.as_bytes();
     while let Ok(count @ 1..) = nix::unistd::write(STANDARD_ERROR, rest) {
@@ -24,13 +24,13 @@ pub fn write_all(text: &str) {
     }
 }
 
-/// Whether a line on standard error would be taken at once.
+/// Whether standard error would take a line at once.
 fn is_taken() -> bool {
     let mut looked_at = [PollFd::new(STANDARD_ERROR, PollFlags::POLLOUT)];
     matches!(poll(&mut looked_at, 0), Ok(count) if count > 0)
 }
 
-/// What is said while the front serves. Logging never blocks the front: a line that would not be taken at once is dropped,
+/// The log of a front that serves. Logging never blocks the front: a line that would not be taken at once is dropped,
 /// and the next one that is taken says how many were.
 pub struct Log {
     is_quiet: bool,
@@ -42,14 +42,14 @@ impl Log {
         Log { is_quiet, left_out: 0 }
     }
 
-    /// Says something about a client, unless the front is quiet.
+    /// Logs something about a client, unless the front is quiet.
     pub fn note(&mut self, words: &str) {
         if !self.is_quiet {
             self.say(words);
         }
     }
 
-    /// Says something whether or not the front is quiet.
+    /// Logs something, even if the front is quiet.
     pub fn say(&mut self, words: &str) {
         if !is_taken() {
             self.left_out += 1;

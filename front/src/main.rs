@@ -1,14 +1,14 @@
 //! Gives many clients of a Unix-domain socket a session each of one `metad`, or of several.
 //!
-//! `lines` reads the lines of both sides, and `queue` keeps bytes and lines that wait. `people` is what is known of
+//! `lines` reads the lines of both sides, and `queue` keeps bytes and lines that wait. `people` has the state of
 //! connections, sessions and speakers, and `turns` decides whose command a server is given next. `server` is a process, and
-//! `worker` what is under way with it and who is told of that. `front` is the loop, with `doors`, `clients` and `guests`.
-//! Where there are several servers, `groups` says which sessions belong together, `ring` where each group is, `pool` what is
-//! done where a server ends, `records` what it was given and told, `replaying` brings another one there, and `moving` lets
-//! a group change its server. `naming` is for clients that name sessions by themselves, `control` where a running front is
-//! asked for groups, `asking` a run that asks, and `inspector` the process that shows all of it as a page, and `asked` what
-//! that one may ask for. `live` has clients told their events as they come. `rotating`
-//! opens records again by their names, and `eagerness` says whether the loop looks before it sleeps.
+//! `worker` has the commands under way with it and who receives the answers. `front` is the loop, with `doors`, `clients` and
+//! `guests`. Where there are several servers, `groups` says which sessions belong together, `ring` where each group is, `pool`
+//! what is done if a server ends, `records` what it was given and wrote, `replaying` brings another one to its state, and
+//! `moving` lets a group change its server. `naming` is for clients that name sessions by themselves, `control` is where
+//! operators ask a running front for groups, `asking` is a run that asks, `inspector` is the process that shows the front as
+//! a page, and `asked` checks what that process asks for. `live` sends clients their events as they come. `rotating`
+//! opens records again by their names, and `eagerness` decides whether the loop polls before it sleeps.
 
 #![forbid(unsafe_code)]
 
@@ -80,7 +80,7 @@ fn main() -> ExitCode {
     status.into()
 }
 
-/// Shows a text on standard output; answers the status that the run ends with.
+/// Prints a text on standard output; returns the exit status of the run.
 fn shown(text: Result<String, Ended>) -> u8 {
     let text = match text {
         Ok(text) => text,

@@ -1,23 +1,23 @@
-//! How a group moves to another server, without a line that is lost, told twice or told differently.
+//! Moves a group to another server, so that no line is lost, sent twice or changed.
 //!
-//! Its commands wait, and what is under way is answered first. Then the other server is brought to where this one is. Where
+//! The group's commands wait until those under way are answered. Then the other server is brought to the group's state. If
 //! that fails the group stays where it was.
 
 use crate::front::Front;
 use crate::people::{GroupKey, ReplayKey};
 use crate::replaying::Purpose;
 
-/// A group on its way.
+/// A move of a group that has begun or is to begin.
 pub struct Move {
-    /// The place of the worker to which it moves.
+    /// The index of the worker to which the group moves.
     pub target: usize,
     pub replay: Option<ReplayKey>,
-    /// Who has asked for it.
+    /// The operator that has asked for the move.
     pub guest: usize,
 }
 
 impl Front {
-    /// Begins once nothing is under way.
+    /// Begins a move when nothing of the group is under way.
     pub fn begin_move(&mut self, key: GroupKey, target: usize, guest: usize) {
         self.groups[key].moving = Some(Move { target, replay: None, guest });
         self.hold(key);
@@ -28,7 +28,7 @@ impl Front {
         }
     }
 
-    /// Brings the other server to where this one is.
+    /// Brings the other server to the group's state.
     pub fn start_move(&mut self, key: GroupKey) {
         if let Some(target) = self.groups[key].moving.as_ref().map(|moving| moving.target) {
             let replay = self.add_replay(key, target, Purpose::Move);
@@ -38,7 +38,7 @@ impl Front {
         }
     }
 
-    /// The other server is where this one is, or cannot be brought there.
+    /// Ends a move: the other server has the group's state, or cannot be brought there.
     pub fn moved(&mut self, key: GroupKey, is_begun: bool, fault: &str) {
         if !fault.is_empty() {
             self.stay(key, is_begun, fault);
@@ -57,7 +57,7 @@ impl Front {
         self.release(key);
     }
 
-    /// Lets a group stay where it is, since its server has ended.
+    /// Cancels a move, because the group's server has ended.
     pub fn give_up_move(&mut self, key: GroupKey, fault: &str) {
         let replay = self.groups[key].moving.as_ref().and_then(|moving| moving.replay);
         let left = replay.and_then(|replay| self.leave_replay(replay));

@@ -1,4 +1,4 @@
-//! Clients that name sessions by themselves, as many as they like, over several servers.
+//! Clients that name sessions by themselves, as many as they like, on several servers.
 
 use std::collections::HashSet;
 
@@ -10,7 +10,7 @@ use crate::groups::group_of;
 use crate::lines::{asked_of_front, is_name, object_of, NOBODY};
 use crate::people::{ClientKey, Owner, Session, SessionKey, Speaker, SpeakerKey, Speech, Voices, UNREAD_SLOW};
 
-/// The session that a line is for, as the server reads it; that of no session where it names none.
+/// The session that a line names, as the server reads it, or that of no session if it names none.
 pub fn session_in(line: &[u8]) -> String {
     let command = object_of(line);
     let name = command.as_ref().and_then(|it| it.get("session")).and_then(Value::as_str).filter(|name| is_name(name));
@@ -18,7 +18,7 @@ pub fn session_in(line: &[u8]) -> String {
 }
 
 impl Front {
-    /// Lets each line that was read of a client wait for its turn with the server of its session.
+    /// Queues each line that was read from a client with the server of the line's session.
     pub fn sort(&mut self, key: ClientKey, has_spoken: bool) {
         let mut lines = std::mem::take(&mut self.sorted);
         if !has_spoken && lines.first().map_or(false, |line| asked_of_front(line).is_some()) {
@@ -32,7 +32,7 @@ impl Front {
         self.sorted = lines;
     }
 
-    /// Lets a line wait for its turn.
+    /// Queues a line for its turn.
     fn route(&mut self, key: ClientKey, line: &[u8]) {
         let name = session_in(line);
         let voice = match name.as_str() {
@@ -54,7 +54,7 @@ impl Front {
         }
     }
 
-    /// The session of this name in the group of a speaker.
+    /// The session of this name, in the group of a speaker.
     fn session_named(&mut self, name: &str, voice: SpeakerKey) -> SessionKey {
         let group = match self.speakers[voice].group {
             Some(group) => group,
@@ -70,7 +70,7 @@ impl Front {
         session
     }
 
-    /// Who speaks for a group in the name of a client.
+    /// A client's speaker for a group.
     fn voice(&mut self, key: ClientKey, name: &str) -> SpeakerKey {
         let group = self.group(name);
         if let Speech::Named(voices) = &mut self.clients[key].speech {
@@ -86,7 +86,7 @@ impl Front {
         unreachable!("only clients that name sessions have voices")
     }
 
-    /// Lets the speakers of a client wait for their turns.
+    /// Queues the speakers of a client for their turns.
     pub fn await_turns(&mut self, key: ClientKey, is_slow: bool) {
         if let Speech::Named(voices) = &mut self.clients[key].speech {
             let speakers = &self.speakers;
@@ -97,14 +97,14 @@ impl Front {
         }
     }
 
-    /// The session of the next line of a speaker.
+    /// The session of a speaker's next line.
     pub fn session_of_next(&mut self, key: SpeakerKey) -> SessionKey {
         let speaker = &mut self.speakers[key];
         let named = speaker.more.as_mut().and_then(|more| more.named.pop_front());
         named.unwrap_or(speaker.session)
     }
 
-    /// Has nobody speak for sessions any more in the name of a client that has gone. The sessions stay.
+    /// Ends a disconnected client's part in its sessions. The sessions stay.
     pub fn leave_all(&mut self, client: ClientKey, voices: Voices) {
         for (group, voice) in voices.of_groups {
             let speaker = &mut self.speakers[voice];

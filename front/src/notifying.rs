@@ -1,16 +1,16 @@
-//! What the front tells systemd: that it serves, that it ends, and that it is not stuck.
+//! Notifies systemd that the front serves, that it ends, and that it is not stuck.
 
 use std::env;
 use std::time::{Duration, Instant};
 
 use sd_notify::{notify, NotifyState};
 
-/// Tells systemd, where systemd has started the front and asks for that.
+/// Sends notifications to systemd, if systemd has started the front and asks for them.
 pub struct Notifier {
-    /// How often it is told that the front is not stuck.
+    /// The time between two notifications that the front is not stuck.
     every: Option<Duration>,
     due: Instant,
-    /// It was told that the front is ready.
+    /// The notification that the front is ready was sent.
     is_ready: bool,
 }
 
@@ -19,18 +19,18 @@ impl Notifier {
         Notifier { every: watchdog().map(|time| time / 2), due: Instant::now(), is_ready: false }
     }
 
-    /// Clients can connect.
+    /// Notifies that clients can connect.
     pub fn ready(&mut self, words: &str) {
         self.is_ready = true;
         let _ = notify(false, &[NotifyState::Ready, NotifyState::Status(words)]);
     }
 
-    /// The front ends.
+    /// Notifies that the front ends.
     pub fn stopping(&self) {
         let _ = notify(false, &[NotifyState::Stopping]);
     }
 
-    /// Tells that the front is not stuck, where it is time for that; answers in what time it is again.
+    /// Notifies that the front is not stuck, if it is time for that; returns the time until the next notification.
     pub fn tick(&mut self) -> Option<Duration> {
         let (every, now) = (self.every.filter(|_| self.is_ready)?, Instant::now());
         if now >= self.due {
@@ -41,7 +41,7 @@ impl Notifier {
     }
 }
 
-/// How long systemd waits before it takes this process for stuck, where it does. Who names no process means this one.
+/// How long systemd waits before it regards this process as stuck, if it does. Without `WATCHDOG_PID` this process is meant.
 fn watchdog() -> Option<Duration> {
     let own = std::process::id().to_string();
     if env::var("WATCHDOG_PID").map_or(false, |number| number != own) {

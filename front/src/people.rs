@@ -1,4 +1,4 @@
-//! What is known of a connection, of a session, and of those who speak for it.
+//! The state of connections, of sessions, and of the speakers for them.
 
 use std::collections::{HashMap, HashSet, VecDeque};
 use std::io::{ErrorKind, Read};
@@ -16,48 +16,48 @@ pub type SessionKey = usize;
 pub type GroupKey = usize;
 pub type ReplayKey = usize;
 
-/// Bytes that a client has not read, above which its commands wait.
+/// The commands of a client with more unread bytes than this wait.
 pub const UNREAD_SLOW: usize = 65_536;
-/// Bytes that a connection has not read, above which it is closed.
+/// A connection with more unread bytes than this is closed.
 pub const UNREAD_MOST: usize = 16 * 1024 * 1024;
-/// Bytes that all clients together have not read, above which the one that has not read most is closed.
+/// If all clients together have more unread bytes than this, the one with the most is closed.
 pub const UNREAD_OF_ALL: usize = 256 * 1024 * 1024;
-/// Bytes of an answer that are expected for a client that was not answered yet.
+/// The expected length in bytes of the first answer to a client.
 const EXPECTED_AT_FIRST: usize = 1_024;
 
-/// The front's end of a connection. Its other side is told lines, and nobody waits for it.
+/// The front's end of a connection. It sends lines to the other side, and the front never waits for it.
 pub struct Link {
     pub stream: UnixStream,
     pub token: Token,
     pub unread: Pending,
     pub cutter: Cutter,
-    /// Something is there to be read, or may be.
+    /// Something may be there to be read.
     pub is_readable: bool,
-    /// The other side writes no more, though some of what it wrote may not be read.
+    /// The other side has stopped writing, though some of what it wrote may still have to be read.
     pub is_hung_up: bool,
     watches_writing: bool,
     pub has_spoken: bool,
-    /// It writes no more, or is not read any more.
+    /// The other side has stopped writing, or is not read any more.
     pub has_ended: bool,
-    /// It takes nothing any more, though what it has written is still to be done.
+    /// The other side has stopped reading, though what it has written is still to be done.
     pub is_deaf: bool,
-    /// It cannot be waited for.
+    /// Its events cannot be waited for.
     is_broken: bool,
-    /// How much of what is unread counts in the sum of all connections.
+    /// The part of its unread bytes that is counted in the sum of all connections.
     pub counted: usize,
-    /// Since when what is unread waits for more, so that one write gives all of it.
+    /// Since when the unread bytes wait for more, so that one write sends all of them.
     pub held_since: Option<Instant>,
-    /// It has waited for long enough.
+    /// Its answers have waited long enough.
     pub is_due: bool,
-    /// It was the one that had left most unread where all together had left too much.
+    /// It was closed because it had the most unread bytes when all together had too many.
     has_overflown: bool,
-    /// Lines were left out for it, which its last line says.
+    /// Lines were left out for it, as its last line says.
     pub is_cut: bool,
-    /// Why it is closed once it has taken what it is told.
+    /// Why it is closed once it has read what is left for it.
     pub fault: String,
 }
 
-/// What came of reading a connection.
+/// The result of reading a connection.
 pub enum Came {
     Nothing,
     Bytes(usize),
@@ -87,20 +87,20 @@ impl Link {
         }
     }
 
-    /// Begins to wait for what it writes.
+    /// Begins to wait for events of the connection.
     pub fn watch(&mut self, registry: &Registry) {
         if registry.register(&mut self.stream, self.token, Interest::READABLE).is_err() {
             self.is_broken = true;
         }
     }
 
-    /// Takes note of what its connection is ready for.
+    /// Records what the connection is ready for.
     pub fn stir(&mut self, is_readable: bool, is_hung_up: bool) {
         self.is_readable |= is_readable || is_hung_up;
         self.is_hung_up |= is_hung_up;
     }
 
-    /// Reads as much as there is room for. Less than that means that nothing is left, until the next event.
+    /// Reads as much as there is room for. If it reads less than that, nothing is left until the next event.
     pub fn read(&mut self, chunk: &mut [u8]) -> Came {
         match self.stream.read(chunk) {
             Ok(0) => {
@@ -124,21 +124,21 @@ impl Link {
         Came::Nothing
     }
 
-    /// Lets the other side have lines to read.
+    /// Queues lines for the other side.
     pub fn tell(&mut self, lines: &[u8]) {
         if !self.is_deaf {
             self.unread.push(lines);
         }
     }
 
-    /// Tells the other side nothing more, since it takes nothing any more.
+    /// Stops writing, because the other side does not read any more.
     fn fall_silent(&mut self) {
         self.is_deaf = true;
         self.is_readable = true;
         self.unread.clear();
     }
 
-    /// Gives as much of what is unread as the other side takes, and waits for its room where that was not all.
+    /// Writes as much of the unread bytes as the other side takes, and waits for room if that was not all.
     pub fn write(&mut self, registry: &Registry) {
         if self.unread.is_empty() {
             return;
@@ -155,18 +155,18 @@ impl Link {
         }
     }
 
-    /// Reads no more, and has the connection closed when the other side has taken what it is told.
+    /// Stops reading, and has the connection closed once the other side has read what is left for it.
     pub fn refuse(&mut self, fault: &str) {
         self.fault = fault.to_string();
         self.has_ended = true;
     }
 
-    /// Whether the other side leaves more unread than it may.
+    /// Whether the other side has more unread bytes than allowed.
     pub fn leaves_too_much(&self) -> bool {
         self.unread.len() > UNREAD_MOST
     }
 
-    /// Leaves out what the other side has not taken, but for the rest of a line, and says so by its last line.
+    /// Leaves out what the other side has not read, except the rest of a line that has begun, and says so by a last line.
     pub fn cut(&mut self, last: &[u8]) {
         self.is_cut = true;
         self.unread.keep_line();
@@ -174,19 +174,19 @@ impl Link {
         self.refuse("lines were left out");
     }
 
-    /// Closes the connection at once, since all together leave too much unread.
+    /// Closes the connection at once, because all together leave too much unread.
     pub fn overflow(&mut self) {
         self.fall_silent();
         self.has_ended = true;
         self.has_overflown = true;
     }
 
-    /// Whether the other side has closed, and all that it wrote was read.
+    /// Whether the other side has closed, after all that it wrote was read.
     pub fn is_left(&self) -> bool {
         self.is_deaf && self.has_ended && self.fault.is_empty() && !self.has_overflown
     }
 
-    /// Whether the connection is to be closed, where something that it has asked for is still awaited or not.
+    /// Whether the connection is to be closed; the argument says whether an answer is still awaited.
     pub fn is_done(&self, awaits: bool) -> bool {
         let has_all = self.has_ended && self.unread.is_empty() && !awaits;
         has_all || self.is_broken || self.has_overflown || self.unread.len() > UNREAD_MOST
@@ -211,17 +211,17 @@ impl Link {
 /// A session of the server.
 pub struct Session {
     pub name: String,
-    /// How a line names it.
+    /// The member by which a line names it.
     pub member: Vec<u8>,
     pub is_shared: bool,
-    /// Its clients are told its events as they come.
+    /// Its clients receive its events as they come.
     pub is_live: bool,
-    /// The clients that are told its calls and warnings.
+    /// The clients that receive its calls and warnings.
     pub members: Vec<ClientKey>,
     /// The server was given a command of it.
     pub is_begun: bool,
     pub group: Option<GroupKey>,
-    /// How many speakers, and groups, refer to it.
+    /// The number of speakers and groups that refer to it.
     pub holds: usize,
 }
 
@@ -232,68 +232,68 @@ impl Session {
         Session { name, member, is_shared, is_live: false, members: Vec::new(), is_begun: false, group: None, holds: 0 }
     }
 
-    /// Whether a line of the server ends by the name of this session.
+    /// Whether a line of the server ends with the name of this session.
     pub fn ends(&self, line: &[u8]) -> bool {
         line.strip_suffix(b"}\n".as_slice()).map_or(false, |line| line.ends_with(&self.member))
     }
 }
 
-/// In whose name commands wait for turns.
+/// The owner of commands that wait for turns.
 #[derive(Clone, Copy, Debug, PartialEq, Eq)]
 pub enum Owner {
     Client(ClientKey),
-    /// A client that has gone: its last commands are still to be done.
+    /// A client that has disconnected: its last commands are still to be done.
     Gone,
     Inspector,
     Replay(ReplayKey),
-    /// A guest who asks for the health of the front.
+    /// A check of the front's health.
     Health(usize),
-    /// The front itself, where it puts sessions back of which nobody is to hear.
+    /// The front itself, when it resets sessions and nobody receives the answers.
     Sweeper,
 }
 
-/// Somebody whose commands take turns.
+/// A speaker, whose commands take turns.
 pub struct Speaker {
     pub owner: Owner,
     pub session: SessionKey,
     pub group: Option<GroupKey>,
-    /// Lines that the server was not given yet.
+    /// Lines that were not given to the server yet.
     pub waiting: Queue,
-    /// Its client has so much to read that its commands wait.
+    /// Its client has so much unread that its commands wait.
     pub is_slow: bool,
-    /// Its group is brought back or moves, so its commands wait.
+    /// Its group is being brought back or moved, so its commands wait.
     pub is_held: bool,
-    /// Its client is told the events of its session as they come.
+    /// Its client receives the events of its session as they come.
     pub is_live: bool,
     /// The front is to give its session `spin`.
     pub owes_spin: bool,
-    /// Commands of the client since the front's last `spin`.
+    /// The number of the client's commands since the front's last `spin`.
     pub before_spin: usize,
-    /// Commands that the server was given and has not answered.
+    /// The number of commands that were given to the server and are not answered.
     pub under_way: usize,
-    /// What it has had of the server, in bytes.
+    /// Its share of the server's work so far, in bytes.
     pub served: u64,
-    /// Bytes of its next answer, estimated from the last ones.
+    /// The expected length in bytes of its next answer, estimated from the last ones.
     pub expected: usize,
     /// It waits for its turn.
     pub has_turn: bool,
-    /// How many turns it had had when it began to wait for this one.
+    /// The number of turns that it had had when it began to wait for this one.
     pub turn: Option<u64>,
-    /// Its place among those that had had as many.
+    /// Its position among those that had had as many turns.
     pub place: u64,
     pub more: Option<Box<Voice>>,
-    /// It counts as one whose client has gone and whose commands are still to be done.
+    /// It is counted among disconnected clients' speakers whose commands are still to be done.
     pub is_left: bool,
 }
 
-/// What is known of a speaker beyond that, where a client names sessions by itself, or the page's process asks.
+/// Further state of a speaker if its client names sessions by itself, or if it belongs to the page's process.
 #[derive(Default)]
 pub struct Voice {
     /// The session of each line that waits.
     pub named: VecDeque<SessionKey>,
-    /// The sessions that were named, and whose calls the client is told.
+    /// The sessions that were named, and whose calls the client receives.
     pub members: HashSet<SessionKey>,
-    /// The numbers of the commands that the page's process asks for and that wait, each with its bytes.
+    /// The numbers of the page's commands that wait, each with its size in bytes.
     pub numbers: VecDeque<(u64, usize)>,
 }
 
@@ -320,18 +320,18 @@ impl Speaker {
         }
     }
 
-    /// Whether the server may be given its next line.
+    /// Whether its next line may be given to the server.
     pub fn may_give(&self) -> bool {
         (self.owes_spin || !self.waiting.is_empty()) && !(self.is_slow || self.is_held)
     }
 
-    /// Whether something that it has asked for is still to come.
+    /// Whether an answer is still to come, or a line of it is still to be given.
     pub fn awaits(&self) -> bool {
         self.under_way > 0 || !self.waiting.is_empty()
     }
 }
 
-/// Who a client speaks for.
+/// The sessions that a client speaks for.
 pub enum Speech {
     /// One session.
     One(SpeakerKey),
@@ -339,19 +339,19 @@ pub enum Speech {
     Named(Box<Voices>),
 }
 
-/// Those who speak for the groups of which a client names sessions.
+/// A client's speakers for the groups of the sessions that it names.
 #[derive(Default)]
 pub struct Voices {
     pub of_groups: HashMap<GroupKey, SpeakerKey>,
-    /// Those that may still be answered something.
+    /// Speakers that may still have answers to come.
     pub busy: Vec<SpeakerKey>,
 }
 
-/// Somebody who gives commands.
+/// A connection that gives commands.
 pub struct Client {
     pub number: u64,
     pub link: Link,
     pub speech: Speech,
-    /// It is in the list of those that are to be looked after.
+    /// It is on the list of those that are to be looked after.
     pub is_touched: bool,
 }

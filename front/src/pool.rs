@@ -1,4 +1,4 @@
-//! All servers of a front, which groups of sessions are with each, and what is done where one of them ends.
+//! The servers of a front with workers, the groups of sessions on each, and how a server that ends is replaced.
 
 use std::collections::HashMap;
 use std::path::PathBuf;
@@ -16,18 +16,18 @@ use crate::server::Server;
 use crate::spawn::kill;
 use crate::turns::{Command, Hears};
 
-/// What the server of a session held is lost.
+/// The error for a session whose server lost what the session held.
 const LOST: &str = "F04";
-/// Statuses of a server that cannot be started so.
+/// Exit statuses of a server that starting again would not help.
 const NOT_STARTED: [i32; 2] = [1, 2];
-/// How often a server may end before its groups are brought back, and in what time.
+/// If a server ends this often within the time below, before its groups were brought back, groups are closed.
 const EARLY_MOST: usize = 5;
 const EARLY: Duration = Duration::from_secs(60);
-/// The time until a server is started again that has written nothing. The next one takes twice as long.
+/// The pause before a server that has written nothing is started again. It doubles each time, up to the last value.
 const PAUSE: Duration = Duration::from_millis(50);
 const PAUSE_MOST: Duration = Duration::from_secs(10);
 
-/// What there is only where there may be several servers.
+/// The state that only a front with workers has.
 pub struct Pool {
     pub ring: Ring,
     pub folder: Option<PathBuf>,
@@ -42,8 +42,8 @@ impl Pool {
         Pool { ring: Ring::new(workers), folder, groups: HashMap::new(), count: 0, has_released: false }
     }
 
-    /// Where a group is recorded. What is answered for no session leaves nothing with a server, so its record is kept in
-    /// memory, and until it is answered.
+    /// The record of a group. A question of no session leaves nothing with a server, so its record is kept in memory, and only
+    /// until it is answered.
     fn record_of(&self, name: &str) -> Option<GroupRecord> {
         if name.starts_with(NOBODY) {
             return Some(GroupRecord::new(None));
@@ -56,7 +56,7 @@ impl Pool {
 impl Front {
     // ---- groups ----
 
-    /// The group of this name, which is put on the server that it belongs to where it is new.
+    /// The group of this name. A new one is put on the server that it belongs to.
     pub fn group(&mut self, name: &str) -> GroupKey {
         let pool = match &mut self.pool {
             Some(pool) => pool,
@@ -72,7 +72,7 @@ impl Front {
         key
     }
 
-    /// Puts a session, and who speaks for it, into a group.
+    /// Puts a session and its speaker into a group.
     pub fn enter_group(&mut self, session: SessionKey, name: &str, speaker: SpeakerKey) {
         let group = self.group(name);
         let found = &mut self.sessions[session];
@@ -81,7 +81,7 @@ impl Front {
         self.enter_speaker(group, speaker);
     }
 
-    /// Lets go who speaks for a session no more, unless a line of it waits.
+    /// Removes a speaker from its session's group, unless a line of the speaker waits.
     pub fn leave_pool(&mut self, session: SessionKey, speaker: SpeakerKey) {
         let group = match self.sessions[session].group {
             Some(group) => group,
@@ -99,7 +99,7 @@ impl Front {
         }
     }
 
-    /// Looks after a group of which nothing is under way.
+    /// Looks after a group that has nothing under way.
     pub fn idle(&mut self, key: GroupKey) {
         let group = &mut self.groups[key];
         if std::mem::take(&mut group.moves_when_idle) {
@@ -116,7 +116,7 @@ impl Front {
         }
     }
 
-    /// Forgets a group of which nothing is left.
+    /// Drops a group of which nothing is left.
     fn forget_group(&mut self, key: GroupKey) {
         let mut group = self.groups.remove(key);
         self.changed.remove(&key);
@@ -136,7 +136,7 @@ impl Front {
         }
     }
 
-    /// Lets the commands of a group wait with the front.
+    /// Has the commands of a group wait in the front.
     pub fn hold(&mut self, key: GroupKey) {
         let group = &mut self.groups[key];
         group.is_held = true;
@@ -147,7 +147,7 @@ impl Front {
         }
     }
 
-    /// Lets the commands of a group take turns again.
+    /// Has the commands of a group take turns again.
     pub fn release(&mut self, key: GroupKey) {
         let group = &mut self.groups[key];
         group.is_held = false;
@@ -164,7 +164,7 @@ impl Front {
         }
     }
 
-    /// Closes all who speak for a group, whose sessions are lost.
+    /// Closes all clients that speak for a group, whose sessions are lost.
     pub fn close_group(&mut self, key: GroupKey) {
         let at = self.groups[key].worker;
         let sweeper = self.workers[at].sweeper;
@@ -184,7 +184,7 @@ impl Front {
         self.forget_group(key);
     }
 
-    /// Tells a speaker's client that a group is lost, and closes it.
+    /// Sends a speaker's client the error that its group is lost, and closes the client.
     fn lose(&mut self, key: GroupKey, speaker: SpeakerKey) {
         let fault = format!("what {} held is lost", self.groups[key].name);
         let found = &mut self.speakers[speaker];
@@ -220,7 +220,7 @@ impl Front {
 
     // ---- servers ----
 
-    /// Starts processes that are to be started, and writes down what was given and told.
+    /// Starts processes that are due, and writes to records what servers were given and wrote.
     pub fn tend(&mut self) -> Result<(), Ended> {
         if self.pool.is_none() {
             return Ok(());
@@ -239,7 +239,7 @@ impl Front {
         Ok(())
     }
 
-    /// Puts another process in the place of one that has ended, and brings its groups back.
+    /// Replaces a process that has ended by another one, and brings its groups back.
     pub fn fall(&mut self, at: usize, ended: Ended) -> Result<(), Ended> {
         let worker = &mut self.workers[at];
         let mut server = match worker.server.take().filter(|_| self.pool.is_some()) {
@@ -273,7 +273,7 @@ impl Front {
         Ok(())
     }
 
-    /// The group for which a server does a command.
+    /// The group of the command that a server is doing.
     fn group_at(&self, command: &Command) -> Option<GroupKey> {
         match command.hears.replay().and_then(|key| self.replays.get(&key)) {
             Some(replay) => Some(replay.group),
@@ -281,7 +281,7 @@ impl Front {
         }
     }
 
-    /// Keeps the commands of clients that a server has not answered, each with its group.
+    /// Keeps clients' commands that a server has not answered, each with its group.
     fn keep_lost(&mut self, commands: &[Command]) {
         for command in commands {
             match self.sessions[command.session].group {
@@ -309,8 +309,8 @@ impl Front {
         }
     }
 
-    /// Which groups are to be closed of a server that has ended before its groups were brought back: none as long as that is
-    /// seldom, that at whose commands it has always ended, or all.
+    /// Decides which groups to close of a server that ended before its groups were brought back: none if that is
+    /// rare, the one at whose commands it has always ended, or all.
     fn blame(&mut self, at: usize, blamed: Option<GroupKey>, groups: &[GroupKey]) -> Vec<GroupKey> {
         let now = Instant::now();
         let number = blamed.map(|key| self.groups[key].number);
@@ -334,8 +334,8 @@ impl Front {
         groups.to_vec()
     }
 
-    /// Brings the groups of a server back, or closes them where that cannot be done. A group without anything loses nothing.
-    /// Those at whose commands the server ended come last.
+    /// Brings the groups of a server back, or closes those for which that fails. A group that holds nothing loses nothing.
+    /// The groups at whose commands the server ended come last.
     fn bring_back(&mut self, at: usize, mut groups: Vec<GroupKey>, blamed: &[GroupKey], resumed: &[GroupKey]) {
         let early = &self.workers[at].early;
         let suspects: Vec<u64> = early.iter().filter_map(|(_, number)| *number).collect();
@@ -359,7 +359,7 @@ impl Front {
         }
     }
 
-    /// Goes on with a group that was brought back, or closes it.
+    /// Continues with a group that was brought back, or closes it.
     pub fn brought(&mut self, replay: &Replay, fault: &str) {
         let (key, at) = (replay.group, replay.worker);
         if fault.is_empty() {
@@ -384,7 +384,7 @@ impl Front {
         }
     }
 
-    /// Starts another process where it is time for that.
+    /// Starts another process if it is due.
     fn restart(&mut self, at: usize) {
         let now = Instant::now();
         if now < self.workers[at].due {

@@ -1,4 +1,4 @@
-//! How a run of the front begins and ends.
+//! The beginning and the end of a run of the front.
 
 use std::fs;
 use std::io::{self, Read};
@@ -30,22 +30,22 @@ use crate::spawn::{end_all, keep_open, started, SECONDS_TO_END};
 use crate::tokens::{token, Kind};
 
 const FOR_ITS_OWNER: u32 = 0o600;
-/// Files that clients leave for servers that are started anew, and for records.
+/// Files that are reserved for servers that are started again, and for records; clients cannot use them.
 const FILES_KEPT: u64 = 24;
-/// Bytes that the socket holds by which the page's process is told, where that is allowed.
+/// The size in bytes of the send buffer of the socket to the page's process, if the system allows it.
 const SEND_BYTES: usize = 1_048_576;
 const TIME_TO_END: Duration = Duration::from_secs(2);
-/// In which monitors take what is left for them at the front's end: without taking any, and all together.
+/// At the front's end, the time that monitors have to read anything of what is left for them, and the time for all of it.
 const TIME_TO_TAKE: Duration = Duration::from_secs(2);
 const TIME_TO_TAKE_ALL: Duration = Duration::from_secs(10);
 
-/// What a run has to put in order at its end.
+/// The sockets that a run has to remove at its end.
 #[derive(Default)]
 struct Kept {
     bound: Vec<Bound>,
 }
 
-/// Serves until the front is asked to end, or cannot go on.
+/// Serves until the front is asked to end, or cannot continue.
 pub fn serve(options: Options) -> Result<(), Stop> {
     let mut alarm = signalled(&[SIGINT, SIGTERM])?;
     let hangups = signalled(&[SIGHUP])?;
@@ -63,7 +63,7 @@ pub fn serve(options: Options) -> Result<(), Stop> {
     }
     end_all(&mut children, SECONDS_TO_END);
     match served {
-        // the server was asked to end too, and was the first
+        // the server was asked to end too, and ended first
         Err(Stop::Ended(_)) if matches!(alarm.read(&mut [0]), Ok(1..)) => Err(Stop::Asked),
         Err(Stop::Ended(ended)) => match front.and_then(|front| front.not_served).filter(|status| *status > 0) {
             Some(status) => Err(Stop::NotServed(ended, status)),
@@ -97,7 +97,7 @@ fn run(
     served
 }
 
-/// The sockets at which others connect, and who does: clients last.
+/// The sockets at which others connect, each with the kind of connections: clients last.
 fn listeners(options: &Options, kept: &mut Kept) -> Result<Vec<(Listener, Comers)>, Ended> {
     let mut bind = |path: &PathBuf, mode| {
         let (listener, bound) = listening(path, mode)?;
@@ -124,7 +124,7 @@ fn listeners(options: &Options, kept: &mut Kept) -> Result<Vec<(Listener, Comers
     Ok(all)
 }
 
-/// The front that the options ask for, without servers.
+/// Makes the front that the options ask for, without servers.
 fn front_of(options: &Options) -> Result<Front, Stop> {
     let words = (options.program.clone(), options.args.clone());
     let mut front = Front::new(options.workers.unwrap_or(1), words, Log::new(options.is_quiet))?;
@@ -157,7 +157,7 @@ fn begin_servers(front: &mut Front, options: &Options) -> Result<(), Stop> {
     Ok(())
 }
 
-/// Waits for signals, and for the end of standard input where the front is tied to it.
+/// Waits for signals, and for the end of standard input if the front is tied to it.
 fn watch(front: &mut Front, options: &Options, alarm: &UnixStream, hangups: &UnixStream) -> io::Result<()> {
     let registry = front.poll.registry();
     let watch = |number, token: Token| registry.register(&mut mio::unix::SourceFd(&number), token, Interest::READABLE);
@@ -169,7 +169,7 @@ fn watch(front: &mut Front, options: &Options, alarm: &UnixStream, hangups: &Uni
     Ok(())
 }
 
-/// A socket that can be read once one of these signals has come. Who started the front may have it pass over some.
+/// A socket that can be read once one of these signals has come. Signals that the front inherited as ignored stay ignored.
 fn signalled(numbers: &[i32]) -> io::Result<UnixStream> {
     let (heard, bell) = UnixStream::pair()?;
     heard.set_nonblocking(true)?;
@@ -182,14 +182,14 @@ fn signalled(numbers: &[i32]) -> io::Result<UnixStream> {
     Ok(heard)
 }
 
-/// The signals that are passed over, a bit for each.
+/// The signals that are ignored, as a bit mask.
 fn signals_passed_over() -> u64 {
     let status = fs::read_to_string("/proc/self/status").unwrap_or_default();
     let mask = status.lines().find_map(|line| line.strip_prefix("SigIgn:"));
     mask.and_then(|mask| u64::from_str_radix(mask.trim(), 16).ok()).unwrap_or(0)
 }
 
-/// Starts the process that shows the front, and says where it does.
+/// Starts the process that shows the front, and logs where.
 fn show(front: &mut Front, options: &Options, port: u16) -> Result<Child, Stop> {
     let door = std::net::TcpListener::bind(("127.0.0.1", port));
     let door = door.map_err(|error| Ended(format!("port {port} cannot be bound: {}", reason(&error))))?;
@@ -218,7 +218,7 @@ fn show(front: &mut Front, options: &Options, port: u16) -> Result<Child, Stop> 
     Ok(child)
 }
 
-/// The program of the page, where it is installed beside this one or stands in the repository.
+/// The program of the page: installed next to this one, or in the repository.
 fn page_program() -> Result<PathBuf, Ended> {
     let own = fs::read_link("/proc/self/exe").unwrap_or_default();
     let folder = own.parent().map(PathBuf::from).unwrap_or_default();
@@ -227,7 +227,7 @@ fn page_program() -> Result<PathBuf, Ended> {
     found.ok_or_else(|| Ended("the inspector cannot be started: it is not installed".to_string()))
 }
 
-/// A word that nobody can guess.
+/// A random word that nobody can guess.
 fn random_token() -> io::Result<String> {
     const SIGNS: &[u8; 64] = b"ABCDEFGHIJKLMNOPQRSTUVWXYZabcdefghijklmnopqrstuvwxyz0123456789-_";
     let mut bytes = [0; 32];

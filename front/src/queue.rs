@@ -1,4 +1,4 @@
-//! Bytes and lines that wait: half lines that were read, lines that wait for their turn, and what was not taken yet.
+//! Bytes and lines that wait: parts of lines that were read, lines that wait for their turn, and bytes that are still unread.
 
 use std::io::{self, ErrorKind, Write};
 
@@ -6,18 +6,18 @@ use memchr::{memchr, memchr_iter};
 
 use crate::lines::{is_blank, LINE_MOST, TOO_LONG};
 
-/// Bytes up to which an empty buffer keeps its memory.
+/// An empty buffer of at most this many bytes keeps its memory.
 const KEPT: usize = 1_024;
 
-/// Cuts bytes into lines, and keeps no more of a line than a line may have.
+/// Cuts bytes into lines, and keeps at most one byte more of a line than a line may have.
 #[derive(Default)]
 pub struct Cutter {
     begun: Vec<u8>,
 }
 
 impl Cutter {
-    /// Hands on the lines that these bytes end, without blank ones, which ask for nothing. These are at most as many bytes
-    /// as a line may have.
+    /// Calls `hear` with the lines that these bytes complete, except blank ones, which ask for nothing. The bytes are at most
+    /// as many as a line may have.
     pub fn feed(&mut self, data: &[u8], mut hear: impl FnMut(&[u8])) {
         let mut start = 0;
         for end in memchr_iter(b'\n', data) {
@@ -32,14 +32,14 @@ impl Cutter {
         self.grow(&data[start..]);
     }
 
-    /// Hands on the line as far as it was read, since no more comes.
+    /// Calls `hear` with the part of a line that was read, since no more comes.
     pub fn finish(&mut self, mut hear: impl FnMut(&[u8])) {
         let line = if self.begun.len() > LINE_MOST { TOO_LONG } else { &self.begun };
         hear_line(line, &mut hear);
         clear(&mut self.begun);
     }
 
-    /// Goes on with a line, up to one byte more than a line may have.
+    /// Adds to a line, up to one byte more than a line may have.
     fn grow(&mut self, part: &[u8]) {
         let room = LINE_MOST + 1 - self.begun.len();
         self.begun.extend_from_slice(&part[..part.len().min(room)]);
@@ -89,7 +89,7 @@ impl Queue {
         }
     }
 
-    /// Hands on each of the lines.
+    /// Calls `hear` with each of the lines.
     pub fn each(&self, mut hear: impl FnMut(&[u8])) {
         self.all(|line| {
             hear(line);
@@ -97,13 +97,13 @@ impl Queue {
         });
     }
 
-    /// Hands on the lines as long as the answer is yes; whether it always was.
+    /// Calls `hear` with the lines until it returns false; returns whether it never did.
     pub fn all(&self, hear: impl FnMut(&[u8]) -> bool) -> bool {
         let lines = &self.bytes[self.start..];
         lines.strip_suffix(b"\n").map_or(true, |lines| lines.split(|byte| *byte == b'\n').all(hear))
     }
 
-    /// How many lines wait.
+    /// The number of lines that wait.
     #[cfg(test)]
     pub fn count(&self) -> usize {
         memchr_iter(b'\n', &self.bytes[self.start..]).count()
@@ -115,7 +115,7 @@ impl Queue {
     }
 }
 
-/// Bytes that the other side of a pipe or a connection has not taken yet. Taking some of them moves the rest only where
+/// Bytes that the other side of a pipe or a connection has not taken yet. Taking some of them moves the rest only if
 /// more was taken than is left.
 #[derive(Default)]
 pub struct Pending {
@@ -151,7 +151,7 @@ impl Pending {
         self.start = 0;
     }
 
-    /// Forgets all but the rest of a line that was taken in part.
+    /// Drops all but the rest of a line that was taken in part.
     pub fn keep_line(&mut self) {
         let is_begun = self.start > 0 && self.bytes[self.start - 1] != b'\n';
         let end = memchr(b'\n', &self.bytes[self.start..]).filter(|_| is_begun).map_or(0, |end| end + 1);
@@ -160,7 +160,7 @@ impl Pending {
         self.push(&rest);
     }
 
-    /// Gives as much as is taken at once; says whether that was all.
+    /// Writes as much as is taken at once; returns whether that was all.
     pub fn give(&mut self, to: &mut impl Write) -> io::Result<bool> {
         while self.start < self.bytes.len() {
             match to.write(&self.bytes[self.start..]) {
@@ -178,7 +178,7 @@ impl Pending {
         Ok(true)
     }
 
-    /// Forgets what was taken, but for one byte, which says whether a line was taken in part.
+    /// Drops the bytes that were taken, except the last one, which says whether a line was taken in part.
     fn compact(&mut self) {
         if self.start > self.len() {
             self.bytes.drain(..self.start - 1);
@@ -234,7 +234,7 @@ mod tests {
         assert!(queue.is_empty() && queue.first().is_none());
     }
 
-    /// Takes a few bytes at a time, and now and then none.
+    /// Takes a few bytes at a time, and sometimes none.
     struct Slow(Vec<u8>, usize);
 
     impl Write for Slow {

@@ -1,7 +1,7 @@
-//! What a group's server was given and what it told, in a file that people can read and that can be replayed.
+//! The record of a group: a file of the lines that its server was given and wrote. People can read it, and it can be replayed.
 //!
-//! A line that the server was given is written after `> `, one that it told as it is. Lines are in the order in which they
-//! were given and told, so an answer may come after the command that was given next.
+//! A line that the server was given is written after `> `, one that it wrote is unchanged. Lines are in the order in which
+//! they were given and written, so an answer may come after the command that was given next.
 
 use std::fs::{self, File, OpenOptions};
 use std::io::{self, BufRead, BufReader, Cursor, Write};
@@ -15,16 +15,16 @@ use crate::server::RECORD_FLAGS;
 
 const GIVEN: &[u8] = b"> ";
 pub const ENDING: &str = ".lines";
-/// Bytes that are kept before they are written.
+/// More bytes than this are written at once instead of being kept.
 const FRESH_MOST: usize = 1_048_576;
 
-/// The record of one group. What cannot be written ends it, and then the group cannot be brought back.
+/// The record of one group. A failed write ends the record, and then the group cannot be brought back.
 pub struct GroupRecord {
-    /// Where it is; nowhere for one that is kept in memory.
+    /// The path of the file, or none if the record is kept in memory.
     path: Option<PathBuf>,
     fresh: Vec<u8>,
     size: u64,
-    /// Lines that were given.
+    /// The number of lines that were given.
     pub count: usize,
     pub is_whole: bool,
     is_there: bool,
@@ -35,7 +35,7 @@ impl GroupRecord {
         GroupRecord { path, fresh: Vec::new(), size: 0, count: 0, is_whole: true, is_there: false }
     }
 
-    /// The record that is there of an earlier front, without half a line at its end.
+    /// Opens the record of an earlier front, without a partial line at its end.
     pub fn resume(path: &Path) -> io::Result<GroupRecord> {
         let whole = whole_lines(path)?;
         OpenOptions::new().write(true).custom_flags(RECORD_FLAGS.bits()).open(path)?.set_len(whole)?;
@@ -44,13 +44,13 @@ impl GroupRecord {
         Ok(GroupRecord { path, fresh, size: whole, count, is_whole: true, is_there: true })
     }
 
-    /// Writes down a line that the server is given.
+    /// Records a line that is given to the server.
     pub fn given(&mut self, line: &[u8], log: &mut Log) {
         self.count += 1;
         self.add(&[GIVEN, line, b"\n"], log);
     }
 
-    /// Writes down lines that the server has told.
+    /// Records lines that the server has written.
     pub fn told(&mut self, lines: &[u8], log: &mut Log) {
         self.add(&[lines], log);
     }
@@ -68,7 +68,7 @@ impl GroupRecord {
         }
     }
 
-    /// Writes what is new, to a file that nobody but its owner may read.
+    /// Writes what is new to a file that only its owner may read.
     pub fn write(&mut self, log: &mut Log) {
         let path = match &self.path {
             Some(path) if self.is_whole && !self.fresh.is_empty() => path,
@@ -78,7 +78,7 @@ impl GroupRecord {
         options
             .mode(0o600)
             .custom_flags(RECORD_FLAGS.bits())
-            .create(!self.is_there) // else the beginning would be missing in a new file
+            .create(!self.is_there) // otherwise a new file would lack the beginning
             .append(self.is_there)
             .write(true)
             .truncate(!self.is_there);
@@ -95,7 +95,7 @@ impl GroupRecord {
         }
     }
 
-    /// Forgets all, since nothing of it is left with the server.
+    /// Empties the record, because the server holds nothing of the group any more.
     pub fn begin_anew(&mut self) {
         self.fresh.clear();
         (self.size, self.count, self.is_whole) = (0, 0, true);
@@ -104,12 +104,12 @@ impl GroupRecord {
         }
     }
 
-    /// Whether there is a file of it.
+    /// Whether it has a file.
     pub fn is_in_file(&self) -> bool {
         self.is_there
     }
 
-    /// Whether its file is still there with all of it. Else it ends: a file that begins later could bring nothing back.
+    /// Whether the whole file is still there. If not, the record ends: a file that begins later could bring nothing back.
     pub fn is_still_there(&mut self, log: &mut Log) -> bool {
         self.write(log);
         let size = self.path.as_ref().and_then(|path| fs::symlink_metadata(path).ok()).map(|found| found.len());
@@ -121,14 +121,14 @@ impl GroupRecord {
         self.is_whole
     }
 
-    /// Takes the file away.
+    /// Removes the file.
     pub fn end(&mut self) {
         if let Some(path) = self.path.as_ref().filter(|_| std::mem::take(&mut self.is_there)) {
             let _ = fs::remove_file(path);
         }
     }
 
-    /// The lines of it as it is now.
+    /// The present lines of the record.
     pub fn content(&mut self, log: &mut Log) -> io::Result<Content> {
         self.write(log);
         let reader: Box<dyn BufRead> = match self.path.as_ref().filter(|_| self.is_there) {
@@ -139,7 +139,7 @@ impl GroupRecord {
     }
 }
 
-/// The bytes of the whole lines of a file.
+/// The number of bytes in a file's complete lines.
 fn whole_lines(path: &Path) -> io::Result<u64> {
     let mut reader = BufReader::new(open(path)?);
     let (mut line, mut whole) = (Vec::new(), 0);
@@ -161,14 +161,14 @@ pub fn lines_given(path: &Path) -> io::Result<impl Iterator<Item = Vec<u8>>> {
     Ok(std::iter::from_fn(move || given.next()))
 }
 
-/// The lines of a record, up to where it ended when they were asked for.
+/// The lines of a record, up to its end at the time of the call.
 pub struct Content {
     reader: Box<dyn BufRead>,
     left: u64,
 }
 
 impl Content {
-    /// The next line that was given, or that was told, with its end.
+    /// Reads the next line that was given, or that was written, with its end.
     fn next(&mut self, is_given: bool, line: &mut Vec<u8>) -> bool {
         while self.left > 0 {
             line.clear();
@@ -198,7 +198,7 @@ impl Given {
     }
 }
 
-/// The lines of a record that the server has told, as bytes.
+/// The lines of a record that the server wrote, as bytes.
 pub struct Told {
     content: Content,
     held: Vec<u8>,
@@ -210,7 +210,7 @@ impl Told {
         Told { content, held: Vec::new(), line: Vec::new() }
     }
 
-    /// The next so many bytes, or as many as there are.
+    /// The next bytes, as many as asked for, or as many as there are.
     pub fn take(&mut self, count: usize) -> Vec<u8> {
         while self.held.len() < count && self.content.next(false, &mut self.line) {
             self.held.extend_from_slice(&self.line);
@@ -218,7 +218,7 @@ impl Told {
         self.held.drain(..count.min(self.held.len())).collect()
     }
 
-    /// The line that begins so, with the rest of it, as far as it is there.
+    /// The line that begins with these bytes, as far as the record has it.
     pub fn line_at(&mut self, part: &[u8]) -> Vec<u8> {
         let mut line = part.to_vec();
         while !line.ends_with(b"\n") {
@@ -231,7 +231,7 @@ impl Told {
     }
 }
 
-/// A folder for records, which is made where it is not there. Only its owner may look into one that is made.
+/// Opens or makes a folder for records. Only its owner may look into one that is made.
 pub fn folder(path: &Path) -> Result<PathBuf, Ended> {
     let made = fs::DirBuilder::new().recursive(true).mode(0o700).create(path);
     let shown = path.display();

@@ -1,7 +1,7 @@
-//! How a server is brought to where another one was: it is given a group's record, and tells the same again.
+//! Brings a server to the state of another one: it is given a group's record, and has to write the recorded lines again.
 //!
-//! What it tells is compared with what was told, byte for byte, and told to nobody. Commands that were under way when the
-//! other server ended are given last: of their answers clients are told what is beyond that which they were told by then.
+//! The lines that it writes are compared with the record, byte for byte, and sent to nobody. Commands that were under way when
+//! the other server ended are given last: clients receive only the part of the answers that they have not received yet.
 
 use crate::front::{Front, NO_SESSION};
 use crate::log::{bytes_as_text, reason};
@@ -9,43 +9,43 @@ use crate::people::{GroupKey, Owner, ReplayKey, Speaker, SpeakerKey};
 use crate::records::{Given, Told};
 use crate::turns::{Command, Hears};
 
-/// Lines that are read before they are given.
+/// The number of lines that are read before they are given.
 const AHEAD: usize = 64;
-/// Lines of a record that a server was given and has not answered, and bytes of them that it has not taken, at most.
+/// The most lines of a record that a server was given and has not answered, and the most bytes of them that it has not taken.
 const REPLAYED_MOST: usize = 4_096;
 const REPLAYED_BYTES: usize = 262_144;
-/// Stands for a line that the record does not have any more, and is answered otherwise than that line was.
+/// Stands for a line that the record no longer has. The server answers it otherwise than that line, so the replay fails.
 const NO_LINE: &[u8] = b"{}";
 
-/// What a replay is for.
+/// The purpose of a replay.
 #[derive(Clone, Copy, Debug, PartialEq, Eq)]
 pub enum Purpose {
     BringBack,
     Move,
-    /// To go on where an earlier front was. What comes after the end of the record is recorded.
+    /// To continue from an earlier front's record. What comes after the end of the record is recorded.
     Resume,
 }
 
-/// Gives a server what another one was given for a group, and compares what it tells.
+/// A replay: it gives a server the lines of a group's record, and compares what the server writes.
 pub struct Replay {
     pub speaker: SpeakerKey,
     pub group: GroupKey,
-    /// The place of the worker among all.
+    /// The index of the worker.
     pub worker: usize,
     pub purpose: Purpose,
     pub is_begun: bool,
     given: Option<Given>,
     told: Option<Told>,
-    /// Lines whose answers are known, and that are still to be read.
+    /// Recorded lines with known answers that are still to be read.
     to_read: usize,
-    /// Lines whose answers are known and have not come.
+    /// Recorded lines with known answers that the server has not answered yet.
     unanswered: usize,
-    /// Commands that are under way once more.
+    /// Commands that were under way and are given again.
     again: usize,
 }
 
 impl Replay {
-    /// The first line that was told, and that which comes now, in words.
+    /// The first difference, in words: the line of the record, and the line that the server has written.
     fn difference(&mut self, wanted: &[u8], came: &[u8]) -> String {
         let mut same = 0;
         for line in came.split_inclusive(|byte| *byte == b'\n') {
@@ -63,13 +63,13 @@ fn shown(line: &[u8]) -> String {
     bytes_as_text(line.strip_suffix(b"\n").unwrap_or(line))
 }
 
-/// The first of these lines, with its end where it is there.
+/// The first of these lines, with its end if it has one.
 fn first_line(lines: &[u8]) -> &[u8] {
     lines.split_inclusive(|byte| *byte == b'\n').next().unwrap_or_default()
 }
 
 impl Front {
-    /// Lets a group be brought to a worker, after those that wait there already.
+    /// Plans a replay of a group on a worker, after those that wait there already.
     pub fn add_replay(&mut self, group: GroupKey, worker: usize, purpose: Purpose) -> ReplayKey {
         let key = self.next_replay;
         self.next_replay += 1;
@@ -95,7 +95,7 @@ impl Front {
         }
     }
 
-    /// Begins to give a server the lines of a record.
+    /// Begins to give the lines of a record to a server.
     fn begin_replay(&mut self, key: ReplayKey) {
         let replay = match self.replays.get_mut(&key) {
             Some(replay) => replay,
@@ -127,7 +127,7 @@ impl Front {
         }
     }
 
-    /// Reads lines of a record, once those that were read are given.
+    /// Reads lines of a record, once those that were read have been given.
     pub fn read_ahead_if_empty(&mut self, key: ReplayKey) {
         let speaker = self.replays.get(&key).map(|replay| replay.speaker);
         if speaker.map_or(false, |speaker| self.speakers[speaker].waiting.is_empty()) {
@@ -147,7 +147,7 @@ impl Front {
         }
     }
 
-    /// Gives a server more lines of a record than take turns, as long as nobody else waits for it.
+    /// Gives a server more lines of a record than the turns allow, as long as nobody else waits for it.
     pub fn give_replay(&mut self, at: usize) {
         let first = self.workers[at].replays.front().and_then(|key| self.replays.get(key));
         let speaker = match first.filter(|replay| replay.is_begun) {
@@ -162,7 +162,7 @@ impl Front {
         }
     }
 
-    /// What clients are to be told of lines that a server tells for a command which is not theirs, or not for the first time.
+    /// The part of a server's lines that clients are to receive, if the command is a replay's or was given before.
     pub fn fresh<'a>(&mut self, hears: Hears, lines: &'a [u8]) -> &'a [u8] {
         let key = match hears.replay() {
             Some(key) => key,
@@ -187,7 +187,7 @@ impl Front {
         &[]
     }
 
-    /// Goes on after a command of a replay was answered.
+    /// Continues after a command of a replay was answered.
     pub fn heard_in_replay(&mut self, command: Command) {
         let found = command.hears.replay().and_then(|key| Some((key, self.replays.get_mut(&key)?)));
         let (key, replay) = match found {
@@ -210,7 +210,7 @@ impl Front {
         }
     }
 
-    /// Gives a server once more what was under way, now that it is where the other one was.
+    /// Gives a server again the commands that were under way, now that it has the other one's state.
     fn give_again(&mut self, key: ReplayKey) {
         let replay = match self.replays.get_mut(&key) {
             Some(replay) => replay,
@@ -229,7 +229,7 @@ impl Front {
         }
     }
 
-    /// All was told once more, unless something is left that was told before.
+    /// Ends a replay in which all was written again, unless the record has lines left.
     fn finish_replay(&mut self, key: ReplayKey) {
         let replay = match self.replays.get_mut(&key) {
             Some(replay) => replay,
@@ -240,7 +240,7 @@ impl Front {
         self.end_replay(key, &fault);
     }
 
-    /// Ends a replay, with what is wrong, or with nothing.
+    /// Ends a replay, with a fault or with an empty text.
     fn end_replay(&mut self, key: ReplayKey, fault: &str) {
         if let Some(replay) = self.leave_replay(key) {
             match replay.purpose {
@@ -250,7 +250,7 @@ impl Front {
         }
     }
 
-    /// Gives and compares nothing more.
+    /// Removes a replay: nothing more is given or compared.
     pub fn leave_replay(&mut self, key: ReplayKey) -> Option<Replay> {
         let replay = self.replays.remove(&key)?;
         let worker = &mut self.workers[replay.worker];

@@ -1,8 +1,8 @@
-//! How a front goes on where an earlier one was killed: each group's record is given to its server again.
+//! Resumes the groups of a front that was killed: each group's record is given to its server again.
 //!
-//! What the server tells is compared with the record as far as that goes, and what comes after that is recorded. Nobody is
-//! told anything meanwhile, and the group's commands wait. Then the sessions of clients that were connected are reset, as
-//! those clients have gone; sessions that are shared, or that clients name, are as they were.
+//! The lines that the server writes are compared with the record as far as it goes, and what comes after it is recorded.
+//! Meanwhile clients receive nothing, and the group's commands wait. Then the sessions of clients that were connected are
+//! reset, as those clients have disconnected; shared sessions, and those that clients name, are as they were.
 
 use std::fs;
 use std::path::Path;
@@ -17,7 +17,7 @@ use crate::records::{lines_given, GroupRecord, ENDING};
 use crate::replaying::Purpose;
 
 impl Front {
-    /// Lets the groups go on whose records are in the folder of records.
+    /// Resumes the groups whose records are in the folder of records.
     pub fn resume(&mut self) -> Result<(), Ended> {
         let folder = match self.pool.as_ref().and_then(|pool| pool.folder.clone()) {
             Some(folder) => folder,
@@ -34,7 +34,7 @@ impl Front {
         Ok(())
     }
 
-    /// Lets a group go on whose record is there.
+    /// Resumes a group from its record.
     fn resume_group(&mut self, name: &str, path: &Path) -> Result<(), Ended> {
         let unread = |error| Ended(format!("{} cannot be read: {}", path.display(), reason(&error)));
         let record = GroupRecord::resume(path).map_err(unread)?;
@@ -63,7 +63,7 @@ impl Front {
         Ok(())
     }
 
-    /// Goes on with a group that was resumed: resets the sessions of clients that have gone with the earlier front.
+    /// Continues with a group that was resumed: resets the sessions of the earlier front's clients.
     pub fn resumed(&mut self, key: GroupKey) {
         let own = self.groups[key].filled.iter().filter(|session| number_in(session).is_some() && !self.named_by_clients);
         for name in own.cloned().collect::<Vec<String>>() {
@@ -78,7 +78,7 @@ impl Front {
     }
 }
 
-/// The number of the client that has a session of this name for itself.
+/// The number of the client to which a front gives a session of this name.
 fn number_in(session: &str) -> Option<u64> {
     let own = session.rsplit(BETWEEN).next().filter(|own| is_own_name(own))?;
     own[1..].parse().ok()

@@ -1,9 +1,9 @@
-//! Which of several servers a group belongs to.
+//! Assigns groups to servers.
 //!
 //! Each of the servers, numbered from 1, has 128 points on a ring, and a group belongs to the first point at or after its
 //! own, or to the first of all. The point of a text is its BLAKE2b digest of 8 bytes, read as a number with the highest byte
-//! first: of the group's name, and of `N/K` for the point K, from 0 to 127, of the server N. So every program can tell where
-//! a group is, and one server more takes its share of the groups from the others and moves none between those.
+//! first: of the group's name, and of `N/K` for the point K, from 0 to 127, of the server N. So every program can compute
+//! where a group is, and an additional server takes its share of the groups from the others and moves none between those.
 
 const POINTS: usize = 128;
 
@@ -13,7 +13,7 @@ pub struct Ring {
 }
 
 impl Ring {
-    /// The ring of so many servers.
+    /// The ring of this many servers.
     pub fn new(count: usize) -> Ring {
         let all =
             (1..=count).flat_map(|number| (0..POINTS).map(move |point| (point_of(&format!("{number}/{point}")), number)));
@@ -35,7 +35,7 @@ fn point_of(text: &str) -> u64 {
     digest.as_bytes().iter().fold(0, |number, byte| number << 8 | u64::from(*byte))
 }
 
-/// The member of a line that names nobody in place of a session of another group, and another one for each session.
+/// The member that replaces a session of another group in a line. It names nobody, and differs for each session.
 pub fn stranger(session: &str) -> Vec<u8> {
     let digest = blake2b_simd::Params::new().hash_length(16).hash(session.as_bytes());
     format!("\"from\":\"_{}\"", digest.to_hex()).into_bytes()
@@ -45,7 +45,7 @@ pub fn stranger(session: &str) -> Vec<u8> {
 mod tests {
     use super::*;
 
-    /// The points are those of any other BLAKE2b: these were taken with Python's `hashlib`.
+    /// The points are those of any other BLAKE2b: the expected values were computed with Python's `hashlib`.
     #[test]
     fn points_are_those_of_blake2b() {
         assert_eq!(point_of("desk"), 10249636795645812220);
@@ -53,7 +53,7 @@ mod tests {
         assert_eq!(stranger("desk__c1"), br#""from":"_730815b213ce777f62ae7e11a4b251f4""#.to_vec());
     }
 
-    /// The worker of a group, found without a ring that is sorted.
+    /// Finds the worker of a group without a sorted ring.
     #[test]
     fn a_group_belongs_to_the_first_point_after_its_own() {
         for count in [1, 2, 3, 16] {

@@ -1,11 +1,11 @@
-//! What a hangup (SIGHUP) asks for: that records are opened again by their names, as `logrotate` wants it.
+//! Handles a hangup (SIGHUP): records are opened again by their names, as `logrotate` requires.
 
 use std::io::Read;
 
 use crate::front::Front;
 
 impl Front {
-    /// Takes the hangups that have come, which ask for the same.
+    /// Handles the hangups that have come; several count as one.
     pub fn hear_hangup(&mut self) {
         let hangups = match &mut self.hangups {
             Some(hangups) => hangups,
@@ -20,7 +20,7 @@ impl Front {
         }
     }
 
-    /// Opens the record of the only server again, or looks whether the records of groups are where they were.
+    /// Opens the record of the only server again, or checks whether the records of groups are where they were.
     fn open_records_again(&mut self) {
         match self.pool.as_ref().map(|pool| pool.folder.clone()) {
             Some(Some(folder)) => {

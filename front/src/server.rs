@@ -1,4 +1,4 @@
-//! A server: its process, what it is given, and what it writes.
+//! A server: its process, the lines that it is given, and the lines that it writes.
 
 use std::ffi::OsString;
 use std::fs::{File, OpenOptions};
@@ -18,15 +18,15 @@ use crate::log::{reason, Ended, Log};
 use crate::queue::Pending;
 use crate::spawn::{started, SECONDS_TO_END};
 
-/// Bytes that are read of a server at once.
+/// Bytes that are read from a server at once.
 const CHUNK: usize = 262_144;
-/// Bytes that the pipes to and from a server hold, where that is allowed.
+/// The size in bytes of the pipes to and from a server, if the system allows it.
 const PIPE: i32 = 1_048_576;
 
-/// A record is no link to another file, and no pipe that nobody reads.
+/// A record is not opened through a link, and a pipe that nobody reads is refused.
 pub const RECORD_FLAGS: OFlag = OFlag::from_bits_truncate(OFlag::O_NOFOLLOW.bits() | OFlag::O_NONBLOCK.bits());
 
-/// A file of all lines as the server is given them, in their order. What cannot be written ends the record, and not the
+/// A file of all lines as the server is given them, in their order. A failed write ends the record, and not the
 /// front.
 pub struct Record {
     path: PathBuf,
@@ -46,8 +46,8 @@ impl Record {
         Ok(Record { path: path.to_path_buf(), file: Some(file) })
     }
 
-    /// Closes the file, and goes on at the end of the one that now has its name. That one is made where there is none. Where
-    /// it cannot be opened, the record goes on as it was.
+    /// Closes the file, and continues at the end of the one that now has its name, which is made if there is none. If it
+    /// cannot be opened, the record continues in the old file.
     pub fn open_again(&mut self, log: &mut Log) {
         let mut options = OpenOptions::new();
         let opened = options.append(true).create(true).mode(0o600).custom_flags(RECORD_FLAGS.bits()).open(&self.path);
@@ -76,17 +76,17 @@ impl Record {
     }
 }
 
-/// What a read of a server has brought.
+/// The result of reading a server.
 #[derive(Debug, PartialEq, Eq)]
 pub enum Brought {
     Nothing,
-    /// Whole lines of so many bytes, at the beginning of the buffer; and whether more may be there.
+    /// Complete lines of so many bytes, at the beginning of the buffer, and whether more may be there.
     Lines(usize, bool),
-    /// The end of what it writes.
+    /// The end of its output.
     End,
 }
 
-/// What a server has written and was not told yet.
+/// Bytes that a server has written and the front has not passed on yet.
 pub struct Written {
     pub bytes: Vec<u8>,
     /// Bytes of a line that has not ended.
@@ -112,23 +112,23 @@ impl Written {
         Ok(Brought::Lines(whole, end == self.bytes.len()))
     }
 
-    /// Drops the lines at the beginning, which were told.
+    /// Drops the lines at the beginning, which were passed on.
     pub fn told(&mut self, whole: usize) {
         self.bytes.copy_within(whole..self.begun, 0);
         self.begun -= whole;
     }
 }
 
-/// A program that is given lines, and answers each.
+/// A program that answers each line that it is given.
 pub struct Server {
     pub child: Child,
     input: ChildStdin,
     output: ChildStdout,
-    /// What it has not taken yet.
+    /// Lines that it has not taken yet.
     pub given: Pending,
     pub written: Written,
     pub record: Option<Record>,
-    /// Bytes at the end of what it was given that are not recorded yet.
+    /// Bytes at the end of these lines that are not recorded yet.
     unrecorded: usize,
     watches_writing: bool,
 }
@@ -147,17 +147,17 @@ impl Server {
         Ok(Server { child, input, output, given, written, record, unrecorded: 0, watches_writing: false })
     }
 
-    /// Begins to wait for what it writes.
+    /// Begins to wait for its output.
     pub fn watch(&self, registry: &Registry, token: Token) -> Result<(), Ended> {
         watched(registry.register(&mut SourceFd(&self.output.as_raw_fd()), token, Interest::READABLE))
     }
 
-    /// Waits for what it writes as if that were new, since not all of it was read.
+    /// Waits for its output as if that were new, because not all of it was read.
     pub fn watch_again(&self, registry: &Registry, token: Token) -> Result<(), Ended> {
         watched(registry.reregister(&mut SourceFd(&self.output.as_raw_fd()), token, Interest::READABLE))
     }
 
-    /// Appends a line to what it is given, which it is let take by `push`. Answers the bytes of the line, without its end.
+    /// Appends a line to those that it is given; `push` writes them. Returns the bytes of the line, without its end.
     pub fn give(&mut self, put: impl FnOnce(&mut Vec<u8>)) -> usize {
         let bytes = self.given.end();
         let before = bytes.len();
@@ -170,7 +170,7 @@ impl Server {
         length
     }
 
-    /// Appends a line of the front's own, which is not recorded.
+    /// Appends a line by the front, which is not recorded.
     pub fn give_unrecorded(&mut self, line: &[u8], log: &mut Log) -> usize {
         self.write_record(log);
         let bytes = self.given.end();
@@ -179,7 +179,7 @@ impl Server {
         line.len()
     }
 
-    /// Records what is not recorded yet, all of which is at the end of what it was given.
+    /// Records the lines that are not recorded yet, all of which are at the end of those that it was given.
     fn write_record(&mut self, log: &mut Log) {
         if self.unrecorded > 0 {
             if let Some(record) = &mut self.record {
@@ -189,12 +189,12 @@ impl Server {
         }
     }
 
-    /// The last line that it was given, of so many bytes, without its end.
+    /// The last line that it was given, which has this many bytes without its end.
     pub fn last(&self, length: usize) -> &[u8] {
         &self.given.last(length + 1)[..length]
     }
 
-    /// Lets it take what it was given, as far as it does at once.
+    /// Writes as much of the lines to it as it takes at once.
     pub fn push(&mut self, registry: &Registry, token: Token, log: &mut Log) {
         self.write_record(log);
         if self.given.is_empty() {
@@ -203,7 +203,7 @@ impl Server {
         let is_all = match self.given.give(&mut self.input) {
             Ok(is_all) => is_all,
             Err(_) => {
-                self.given.clear(); // it is ending, which the end of its output tells
+                self.given.clear(); // it is ending, as the end of its output will show
                 true
             }
         };
@@ -217,7 +217,7 @@ impl Server {
         }
     }
 
-    /// Reads what it has written.
+    /// Reads its output.
     pub fn read(&mut self) -> Brought {
         match self.written.read(&mut self.output) {
             Ok(brought) => brought,
@@ -226,7 +226,7 @@ impl Server {
         }
     }
 
-    /// Waits until it has ended, for some seconds; answers how, where it has.
+    /// Waits some seconds until it has ended; returns its status if it has.
     pub fn status(&mut self) -> Option<ExitStatus> {
         let until = Instant::now() + SECONDS_TO_END;
         loop {

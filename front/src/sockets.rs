@@ -1,4 +1,4 @@
-//! Where clients connect: a socket of the front's own, or one that it was passed.
+//! The sockets that others connect to: made by the front, or passed to it.
 
 use std::env;
 use std::fs::{self, File, Permissions};
@@ -19,17 +19,17 @@ use socket2::{Domain, SockAddr, Socket, Type};
 
 use crate::log::{reason, Ended};
 
-/// Clients that wait to be accepted, at most.
+/// The most connections that wait to be accepted.
 const WAITING_MOST: i32 = 1_024;
-/// The number of the file that systemd passes first.
+/// The number of the first file that systemd passes.
 const FIRST_PASSED: RawFd = 3;
 const TRIES: usize = 10;
 const PAUSE: Duration = Duration::from_millis(100);
-/// Sockets that are passed, at most.
+/// The most sockets that may be passed.
 const PASSED_MOST: RawFd = 1_024;
 const NOT_PASSED: &str = "no socket was passed: LISTEN_PID has to be the front's, and LISTEN_FDS the number of sockets";
 
-/// A socket of the front's own at a path, which goes with this value unless something else is there meanwhile.
+/// A socket of the front at a path. The file is removed with this value, unless it was replaced meanwhile.
 pub struct Bound {
     path: PathBuf,
     place: (u64, u64),
@@ -43,7 +43,7 @@ impl Drop for Bound {
     }
 }
 
-/// A socket at this path where clients can connect, with these rights.
+/// Makes a socket at this path where clients can connect, with these permissions.
 pub fn listening(path: &Path, mode: Option<u32>) -> Result<(UnixListener, Bound), Ended> {
     bind(path, mode).map_err(|error| Ended(format!("{} cannot be bound: {}", path.display(), reason(&error))))
 }
@@ -64,14 +64,14 @@ fn bind(path: &Path, mode: Option<u32>) -> io::Result<(UnixListener, Bound)> {
     Ok((listener, bound))
 }
 
-/// A socket at this address where those can connect who ask for the health of the front.
+/// Makes a socket at this address for checks of the front's health.
 pub fn listening_over_network(address: SocketAddr) -> Result<TcpListener, Ended> {
     let bound = TcpListener::bind(address).and_then(|listener| listener.set_nonblocking(true).map(|()| listener));
     bound.map_err(|error| Ended(format!("{address} cannot be bound: {}", reason(&error))))
 }
 
-/// Keeps other fronts from binding in a folder meanwhile, where the folder can be read: of two that begin at once, one must
-/// not take away what the other has just bound. Who keeps the folder locked for long delays a start, and cannot prevent it.
+/// Keeps other fronts from binding in a folder meanwhile, if the folder can be read: of two that begin at once, one must
+/// not remove what the other has just bound. A process that keeps the folder locked delays a start, and cannot prevent it.
 fn alone_in(folder: &Path) -> io::Result<Option<File>> {
     let file = match File::open(folder) {
         Ok(file) => file,
@@ -85,10 +85,10 @@ fn alone_in(folder: &Path) -> io::Result<Option<File>> {
             Err(error) => return Err(error.into()),
         }
     }
-    Ok(None) // whoever keeps it locked for so long is no front that begins
+    Ok(None) // a process that keeps it locked for so long is not a front that begins
 }
 
-/// Takes a socket away at which nobody answers, as a front that was killed leaves it.
+/// Removes a socket at which nobody answers, such as a killed front leaves.
 fn make_room(path: &Path) -> io::Result<()> {
     match fs::symlink_metadata(path) {
         Err(error) if error.kind() == ErrorKind::NotFound => Ok(()),
@@ -103,13 +103,13 @@ fn take_away(path: &Path) -> io::Result<()> {
     link.set_nonblocking(true)?;
     match link.connect(&SockAddr::unix(path)?) {
         Err(error) if error.kind() == ErrorKind::ConnectionRefused => fs::remove_file(path),
-        // where it would block, so many wait there that there is no room for more
+        // if it would block, so many wait there that there is no room for more
         Err(error) if error.kind() != ErrorKind::WouldBlock => Err(error),
         _ => Err(io::Error::new(ErrorKind::Other, "somebody answers there")),
     }
 }
 
-/// What tells the file at a path from all others.
+/// Identifies the file at a path.
 fn place_of(path: &Path) -> io::Result<(u64, u64)> {
     let found = fs::symlink_metadata(path)?;
     Ok((found.dev(), found.ino()))
@@ -128,7 +128,7 @@ pub fn passed() -> Result<Vec<UnixListener>, Ended> {
     (0..count as usize).map(|at| take_passed(&mut listeners, at)).collect()
 }
 
-/// Whether somebody listens at what was passed by this number, over the Unix domain.
+/// Checks that the file of this number is a Unix-domain socket that listens.
 fn check_passed(number: RawFd) -> Result<(), Ended> {
     let listens = getsockopt(number, AcceptConn)
         .map_err(|error| Ended(format!("file {number}, which was passed, is no socket: {}", reason(&error.into()))))?;
@@ -152,7 +152,7 @@ fn not_listening(number: RawFd) -> Ended {
     Ended(format!("file {number}, which was passed, is no Unix-domain socket at which somebody listens"))
 }
 
-/// Whether a file is one of those that end, and whose end can be waited for.
+/// Whether a file has an end that can be waited for.
 pub fn is_pipe(number: RawFd) -> bool {
     let kind = fs::metadata(format!("/proc/self/fd/{number}")).map(|found| found.file_type());
     let is_piped = kind.map_or(false, |kind| kind.is_fifo() || kind.is_socket());

@@ -1,5 +1,5 @@
-//! How other programs are started: in a session of their own, so that signals of a terminal reach the front alone, and
-//! with the knowledge whether they could be started.
+//! Starts other programs: in a session of their own, so that signals of a terminal reach the front alone, and
+//! so that the front learns whether they could be started.
 //!
 //! The front starts itself once more, which leaves the front's session and then becomes the other program.
 
@@ -20,14 +20,14 @@ use crate::log::{reason, Ended};
 /// The first word of a run that becomes another program.
 pub const BECOME: &str = "--become-another-program";
 const THIS_PROGRAM: &str = "/proc/self/exe";
-/// Words of the environment that are for the front alone.
+/// Environment variables that are for the front alone.
 const OF_PASSING: [&str; 6] =
     ["LISTEN_PID", "LISTEN_FDS", "LISTEN_FDNAMES", "NOTIFY_SOCKET", "WATCHDOG_PID", "WATCHDOG_USEC"];
 const LOOK: Duration = Duration::from_millis(2);
-/// What a program has to end in, before it is killed.
+/// The time that a program has to end, before it is killed.
 pub const SECONDS_TO_END: Duration = Duration::from_secs(5);
 
-/// Starts a program, with or without pipes to it. What it writes on standard error goes to that of the front.
+/// Starts a program, with or without pipes to it. Its standard error is that of the front.
 pub fn started(program: &OsStr, args: &[OsString], has_pipes: bool) -> Result<Child, Ended> {
     start(program, args, has_pipes)
         .map_err(|error| Ended(format!("{} cannot be started: {}", program.to_string_lossy(), reason(&error))))
@@ -53,7 +53,7 @@ fn start(program: &OsStr, args: &[OsString], has_pipes: bool) -> io::Result<Chil
     Err(said.parse().map_or_else(|_| io::Error::new(io::ErrorKind::Other, said), io::Error::from_raw_os_error))
 }
 
-/// Becomes another program; returns where that fails, which whoever has started this run is told.
+/// Becomes another program; returns if that fails, and reports the failure to the process that started this run.
 pub fn become_another(words: &[OsString]) -> u8 {
     let number = words.first().and_then(|word| word.to_str()?.parse::<RawFd>().ok());
     let (number, program) = match (number, words.get(1)) {
@@ -68,13 +68,13 @@ pub fn become_another(words: &[OsString]) -> u8 {
     1
 }
 
-/// Lets programs that are started have a file of the front.
+/// Lets started programs inherit a file of the front.
 pub fn keep_open(number: RawFd) -> io::Result<()> {
     fcntl(number, FcntlArg::F_SETFD(FdFlag::empty()))?;
     Ok(())
 }
 
-/// Ends programs and what they have started: asks all of them to, and kills those that have not ended in time.
+/// Ends programs and what they have started: asks all of them to end, and kills those that have not ended in time.
 pub fn end_all(children: &mut [&mut Child], time: Duration) {
     children.iter_mut().for_each(|child| signal_all(child, Signal::SIGTERM));
     let until = Instant::now() + time;
@@ -86,13 +86,13 @@ pub fn end_all(children: &mut [&mut Child], time: Duration) {
     }
 }
 
-/// Ends a program and what it has started at once.
+/// Kills a program and what it has started, and waits for its end.
 pub fn kill(child: &mut Child) {
     signal_all(child, Signal::SIGKILL);
     let _ = child.wait();
 }
 
-/// Has a program and what it has started end at once, and does not wait for that.
+/// Kills a program and what it has started, without waiting.
 pub fn kill_at_once(child: &mut Child) {
     signal_all(child, Signal::SIGKILL);
 }

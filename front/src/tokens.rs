@@ -1,8 +1,8 @@
-//! How the sources of events are told apart.
+//! The tokens that distinguish the sources of events.
 
 use mio::Token;
 
-/// What a source of events is.
+/// The kind of a source of events.
 #[derive(Clone, Copy, Debug, PartialEq, Eq)]
 pub enum Kind {
     Client,
@@ -28,12 +28,12 @@ const KINDS: [Kind; 9] = [
     Kind::Hangup,
 ];
 
-/// The token of a source: which one it is of its kind.
+/// The token of a source, by its kind and its number among those of the kind.
 pub fn token(kind: Kind, key: usize) -> Token {
     Token(key * KINDS.len() + kind as usize)
 }
 
-/// What a token says.
+/// Reads a token.
 pub fn read(token: Token) -> (Kind, usize) {
     (KINDS[token.0 % KINDS.len()], token.0 / KINDS.len())
 }

@@ -1,12 +1,12 @@
-//! Whose command a server is given next, and how many it is given before it has answered.
+//! Decides whose command a server is given next, and how many commands it is given before it has answered.
 //!
-//! Of the clients that wait the one goes first that has had the least of the server, counted in the bytes of its commands
-//! and of all that it was told, and some more for each command. What each has had is compared in quanta of one command, so
+//! Of the clients that wait, the one goes first that has had the least of the server: the bytes of its commands and of all
+//! answers to it, and at least a fixed number for each command. The shares are compared in quanta of one command, so
 //! equal clients take turns command by command. A client that was quiet for a while counts as one that has had as much as
 //! the others, except for a small credit: so one that asks for little goes before those that ask for much, and nobody saves
 //! up turns. One that is new has no credit: however many come, each for a command or two, they do not go before all others.
 //!
-//! The length of an answer is not known before it is there. So a client is expected to be told as much as before, and the
+//! The length of an answer is not known in advance. So a client's next answer is expected to be as long as before, and the
 //! server is given nothing more while the answers that are expected of it add up to more than a few pages, or while it has
 //! not answered a number of commands. Where there are several clients, only some of these may be of one client. The server
 //! does one command after another, and what it was given is not taken back: so whoever comes waits for what is under way.
@@ -18,38 +18,38 @@ use slab::Slab;
 
 use crate::people::{ReplayKey, SessionKey, Speaker, SpeakerKey};
 
-/// Commands that a server has not answered, at most.
+/// The most commands that a server has not answered.
 pub const UNDER_WAY_MOST: usize = 32;
-/// Commands of one client among these, where there are others.
+/// The most commands of one client among these, if there are others.
 pub const UNDER_WAY_OF_ONE: usize = 8;
-/// Bytes of expected answers from which on a server is given no more.
+/// A server is given no more when its expected answers have this many bytes.
 const EXPECTED_MOST: usize = 65_536;
-/// Bytes that each command counts for at least: else it counts for its own and those of its answer. So clients whose commands
-/// are small take turns command by command, whenever these are answered.
+/// Each command counts for at least this many bytes; larger ones count for the bytes of command and answer. So clients with
+/// small commands take turns command by command, whenever these are answered.
 const COMMAND: usize = 512;
-/// Bytes of a turn: no more than a command counts for, so that each turn is one command.
+/// The bytes of a turn: no more than a command counts for, so that each turn is one command.
 pub const TURN: u64 = COMMAND as u64;
-/// Bytes that a client may have had less than the others when it begins to wait. With those of one turn its first command
+/// A client that begins to wait counts as at most this many bytes behind the others. With those of one turn its first command
 /// goes before all others, and then it takes turns with them.
 pub const CREDIT: u64 = TURN;
-/// Places that speakers may have with one server, before those of the next one.
+/// The number of places that one server can give to speakers, before the range of the next server begins.
 const PLACES: u64 = 1 << 48;
 
-/// Who hears what a server tells for a command.
+/// The receivers of what a server writes for a command.
 #[derive(Clone, Copy, Debug, PartialEq, Eq)]
 pub enum Hears {
     /// The clients.
     Clients,
     /// Nobody.
     Nobody,
-    /// A replay, which compares it with what was told before.
+    /// A replay, which compares it with the record.
     Replay(ReplayKey),
-    /// A replay, and the clients hear what is beyond that which they were told before.
+    /// A replay, and the clients receive what follows the part that they have already received.
     Rest(ReplayKey),
 }
 
 impl Hears {
-    /// Whether no client is told anything.
+    /// Whether no client receives anything.
     pub fn is_silent(self) -> bool {
         matches!(self, Hears::Nobody | Hears::Replay(_))
     }
@@ -68,29 +68,29 @@ pub struct Command {
     pub speaker: SpeakerKey,
     pub session: SessionKey,
     pub expected: usize,
-    /// Bytes of its answer that count no more, since the command counts for so many at least.
+    /// Bytes of its answer that do not count again, because the command counts for a minimum.
     pub counted: usize,
-    /// Bytes of its answer by now.
+    /// Bytes of its answer so far.
     pub told: usize,
     pub hears: Hears,
     /// It is the front's own `spin` of a live session.
     pub is_spin: bool,
-    /// It may post events, where there are live sessions.
+    /// It may post events, while there are live sessions.
     pub may_post: bool,
 }
 
 /// The speakers that wait for their turns, and the commands under way in their order.
 #[derive(Default)]
 pub struct Turns {
-    /// Those that wait, by the turns that they had and then as they came. An entry is void where its speaker does not wait
-    /// in this place any more.
+    /// The speakers that wait, by the turns that they had and then in order of arrival. An entry is void if its speaker no
+    /// longer waits in this place.
     waiting: BinaryHeap<Reverse<(u64, u64, SpeakerKey)>>,
     /// The last place that was given to a speaker. No two servers have a place in common: a speaker may move, and an entry
     /// that it has left with one server must not stand for its place with another.
     last_place: u64,
-    /// How many clients there are, whether or not they wait.
+    /// The number of clients, whether or not they wait.
     pub clients: usize,
-    /// What the speaker had had whose turn was the last.
+    /// The share that the speaker of the last turn had had.
     level: u64,
     pub under_way: VecDeque<Command>,
     expected: usize,
@@ -102,7 +102,7 @@ impl Turns {
         Turns { last_place: number as u64 * PLACES, ..Turns::default() }
     }
 
-    /// Lets a speaker wait for its turn, where it has a line that may be given.
+    /// Queues a speaker for its turn, if it has a line that may be given.
     pub fn await_turn(&mut self, key: SpeakerKey, speaker: &mut Speaker) {
         if !speaker.has_turn && speaker.may_give() {
             speaker.has_turn = true;
@@ -111,7 +111,7 @@ impl Turns {
         }
     }
 
-    /// Puts a speaker behind those that have had fewer turns, or as many and came before.
+    /// Puts a speaker after those that have had fewer turns, or as many and came before.
     fn line_up(&mut self, key: SpeakerKey, speaker: &mut Speaker) {
         let turn = speaker.served / TURN;
         if speaker.turn != Some(turn) {
@@ -122,7 +122,7 @@ impl Turns {
         self.waiting.push(Reverse((turn, speaker.place, key)));
     }
 
-    /// The speaker whose turn it is, if the server may be given something. Where that one has as many commands under way as
+    /// The speaker whose turn it is, if the server may be given something. If that one has as many commands under way as
     /// it may have, nobody goes before it.
     pub fn next(&mut self, speakers: &mut Slab<Speaker>) -> Option<SpeakerKey> {
         while self.under_way.len() < UNDER_WAY_MOST && self.expected < EXPECTED_MOST {
@@ -144,7 +144,7 @@ impl Turns {
                 self.level = self.level.max(speaker.served);
                 return Some(key);
             }
-            self.await_turn(key, speaker); // it was answered while it waited, and comes behind others now
+            self.await_turn(key, speaker); // it was answered while it waited, and now comes after others
         }
         None
     }
@@ -159,7 +159,7 @@ impl Turns {
         self.waiting.len()
     }
 
-    /// How many commands of one client may be under way.
+    /// The most commands of one client that may be under way.
     fn most_of_one(&self) -> usize {
         if self.clients > 1 {
             UNDER_WAY_OF_ONE
@@ -184,7 +184,7 @@ impl Turns {
         });
     }
 
-    /// Puts a command behind those under way.
+    /// Adds a command to those under way.
     pub fn put(&mut self, command: Command) {
         self.expected += command.expected;
         self.under_way.push_back(command);
@@ -196,20 +196,20 @@ impl Turns {
         self.under_way.drain(..).collect()
     }
 
-    /// Takes one more client, which counts as one that has had as much as the others.
+    /// Adds a client, which counts as one that has had as much as the others.
     pub fn enter(&mut self, speaker: &mut Speaker) {
         self.clients += 1;
         speaker.served = self.level;
         speaker.turn = None;
     }
 
-    /// Lets a client wait here no longer.
+    /// Removes a client from those that wait here.
     pub fn leave(&mut self, speaker: &mut Speaker) {
         self.clients = self.clients.saturating_sub(1);
         self.drop(speaker);
     }
 
-    /// Takes a speaker out of those that wait.
+    /// Removes a speaker from those that wait.
     pub fn drop(&mut self, speaker: &mut Speaker) {
         speaker.has_turn = false;
         speaker.turn = None;
@@ -242,7 +242,7 @@ mod tests {
 
     const LINE: &[u8] = b"xxxxxxxxxxxxxxxxxxxx";
 
-    /// Clients that wait for a server, without a server: each command is answered by as many bytes as is said of its client.
+    /// Clients that wait, without a server: each command is answered by the number of bytes that is set for its client.
     #[derive(Default)]
     struct Shares {
         turns: Turns,
@@ -282,7 +282,7 @@ mod tests {
             }
         }
 
-        /// Lets the server answer a command by so many bytes; whose it was.
+        /// Answers a command by so many bytes; returns whose it was.
         fn answer(&mut self, length: usize) -> usize {
             let key = self.turns.under_way[0].speaker;
             self.turns.tell(length);
@@ -298,7 +298,7 @@ mod tests {
             }
         }
 
-        /// How many commands each client has had when the server has done so many.
+        /// The number of commands of each client among the first commands that the server has done.
         fn served(lengths: &[usize], commands: usize) -> Vec<usize> {
             let mut shares = Shares::clients(lengths.len(), commands);
             let mut had = vec![0; lengths.len()];

@@ -1,4 +1,4 @@
-//! One of the servers: what is under way with it, and who is told what it writes.
+//! One of the servers: the commands under way with it, and the receivers of what it writes.
 
 use std::collections::VecDeque;
 use std::time::{Duration, Instant};
@@ -19,24 +19,24 @@ use crate::turns::{Command, Hears, Turns};
 /// How often a server is read before others have their turn.
 const READS_MOST: usize = 16;
 
-/// A server, the commands that it has not answered, and whose turn it is. Another process may take its place.
+/// A server, the commands that it has not answered, and whose turn it is. Another process may replace it.
 pub struct Worker {
     pub number: usize,
     pub turns: Turns,
     pub server: Option<Server>,
-    /// Groups that are brought to it. The first is under way.
+    /// Groups that are being brought to it. The first is under way.
     pub replays: VecDeque<ReplayKey>,
-    /// No process has taken the place of the first one.
+    /// Its first process has not been replaced.
     pub is_first: bool,
     /// Its process has written something.
     pub has_written: bool,
     /// Some of what it has just written is not to be shown.
     is_sifted: bool,
-    /// Processes that have ended without having written anything, one after another.
+    /// The number of its last processes, one after another, that ended without having written anything.
     pub starts_in_vain: u32,
-    /// When, and at a command of which group, it ended before its groups were brought back.
+    /// The ends before its groups were brought back: when, and at a command of which group.
     pub early: VecDeque<(Instant, Option<u64>)>,
-    /// When another process is started.
+    /// When another process is to be started.
     pub due: Instant,
     pub sweeper: SpeakerKey,
     /// Since when it has written nothing, though a command is under way.
@@ -72,7 +72,7 @@ impl Front {
         Ok(())
     }
 
-    /// Hears what a server has written, or that it ends. One that writes all the time is heard later again, so that others
+    /// Reads what a server has written, or that it ends. One that writes all the time is read again later, so that others
     /// have their turn.
     pub fn stir_server(&mut self, at: usize, is_hung_up: bool) -> Result<(), Ended> {
         for _ in 0..READS_MOST {
@@ -107,9 +107,9 @@ impl Front {
         }
     }
 
-    // ---- what it writes ----
+    // ---- what the server writes ----
 
-    /// Tells the clients the lines that a server has written. Long calls are not copied line by line.
+    /// Sends the clients the lines that a server has written. Long calls are not copied line by line.
     fn hear(&mut self, at: usize, whole: usize) -> Result<(), Ended> {
         let worker = &mut self.workers[at];
         let mut bytes = match &mut worker.server {
@@ -158,7 +158,7 @@ impl Front {
         Ok(())
     }
 
-    /// Checks that a call or a warning is for the session whose command the server is at.
+    /// Checks that a call or a warning is for the session whose command the server is doing.
     fn check(&self, at: usize, line: &[u8]) -> Result<(), Ended> {
         let command = self.command(at, line)?;
         let session = &self.sessions[command.session];
@@ -168,19 +168,19 @@ impl Front {
         Err(Ended(format!("the server did not tell {} in its turn: {}", session.name, shown(line))))
     }
 
-    /// The command that a server is at, for which these lines are told.
+    /// The command that a server is doing, to which these lines belong.
     fn command(&self, at: usize, lines: &[u8]) -> Result<Command, Ended> {
         match self.workers[at].turns.under_way.front() {
             Some(command) => Ok(*command),
             None => {
                 let end = memchr(b'\n', lines).map_or(lines.len(), |end| end + 1);
-                session_of(&lines[..end])?; // of what is no line at all this says that it is none
+                session_of(&lines[..end])?; // fails if this is no line of the protocol
                 Err(Ended(format!("the server wrote a line that nobody has asked for: {}", shown(lines))))
             }
         }
     }
 
-    /// Tells calls and warnings to all who speak for the session whose command a server is at.
+    /// Sends calls and warnings to all who speak for the session whose command a server is doing.
     fn tell(&mut self, at: usize, lines: &[u8]) -> Result<(), Ended> {
         let command = self.command(at, lines)?;
         self.workers[at].turns.tell(lines.len());
@@ -206,7 +206,7 @@ impl Front {
         Ok(())
     }
 
-    /// Tells a reply or an error to the client whose command it ends.
+    /// Sends a reply or an error to the client whose command it ends.
     fn answer(&mut self, at: usize, line: &[u8]) -> Result<(), Ended> {
         let command = self.command(at, line)?;
         let session = &self.sessions[command.session];
@@ -257,7 +257,7 @@ impl Front {
         Ok(())
     }
 
-    /// Goes on after a command was answered.
+    /// Continues after a command was answered.
     fn answered(&mut self, command: Command, group: Option<GroupKey>) {
         match (command.hears, group) {
             (Hears::Replay(_) | Hears::Rest(_), _) => self.heard_in_replay(command),
@@ -271,7 +271,7 @@ impl Front {
         }
     }
 
-    /// Shows the page's process lines that were sifted, where not all of them are to be shown.
+    /// Sends the page's process the lines that were sifted, if not all of them are to be shown.
     fn show_sifted(&mut self, at: usize, lines: &[u8]) {
         let worker = &self.workers[at];
         if let Some(inspector) = self.inspector.as_mut().filter(|_| worker.is_sifted) {
@@ -279,9 +279,9 @@ impl Front {
         }
     }
 
-    // ---- what it is given ----
+    // ---- what the server is given ----
 
-    /// Gives a server what clients ask for, in their turns, as much as it may be given.
+    /// Gives a server the clients' commands, in their turns, as many as it may be given.
     pub fn give(&mut self, at: usize) {
         self.begin_replays(at);
         while self.workers[at].server.is_some() {
@@ -338,7 +338,7 @@ impl Front {
         worker.turns.await_turn(key, speaker);
     }
 
-    /// Keeps in mind what the last line that a server was given may cause for live sessions.
+    /// Records what the last line that a server was given may cause for live sessions.
     fn note_live(&mut self, at: usize, session: usize, length: usize, is_spin: bool) {
         let line = self.workers[at].server.as_ref().map_or_else(Vec::new, |server| server.last(length).to_vec());
         let may_post = !is_spin && self.note_cause(session, &line);
@@ -347,7 +347,7 @@ impl Front {
         }
     }
 
-    /// Keeps in mind that a server was given a line of a client.
+    /// Records that a server was given a client's line.
     fn note_given(&mut self, at: usize, key: SpeakerKey, session: usize, length: usize) {
         self.sessions[session].is_begun = true;
         let group = self.sessions[session].group;
@@ -385,7 +385,7 @@ impl Front {
         }
     }
 
-    /// Puts sessions back to their beginning, which nobody is told.
+    /// Resets sessions. Nobody receives the answers.
     pub fn sweep(&mut self, at: usize, names: impl IntoIterator<Item = String>) {
         let worker = &mut self.workers[at];
         if let Some(server) = &mut worker.server {
@@ -400,7 +400,7 @@ impl Front {
         }
     }
 
-    /// Gives a server a line of the front's own, by whose answer the front knows that it serves.
+    /// Gives a server a line by the front; its answer shows the front that the server serves.
     pub fn greet_server(&mut self, at: usize) {
         let worker = &mut self.workers[at];
         if let Some(server) = &mut worker.server {
@@ -412,7 +412,7 @@ impl Front {
         self.push(at);
     }
 
-    /// Ends servers that have been silent for too long; answers in what time to look again.
+    /// Ends servers that have been silent for too long; returns the time until the next check.
     pub fn look_at_servers(&mut self) -> Option<Duration> {
         let patience = self.patience?;
         let mut next = None;
@@ -434,7 +434,7 @@ impl Front {
         next
     }
 
-    /// Lets a server take what it was given.
+    /// Writes as much to a server as it takes.
     pub fn push(&mut self, at: usize) {
         if let Some(server) = &mut self.workers[at].server {
             server.push(self.poll.registry(), token(Kind::ServerInput, at), &mut self.log);

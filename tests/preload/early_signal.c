@@ -1,6 +1,5 @@
-/* For a library that is preloaded into a program: once there is a file where EARLY_SIGNAL says, SIGTERM comes to the
-   program right before it waits for events the next time. What the program does on the signal in its own code is then
-   still to be done when it waits. */
+/* A library to be preloaded into a program: once the file that EARLY_SIGNAL names is there, the program receives SIGTERM
+   right before it waits for events the next time. So its own code has not yet handled the signal when it waits. */
 #define _GNU_SOURCE
 #include <dlfcn.h>
 #include <signal.h>

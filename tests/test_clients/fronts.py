@@ -22,7 +22,7 @@ FRONT = Path(os.environ.get("METAD_FRONT") or ROOT / "bin" / "metad-front")  # t
 PASSED = "-"  # stands for a socket that the front was passed
 PATIENCE = 30  # seconds in which a front has to listen, to answer and to end
 STATUS = '{"do":"status"}'
-GREETED = '{"error":"E02","session":"-"}'  # what a server answers to the front's own first line
+GREETED = '{"error":"E02","session":"-"}'  # the server's answer to the front's first line
 GREETED_BY_PYTHON = f"import sys; sys.stdin.readline(); print('{GREETED}', flush=True)\n"
 GREETED_BY_SHELL = f"read line; echo '{GREETED}'; "
 NEW = '{"class":"Probe","do":"new"}'
@@ -99,7 +99,7 @@ def front_of(*words, **how):
 
 
 def front_help():
-    """What the front says of its words."""
+    """The front's answer to its words."""
     return subprocess.run([FRONT, "--help"], capture_output=True, text=True, timeout=PATIENCE, check=True).stdout
 
 

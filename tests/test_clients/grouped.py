@@ -237,7 +237,7 @@ class WorkerCases(FrontCases):
 
 
 def worker_of(group, count):
-    """The worker that a group belongs to where there are so many, as the front's page says it, and without a ring."""
+    """The worker that a group belongs to with so many workers, computed as the front's page says it, without a ring."""
 
     def point(text):
         return int(blake2b(text.encode(), digest_size=8).hexdigest(), 16)

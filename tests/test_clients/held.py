@@ -24,7 +24,7 @@ for line in sys.stdin:
 
 
 def groups_on(worker, count, many, begin="g"):
-    """So many names of groups that the ring gives to a worker, of so many workers."""
+    """So many names of groups that the ring gives to a worker, if there are so many workers."""
     found, at = [], 0
     while len(found) < many:
         at += 1
@@ -62,7 +62,7 @@ class HeldCases(WorkerCases):
             return json.loads(client.ask(STATUS))["reply"]
 
     def hold(self, *numbers):
-        """Has processes answer nothing until they are let."""
+        """Has processes answer nothing until they are released."""
         for number in numbers:
             Path(self.room, "held", str(number)).touch()
 

@@ -1,4 +1,4 @@
-"""Fronts whose page's process is another program: one that writes what it is to, or hands the test its end of the socket."""
+"""Fronts whose page's process is another program: it writes given bytes, or hands its end of the socket to the test."""
 
 import json
 import os
@@ -19,7 +19,7 @@ while b'"session":"c1"}' not in held:
 link.sendall(open(os.environ["SENT"], "rb").read())
 while link.recv(65536):
     pass
-"""  # writes what it is to, once there is a session c1
+"""  # writes the given bytes, once there is a session c1
 HANDS_OVER = """import os, socket, sys, time
 number = int(sys.argv[1].partition("=")[2])
 with socket.socket(socket.AF_UNIX) as link:
@@ -48,7 +48,7 @@ class Page:
         link.settimeout(PATIENCE)
 
     def say(self, data):
-        """Writes bytes; answers whether the front takes them."""
+        """Writes bytes; returns whether the front takes them."""
         try:
             self.link.sendall(data)
             return True
@@ -56,7 +56,7 @@ class Page:
             return False
 
     def told(self, is_last=lambda _line: False):
-        """The lines that the front tells, up to one that is the last, or to the end."""
+        """The lines that the front sends, up to the last one or to the end."""
         while True:
             *lines, self.held = self.held.split(b"\n")
             for at, line in enumerate(lines):
@@ -131,7 +131,7 @@ class StandInCases(FrontCases):
 
     @contextmanager
     def handed(self, *options):
-        """The same, of a front of whose page the test has the end: the path, the process, the log, and that end."""
+        """A front whose page's end of the socket the test has: the path, the process, the log, and that end."""
         where = Path(self.room, "handed")
         where.unlink(missing_ok=True)
         with socket.socket(socket.AF_UNIX) as listener:

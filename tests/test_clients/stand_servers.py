@@ -30,8 +30,8 @@ for line in sys.stdin.buffer:
 
 
 def in_steps(total, pause=0, gate=""):
-    """A server that answers as many commands at once as a front gives it of one client, and from the last of so many on all.
-    After so many answers it waits until somebody opens the gate, a named pipe, and closes it."""
+    """A server that answers commands in groups, as many as a front gives it of one client; after `total` lines it answers all.
+    After `pause` answers it waits until somebody opens the gate, a named pipe, and closes it."""
     return [sys.executable, "-c", GREETED_BY_PYTHON + IN_STEPS, *map(str, (OF_ONE, total, pause, gate))]
 
 
@@ -44,13 +44,13 @@ def wait_until_true(test, holds, what):
 
 
 def whole_lines(path):
-    """The lines of a file that is being written, without one of which only a part is there."""
+    """The lines of a file that is being written, without a partial last one."""
     return path.read_text().split("\n")[:-1]
 
 
 @contextmanager
 def stopped(test, process):
-    """Stops a process meanwhile: what others write to it waits, and it finds all of that at once when it goes on."""
+    """Stops a process meanwhile: others' lines to it wait, and it finds all of them at once when it continues."""
     process.send_signal(signal.SIGSTOP)
     try:
         stat = Path(f"/proc/{process.pid}/stat")
@@ -67,7 +67,7 @@ def wait_until_read(test, link):
 
 
 def open_gate(gate):
-    """Lets a server go on that waits at a gate."""
+    """Lets a server continue that waits at a gate."""
     with open(gate, "w"):
         pass
 

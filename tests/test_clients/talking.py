@@ -1,4 +1,4 @@
-"""A server of a socket that a test plays: for each connection lines that it waits for, each with what it then writes."""
+"""A server of a socket, played by a test: for each connection the lines that it waits for, and its answers."""
 
 import json
 import socket

@@ -47,7 +47,7 @@ class AioLive(FrontCases):
             guest.on_call, guest.on_spun = come.put_nowait, lambda it: heard.append(it["events"])
             for value in range(1, ROUNDS + 1):
                 await host.set(1, "x", value)
-                self.assertEqual(await come.get(), seen(value), "what is told")
+                self.assertEqual(await come.get(), seen(value), "what is received")
             await guest.wait_for(lambda: sum(heard) == ROUNDS, PATIENCE)
 
         self.assertEqual([it for it in self.run_pair(work) if it != "spin"], ["new", "join", "reset"], "what it has asked for")
@@ -67,7 +67,7 @@ class AioLive(FrontCases):
             self.assertEqual(await guest.wait_for(lambda: heard, PATIENCE), [seen(1)], "what the predicate returned")
             await task
             self.assertEqual(await calls.__anext__(), seen(1), "what is iterated")
-            self.assertEqual([it async for it in guest.calls(0.1)], [], "what is not told again")
+            self.assertEqual([it async for it in guest.calls(0.1)], [], "what is not received again")
             ear, own = await guest.proxy(1, "Cell"), await guest.create("Cell")
             await guest.join(host.known_as, "level", ["int"], 1, "setX(int)")
             task = asyncio.ensure_future(later(host, 2))
@@ -78,7 +78,7 @@ class AioLive(FrontCases):
         self.assertLess(given.count("spin"), 8, "the spins, of which the front gives some for each event")
 
     def test_raising(self):
-        """What a callback raises unasked goes to the loop's exception handler, and nothing is lost by that."""
+        """An exception of a callback that is called unasked goes to the loop's exception handler. Nothing is lost by it."""
         faults, heard = [], []
 
         async def work(host, guest):
@@ -92,10 +92,10 @@ class AioLive(FrontCases):
 
         self.run_pair(work)
         self.assertEqual([type(it) for it in faults], [ZeroDivisionError], "what is raised")
-        self.assertEqual(heard, [0, seen(5), seen(0), 1, seen(1)], "what is told")
+        self.assertEqual(heard, [0, seen(5), seen(0), 1, seen(1)], "what is received")
 
     def test_not_live(self):
-        """With `live=False` nothing is told unasked, and a wait spins."""
+        """With `live=False` nothing comes unasked, and a wait spins."""
 
         async def work(host, guest):
             heard = []
@@ -109,10 +109,10 @@ class AioLive(FrontCases):
 
 
 class AioStandIns(FrontCases):
-    """Fronts that are played by the test."""
+    """Fronts, played by the test."""
 
     def test_connecting(self):
-        """The loop goes on while a front is slow to answer, and a connection that nobody waits for is closed."""
+        """The event loop runs while a front is slow to answer, and a connection that nobody waits for is closed."""
 
         async def live(path):
             with self.assertRaises(asyncio.TimeoutError):
@@ -131,7 +131,7 @@ class AioStandIns(FrontCases):
             self.assertEqual((server.is_live, await server.session("a").new("Cell")), (True, 1), "an object")
 
     def test_failed(self):
-        """Where the front's own spin fails, the loop's exception handler has the refusal."""
+        """If the front's own spin fails, the loop's exception handler receives the refusal."""
         faults = []
 
         async def live(path):

@@ -139,7 +139,7 @@ class StartedFronts(FrontCases):
             time.sleep(0.02)
 
     def test_oldest_paths(self):
-        """The front beside the package is found in Python 3.8 too, whose paths cut no list of their parents."""
+        """The front next to the package is found in Python 3.8 too, where the parents of a path cannot be sliced."""
 
         class Parents(Sequence):
             def __len__(self):

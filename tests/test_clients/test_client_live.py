@@ -1,4 +1,4 @@
-"""Live sessions of the client in Python: what comes unasked is told without `spin`, and no answer is mixed up by it."""
+"""Live sessions of the client in Python: events come without `spin`, and no answer is mixed up by them."""
 
 import json
 import os
@@ -49,7 +49,7 @@ class Live(FrontCases):
                 yield host, guest, process
 
     def test_told(self):
-        """Each event is told without `spin`, and what came of the front's own `spin` too."""
+        """Each event comes without `spin`, and so does the result of the front's own `spin`."""
         heard, spun = [], []
         with self.pair() as (host, guest, _):
             self.assertTrue(guest.server.is_live, "whether it is live, without having asked for it by a word")
@@ -93,7 +93,7 @@ class Live(FrontCases):
             late.join()
 
     def test_relay(self):
-        """A session waits for a signal by a relay, and a function is told of what is published, as it comes."""
+        """A session waits for a signal by a relay, and a function is called for what is published, as it comes."""
         heard = []
         with metad.start_front(self.program, classes=metad.with_relay({"classes": RINGING}), timeout=PATIENCE) as front:
             with front.connect() as one, front.connect() as other:
@@ -106,7 +106,7 @@ class Live(FrontCases):
                 late.start()
                 self.assertEqual(guest.wait_for(ear.rung, PATIENCE), [7], "what it was sent with")
                 late.join()
-                self.assertEqual(guest.wait_for(lambda: heard, PATIENCE), [7], "what the function is told")
+                self.assertEqual(guest.wait_for(lambda: heard, PATIENCE), [7], "what the function receives")
                 self.raised("nothing more", metad.NotAnswered, guest.wait_for, ear.rung, 0.1)
 
     def test_calls(self):
@@ -117,7 +117,7 @@ class Live(FrontCases):
                 host.set(1, "x", value)
             guest.status()
             self.assertEqual([next(calls) for _ in range(3)], [seen(1), seen(2), seen(3)], "the calls")
-            self.assertEqual(list(guest.calls(0.1)), [], "those that were taken are not told again")
+            self.assertEqual(list(guest.calls(0.1)), [], "those that were taken do not come again")
 
     def test_between(self):
         """Answers of commands that are sent ahead stay theirs, while events come all the time."""
@@ -130,7 +130,7 @@ class Live(FrontCases):
                 sent.append(host.send("set", object=1, property="x", value=value))
                 made.append(guest.send("get", object=1, property="y"))
                 made.append(guest.send("delete", object=7))
-            self.assertEqual([it.result() for it in sent], [True] * 300, "what the host is told")
+            self.assertEqual([it.result() for it in sent], [True] * 300, "what the host receives")
             self.assertEqual([it.result() for it in made[:5]], [True] * 5, "the first answers")
             for got, refused in zip(made[5::2], made[6::2]):
                 self.assertEqual(got.result(), 4, "an answer")
@@ -146,7 +146,7 @@ class Live(FrontCases):
             guest.on_call = heard.append
             host.set(1, "x", 1)
             self.assertEqual((guest.status()["queued"], heard), (1, []), "what waits")
-            self.assertEqual((guest.spin(), heard), (SPUN, [seen(1)]), "what is told")
+            self.assertEqual((guest.spin(), heard), (SPUN, [seen(1)]), "what is received")
             host.set(1, "x", 2)
             guest.wait_for(lambda: len(heard) == 2, PATIENCE)
             host.set(1, "x", 3)
@@ -154,7 +154,7 @@ class Live(FrontCases):
             self.assertNotIn("spin", given_in(self.record, host.known_as), "what the front gives by itself")
 
     def test_made_live(self):
-        """Where a front makes all sessions live, a client that did not ask keeps its answers too."""
+        """If a front makes all sessions live, a client that did not ask still receives the right answers."""
         heard, spun = [], []
         with self.pair("--live", live=False) as (host, guest, _):
             guest.on_call, guest.on_spun = heard.append, spun.append
@@ -165,7 +165,7 @@ class Live(FrontCases):
             self.assertEqual(heard, [seen(value) for value in range(1, ROUNDS + 1)], "what is heard")
 
     def test_shared(self):
-        """All who speak for a shared session are told its calls, also those that another one's command makes, unasked."""
+        """All who speak for a shared session receive its calls unasked, also those that another one's command makes."""
         heard = {"one": [], "other": []}
         with self.front(options=("--quiet", "--share", "team")) as (path, _):
             with metad.connect(path, "team") as first, metad.connect(path, "team") as second:
@@ -207,7 +207,7 @@ class LiveWorkers(WorkerCases):
     """Live sessions of groups, whose workers are killed and brought back."""
 
     def test_brought_back(self):
-        """Each event is told once, and each answer is its command's, while workers are killed."""
+        """Each event comes once, and each answer is its command's, while workers are killed."""
         heard, count = [], 200
         with self.workers(2, options=("--record", str(self.records))) as (path, process):
             with metad.connect(path, group="desk") as one, metad.connect(path, group="desk") as other:
@@ -219,13 +219,13 @@ class LiveWorkers(WorkerCases):
                 asked = [guest.send("children") for _ in range(count)]
                 for server in servers_of(process):
                     os.kill(server, signal.SIGKILL)
-                self.assertEqual([it.result() for it in sent], [True] * count, "what the host is told")
-                self.assertEqual([it.result() for it in asked], [[1]] * count, "what the guest is told")
+                self.assertEqual([it.result() for it in sent], [True] * count, "what the host receives")
+                self.assertEqual([it.result() for it in asked], [[1]] * count, "what the guest receives")
                 guest.wait_for(lambda: len(heard) == count, PATIENCE)
                 self.assertEqual(heard, [seen(value) for value in range(1, count + 1)], "what is heard")
 
     def test_named_by_clients(self):
-        """Where clients name sessions there is none: it goes on without, or says so."""
+        """If clients name sessions, there are no live ones: the client continues without, or raises `NotLive`."""
         with self.workers(1, options=("--group-from", "name")) as (path, _):
             with metad.connect(path) as server:
                 self.assertEqual((server.is_live, server.session("mine").new("Cell")), (False, 1), "a client that has not said")
@@ -234,10 +234,10 @@ class LiveWorkers(WorkerCases):
 
 
 class StandIns(FrontCases):
-    """Fronts that are played by the test: what is written, and what comes between."""
+    """Fronts, played by the test: the lines that are written, and those that come between."""
 
     def test_old_front(self):
-        """One that knows no live sessions closes the connection; the next one does not ask."""
+        """A front without live sessions closes the connection; the next connection does not ask."""
         for code in ("F01", "F03", "E02"):
             with Talker(self.room) as talker:
                 self.play(talker, code, None)
@@ -252,7 +252,7 @@ class StandIns(FrontCases):
         talker.play([(LIVE, [{"error": code, "session": "-"}])], [] if live else [(NEW, [{"reply": 1, "session": "c2"}])])
 
     def test_old_sharing(self):
-        """So it is where it shares sessions, which is asked for again."""
+        """A front without live sessions may share sessions: the client asks for the shared one again."""
         share, shared = '{"front":"share","session":"team"}', [{"reply": True, "session": "team"}]
         with Talker(self.room) as talker:
             live = '{"front":"share","session":"team","live":true}'
@@ -276,7 +276,7 @@ class StandIns(FrontCases):
             self.assertEqual(talker.heard(), [NEW, spin, spin], "its lines")
 
     def test_mixed(self):
-        """Marked replies before, between and behind answers are those of no command."""
+        """Marked replies before, between and after answers answer no command."""
         call = {"args": [], "call": "note()", "object": 1, "sender": 0, "session": "c1"}
         marked = {"front": "spin", "reply": SPUN, "session": "c1"}
         told = [call, marked, {**call, "object": 2}, {"reply": 1, "session": "c1"}, {**call, "object": 3}, marked]
@@ -289,13 +289,13 @@ class StandIns(FrontCases):
                 session.on_spun = lambda it: events.append(it["events"])
                 sent = [session.send("new", class_="Cell") for _ in range(2)]
                 self.assertEqual(sent[0].result(), 1, "the first answer")
-                self.assertEqual(heard[:2], [1, 2], "what was told before it")
+                self.assertEqual(heard[:2], [1, 2], "what was received before it")
                 self.assertEqual((sent[1].result(), heard), (2, [1, 2, 3]), "the second answer")
                 session.wait_for(lambda: len(events) == 4, PATIENCE)
-                self.assertEqual(events, [1, 1, 1, 5], "what came of each spin")
+                self.assertEqual(events, [1, 1, 1, 5], "the result of each spin")
 
     def test_failed(self):
-        """Where the front's own spin fails, that answers no command; the session is not live any more, and waits spin."""
+        """If the front's own spin fails, its error answers no command; the session is not live any more, and waits spin."""
         failed, spin = {"error": "E21", "front": "spin", "session": "c1"}, '{"do":"spin","session":"a"}'
         with Talker(self.room) as talker:
             talker.play([(LIVE, [GREETED]), (NEW, [failed, {"reply": 1, "session": "c1"}]), (spin, [{"error": "E20", "session": "c1"}])])
@@ -306,7 +306,7 @@ class StandIns(FrontCases):
                 self.assertEqual((refused.do, refused.code), ("spin", "E20"), "why it ends")
 
     def test_strange(self):
-        """A marked line that says nothing of a spin is no line of the protocol."""
+        """A marked line without the result of a spin is no line of the protocol."""
         for strange in ({"front": "spin", "session": "c1"}, {"front": "else", "reply": {}, "session": "c1"}):
             with Talker(self.room) as talker:
                 talker.play([(LIVE, [GREETED]), (NEW, [strange])])

@@ -1,7 +1,7 @@
 """The front (front/): many clients at once, each compared with a server of its own, and clients that write rubbish,
 write without end, do not read or go away.
 
-What a client has to be told is taken from docs/PROTOCOL.md.
+The lines that a client has to receive are taken from docs/PROTOCOL.md.
 """
 
 import json

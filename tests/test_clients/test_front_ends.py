@@ -32,7 +32,7 @@ class Ends(FrontCases):
         """A front, a client of it that was answered, and the number of its server."""
         note = Path(self.room, "pid")
         path = Path(self.room, "socket")
-        # who runs these tests in the background may have them pass over interrupts
+        # a shell may start these tests in the background with interrupts ignored
         own = {"preexec_fn": lambda: signal.signal(signal.SIGINT, signal.SIG_DFL)}
         process = front_of("--quiet", path, "sh", "-c", f'echo $$ > "{note}"; exec "{self.program}"', **own)
         try:
@@ -45,7 +45,7 @@ class Ends(FrontCases):
             process.communicate()
 
     def said(self, *words, before=0):
-        """What a front says that listened, and of its end; so many of the words before that."""
+        """The log of a front that has listened and ended: `before` is the number of words before `listening`."""
         words = [*words[:before], f"listening at {self.room}/socket", *words[before:]]
         return "".join(f"metad-front: {it}\n" for it in words)
 
@@ -124,8 +124,8 @@ class Ends(FrontCases):
             process.communicate()
 
     def test_asked_meanwhile(self):
-        """The front ends in its time whatever its clients and its server do: beside clients that flood it, do not read and do
-        not end their lines, and with a server that is stopped, that writes without an end, or that passes over SIGTERM."""
+        """The front ends in its time whatever its clients and its server do: with clients that flood it, do not read and do
+        not end their lines, and with a server that is stopped, that writes without an end, or that ignores SIGTERM."""
         stopped = f'{GREETED_BY_SHELL}kill -STOP $$; exec "{self.program}"'
         endless = f'trap "" TERM; {GREETED_BY_SHELL}read line; while :; do echo \'{CALL}\'; done'
         for what, script in (("stopped", stopped), ("endless", endless), ("usual", f'exec "{self.program}"')):
@@ -152,7 +152,7 @@ class Ends(FrontCases):
                     process.communicate()
 
     def test_asked_early(self):
-        """The front ends too where it is asked to right before it waits."""
+        """The front ends even if it is asked to right before it waits."""
         path, note = Path(self.room, "socket"), Path(self.room, "note")
         own = {**os.environ, "LD_PRELOAD": library("early_signal"), "EARLY_SIGNAL": str(note)}
         process = front_of("--quiet", path, self.program, env=own)
@@ -239,8 +239,8 @@ class Ends(FrontCases):
                 self.assertNotIn("listening", ran.stderr, "what it says")
 
     def test_listening(self):
-        """The front says that it listens, and tells systemd that it is ready, once its server serves and no sooner. Who has
-        connected before is served then."""
+        """The front says that it listens, and tells systemd that it is ready, once its server serves and no sooner. Clients
+        that connected before are served then."""
         path, place, gate = Path(self.room, "socket"), Path(self.room, "notify"), make_gate(self.room)
         with socket.socket(socket.AF_UNIX, socket.SOCK_DGRAM) as link:
             link.bind(str(place))
@@ -254,7 +254,7 @@ class Ends(FrontCases):
                     self.assertEqual(ready, [], "what is said before the server serves")
                     open_gate(gate)
                     link.settimeout(PATIENCE)
-                    self.assertEqual(link.recv(4_096).decode(), f"READY=1\nSTATUS=listening at {path}\n", "what systemd is told")
+                    self.assertEqual(link.recv(4_096).decode(), f"READY=1\nSTATUS=listening at {path}\n", "lines to systemd")
                     self.assertEqual(process.stderr.readline(), self.said(), "what it says")
                     self.assertEqual(client.hear(), reply(1, "c2"), "an early client, which came after the one that waited")
             finally:

@@ -1,4 +1,4 @@
-"""Faults that an earlier front had: what clients, files and other users could do to it."""
+"""Faults that an earlier front had: harm by clients, by files and by other users."""
 
 import fcntl
 import json
@@ -23,7 +23,7 @@ MEMBERS = 24
 UNREAD_OF_ALL = 256 * 1024 * 1024
 # of a front whose clients leave that much unread: what grows takes twice its memory, and something else is there too
 MEMORY_MOST = 640 * 1024
-# answers the first line, and each one after it behind 15 MB of calls
+# answers the first line at once, and each further one after 15 MB of calls
 TELLS_MUCH = """\
 import sys
 call = '{"args":["%s"],"call":"hear(QString)","object":1,"sender":1,"session":"team"}\\n' % ("x" * 60_000)
@@ -37,7 +37,7 @@ class Faults(FrontCases):
     """Fronts with one server."""
 
     def test_all_is_done(self):
-        """All lines that a client has written are done, though it goes at once and reads nothing."""
+        """All lines that a client has written are done, even if it disconnects at once and reads nothing."""
         record = Path(self.room, "record")
         with self.front(options=("--quiet", "--record", record)) as (path, _), Client(path) as stays:
             for number in range(2, 7):
@@ -68,7 +68,7 @@ class Faults(FrontCases):
         self.assertEqual(target.read_text(), "kept", "what the link leads to")
 
     def test_locked_folder(self):
-        """Who keeps the folder of a socket locked does not prevent a start."""
+        """A process that keeps the folder of a socket locked does not prevent a start."""
         number = os.open(self.room, os.O_RDONLY)
         try:
             fcntl.flock(number, fcntl.LOCK_EX)
@@ -78,18 +78,18 @@ class Faults(FrontCases):
             os.close(number)
 
     def test_no_files(self):
-        """Where the system lets no client in, and none is there who could go, the front tries again by itself."""
+        """If the system lets no client in, and none is connected that could leave, the front tries again by itself."""
         with self.front() as (path, process):
             limits = resource.prlimit(process.pid, resource.RLIMIT_NOFILE)
             resource.prlimit(process.pid, resource.RLIMIT_NOFILE, (3, limits[1]))
             with Client(path) as client:
-                self.assertEqual(select.select([client.link], [], [], 0.5)[0], [], "what it is told meanwhile")
+                self.assertEqual(select.select([client.link], [], [], 0.5)[0], [], "what it receives meanwhile")
                 resource.prlimit(process.pid, resource.RLIMIT_NOFILE, limits)
                 self.assertEqual(client.ask(NEW), reply(1, "c1"), "an object")
 
     def test_members_that_do_not_read(self):
         """All who speak for a shared session and do not read leave no more than a bound unread: those that have left most
-        are closed, and one that reads is told all."""
+        are closed, and one that reads receives all."""
         share = '{"front":"share","session":"team"}'
         server = [sys.executable, "-c", GREETED_BY_PYTHON + TELLS_MUCH]
         with self.front(options=("--share", "team"), server=server) as (path, process), Client(path) as reads:
@@ -99,7 +99,7 @@ class Faults(FrontCases):
                 self.assertEqual(member.ask(share), reply(True, "team"), "one that does not read")
             reads.say(NEW)
             told = [reads.hear() for _ in range(251)]
-            self.assertEqual((told[-1], len(set(told[:-1]))), (reply(1, "team"), 1), "what one is told that reads")
+            self.assertEqual((told[-1], len(set(told[:-1]))), (reply(1, "team"), 1), "what one that reads receives")
             closed = f"is closed: of all clients, which have left more than {UNREAD_OF_ALL} bytes unread, it has left most"
             wait_until(self, lambda: any(closed in line for line in process.log.lines()), "somebody is closed")
             self.assertLess(peak_of(process), MEMORY_MOST, "KiB of memory of the front")
@@ -115,7 +115,7 @@ class Faults(FrontCases):
                 for number, client in enumerate(clients):
                     client.say(*[NEW + " " * number] * count)  # the pieces of no two end at the same line
             for name, client in zip(names, clients):
-                self.assertEqual([client.hear() for _ in range(count)], [reply(True, name)] * count, f"what {name} is told")
+                self.assertEqual([client.hear() for _ in range(count)], [reply(True, name)] * count, f"what {name} receives")
             order = given()
         for at in range(0, len(order), len(names)):
             self.assertEqual(sorted(order[at : at + len(names)]), names, f"the round of commands from {at} on")
@@ -134,7 +134,7 @@ class Faults(FrontCases):
             wait_until_read(self, clients[-1].link)
             open_gate(gate)
             for name, client in zip([*names, "c8"], clients):
-                self.assertEqual([client.hear() for _ in range(count)], [reply(True, name)] * count, f"what {name} is told")
+                self.assertEqual([client.hear() for _ in range(count)], [reply(True, name)] * count, f"what {name} receives")
             order = given()
         begun, end = order.index("c8"), min(max(at for at, it in enumerate(order) if it == name) for name in names)
         self.assertEqual(begun, 704 + UNDER_WAY, "its first command")
@@ -145,7 +145,7 @@ class Faults(FrontCases):
 
     @contextmanager
     def in_steps(self, total, pause=0, gate=""):
-        """A front with a server that answers in steps: its path, its process, and whose commands the server was given."""
+        """A front with a server that answers in steps: its path, its process, and the clients of the server's commands."""
         record = Path(self.room, "record")
         with self.front(options=("--quiet", "--record", record), server=in_steps(total, pause, gate)) as (path, process):
             yield path, process, lambda: [json.loads(line)["session"] for line in whole_lines(record)]

@@ -1,4 +1,4 @@
-"""Hard use of a front (bench/hard_use.py), a small share of it."""
+"""A small share of the hard use of a front (bench/hard_use.py)."""
 
 import subprocess
 import sys
@@ -21,7 +21,7 @@ class HardUse(ProgramCases):
         return subprocess.run([sys.executable, "-W", "error", HARD_USE, *words], capture_output=True, text=True, timeout=seconds)
 
     def check(self, trial, *words, program=None):
-        """A trial finds no fault, and says what it has done."""
+        """A trial finds no fault, and reports its work."""
         seed = seed_of(self)
         ran = self.ran("--seed", str(seed), *words, program or self.program, trial, seconds=SECONDS)
         self.assertEqual((ran.returncode, ran.stderr), (0, ""), f"SEED={seed}")
@@ -30,7 +30,7 @@ class HardUse(ProgramCases):
         self.assertTrue(said[1].startswith(f"{trial}: "), said[1])
 
     def test_rubbish(self):
-        """Clients that write random lines and forgeries are told what the program alone tells each of them."""
+        """Clients that write random lines and forgeries receive what the program alone would send each of them."""
         self.check("rubbish", "--part", PART)
 
     def test_handed_on(self):
@@ -45,7 +45,7 @@ class HardUse(ProgramCases):
         self.check("kills", "--part", "4")
 
     def test_resume(self):
-        """Where fronts are killed under load, what was answered is there when another one goes on."""
+        """Where fronts are killed under load, what was answered is there when the next one continues."""
         self.check("resume", "--part", "4")
 
     def test_storm(self):
@@ -53,11 +53,11 @@ class HardUse(ProgramCases):
         self.check("storm", "--part", PART)
 
     def test_soak(self):
-        """Clients that come, go and vanish leave nothing with the front."""
+        """Clients that connect, leave and vanish leave nothing with the front."""
         self.check("soak", "--seconds", "8")
 
     def test_words(self):
-        """Wrong words are status 2 with a line of usage, help is shown, and a program that is none is status 1."""
+        """Wrong words give status 2 and a line of usage, help is shown, and a program that cannot run gives status 1."""
         for words in ((), ("bin/metad",), ("bin/metad", "no"), ("--part", "0", "bin/metad", "kills"), ("--seed", "x", "bin/metad", "kills")):
             ran = self.ran(*words)
             self.assertEqual((ran.returncode, ran.stdout), (2, ""), words)

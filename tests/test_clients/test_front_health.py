@@ -1,4 +1,4 @@
-"""Where a front is asked for its health, by HTTP and out of its clients' reach (front/src/health.rs)."""
+"""Checks of a front's health, by HTTP and out of its clients' reach (front/src/health.rs)."""
 
 import os
 import re
@@ -17,7 +17,7 @@ CHECKS_MOST = 8
 
 
 def answer_of(status, word):
-    """What HTTP/1.0 answers."""
+    """An answer of HTTP/1.0."""
     head = f"HTTP/1.0 {status}\r\nContent-Type: text/plain\r\nContent-Length: {len(word) + 1}\r\nCache-Control: no-store\r\n"
     return f"{head}Connection: close\r\n\r\n{word}\n"
 
@@ -28,14 +28,14 @@ LIVE = "GET /live HTTP/1.0\r\n\r\n"
 
 
 class Health(WorkerCases):
-    """What a front says of its health."""
+    """The front's answers about its health."""
 
     def setUp(self):
         super().setUp()
         self.place = Path(self.room, "health")
 
     def asked(self, request=GET):
-        """What is answered to a request at the front's own socket for that."""
+        """The answer to a request at the front's socket for checks."""
         with Client(self.place) as client:
             client.link.sendall(request.encode())
             return client.until_closed().decode()
@@ -44,8 +44,8 @@ class Health(WorkerCases):
         wait_until(self, lambda: self.asked() == answer, what)
 
     def test_alive(self):
-        """It is alive, slow where a server does not answer, and alive again. Clients have no part in that, nothing is said of
-        who asks, and nothing of it is recorded or told to monitors."""
+        """A front is alive, slow if a server does not answer, and alive again. Clients have no part in that, nothing is logged
+        about checks, and nothing of them is recorded or sent to monitors."""
         record, monitors = Path(self.room, "record"), Path(self.room, "monitors")
         options = ("--health", self.place, "--mode", "600", "--record", record, "--monitor", monitors)
         with self.front(options=options) as (path, process), Client(path) as client, Client(monitors) as monitor:
@@ -62,10 +62,10 @@ class Health(WorkerCases):
             self.assertEqual(process.log.lines(), said, "what is said")
             given = '{"class":"Probe","do":"new","session":"c1"}\n'
             self.assertEqual(record.read_text(), 2 * given, "what is recorded")
-            self.assertEqual([monitor.hear(), monitor.hear()], [reply(1, "c1"), reply(2, "c1")], "what a monitor is told")
+            self.assertEqual([monitor.hear(), monitor.hear()], [reply(1, "c1"), reply(2, "c1")], "what a monitor receives")
 
     def test_replaying(self):
-        """It is replaying where a worker is brought back, and alive then."""
+        """The front is replaying while a worker is brought back, and alive then."""
         gate, flag = make_gate(self.room), str(Path(self.room, "flag"))
         server = ["sh", "-c", f'test -e "$0" && cat "{gate}"; touch "$0"; exec "{self.program}"', flag]
         with self.workers(1, options=("--health", self.place, "--record", str(self.records)), server=server) as (path, process):
@@ -80,8 +80,8 @@ class Health(WorkerCases):
                 self.wait_for_health(ALIVE, "then")
 
     def test_full(self):
-        """It is full where no more clients are let in, also where they have all files that they may, and alive when some have
-        gone. Who asks needs no place of a client."""
+        """The front is full if no more clients are let in, even if they have all files that they may, and alive when some have
+        disconnected. A check takes no client's place."""
         path, log = Path(self.room, "socket"), Log(Path(self.room, "log"))
         words = ["sh", "-c", 'ulimit -n 40; exec "$@"', "sh", FRONT, "--quiet", "--health", self.place, path, self.program]
         with log.path.open("wb") as stderr, subprocess.Popen(words, stderr=stderr) as process:
@@ -98,7 +98,7 @@ class Health(WorkerCases):
             self.assertEqual(process.wait(PATIENCE), 0, "its end")
 
     def test_port(self):
-        """It is asked over the network too, at a port of this machine alone or at an address."""
+        """The front answers checks over the network too, at a port of this machine alone or at an address."""
         for place in ("0", "127.0.0.1:0"):
             with self.front(options=("--quiet", "--health", place)) as (path, process):
                 (line,) = [line for line in process.log.lines() if "health at" in line]
@@ -131,7 +131,7 @@ class Health(WorkerCases):
             self.assertEqual(client.ask(NEW), reply(1, "c1"), "a client")
 
     def test_many_at_once(self):
-        """Those who ask for nothing take no more than some places, and none of a client."""
+        """Connections that send no request take no more than some places, and none of a client."""
         with self.front(options=("--quiet", "--health", self.place)) as (path, process):
             with stopped(self, process):
                 *idle, more = [self.enterContext(Client(self.place)) for _ in range(CHECKS_MOST + 1)]
@@ -143,7 +143,7 @@ class Health(WorkerCases):
             self.wait_for_health(ALIVE, "then")
 
     def test_out_of_reach(self):
-        """Its questions are for no session: clients cannot name or share what they are for, and what clients have filled or
+        """Checks ask for no session: clients can neither name nor share that, and what clients have filled or
         broken makes no difference."""
         with self.workers(2, options=("--health", self.place, "--group-from", "name")) as (path, _), Client(path) as client:
             for name in ("-", "front__health"):
@@ -151,12 +151,12 @@ class Health(WorkerCases):
                 wanted = error("E02", "-") if name == "-" else reply(1, name)
                 self.assertEqual(client.ask(line), wanted, name)
             self.wait_for_health(ALIVE, "beside a client that names sessions")
-            self.assertEqual(client.ask('{"do":"status","session":"-"}'), error("E02", "-"), "what the client is told")
+            self.assertEqual(client.ask('{"do":"status","session":"-"}'), error("E02", "-"), "what the client receives")
             client.say(STATUS)
             self.assertEqual(client.hear(), error("E02", "-"), "its own")
 
     def test_rights(self):
-        """The rights of its socket are its own, or those of the clients' socket."""
+        """The permissions of the socket for checks are its own, or those of the clients' socket."""
         for more, wanted in ((("--health-mode", "644"), 0o644), ((), 0o600)):
             with self.front(options=("--quiet", "--mode", "600", "--health", self.place, *more)) as (path, _):
                 self.assertEqual([it.stat().st_mode & 0o777 for it in (path, self.place)], [0o600, wanted], more)
@@ -166,7 +166,7 @@ class Health(WorkerCases):
         self.assertIn("--health-mode needs --health with a path", ran.stderr)
 
     def test_words(self):
-        """A port that is none and one that is taken."""
+        """A port that is not one and a port that is taken."""
         path = Path(self.room, "socket")
         ran = subprocess.run([FRONT, "--health", "65536", path, self.program], capture_output=True, text=True, timeout=PATIENCE)
         self.assertEqual((ran.returncode, ran.stdout), (2, ""), ran.stderr)

@@ -37,7 +37,7 @@ def spun(events, session):
 
 
 class Live(FrontCases):
-    """Clients that ask for their events by their first line."""
+    """Clients that ask for their events in their first line."""
 
     def listening(self, host, guest, names):
         """The guest listens to what the host publishes."""
@@ -47,20 +47,20 @@ class Live(FrontCases):
         self.assertEqual(guest.ask(join(names[0])), reply(True, names[1]), "a join")
 
     def test_told(self):
-        """Who listens is told of each event without asking, and how many there were; a client that is not live is not."""
+        """A live client receives each event without asking, and the number of events; a client that is not live does not."""
         with self.front() as (path, _), Client(path) as host, Client(path) as guest, Client(path) as plain:
             self.assertEqual(host.name(), "c1", "the host")
             self.assertEqual(guest.ask(LIVE), '{"live":true,"reply":true,"session":"c2"}', "the answer to its first line")
             self.listening(host, guest, ("c1", "c2"))
             self.assertEqual([plain.ask(CELL), plain.ask(join("c1"))], [reply(1, "c3"), reply(True, "c3")], "another one")
             for value in range(1, ROUNDS):
-                self.assertEqual(host.ask(set_x(value)), reply(True, "c1"), "what the host is told")
+                self.assertEqual(host.ask(set_x(value)), reply(True, "c1"), "what the host receives")
                 self.assertEqual([guest.hear(), guest.hear()], [seen(value, "c2"), spun(1, "c2")], "what comes by itself")
             self.assertEqual(json.loads(guest.ask(STATUS))["reply"]["queued"], 0, "and nothing else")
             self.assertEqual(json.loads(plain.ask(STATUS))["reply"]["queued"], ROUNDS - 1, "what waits for the other one")
 
     def test_option(self):
-        """With --live all clients are told, and clients that post events to themselves too."""
+        """With --live all clients receive events, and so do clients that post events to themselves."""
         late = text_of({"do": "invoke", "object": 1, "method": "seen(int)", "args": [5], "type": "queued"})
         with self.front(options=("--quiet", "--live")) as (path, _), Client(path) as client:
             self.assertEqual(client.ask(CELL), reply(1, "c1"), "an object")
@@ -81,7 +81,7 @@ class Live(FrontCases):
                 values += told.get("args", [])
                 events += told["reply"]["events"] if "front" in told else 0
             self.assertEqual(values, list(range(1, count + 1)), "what is heard")
-            self.assertEqual([host.hear() for _ in range(count)], [reply(True, "c1")] * count, "what the host is told")
+            self.assertEqual([host.hear() for _ in range(count)], [reply(True, "c1")] * count, "what the host receives")
         given = [json.loads(line) for line in record.read_text().splitlines()]
         spins = sum(it == {"do": "spin", "session": "c2"} for it in given)
         self.assertLess(0, spins, "the spins")
@@ -89,7 +89,7 @@ class Live(FrontCases):
         self.assertEqual({it["session"] for it in given if it["do"] == "spin"}, {"c2"}, "whose they are")
 
     def test_idle(self):
-        """Nothing is given for live sessions where nothing happens."""
+        """The server is given nothing for live sessions if nothing happens."""
         record = Path(self.room, "record")
         with self.front(options=("--quiet", "--record", record)) as (path, _), Client(path) as host, Client(path) as guest:
             self.assertEqual(host.name(), "c1", "the host")
@@ -102,7 +102,7 @@ class Live(FrontCases):
             self.assertEqual(record.read_text()[len(before) :].count("spin"), 0, "what is given")
 
     def test_gone(self):
-        """A client that goes while the front's own spin is under way is closed too: nothing of it is left."""
+        """A client that disconnects during the front's own spin is closed too: nothing of it is left."""
         with self.front() as (path, process):
             files = Path(f"/proc/{process.pid}/fd")
             before = len(list(files.iterdir()))
@@ -114,7 +114,7 @@ class Live(FrontCases):
             wait_until(self, lambda: len(list(files.iterdir())) <= before, "all connections are closed")
 
     def test_refused(self):
-        """A first line that asks for it otherwise is refused."""
+        """A first line that asks for a live session in another form is refused."""
         with self.front() as (path, _):
             for line in ('{"front":"hello","live":1}', '{"front":"hello","live":true,"more":1}', '{"front":"live"}'):
                 with Client(path) as client:
@@ -122,7 +122,7 @@ class Live(FrontCases):
                     self.assertEqual(client.told(), [error("F01", "-")], line)
 
     def test_shared(self):
-        """All who speak for a shared session hear its calls; the front's answer comes to those who have asked for it."""
+        """All who speak for a shared session receive its calls; those that asked for it receive the front's answer."""
         late = text_of({"do": "invoke", "object": 1, "method": "seen(int)", "args": [5], "type": "queued"})
         with self.front(options=("--quiet", "--share", "team")) as (path, _), Client(path) as live, Client(path) as plain:
             self.assertEqual(plain.ask('{"front":"share","session":"team"}'), reply(True, "team"), "a member")
@@ -130,13 +130,13 @@ class Live(FrontCases):
             self.assertEqual(told, '{"live":true,"reply":true,"session":"team"}', "a live member")
             self.assertEqual(plain.ask(CELL), reply(1, "team"), "an object")
             self.assertEqual(plain.ask(late), reply(True, "team"), "a queued call")
-            self.assertEqual([live.hear(), live.hear()], [seen(5, "team"), spun(1, "team")], "what the live one is told")
-            self.assertEqual(plain.hear(), seen(5, "team"), "what the other one is told")
+            self.assertEqual([live.hear(), live.hear()], [seen(5, "team"), spun(1, "team")], "what the live one receives")
+            self.assertEqual(plain.hear(), seen(5, "team"), "what the other one receives")
             self.assertEqual(json.loads(plain.ask(STATUS))["reply"]["queued"], 0, "and nothing else")
 
 
     def test_left_before(self):
-        """Who is the first live client of a shared session is told of the events that were left there before."""
+        """The first live client of a shared session receives the events that were left there before."""
         late = text_of({"do": "invoke", "object": 1, "method": "seen(int)", "args": [5], "type": "queued"})
         for options in ((), ("--workers", "2")):
             with self.front(options=("--quiet", "--share", "team", *options)) as (path, _), Client(path) as plain:
@@ -145,14 +145,14 @@ class Live(FrontCases):
                 with Client(path) as live:
                     told = live.ask('{"front":"share","live":true,"session":"team"}')
                     self.assertEqual(told, '{"live":true,"reply":true,"session":"team"}', "a live member")
-                    self.assertEqual([live.hear(), live.hear()], [seen(5, "team"), spun(1, "team")], "what it is told")
+                    self.assertEqual([live.hear(), live.hear()], [seen(5, "team"), spun(1, "team")], "what it receives")
 
 
 class LiveWorkers(WorkerCases):
     """Live sessions with workers that are brought back."""
 
     def test_brought_back(self):
-        """Events come once, also where the worker is killed meanwhile, and the front's answers stay marked."""
+        """Events come once, even if the worker is killed meanwhile, and the front's answers stay marked."""
         greet, count = '{"front":"hello","group":"desk","live":true}', 300
         with self.workers(2, options=("--record", str(self.records))) as (path, process):
             with Client(path) as host, Client(path) as guest:
@@ -172,5 +172,5 @@ class LiveWorkers(WorkerCases):
                     values += told.get("args", [])
                     events += told["reply"]["events"] if "front" in told else 0
                 self.assertEqual(values, list(range(1, count + 1)), "what is heard")
-                self.assertEqual([host.hear() for _ in range(count)], [reply(True, names[0])] * count, "what the host is told")
-            wait_until(self, lambda: not self.places(), "the group has gone")
+                self.assertEqual([host.hear() for _ in range(count)], [reply(True, names[0])] * count, "what it receives")
+            wait_until(self, lambda: not self.places(), "the group is dropped")

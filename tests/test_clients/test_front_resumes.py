@@ -1,4 +1,4 @@
-"""Fronts that go on where an earlier one was killed, and servers and fronts that are stuck."""
+"""Fronts that continue where an earlier one was killed, and servers and fronts that are stuck."""
 
 import json
 import os
@@ -20,7 +20,7 @@ class Resumed(WorkerCases):
     """Fronts with records that are killed."""
 
     def start(self, *options):
-        """A front with records, which goes on where an earlier one was."""
+        """A front with records, which continues where an earlier one was."""
         path, log = Path(self.room, "socket"), Log(Path(self.room, "log"))
         words = [FRONT, "--workers", "2", "--record", self.records, "--control", self.control_path, *options, path, self.program]
         with log.path.open("wb") as stderr:
@@ -39,7 +39,7 @@ class Resumed(WorkerCases):
         wait_until(self, lambda: not any(Path(f"/proc/{it}").exists() for it in servers), "its servers have ended")
 
     def test_shared(self):
-        """What was answered in a shared session is there after each kill, and sessions of clients are reset."""
+        """In a shared session all answered commands are there after each kill, and sessions of clients are reset."""
         path, process = self.start("--share", "desk__team")
         made = 0
         for _ in range(KILLS):
@@ -66,7 +66,7 @@ class Resumed(WorkerCases):
         process.terminate()
 
     def test_named(self):
-        """Sessions that clients name are as they were, over both workers, also where a worker is killed later."""
+        """Sessions that clients name are as they were, on both workers, even if a worker is killed later."""
         path, process = self.start("--group-from", "name")
         names = [f"g{number}__a" for number in range(8)]
         with Client(path) as client:
@@ -110,7 +110,7 @@ class Resumed(WorkerCases):
         process.terminate()
 
     def test_words(self):
-        """It needs records and workers."""
+        """The option needs records and workers."""
         for words in (("--resume",), ("--resume", "--record", "r"), ("--resume", "--workers", "2")):
             ran = subprocess.run([FRONT, *words, "s", "p"], capture_output=True, text=True, timeout=PATIENCE)
             self.assertEqual((ran.returncode, ran.stdout), (2, ""), ran.stderr)
@@ -118,10 +118,10 @@ class Resumed(WorkerCases):
 
 
 class Stuck(WorkerCases):
-    """Servers and fronts that do not go on."""
+    """Servers and fronts that are stuck."""
 
     def test_stopped_worker(self):
-        """A worker that is stopped is ended, and another one goes on where it was."""
+        """A worker that is stopped is ended, and another one takes its place with the same state."""
         options = ("--watchdog", "1", "--record", str(self.records))
         with self.workers(1, options=options) as (path, process), Client(path) as client:
             self.assertEqual(client.ask(NEW), reply(1, "c1"), "an object")
@@ -151,17 +151,17 @@ class Stuck(WorkerCases):
             self.assertEqual(json.loads(client.ask(NEW))["reply"], 1, "an object")
             os.kill(servers_of(process)[0], signal.SIGSTOP)
             client.say(NEW)
-            self.assertEqual(client.told(), [], "what is told")
+            self.assertEqual(client.told(), [], "what is received")
         said = process.communicate(timeout=PATIENCE)[1]
         self.assertEqual(process.returncode, 1, said)
         self.assertTrue(said.endswith("metad-front: the server was ended by signal 9\n"), said)
 
 
 class Systemd(FrontCases):
-    """What systemd is told."""
+    """The notifications to systemd."""
 
     def test_told(self):
-        """It is told when the front is ready, now and then that it is not stuck, and when it ends; the server is not."""
+        """The front notifies systemd that it is ready, regularly that it is not stuck, and that it ends; no server does."""
         place, path, note = (Path(self.room, name) for name in ("notify", "socket", "environment"))
         with socket.socket(socket.AF_UNIX, socket.SOCK_DGRAM) as link:
             link.bind(str(place))

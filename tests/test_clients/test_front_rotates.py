@@ -18,7 +18,7 @@ EXAMPLE = ROOT / "examples" / "systemd" / "metad-front.logrotate"
 
 
 def hang_up(test, process, said):
-    """Sends a hangup, and waits until the front says once more that it was heard."""
+    """Sends a hangup, and waits until the front logs once more that it has come."""
     before = process.log.lines().count(said)
     process.send_signal(signal.SIGHUP)
     wait_until(test, lambda: process.log.lines().count(said) > before, f"{said!r} is said")
@@ -33,7 +33,7 @@ class Rotates(FrontCases):
         self.opened = f"metad-front: hangup: {self.record} is opened again"
 
     def test_moved(self):
-        """A record that was moved away is begun anew, readable by its owner alone, and one that was not goes on."""
+        """A record that was moved away is begun again, readable by its owner alone, and one that was not is continued."""
         older = Path(self.room, "record.1")
         with self.front(options=("--mode", "600", "--record", self.record)) as (path, process), Client(path) as client:
             self.assertEqual(client.ask(NEW), reply(1, "c1"), "an object")
@@ -65,7 +65,7 @@ class Rotates(FrontCases):
         self.assertLessEqual(len(given), len(wanted) + 1, "all lines, and perhaps that of a client that goes")
 
     def test_cannot_be_opened(self):
-        """Where a record cannot be opened again the front goes on with the file that was open, and says so."""
+        """If a record cannot be opened again the front continues with the file that was open, and says so."""
         folder = Path(self.room, "folder")
         folder.mkdir()
         record = folder / "record"
@@ -77,7 +77,7 @@ class Rotates(FrontCases):
             self.assertEqual((moved / "record").read_text(), f"{GIVEN}\n", "the record")
 
     def test_no_record(self):
-        """Without a record a hangup makes no difference, and is said; with workers too."""
+        """Without a record a hangup makes no difference, and is logged; with workers too."""
         said = "metad-front: hangup: there is no record that could be opened again"
         for more in ((), ("--workers", "2")):
             with self.front(options=("--mode", "600", *more)) as (path, process), Client(path) as client:
@@ -99,7 +99,7 @@ class Rotates(FrontCases):
         self.assertNotIn("error:", ran.stderr + ran.stdout)
 
     def test_by_logrotate(self):
-        """What logrotate does to a record loses nothing."""
+        """Rotation by logrotate loses nothing."""
         if shutil.which("logrotate") is None:
             self.skipTest("logrotate is not on the path")
         with self.front(options=("--mode", "600", "--record", self.record)) as (path, process), Client(path) as client:

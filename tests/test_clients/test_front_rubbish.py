@@ -34,7 +34,7 @@ class Rubbish(FrontCases):
     """Clients that write rubbish, cut at any byte."""
 
     def test_random(self):
-        """Nothing of it acts in the session of another client, each line is answered once, and the front goes on."""
+        """No line acts in the session of another client, each line is answered once, and the front continues."""
         seed = seed_of(self)
         with self.front() as (path, _), Client(path) as victim:
             self.assertEqual(json.loads(victim.ask(NEW)), {"reply": 1, "session": "c1"}, "an object")
@@ -52,7 +52,7 @@ class Rubbish(FrontCases):
             self.assertEqual(json.loads(victim.ask(STATUS))["reply"]["objects"], number, f"its objects, SEED={seed}")
 
     def live(self, path, seed, faults):
-        """What one client writes and is told."""
+        """The lines that one client writes and receives."""
         chance = random.Random(seed)
         lines = [self.line(chance) for _ in range(LINES)]
         given = NEW.encode() + b"\n" + b"".join(line + b"\n" for line in lines)

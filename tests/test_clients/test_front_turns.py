@@ -1,4 +1,4 @@
-"""Whose command the server of a front is given next. The rule itself is tested beside its code, in front/src/turns.rs."""
+"""The order in which the server of a front is given commands. The rule itself is tested with its code (front/src/turns.rs)."""
 
 import json
 import time

@@ -1,5 +1,5 @@
 """The inspector behind a front (clients/inspecting, front/src/inspector.rs): who may look, what is known by lines, what
-is asked and written with leave, and that nobody waits for it."""
+may be asked and written with permission, and that nobody waits for it."""
 
 import http.client
 import json

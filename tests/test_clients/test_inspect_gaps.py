@@ -192,10 +192,10 @@ class Gaps(InspectCases):
 
 
 class Told(StandInCases):
-    """What a front tells of lines that it has left out."""
+    """The front's reports of lines that it has left out."""
 
     def test_front(self):
-        """The front does not name sessions whose clients have gone as those of which lines were left out."""
+        """The front does not name sessions of disconnected clients among those whose lines were left out."""
         text = text_of({"do": "set", "object": 1, "property": "tag", "value": LONG_TEXT})
         new = '{"do":"new","class":"Cell"}'
         with self.handed("--share", "team") as (path, _, _, page), Client(path) as stays, Client(path) as member:

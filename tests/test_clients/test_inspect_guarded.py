@@ -119,7 +119,7 @@ GET_X = '{"do":"get","object":1,"property":"x"}'
 
 
 def requests_in(data):
-    """The lines that the front hears in some bytes: it passes over blank ones. None has about as many levels as JSON may have."""
+    """The lines that the front reads from some bytes: it skips blank ones. None has about as many levels as JSON may have."""
     return [line for line in data.split(b"\n") if line.strip(b" \t\r") and abs(line.count(b"[") - LEVELS) > 2]
 
 
@@ -140,7 +140,7 @@ def asked_in(line, may_write):
 
 
 class Fed(StandInCases):
-    """What a front does of which the page's process asks for anything at all."""
+    """The front's behaviour whatever the page's process asks for."""
 
     @contextmanager
     def begun(self, *options):
@@ -155,14 +155,14 @@ class Fed(StandInCases):
             yield page, log, clients[0], record
 
     def check_record(self, record, words):
-        """Beyond what the clients gave, the server was given only commands of these words, for sessions that are there."""
+        """Besides the clients' commands, the server was given only commands of these words, for sessions that are there."""
         given = [json.loads(line) for line in record.read_bytes().splitlines()]
-        ends = {"reset"} if given[-1]["do"] == "reset" else set()  # where clients have gone
+        ends = {"reset"} if given[-1]["do"] == "reset" else set()  # of clients that have disconnected
         self.assertLessEqual({it["do"] for it in given[3:]}, {*words, *ends})
         self.assertLessEqual({it["session"] for it in given}, {"c1", "c2", "team"})
 
     def check_heard(self, page, lines, may_write):
-        """Of these requests those are done that are allowed, and the others are refused."""
+        """Requests that are allowed are done, and the others are refused."""
         asked = [asked_in(line, may_write) for line in lines]
         page.say(b"\n".join(lines))
         told = page.until_answered("c1", "c2", "team")
@@ -243,7 +243,7 @@ class Fed(StandInCases):
             self.check_record(record, {"get"})
 
     def test_dropped(self):
-        """One that writes lines without a number is dropped with what it has asked for, and ended, and the log says why."""
+        """A process that writes lines without a number is dropped with its requests, and ended, and the log says why."""
         for line in (b"boom", b"-1 c1 {}", b"0 c1 {}", b"\xff\xfe", b"1" * 40 + b" c1 {}", b"x" * 200_000):
             with self.subTest(line=line[:20]), self.begun("--inspect-write") as (page, log, client, record):
                 page.say(b"1 c1 " + SET.encode() + b"\n" + line + b"\n")
@@ -266,7 +266,7 @@ class Fed(StandInCases):
         return len(texts) + 1 - len(refused_in(told)), told
 
     def test_much(self):
-        """One that asks for more than may wait is refused the rest, and may ask again when that has gone."""
+        """A process that asks for more than may wait is refused the rest, and may ask again when some of it is done."""
         text = '{"do":"set","object":1,"property":"tag","value":"%s"}' % ("x" * 4_000)
         least, most = 900_000 // len(text), (1 << 20) // len(text) + 32  # 32 may be under way
         with self.handed("--inspect-write") as (path, process, _, page), Client(path) as other, Client(path) as third:

@@ -27,17 +27,17 @@ EXPLAINED = """{"args":[1],"call":"seen(int)","object":1,"sender":0,"session":"c
 
 
 class Records(FrontCases):
-    """What a front records of live sessions."""
+    """The front's records of live sessions."""
 
     def tool(self, name, *words, given=""):
-        """What a tool says, which has to end well."""
+        """The output of a tool, which has to succeed."""
         words = [sys.executable, CLIENTS / name, *words]
         ran = subprocess.run(words, input=given, capture_output=True, text=True, timeout=PATIENCE)
         self.assertEqual((ran.returncode, ran.stderr), (0, ""), f"the end of {name}: {ran.stdout}")
         return ran.stdout
 
     def recorded(self):
-        """A record of a guest that hears a host three times, and what the guest was told."""
+        """A record of a guest that hears a host three times, and the lines that the guest received."""
         record, heard = Path(self.room, "record"), []
         with self.front(options=("--quiet", "--record", record)) as (path, _):
             with metad.connect(path, live=True) as one, metad.connect(path, live=True) as other:
@@ -49,7 +49,7 @@ class Records(FrontCases):
         return record, heard
 
     def test_tools(self):
-        """A record gives the same again, `slice` finds what decides a session, and `explain` each command's answer."""
+        """A record gives the same again, `slice` finds what decides a session, and `explain` finds each command's answer."""
         record, heard = self.recorded()
         given = record.read_text()
         told = subprocess.run([self.program], input=given, capture_output=True, text=True, timeout=PATIENCE, check=True).stdout
@@ -57,12 +57,12 @@ class Records(FrontCases):
         self.assertEqual([metad.Call(it["object"], it["call"], it["args"], it["sender"]) for it in calls], heard, "the calls")
         self.assertEqual(heard, [seen(value) for value in (1, 2, 3)], "what was heard")
         sliced = self.tool("slice", "--metad", self.program, str(record), "c2")
-        self.assertIn("the slice tells c2 the same", sliced, "what the slice comes to")
+        self.assertIn("the slice tells c2 the same", sliced, "the comparison of the slice")
         self.assertIn('+ {"do":"spin","session":"c2"}', sliced, "the front's own spins are in it")
         explained = self.tool("explain", "--commands", str(record), "--tree", given=told)
         self.assertEqual(explained.count('> {"do":"spin","session":"c2"}'), given.count('{"do":"spin","session":"c2"}'), "its spins")
         self.assertNotIn("not a line of metad", explained, "what is not known")
 
     def test_marked(self):
-        """`explain` knows the lines that a front marks, which a live client has been told."""
+        """`explain` reads the lines that a front marks, which a live client has received."""
         self.assertTrue(self.tool("explain", given=MARKED).startswith(EXPLAINED), "what is said of them")

@@ -82,7 +82,7 @@ class LiveShell(FrontCases, test_shell.ShellCases):
                 self.assertEqual(terminal.end(), 0, "the end")
 
     def test_other_editors(self):
-        """So it is where the line editor is another one, or there is none: what is typed is not lost."""
+        """With another line editor, or without one, calls are shown too, and what is typed is not lost."""
         for before in ("import shelling.prompting; shelling.prompting.editor = lambda: None", "sys.modules['readline'] = None"):
             shell = Path(self.room, "shell")
             shell.write_text(OTHER.format(clients=str(CLIENTS), before=before))
@@ -117,7 +117,7 @@ class LiveShell(FrontCases, test_shell.ShellCases):
                 self.assertEqual(terminal.end(), 0, "the end")
 
     def test_piped(self):
-        """So it is where the input is no terminal, while the next line does not come."""
+        """Calls are shown while the next line does not come, also if the input is no terminal."""
         with self.front() as (path, _):
             host = self.host_of(path)
             words = [sys.executable, test_shell.SHELL, "--socket", str(path)]
@@ -158,7 +158,7 @@ class LiveShell(FrontCases, test_shell.ShellCases):
         self.assertEqual((ran.returncode, ran.stdout), (2, b""), "without a socket")
 
     def test_failed(self):
-        """Where the front's own spin fails, that is said, and the session goes on."""
+        """If the front's own spin fails, the shell says so, and the session continues."""
         failed = {"error": "E21", "front": "spin", "session": "c1"}
         new, status = NEW, '{"do":"new","session":"a"}'
         with Talker(self.room) as talker:

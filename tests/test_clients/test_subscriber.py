@@ -23,7 +23,7 @@ class Subscriber(ClientCases):
         return subprocess.run(words, capture_output=True, text=True, timeout=SECONDS, env=own, stdin=subprocess.DEVNULL)
 
     def test_subscriber(self):
-        """Each value is told as it comes: the publisher gives the next one when it has heard that the last one was told."""
+        """Each value is printed as it comes: the publisher gives the next one when it knows that the last one was printed."""
         ran = self.ran(self.program)
         self.assertEqual((ran.returncode, ran.stdout, ran.stderr), (0, SAID, ""))
         self.assertEqual(os.listdir(self.room), [], "what it leaves")

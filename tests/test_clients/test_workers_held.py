@@ -92,7 +92,7 @@ class Ends(HeldCases):
     """A worker that ends again and again while groups move to it."""
 
     def test_moves_to_it(self):
-        """What it holds itself is not lost by that: it was where it was each time."""
+        """The worker's own groups are not lost by that: they are brought back each time."""
         with self.held_workers(2) as (path, process, (first, _)), Client(self.control_path) as operator:
             comers = groups_on(1, 2, 2, "a")
             for group in comers:

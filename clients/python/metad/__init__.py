@@ -10,15 +10,15 @@
 
 `start` starts a server, `connect` reaches one through a front's socket, and `Server` takes two streams. `start_front`
 starts a front with its server, and `monitor` reads all that the server of a front writes. A method of a `Session` is a
-command of the protocol: it returns the value of the reply, or raises `Refused` with the code. What the commands mean,
-and every code and limit, stands in docs/PROTOCOL.md. The server checks commands: a name that is none, the number of an
-object that is not there and a line that is too long are refused there. Values that no command can take, as bytes and
+command of the protocol: it returns the value of the reply, or raises `Refused` with the code. The commands, with
+every code and limit, are in docs/PROTOCOL.md. The server checks commands: it refuses an invalid name, the number of an
+object that is not there, and a line that is too long. Values that no command can take, as bytes and
 NaN, raise `NoValue`, and are not sent.
 
-Calls of slots and functors, and warnings, are told to the callbacks of their session before the call of the command
+The callbacks of a session are called with calls of slots and functors, and with warnings, before the call of the command
 returns. Behind a front a session is live where the front has live sessions: events come unasked, and `wait_for` and
-`calls` of a session wait for them. Elsewhere events wait for `spin`. Commands can be sent without waiting: `Session.send` returns a `Pending`, and its `result` waits. Replies come
-in the order of the commands, over the whole server.
+`calls` of a session wait for them. Elsewhere events wait for `spin`. Commands can be sent without waiting: `Session.send`
+returns a `Pending`, and its `result` waits. Replies come in the order of the commands, over the whole server.
 
 `Session.create` makes an object whose properties, signals and slots are reached by their names, see `proxies`. The
 same sessions and objects for asyncio are in `metad.aio`.

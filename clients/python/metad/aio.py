@@ -184,7 +184,7 @@ class Session(Hearing):
         return shapes[class_]
 
     async def listen(self, from_: str, name: str, types: Sequence[str], told: Callable[..., object]) -> Heard:
-        """Has a function called with what another session publishes under a name, with these types: as it comes in a live
+        """Has a function called for what another session publishes under a name, with these types: as it comes in a live
         session, otherwise when this one spins. It needs a relay, see `with_relay`."""
         return await hear_post(self, from_, name, types, told)
 
@@ -207,7 +207,7 @@ class Session(Hearing):
         return done
 
     def calls(self, timeout: Optional[float] = None) -> Calls:
-        """The calls of the session's slots and functors from now on, as `calls` of `metad.Session`, for `async for`."""
+        """The calls of the session's slots and functors from now on, like `calls` of `metad.Session`, for `async for`."""
         return Calls(self, timeout)
 
     def _give(self, asked: Asked[Any]) -> Pending:
@@ -299,7 +299,7 @@ async def _started(connection: ProgramConnection, answer: Answer, given: Sequenc
 async def connect(
     path: Word, share: Optional[str] = None, group: Optional[str] = None, *, live: Optional[bool] = None
 ) -> Server:
-    """Connects with the Unix-domain socket of a front, as `metad.connect` does. The loop goes on meanwhile."""
+    """Connects with the Unix-domain socket of a front, as `metad.connect` does. The event loop runs meanwhile."""
     making = Making(path, share, group, live)
     try:
         await came(making)

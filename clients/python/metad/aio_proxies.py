@@ -163,7 +163,7 @@ class Method(BaseMethod[Proxy]):
         await self.owner.session.publish(self.owner.number, self.signature(), name)
 
     async def join(self, from_: str, name: str, types: Optional[Sequence[str]] = None) -> None:
-        """Has the method called with what another session publishes under a name: as it comes in a live session, otherwise
+        """Has the method called for what another session publishes under a name: as it comes in a live session, otherwise
         when this one spins.
 
         `types` are those of the published signal; without them those of the method.
@@ -205,7 +205,7 @@ class SignalSpy(List[List[Value]]):
         return self
 
     async def wait(self, timeout: Optional[float] = 5.0) -> bool:
-        """Waits until the signal is sent once more, so many seconds at most; says whether it was. A session that is not live
+        """Waits at most so many seconds until the signal is sent once more; returns whether it was. A session that is not live
         spins meanwhile."""
         before = len(self)
         return await wait_until(self._signal.owner.session, lambda: len(self) > before, timeout)
@@ -217,9 +217,9 @@ class SignalSpy(List[List[Value]]):
 
 
 async def wait_for(signal: Method, timeout: Optional[float] = 5.0, via: Optional[Method] = None) -> List[Value]:
-    """Waits until a signal is sent, and returns its arguments; `NotAnswered` where that is not so in time.
+    """Waits until a signal is sent, and returns its arguments; raises `NotAnswered` if that takes too long.
 
-    In a live session it waits for the line that tells it; in any other one it spins.
+    In a live session it waits for the line that reports the signal; in any other one it spins.
     """
     async with SignalSpy(signal, via) as spy:
         if not await spy.wait(timeout):

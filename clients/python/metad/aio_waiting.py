@@ -1,4 +1,4 @@
-"""Waits for what a session is told, for asyncio: the same names as in `waiting`, and what waits there is awaited here."""
+"""Waits for the lines of a session in asyncio: the names are those of `waiting`, and what waits there is awaited here."""
 
 from __future__ import annotations
 
@@ -19,7 +19,7 @@ Done = TypeVar("Done")
 
 
 async def came(once: Once) -> None:
-    """Waits for what comes once. A wait that is cancelled disturbs nobody."""
+    """Waits for an event that happens once. A wait that is cancelled disturbs nobody."""
     loop = asyncio.get_running_loop()
     future: asyncio.Future[None] = loop.create_future()
 
@@ -39,10 +39,10 @@ async def came(once: Once) -> None:
 
 
 async def tell_on(connection: Connection) -> None:
-    """Tells what comes unasked in a live session, as it comes, up to its end.
+    """Calls the callbacks of a live session as lines come, up to its end.
 
-    What a callback raises is given to the loop's exception handler, and so is the refusal by which a session stops being
-    live: nobody waits who could be told of it.
+    An exception of a callback is given to the loop's exception handler, and so is the refusal by which a session stops being
+    live: nobody waits who could receive it.
     """
     loop = asyncio.get_running_loop()
     while True:
@@ -61,9 +61,9 @@ async def tell_on(connection: Connection) -> None:
 
 
 async def wait_until(session: Session, is_done: Callable[[], Done], timeout: Optional[float]) -> Done:
-    """Waits until a function returns something true, and returns that; what it returned last where the time is over.
+    """Waits until a function returns something true, and returns that; returns its last result if the time is over.
 
-    It is called whenever the session may have been told something. `ConnectionClosed` where nothing more can come.
+    The function is called whenever the session may have received something. `ConnectionClosed` if nothing more can come.
     """
     connection, patience = session.server.connection, Patience(timeout)
     while True:
@@ -84,7 +84,7 @@ async def wait_until(session: Session, is_done: Callable[[], Done], timeout: Opt
 
 
 class Calls(Follower):
-    """The calls of a session as they come. It is made by `Session.calls`, and iterated by `async for`."""
+    """The calls of a session as they come. `Session.calls` makes it; use `async for`."""
 
     def __init__(self, session: Session, timeout: Optional[float]) -> None:
         super().__init__(session)

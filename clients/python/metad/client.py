@@ -79,13 +79,13 @@ class Session(Hearing):
     refused, and `ServerGone` where the server has ended before it answered.
 
     `on_call` and `on_warning` are called with a `Call` and a `Warned`, those that `on` was given with a `Call`, in the
-    order in which the server has told. They are called by the thread that waits for an answer, before it gets that: so
-    what comes while nobody waits is told at the next wait. They may give commands themselves, and what comes before
-    the answers to these is told within. What one raises comes out of the call or `result` that was waiting; nothing
-    else is lost by that.
+    order of the server's lines. They are called by the thread that waits for an answer, before it gets that: so
+    what comes while nobody waits is delivered at the next wait. They may give commands themselves, and what comes before
+    the answers to these is delivered within. An exception of a callback comes out of the call or `result` that was waiting;
+    nothing else is lost by that.
 
-    Whose a call or a warning is: that of the session that gave the command whose answer comes next. So it was told to
-    the one that asked, whatever name a front has given to it. Behind a front all names of a connection are one session
+    A call or a warning belongs to the session that gave the command whose answer comes next. So the session that
+    asked receives it, whatever name a front has given to it. Behind a front all names of a connection are one session
     of the server: take one `Session` of it.
 
     With `auto_spin` each command that waits, but for `spin`, is followed by one, which the server is given at once
@@ -94,8 +94,8 @@ class Session(Hearing):
     returned. It costs a line and no further wait. What other sessions post later waits for the next command, as the
     server tells nothing unasked. `send` spins nothing.
 
-    In a live session, which a front offers, events need no `spin`: what comes unasked is told at the next wait, and
-    `wait_for` and `calls` wait for it. It is told to each `Session` of the connection.
+    In a live session, which a front may offer, events need no `spin`: what comes unasked is delivered at the next wait, and
+    `wait_for` and `calls` wait for it. Each `Session` of the connection receives it.
     """
 
     def __init__(self, server: Server, name: str) -> None:
@@ -180,7 +180,7 @@ class Session(Hearing):
         return shapes[class_]
 
     def listen(self, from_: str, name: str, types: Sequence[str], told: Callable[..., object]) -> Heard:
-        """Has a function called with what another session publishes under a name, with these types: as it comes in a live
+        """Has a function called for what another session publishes under a name, with these types: as it comes in a live
         session, otherwise when this one spins. It needs a relay, see `with_relay`."""
         return hear_post(self, from_, name, types, told)
 
@@ -192,9 +192,9 @@ class Session(Hearing):
 
     def wait_for(self, what: Union[Method, Callable[[], Done]], timeout: Optional[float] = 5.0) -> Union[List[Value], Done]:
         """Waits until a predicate returns something true, and returns that; or until a signal is sent, and returns its
-        arguments. `NotAnswered` where that is not so in time, and None waits without an end.
+        arguments. It raises `NotAnswered` if that takes too long; with None it waits without a limit.
 
-        A predicate is called at first, and whenever the session may have been told something. In a live session this waits
+        A predicate is called at first, and whenever the session may have received something. In a live session this waits
         for what comes; any other one spins meanwhile.
         """
         if isinstance(what, Method):
@@ -205,8 +205,8 @@ class Session(Hearing):
         return done
 
     def calls(self, timeout: Optional[float] = None) -> Calls:
-        """The calls of the session's slots and functors from now on, to be iterated: each as soon as it comes, after
-        `on_call` was told of it. They end when none comes for so many seconds.
+        """The calls of the session's slots and functors from now on, to be iterated: each as soon as it comes, and after
+        `on_call` was called with it. They end when none comes for so many seconds.
 
         In a live session this waits for what comes; any other one spins meanwhile. `ConnectionClosed` where nothing more
         can come.
@@ -255,7 +255,7 @@ class Server(Holder):
     """
 
     def __init__(self, reader: IO[bytes], writer: IO[bytes], live: bool = False) -> None:
-        """With `live` the streams are of a session that a front has made live: events come unasked."""
+        """With `live` the streams belong to a session that a front has made live: events come unasked."""
         connection = Connection(reader, writer, live)
         connection.open()
         self._begin(connection)
@@ -337,11 +337,11 @@ def start(
 def connect(
     path: Word, share: Optional[str] = None, group: Optional[str] = None, *, live: Optional[bool] = None
 ) -> Server:
-    """Connects with the Unix-domain socket of a front. `OSError` where nobody listens there.
+    """Connects with the Unix-domain socket of a front. It raises `OSError` if nobody listens there.
 
     A front gives each connection one session, whatever names are asked for: take one `Session` of it. Its `known_as` is
     the name by which other clients join it. With `share` that is the session of this name, which the front lets several
-    clients speak for; `Refused` where it does not. What others cause there is told at the next wait. With `group`, which a
+    clients speak for; `Refused` if it does not. What others cause there is delivered at the next wait. With `group`, which a
     front with workers asks for, that is a session of its own which those of the same group can join.
 
     The session is live where the front has live sessions: events come unasked, and `wait_for` and `calls` wait for them.

@@ -120,12 +120,12 @@ class Answer(Once):
 
 @dataclass
 class Event:
-    """A call, a warning or what came of a `spin`, that sessions are to be told of."""
+    """A call, a warning or the result of a `spin`, which sessions are to receive."""
 
     number: int
     what: Told
     sessions: Sequence[ref[Hearing]]
-    """Who is told: the session that gave a command, or all of a connection where nobody has asked."""
+    """The receivers: the session that gave a command, or all of a connection if nobody has asked."""
     listening: Optional[Sequence[Listening]] = None
     begun: int = 0
     """How many of those that listen were told."""
@@ -161,7 +161,7 @@ class Connection:
         self.live_fault: Optional[str] = None
         """The code by which the front's own `spin` was refused; the session is not live any more then."""
         self._news = Once()
-        self._sessions: List[ref[Hearing]] = []  # which are told what nobody has asked for
+        self._sessions: List[ref[Hearing]] = []  # which receive what nobody has asked for
         self._reader = reader
         self._writer = writer
         self._given: queue.SimpleQueue[Optional[Tuple[Answer, bytes]]] = queue.SimpleQueue()
@@ -204,21 +204,21 @@ class Connection:
         self._given.put(None)
 
     def add(self, session: Hearing) -> None:
-        """Has a session told what comes unasked."""
+        """Adds a session that receives what comes unasked."""
         self._sessions.append(ref(session))
         self._ring()
 
     def news(self) -> Once:
-        """What comes with the next line of a live session that somebody is to be told of, and at its end."""
+        """An event of the next line of a live session that somebody is to receive, or of its end."""
         return self._news
 
     def tell(self) -> None:
-        """Tells all that has come, as soon as there is a session."""
+        """Delivers all that has come, as soon as there is a session."""
         if self._sessions:
             self._tell(self._count)
 
     def has_untold(self) -> bool:
-        """Whether something has come that nobody was told of yet."""
+        """Whether something has come that nobody has received yet."""
         return bool(self._heard)
 
     def has_ended(self) -> bool:
@@ -226,7 +226,7 @@ class Connection:
         return self._fault is not None
 
     def check(self) -> None:
-        """Raises why nothing more will come, where that is so."""
+        """Raises the reason why nothing more will come, if there is one."""
         if self._fault is not None:
             raise self._fault()
 
@@ -342,8 +342,8 @@ class Connection:
                 self._ring()
 
     def _take_spun(self, line: Dict[str, Value], text: bytes) -> None:
-        """Takes the answer to a `spin` that the front has given by itself, which is that of no command here. What came before
-        it is of that `spin`, or of others who speak for the session."""
+        """Takes the answer to a `spin` that the front has given by itself, which is that of no command here. The lines before
+        it come from that `spin`, or from others who speak for the session."""
         if "error" in line:
             self._keep(self._sessions)
             self.is_live, self.live_fault = False, str(line["error"])
@@ -353,7 +353,7 @@ class Connection:
             self._keep(self._sessions)
 
     def _ring(self) -> None:
-        """Lets those know who wait for news."""
+        """Wakes those that wait for news."""
         news, self._news = self._news, Once()
         news.come()
 

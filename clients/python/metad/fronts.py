@@ -93,8 +93,8 @@ class Front:
     def connect(
         self, share: Optional[str] = None, group: Optional[str] = None, *, live: Optional[bool] = None
     ) -> Server:
-        """A new client, which has a session of its own, one of a group where that is named, or speaks for one that is
-        shared. The session is live, unless that is not wanted."""
+        """A new client. It has a session of its own, or one of a group if that is named, or it speaks for a shared
+        session. The session is live, unless `live` is False."""
         return connect(self.path, share, group, live=live)
 
     def monitor(self, session: Optional[str] = None) -> Monitor:
@@ -131,7 +131,7 @@ class Front:
 
 
 def front_words() -> List[Word]:
-    """The words that start a front: that which is built or installed beside this package, or that on the path."""
+    """The words that start a front: one that is built or installed next to this package, or the one on the path."""
     above = list(Path(__file__).resolve().parents)  # which Python 3.8 cannot cut by itself
     beside = (folder / "bin" / "metad-front" for folder in above[3:5])
     return [next((str(it) for it in beside if it.is_file()), "metad-front")]

@@ -16,10 +16,10 @@ OnWarning = Callable[[Warned], object]
 """Is told of warnings."""
 
 OnSpun = Callable[[Spun], object]
-"""Is told what came of the `spin` of a front."""
+"""Is called with the result of a `spin` of the front."""
 
 Listening = Callable[..., object]
-"""Is told of calls, of warnings, or of what came of a `spin`."""
+"""Is called with calls, with warnings, or with the result of a `spin`."""
 
 
 class Listener:
@@ -44,7 +44,7 @@ Listeners = Dict[Tuple[int, str], List[Listener]]
 
 
 class Follower:
-    """The calls of a session from the moment when it was made, up to where they are taken."""
+    """The calls of a session since this was made, until they are taken."""
 
     def __init__(self, session: Hearing) -> None:
         self._came: Deque[Call] = deque()
@@ -73,8 +73,8 @@ class Hearing:
         self.on_warning: Optional[OnWarning] = None
         """Told of the session's warnings; may be set at any time."""
         self.on_spun: Optional[OnSpun] = None
-        """Told, in a live session, what came of each `spin` that the front gave by itself and that delivered events; may be
-        set at any time."""
+        """Is called, in a live session, with the result of each `spin` that the front gave by itself and that delivered
+        events; may be set at any time."""
         self._listeners: Listeners = {}
         self._followers: Tuple[ref[Follower], ...] = ()
 
@@ -101,7 +101,7 @@ class Hearing:
         return (*first, *(it.take for it in followers), *(it.told for it in listeners))
 
     def _follow(self, follower: Follower) -> None:
-        """Has one told of all calls, as long as somebody holds it."""
+        """Adds a receiver of all calls, which stays as long as somebody holds it."""
         self._followers = (*(it for it in self._followers if it() is not None), ref(follower))
 
     def _forget_listeners(self) -> None:

@@ -35,7 +35,7 @@ class Holder:
 
     @property
     def is_live(self) -> bool:
-        """Whether events come unasked. A session that has failed is live no more, after its `reset` neither."""
+        """Whether events come unasked. A session that has failed is not live any more, not even after its `reset`."""
         return self.connection.is_live
 
     def _hang_up(self) -> None:

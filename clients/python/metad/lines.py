@@ -67,7 +67,7 @@ class Spun(TypedDict):
 
 
 Told = Union[Call, Warned, Spun]
-"""What a session is told beside answers: `Spun` of each `spin` that a front has given by itself."""
+"""The lines that a session receives besides answers: `Spun` for each `spin` that a front has given by itself."""
 
 
 class Status(TypedDict):
@@ -140,7 +140,7 @@ def is_of_front(line: Dict[str, Value]) -> bool:
 
 
 def spun_by(line: Dict[str, Value], text: bytes) -> Spun:
-    """What came of a `spin` that the front has given by itself."""
+    """The result of a `spin` that the front has given by itself."""
     spun = line.get("reply")
     if line["front"] != "spin" or not isinstance(spun, dict):
         raise StrangeLine(text)

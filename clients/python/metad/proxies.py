@@ -5,8 +5,8 @@
     player.finished.connect(other.play)
     player.play()
 
-A function of Python cannot be connected: the server calls slots, functors and signals, and tells of slots and functors
-alone. So to have a function called for a signal the signal is connected to a slot whose calls are told, and which
+A function of Python cannot be connected: the server calls slots, functors and signals, and reports calls of slots and
+functors alone. So to have a function called for a signal, connect the signal to a slot whose calls are reported, and which
 does nothing else. That is a slot of a class `Relay`, which `with_relay` adds to a class file, or another one that is
 named by `via`. Without either there is no way: no class that every server has comes with a slot that takes arguments
 and does nothing. A function is called by the thread that waits: for the answer to a command, or by `wait_for`,
@@ -173,7 +173,7 @@ class Method(BaseMethod[Proxy]):
         self.owner.session.publish(self.owner.number, self.signature(), name)
 
     def join(self, from_: str, name: str, types: Optional[Sequence[str]] = None) -> None:
-        """Has the method called with what another session publishes under a name: as it comes in a live session, otherwise
+        """Has the method called for what another session publishes under a name: as it comes in a live session, otherwise
         when this one spins.
 
         `types` are those of the published signal; without them those of the method.
@@ -206,7 +206,7 @@ class SignalSpy(List[List[Value]]):
         self.stop()
 
     def wait(self, timeout: Optional[float] = 5.0) -> bool:
-        """Waits until the signal is sent once more, so many seconds at most; says whether it was. A session that is not live
+        """Waits at most so many seconds until the signal is sent once more; returns whether it was. A session that is not live
         spins meanwhile."""
         before = len(self)
         return wait_until(self._session, lambda: len(self) > before, timeout)
@@ -217,9 +217,9 @@ class SignalSpy(List[List[Value]]):
 
 
 def wait_for(signal: Method, timeout: Optional[float] = 5.0, via: Optional[Method] = None) -> List[Value]:
-    """Waits until a signal is sent, and returns its arguments; `NotAnswered` where that is not so in time.
+    """Waits until a signal is sent, and returns its arguments; raises `NotAnswered` if that takes too long.
 
-    In a live session it waits for the line that tells it; in any other one it spins.
+    In a live session it waits for the line that reports the signal; in any other one it spins.
     """
     with SignalSpy(signal, via) as spy:
         if not spy.wait(timeout):

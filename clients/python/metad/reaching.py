@@ -1,7 +1,7 @@
-"""Connections through the Unix-domain socket of a front, and what is asked of it before any command is given.
+"""Connections through the Unix-domain socket of a front, and the requests to it before any command is given.
 
-A front that has live sessions is asked for one: it then gives `spin` by itself, and events come unasked. A front that has
-none refuses that and closes the connection, so a second one is made, which does not ask.
+The client asks a front for a live session: the front then gives `spin` by itself, and events come unasked. A front without
+live sessions refuses that and closes the connection, so the client makes a second one, which does not ask.
 """
 
 from __future__ import annotations
@@ -19,11 +19,11 @@ from .sockets import connected
 HELLO = {"front": "hello"}
 
 Connect = Callable[[], socket.socket]
-"""Makes a connection with a front, over which nothing was asked yet."""
+"""Makes a connection with a front, without any request yet."""
 
 
 class Reached(NamedTuple):
-    """A connection with a front, which has answered what it was asked for."""
+    """A connection with a front that has answered its requests."""
 
     link: socket.socket
     reader: IO[bytes]
@@ -43,7 +43,7 @@ def reach(
     live: Optional[bool] = None,
     timeout: Optional[float] = None,
 ) -> Reached:
-    """Connects with a front, and asks for a session that is shared or of a group, where one is named, and for its events.
+    """Connects with a front, and asks for a shared session or one of a group, if one is named, and for its events.
 
     With None for `live` it goes on without events where the front has no live sessions, with True it raises `NotLive` then,
     and with False it does not ask. `NotAnswered` where an answer does not come in so many seconds.
@@ -68,7 +68,7 @@ def reach(
 
 
 def first_line(share: Optional[str], group: Optional[str]) -> Dict[str, Value]:
-    """What the first line asks for; nothing where no session is named."""
+    """The request of the first line; nothing if no session is named."""
     if share is not None and group is not None:
         raise ValueError("a shared session has a group by its name")
     if share is not None:
@@ -77,7 +77,7 @@ def first_line(share: Optional[str], group: Optional[str]) -> Dict[str, Value]:
 
 
 def asking(link: socket.socket, asked: Dict[str, Value], timeout: Optional[float]) -> Reached:
-    """Asks for this by a first line, if for anything. `Refused` where the front refuses it; the connection is closed then."""
+    """Sends this request, if any, as a first line. If the front refuses it, raises `Refused` and closes the connection."""
     reader = link.makefile("rb")
     try:
         link.settimeout(timeout)
@@ -91,7 +91,7 @@ def asking(link: socket.socket, asked: Dict[str, Value], timeout: Optional[float
 
 
 def answered(link: socket.socket, reader: IO[bytes], asked: Dict[str, Value]) -> Dict[str, Value]:
-    """What a front answers to a first line."""
+    """The front's answer to a first line."""
     try:
         link.sendall(line_with(asked))
         text = reader.readline()
@@ -169,7 +169,7 @@ class Making(Once):
         return self._link
 
     def made(self) -> SocketConnection:
-        """The connection, once it has come; or raises why there is none."""
+        """The connection, once it has been made; or raises the reason why there is none."""
         if self._made is None:
             assert self._fault is not None
             raise self._fault

@@ -1,4 +1,4 @@
-"""Waits for what a session is told, with an end.
+"""Waits for the lines of a session, with a time limit.
 
 In a live session they wait for the lines that come unasked, and the server is asked for nothing. In any other session the
 server tells nothing unasked, so they spin, again and again, with pauses that grow.
@@ -45,9 +45,9 @@ class Patience:
 
 
 def wait_until(session: Session, is_done: Callable[[], Done], timeout: Optional[float]) -> Done:
-    """Waits until a function returns something true, and returns that; what it returned last where the time is over.
+    """Waits until a function returns something true, and returns that; returns its last result if the time is over.
 
-    It is called whenever the session may have been told something. `ConnectionClosed` where nothing more can come.
+    The function is called whenever the session may have received something. `ConnectionClosed` if nothing more can come.
     """
     connection, patience = session.server.connection, Patience(timeout)
     while True:
@@ -67,12 +67,12 @@ def wait_until(session: Session, is_done: Callable[[], Done], timeout: Optional[
 
 
 def not_in_time(timeout: Optional[float]) -> NotAnswered:
-    """What is raised where a predicate did not come true in time."""
+    """The exception for a predicate that did not come true in time."""
     return NotAnswered(f"what was waited for did not come true in {timeout} seconds")
 
 
 class Calls(Follower, Iterator[Call]):
-    """The calls of a session as they come. It is made by `Session.calls`, and iterated."""
+    """The calls of a session as they come. `Session.calls` makes it, to be iterated."""
 
     def __init__(self, session: Session, timeout: Optional[float]) -> None:
         super().__init__(session)

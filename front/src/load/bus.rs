@@ -21,7 +21,7 @@ const MEMBER: u8 = 3;
 const ANSWERED: u8 = 5;
 const DESTINATION: u8 = 6;
 const SENDER: u8 = 7;
-/// What stands before the fields of a header: the byte order, kind, flags, version, and three numbers.
+/// The bytes before the fields of a header: the byte order, kind, flags, version, and three numbers.
 const FIXED: usize = 16;
 
 /// A connection to the daemon.
@@ -31,7 +31,7 @@ struct Bus {
     serial: u32,
 }
 
-/// What came: its number and sender, and its body.
+/// A message: its number, sender and body.
 struct Message {
     kind: u8,
     serial: u32,
@@ -40,7 +40,7 @@ struct Message {
 }
 
 impl Bus {
-    /// Connects as the user that this process runs as, and is given a name.
+    /// Connects as the user of this process, and receives a name.
     fn connect(path: &str) -> io::Result<(Bus, String)> {
         let link = UnixStream::connect(path)?;
         let mut bus = Bus { reader: BufReader::new(link.try_clone()?), link, serial: 0 };
@@ -99,7 +99,7 @@ impl Bus {
         Ok(Message { kind: head[1], serial: number(8), sender, body })
     }
 
-    /// The next message of a kind; others, such as the signal that a name was given, are passed over.
+    /// The next message of a kind. Others are ignored, such as the signal that a name was given.
     fn read_kind(&mut self, kind: u8) -> io::Result<Message> {
         loop {
             let message = self.read()?;
@@ -110,7 +110,7 @@ impl Bus {
     }
 }
 
-/// Fills up to a multiple of eight bytes.
+/// Pads to a multiple of eight bytes.
 fn pad(bytes: &mut Vec<u8>) {
     bytes.resize((bytes.len() + 7) / 8 * 8, 0);
 }
@@ -142,7 +142,7 @@ fn text_of(fields: &[u8], wanted: u8) -> Option<String> {
     None
 }
 
-/// Round trips a second of one caller to a service in a thread of its own.
+/// Measures the round trips a second of one caller to a service in a thread of its own.
 pub fn round_trips(path: &str, seconds: &str) -> io::Result<()> {
     let ((mut service, name), (mut caller, _)) = (Bus::connect(path)?, Bus::connect(path)?);
     thread::spawn(move || loop {

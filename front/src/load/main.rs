@@ -1,4 +1,4 @@
-//! Loads a front, or what it is compared with, and prints what was measured. It is not installed.
+//! Puts load on a front, or on a program to compare it with, and prints the measurements. It is not installed.
 //!
 //! ```text
 //! metad-load roundtrips SOCKET SECONDS            round trips a second of one client
@@ -61,7 +61,7 @@ fn seconds_in(word: &str) -> Duration {
     Duration::from_secs_f64(word.parse().unwrap_or(1.0))
 }
 
-/// Asks and waits for the answer, again and again.
+/// Sends a command and waits for its answer, again and again.
 fn round_trips(mut to: impl Write, from: impl Read, seconds: &str) -> io::Result<()> {
     let (mut reader, mut line, mut count) = (BufReader::new(from), Vec::new(), 0_u64);
     let (begun, time) = (Instant::now(), seconds_in(seconds));
@@ -77,7 +77,7 @@ fn round_trips(mut to: impl Write, from: impl Read, seconds: &str) -> io::Result
     Ok(())
 }
 
-/// The same over a pipe to a program, where each line names its session by itself.
+/// Measures round trips over a pipe to the program, where each line names its session by itself.
 fn pipe(seconds: &str, program: &str, args: &[&str]) -> io::Result<()> {
     let mut child = Command::new(program).args(args).stdin(Stdio::piped()).stdout(Stdio::piped()).spawn()?;
     let pipes = child.stdin.take().zip(child.stdout.take());
@@ -87,7 +87,7 @@ fn pipe(seconds: &str, program: &str, args: &[&str]) -> io::Result<()> {
     done
 }
 
-/// Names a session in each line.
+/// Adds the name of a session to each line.
 struct Naming<T>(T);
 
 impl<T: Write> Write for Naming<T> {
@@ -101,13 +101,13 @@ impl<T: Write> Write for Naming<T> {
     }
 }
 
-/// A client that has some commands under way at any time.
+/// A client that always has some commands under way.
 struct Flooder {
     link: UnixStream,
     sent: VecDeque<Instant>,
 }
 
-/// Clients that ask without end.
+/// Measures clients that send commands without end.
 fn flood(path: &str, clients: usize, ahead: usize, seconds: &str) -> io::Result<()> {
     let (mut poll, mut events) = (Poll::new()?, Events::with_capacity(1_024));
     let mut all = Vec::new();
@@ -152,7 +152,7 @@ fn flood(path: &str, clients: usize, ahead: usize, seconds: &str) -> io::Result<
     Ok(())
 }
 
-/// Writes all, and waits where there is no room.
+/// Writes all, and waits if there is no room.
 fn write_all(link: &mut UnixStream, mut bytes: &[u8]) -> io::Result<()> {
     while !bytes.is_empty() {
         match link.write(bytes) {
@@ -164,7 +164,7 @@ fn write_all(link: &mut UnixStream, mut bytes: &[u8]) -> io::Result<()> {
     Ok(())
 }
 
-/// Prints what half and 99 of 100 of the waits were at most, in microseconds.
+/// Prints the median of the waits and the bound of 99 of 100 of them, in microseconds.
 fn show(before: &str, waits: &mut [u64]) {
     waits.sort_unstable();
     let at = |share: usize| waits.get(waits.len() * share / 100).copied().unwrap_or(0);
@@ -186,7 +186,7 @@ fn quiet(path: &str, count: usize) -> io::Result<()> {
     Ok(())
 }
 
-/// Sends back what it is sent, until standard input ends.
+/// Sends back all that it receives, until standard input ends.
 fn echo(path: &str) -> io::Result<()> {
     let listener = StdListener::bind(path)?;
     listener.set_nonblocking(true)?;
