@@ -33,7 +33,8 @@ fewer at (p ∷ each) is = by (is_property at p) is (no_longer at each) (fewer a
     rest : List Property
     rest = filter (λ q. not (is_property at q)) each
 
-    by : (t : Bool) → (t || among at each) ≡ true → length rest < suc (length each) → (among at each ≡ true → length rest < length each) → length (cond (not t) (p ∷ rest) rest) < suc (length each)
+    by : (t : Bool) → (t || among at each) ≡ true → length rest < suc (length each) → (among at each ≡ true → length rest < length each)
+        → length (cond (not t) (p ∷ rest) rest) < suc (length each)
     by true e less later = less
     by false e less later = let least : length rest < length each = later e in omega (arith, least)
 
@@ -45,22 +46,26 @@ fewer_left old new at (none, here, rest) =
 
 -- what was taken is marked with what was marked before, and the rest is left
 
-other_stays : (at q : Property) → is_property at q ≡ false → (each : List Property) → among q each ≡ true → among q (filter (λ p. not (is_property at p)) each) ≡ true
+other_stays : (at q : Property) → is_property at q ≡ false → (each : List Property) → among q each ≡ true
+    → among q (filter (λ p. not (is_property at p)) each) ≡ true
 other_stays at q apart [] is = is
 other_stays at q apart (p ∷ each) is = by (is_property at p) refl (is_property q p) refl is (other_stays at q apart each)
   where
     rest : List Property
     rest = filter (λ p. not (is_property at p)) each
 
-    by : (its : Bool) → is_property at p ≡ its → (here : Bool) → is_property q p ≡ here → (here || among q each) ≡ true → (among q each ≡ true → among q rest ≡ true) → among q (cond (not its) (p ∷ rest) rest) ≡ true
+    by : (its : Bool) → is_property at p ≡ its → (here : Bool) → is_property q p ≡ here → (here || among q each) ≡ true
+        → (among q each ≡ true → among q rest ≡ true) → among q (cond (not its) (p ∷ rest) rest) ≡ true
     by true e true f is later = absurd (both_ways (is_property at q) apart (ap (is_property at) (property_eq q p f) ∙ e))
     by true e false f is later = later is
     by false e true f is later = or_left (is_property q p) _ f
     by false e false f is later = or_right (is_property q p) _ (later is)
 
-pub one_taken : (old new before after : Marks) (at : Property) → IsTaken old new (told.One at) → AreMore before after → is_marked after at ≡ true → AreMore (both old before) (both new after)
+pub one_taken : (old new before after : Marks) (at : Property) → IsTaken old new (told.One at) → AreMore before after → is_marked after at ≡ true
+    → AreMore (both old before) (both new after)
 one_taken old new before after at (none, here, rest) are_more marked q on =
-    both_marked new after q ∙ ⊎_elim own (λ was. or_right (is_marked new q) _ (are_more q was)) (or_cases (is_marked old q) (is_marked before q) (sym (both_marked old before q) ∙ on))
+    both_marked new after q ∙ ⊎_elim own (λ was. or_right (is_marked new q) _ (are_more q was))
+    (or_cases (is_marked old q) (is_marked before q) (sym (both_marked old before q) ∙ on))
   where
     apart : is_marked old q ≡ true → is_property at q ≡ false → (is_marked new q || is_marked after q) ≡ true
     apart was e =

@@ -1,5 +1,6 @@
 -- Values of properties are short, and of their kinds.
-use Rattle.std.proofs.Common.{◌≡◌, ℕ, ◌==◌, Bool, true, false, List, [], ◌∷◌, Option, Some, None, Ok, Err, IfOk, All, filter, find, option_map, refl, sym, subst, arith}
+use Rattle.std.proofs.Common.{◌≡◌, ℕ, ◌==◌, Bool, true, false, List, [], ◌∷◌, Option, Some, None, Ok, Err, IfOk, All, filter, find, option_map, refl, sym}
+use Rattle.std.proofs.Common.{subst, arith}
 use Rattle.std.specs.List.{slice_get}
 use Rattle.std.specs.Option.{ok_or, option_map_or}
 use Rattle.std.proofs.lemmas.Bool.{and_parts}
@@ -48,7 +49,9 @@ module _ (store : Store) (sound : IsSound store) where
   cell_of_fits : (of : Properties) → AreSound of → (number : ℕ) (cell : Cell) → cell_of number of ≡ Some cell → IsOfKind cell.kind cell.value
   cell_of_fits of are number cell is = by (slice_get of.fields number) refl (slice_get of.values number) refl is
     where
-      by : (field : Option Field) → slice_get of.fields number ≡ field → (value : Option Value) → slice_get of.values number ≡ value → option_map_or (λ (field : Field). option_map (λ value. let c : Cell = record { kind = field.kind; value = value } in c) value) field None ≡ Some cell → IsOfKind cell.kind cell.value
+      by : (field : Option Field) → slice_get of.fields number ≡ field → (value : Option Value) → slice_get of.values number ≡ value
+          → option_map_or (λ (field : Field). option_map (λ value. let c : Cell = record { kind = field.kind; value = value } in c) value) field None
+          ≡ Some cell → IsOfKind cell.kind cell.value
       by None f value v e = absurd (cc)
       by (Some field) f None v e = absurd (cc)
       by (Some field) f (Some value) v e =
@@ -69,11 +72,13 @@ module _ (store : Store) (sound : IsSound store) where
     texts : (q : Property) (term : Term) → term_at (scene_of store bindings).bindings q ≡ Some term → has_short_texts term ≡ true
     texts q term bound = by (find (λ (binding : Binding). is_property q binding.at) (filter (is_there store) bindings)) refl bound
       where
-        by : (b : Option Binding) → find (λ (binding : Binding). is_property q binding.at) (filter (is_there store) bindings) ≡ b → option_map (λ (binding : Binding). binding.expr) b ≡ Some term → has_short_texts term ≡ true
+        by : (b : Option Binding) → find (λ (binding : Binding). is_property q binding.at) (filter (is_there store) bindings) ≡ b
+            → option_map (λ (binding : Binding). binding.expr) b ≡ Some term → has_short_texts term ≡ true
         by None f e = absurd (cc)
         by (Some b) f e =
             let there = found (λ (binding : Binding). is_property q binding.at) (filter (is_there store) bindings) b f in
-            let within : is_within_limits b.expr ≡ true = subst (λ (b : Binding). is_within_limits b.expr ≡ true) (there.is b) (All-filter (is_there store) (λ (binding : Binding). is_within_limits binding.expr ≡ true) bindings limited there.at b there.within) in
+            let within : is_within_limits b.expr ≡ true = subst (λ (b : Binding). is_within_limits b.expr ≡ true) (there.is b)
+            (All-filter (is_there store) (λ (binding : Binding). is_within_limits binding.expr ≡ true) bindings limited there.at b there.within) in
             let same : b.expr ≡ term = cc in
             subst (λ (t : Term). has_short_texts t ≡ true) same (and_parts _ _ within).1
 
@@ -88,28 +93,38 @@ module _ (store : Store) (sound : IsSound store) where
     abbrev Short : List Property → Type 0
     Short seen = (q : Property) → IfOk (plain (scene_of store bindings) seen q) IsShort
 
-    evaluated_fits : (seen : List Property) (q : Property) (cell : Cell) (term : Term) → term_at (scene_of store bindings).bindings q ≡ Some term → Short (q ∷ seen) → IfOk (evaluated (scene_of store bindings) (plain (scene_of store bindings) (q ∷ seen)) q.object cell.kind term) (IsOfKind cell.kind)
+    evaluated_fits : (seen : List Property) (q : Property) (cell : Cell) (term : Term) → term_at (scene_of store bindings).bindings q ≡ Some term
+        → Short (q ∷ seen) → IfOk (evaluated (scene_of store bindings) (plain (scene_of store bindings) (q ∷ seen)) q.object cell.kind term)
+        (IsOfKind cell.kind)
     evaluated_fits seen q cell term bound short =
         settled_fits cell.kind (eval_by [] (reader (scene_of store bindings) (plain (scene_of store bindings) (q ∷ seen)) q.object) term)
-        (short_value term [] (reader (scene_of store bindings) (plain (scene_of store bindings) (q ∷ seen)) q.object) (texts q term bound) (λ k d lt. absurd (omega arith)) (λ target name. read_short (plain (scene_of store bindings) (q ∷ seen)) short ((scene_of store bindings).named q.object target name)))
+        (short_value term [] (reader (scene_of store bindings) (plain (scene_of store bindings) (q ∷ seen)) q.object) (texts q term bound)
+        (λ k d lt. absurd (omega arith)) (λ target name. read_short (plain (scene_of store bindings) (q ∷ seen)) short
+        ((scene_of store bindings).named q.object target name)))
 
     -- by the rule a value is of the kind of its property, where others' values are short
-    rule_fits : (seen : List Property) → ((q : Property) (term : Term) → term_at (scene_of store bindings).bindings q ≡ Some term → among q seen ≡ false → Short (q ∷ seen)) → (q : Property) (cell : Cell) → cell_in store q ≡ Some cell → IfOk (plain (scene_of store bindings) seen q) (IsOfKind cell.kind)
-    rule_fits seen short q cell is = subst (λ (o : Outcome). IfOk o (IsOfKind cell.kind)) (sym (plain_rule (scene_of store bindings) seen q)) (by (among q seen) refl (cell_in store q) is (term_at (scene_of store bindings).bindings q) refl)
+    rule_fits : (seen : List Property) → ((q : Property) (term : Term) → term_at (scene_of store bindings).bindings q ≡ Some term → among q seen ≡ false
+        → Short (q ∷ seen)) → (q : Property) (cell : Cell) → cell_in store q ≡ Some cell → IfOk (plain (scene_of store bindings) seen q) (IsOfKind cell.kind)
+    rule_fits seen short q cell is = subst (λ (o : Outcome). IfOk o (IsOfKind cell.kind)) (sym (plain_rule (scene_of store bindings) seen q))
+        (by (among q seen) refl (cell_in store q) is (term_at (scene_of store bindings).bindings q) refl)
       where
         evaluate : Cell → Term → Outcome
         evaluate cell term = evaluated (scene_of store bindings) (plain (scene_of store bindings) (q ∷ seen)) q.object cell.kind term
 
-        by : (t : Bool) → among q seen ≡ t → (c : Option Cell) → c ≡ Some cell → (term : Option Term) → term_at (scene_of store bindings).bindings q ≡ term → IfOk (choose t c term evaluate) (IsOfKind cell.kind)
+        by : (t : Bool) → among q seen ≡ t → (c : Option Cell) → c ≡ Some cell → (term : Option Term) → term_at (scene_of store bindings).bindings q ≡ term
+            → IfOk (choose t c term evaluate) (IsOfKind cell.kind)
         by true e c f term g = tt
         by false e None f term g = tt
         by false e (Some c) f None g = let same : c ≡ cell = cc in subst (λ (c : Cell). IsOfKind cell.kind c.value) (sym same) (cell_fits q cell is)
-        by false e (Some c) f (Some term) g = let same : c ≡ cell = cc in subst (λ (c : Cell). IfOk (evaluate c term) (IsOfKind cell.kind)) (sym same) (evaluated_fits seen q cell term g (short q term g e))
+        by false e (Some c) f (Some term) g = let same : c ≡ cell = cc in subst (λ (c : Cell). IfOk (evaluate c term) (IsOfKind cell.kind)) (sym same)
+            (evaluated_fits seen q cell term g (short q term g e))
 
     nowhere : (seen : List Property) (q : Property) → cell_in store q ≡ None → IfOk (plain (scene_of store bindings) seen q) IsShort
     nowhere seen q is = subst (λ (o : Outcome). IfOk o IsShort) (sym (plain_rule (scene_of store bindings) seen q)) (by (among q seen) (cell_in store q) is)
       where
-        by : (t : Bool) (c : Option Cell) → c ≡ None → IfOk (choose t c (term_at (scene_of store bindings).bindings q) (λ cell term. evaluated (scene_of store bindings) (plain (scene_of store bindings) (q ∷ seen)) q.object cell.kind term)) IsShort
+        by : (t : Bool) (c : Option Cell) → c ≡ None
+            → IfOk (choose t c (term_at (scene_of store bindings).bindings q)
+            (λ cell term. evaluated (scene_of store bindings) (plain (scene_of store bindings) (q ∷ seen)) q.object cell.kind term)) IsShort
         by true c e = tt
         by false None e = tt
         by false (Some c) e = absurd (cc)
@@ -117,7 +132,8 @@ module _ (store : Store) (sound : IsSound store) where
     all_short : (seen : List Property) → Short seen
     all_short seen = by_unmet (scene_of store bindings) Short step seen
       where
-        step : (seen : List Property) → ((q : Property) (term : Term) → term_at (scene_of store bindings).bindings q ≡ Some term → among q seen ≡ false → Short (q ∷ seen)) → Short seen
+        step : (seen : List Property) → ((q : Property) (term : Term) → term_at (scene_of store bindings).bindings q ≡ Some term → among q seen ≡ false
+            → Short (q ∷ seen)) → Short seen
         step seen short q = by (cell_in store q) refl
           where
             by : (c : Option Cell) → cell_in store q ≡ c → IfOk (plain (scene_of store bindings) seen q) IsShort
@@ -136,9 +152,14 @@ module _ (store : Store) (sound : IsSound store) where
         as_kind kind (Ok value) = (refl, refl)
         as_kind kind (Err error) = (refl, refl)
 
-        by : (c : Option Cell) → cell_in store q ≡ c → option_map (λ cell. shown_as q cell.kind (outcome_in store bindings q)) c ≡ Some shown → IsOfKind shown.kind shown.value × (shown.at ≡ q)
+        by : (c : Option Cell) → cell_in store q ≡ c → option_map (λ cell. shown_as q cell.kind (outcome_in store bindings q)) c ≡ Some shown
+            → IsOfKind shown.kind shown.value × (shown.at ≡ q)
         by None e f = absurd (cc)
         by (Some cell) e f =
             let same : shown_as q cell.kind (outcome_in store bindings q) ≡ shown = cc in
             let is_so = as_kind cell.kind (outcome_in store bindings q) in
-            subst (λ (s : Shown). IsOfKind s.kind s.value × (s.at ≡ q)) same (subst (λ k. IsOfKind k (shown_as q cell.kind (outcome_in store bindings q)).value) (sym is_so.0) (shown_fits q cell.kind (outcome_in store bindings q) (outcome_fits q cell e)), is_so.1)
+            subst (λ (s : Shown). IsOfKind s.kind s.value × (s.at ≡ q)) same (
+              subst (λ k. IsOfKind k (shown_as q cell.kind (outcome_in store bindings q)).value) (sym is_so.0)
+                  (shown_fits q cell.kind (outcome_in store bindings q) (outcome_fits q cell e)),
+              is_so.1,
+            )

@@ -1,5 +1,6 @@
 -- What is kept of a place, where less is kept, and where a binding is another.
-use Rattle.std.proofs.Common.{ℕ, ◌≡◌, ◌∙◌, ◌||◌, Bool, true, false, cond, not, List, [], ◌∷◌, Option, Some, None, filter, find, option_map, refl, sym, ap, inl, inr, ◌⊎◌, ⊎_elim}
+use Rattle.std.proofs.Common.{ℕ, ◌≡◌, ◌∙◌, ◌||◌, Bool, true, false, cond, not, List, [], ◌∷◌, Option, Some, None, filter, find, option_map, refl, sym, ap, inl}
+use Rattle.std.proofs.Common.{inr, ◌⊎◌, ⊎_elim}
 use Rattle.std.proofs.lemmas.Bool.{both_ways, cases_Bool, or_right}
 use Rattle.property_store.specs.declared.property.Property.{Property}
 use Rattle.property_store.specs.Marks.{Marks, is_marked}
@@ -31,7 +32,8 @@ none_kept : (at : Property) (rows : List CacheEntry) → kept_of (rest at rows) 
 none_kept at [] = refl
 none_kept at (row ∷ rows) = by (is_property at row.at) refl (none_kept at rows)
   where
-    by : (same : Bool) → is_property at row.at ≡ same → kept_of (rest at rows) at ≡ None → kept_of (cond (not same) (row ∷ rest at rows) (rest at rows)) at ≡ None
+    by : (same : Bool) → is_property at row.at ≡ same → kept_of (rest at rows) at ≡ None
+        → kept_of (cond (not same) (row ∷ rest at rows) (rest at rows)) at ≡ None
     by true e later = later
     by false e later = rw e later
 
@@ -40,7 +42,8 @@ others_kept at q apart [] = refl
 others_kept at q apart (row ∷ rows) = by (is_property at row.at) refl (is_property q row.at) refl (others_kept at q apart rows)
   where
     by : (its : Bool) → is_property at row.at ≡ its → (here : Bool) → is_property q row.at ≡ here → kept_of (rest at rows) q ≡ kept_of rows q
-        → kept_of (cond (not its) (row ∷ rest at rows) (rest at rows)) q ≡ option_map (λ (row : CacheEntry). row.kept) (cond here (Some row) (find (λ (row : CacheEntry). is_property q row.at) rows))
+        → kept_of (cond (not its) (row ∷ rest at rows) (rest at rows)) q
+        ≡ option_map (λ (row : CacheEntry). row.kept) (cond here (Some row) (find (λ (row : CacheEntry). is_property q row.at) rows))
     by true e true f later = absurd (both_ways (is_property at q) apart (ap (is_property at) (property_eq q row.at f) ∙ e))
     by true e false f later = later
     by false e true f later = rw f refl
@@ -56,7 +59,8 @@ rest_within at rows q kept is = ⊎_elim same other (cases_Bool (is_property at 
     other e = sym (others_kept at q e rows) ∙ is
 
 -- less is kept, but of marked properties alone
-pub forgotten_in_step : (store : Store) (marks : Marks) (graph : Graph) (cache : Cache) (at : Property) → is_marked (both marks cache.pending) at ≡ true → IsInStep store marks graph cache → IsInStep store marks graph (record cache { kept = rest at cache.kept })
+pub forgotten_in_step : (store : Store) (marks : Marks) (graph : Graph) (cache : Cache) (at : Property) → is_marked (both marks cache.pending) at ≡ true
+    → IsInStep store marks graph cache → IsInStep store marks graph (record cache { kept = rest at cache.kept })
 forgotten_in_step store marks graph cache at on step = record {
   right = λ part within. step.right part (λ q kept is. rest_within at cache.kept q kept (within q kept is));
   whole = λ q off. by q off (step.whole q off);
@@ -65,21 +69,25 @@ forgotten_in_step store marks graph cache at on step = record {
 }
   where
     apart : (q : Property) → is_marked (both marks cache.pending) q ≡ false → is_property at q ≡ false
-    apart q off = ⊎_elim (λ e. absurd (both_ways (is_marked (both marks cache.pending) q) off (ap (is_marked (both marks cache.pending)) (sym (property_eq at q e)) ∙ on))) (λ e. e) (cases_Bool (is_property at q))
+    apart q off = ⊎_elim (λ e. absurd (both_ways (is_marked (both marks cache.pending) q) off
+        (ap (is_marked (both marks cache.pending)) (sym (property_eq at q e)) ∙ on))) (λ e. e) (cases_Bool (is_property at q))
 
     still : (q : Property) → is_marked (both marks cache.pending) q ≡ false → kept_of (rest at cache.kept) q ≡ kept_of cache.kept q
     still q off = others_kept at q (apart q off) cache.kept
 
-    by : (q : Property) → is_marked (both marks cache.pending) q ≡ false → IsKept (kept_of cache.kept) q ⊎ IsUnbound (scene_of store graph.bindings) q → IsKept (kept_of (rest at cache.kept)) q ⊎ IsUnbound (scene_of store graph.bindings) q
+    by : (q : Property) → is_marked (both marks cache.pending) q ≡ false → IsKept (kept_of cache.kept) q ⊎ IsUnbound (scene_of store graph.bindings) q
+        → IsKept (kept_of (rest at cache.kept)) q ⊎ IsUnbound (scene_of store graph.bindings) q
     by q off (inl (kept, is)) = inl (kept, still q off ∙ is)
     by q off (inr unbound) = inr unbound
 
     shows : Property → Option EvalResult → Option Shown
-    shows q kept = option_map (λ (cell : Cell). shown_as q cell.kind (option_map_or (λ (kept : EvalResult). kept.outcome) kept (at_hand (scene_of store graph.bindings) q))) (cell_in store q)
+    shows q kept = option_map (λ (cell : Cell). shown_as q cell.kind
+        (option_map_or (λ (kept : EvalResult). kept.outcome) kept (at_hand (scene_of store graph.bindings) q))) (cell_in store q)
 
 -- more is marked, or another group is open
 
-pub at_depth : (store : Store) (marks : Marks) (graph : Graph) (cache : Cache) (depth : ℕ) → IsInStep store marks graph cache → IsInStep store marks (record graph { depth = depth }) cache
+pub at_depth : (store : Store) (marks : Marks) (graph : Graph) (cache : Cache) (depth : ℕ) → IsInStep store marks graph cache
+    → IsInStep store marks (record graph { depth = depth }) cache
 at_depth store marks graph cache depth step = record { right = step.right; whole = step.whole; last = step.last; there = step.there }
 
 more_of_pending : (marks before pending : Marks) → AreMore before pending → AreMore (both marks before) (both marks pending)
@@ -89,10 +97,12 @@ more_of_pending marks before pending are_more q on = both_marked marks pending q
     by true e = refl
     by false e = are_more q e
 
-pub pending_in_step : (store : Store) (marks pending : Marks) (graph : Graph) (cache : Cache) → AreMore cache.pending pending → IsInStep store marks graph cache → IsInStep store marks graph (record cache { pending = pending })
+pub pending_in_step : (store : Store) (marks pending : Marks) (graph : Graph) (cache : Cache) → AreMore cache.pending pending → IsInStep store marks graph cache
+    → IsInStep store marks graph (record cache { pending = pending })
 pending_in_step store marks pending graph cache are_more step = more_in_step step (more_of_pending marks cache.pending pending are_more)
 
-module _ (store : Store) (marks pending : Marks) (graph : Graph) (cache : Cache) (at : Property) (are_more : AreMore cache.pending pending) (marked : is_marked pending at ≡ true) (step : IsInStep store marks graph cache) where
+module _ (store : Store) (marks pending : Marks) (graph : Graph) (cache : Cache) (at : Property) (are_more : AreMore cache.pending pending)
+    (marked : is_marked pending at ≡ true) (step : IsInStep store marks graph cache) where
   marked_here : is_marked (both marks pending) at ≡ true
   marked_here = both_marked marks pending at ∙ or_right (is_marked marks at) _ marked
 
@@ -100,9 +110,12 @@ module _ (store : Store) (marks pending : Marks) (graph : Graph) (cache : Cache)
   pub bound_in_step : (term : Term) → IsInStep store marks (bound graph at term) (record cache { pending = pending; kept = rest at cache.kept })
   bound_in_step term =
       forgotten_in_step store marks (bound graph at term) (record cache { pending = pending }) at marked_here
-      (stays_where_marked store store marks marks pending graph (with_binding (record { at = at; expr = term }) graph.bindings) cache (more_of_pending marks cache.pending pending are_more) (binding_is_marked store graph.bindings (both marks pending) (record { at = at; expr = term }) marked_here) step)
+      (stays_where_marked store store marks marks pending graph (with_binding (record { at = at; expr = term }) graph.bindings) cache
+      (more_of_pending marks cache.pending pending are_more)
+      (binding_is_marked store graph.bindings (both marks pending) (record { at = at; expr = term }) marked_here) step)
 
   pub unbound_in_step : IsInStep store marks (unbound graph at) (record cache { pending = pending; kept = rest at cache.kept })
   unbound_in_step =
       forgotten_in_step store marks (unbound graph at) (record cache { pending = pending }) at marked_here
-      (stays_where_marked store store marks marks pending graph (unbound graph at).bindings cache (more_of_pending marks cache.pending pending are_more) (unbinding_is_marked store graph.bindings (both marks pending) at marked_here) step)
+      (stays_where_marked store store marks marks pending graph (unbound graph at).bindings cache (more_of_pending marks cache.pending pending are_more)
+      (unbinding_is_marked store graph.bindings (both marks pending) at marked_here) step)

@@ -1,5 +1,6 @@
 -- What is kept of a place, and what is told, where an object goes.
-use Rattle.std.proofs.Common.{◌≡◌, ◌∙◌, ◌≤◌, ◌==◌, ◌++◌, ℕ, suc, true, false, cond, not, List, [], ◌∷◌, Option, Some, None, All, filter, filter_map, get_or, length, option_map, refl, sym, ap, ap₂, subst, ⊎_elim, arith}
+use Rattle.std.proofs.Common.{◌≡◌, ◌∙◌, ◌≤◌, ◌==◌, ◌++◌, ℕ, suc, true, false, cond, not, List, [], ◌∷◌, Option, Some, None, All, filter, filter_map, get_or}
+use Rattle.std.proofs.Common.{length, option_map, refl, sym, ap, ap₂, subst, ⊎_elim, arith}
 use Rattle.std.specs.List.{cons_option}
 use Rattle.std.proofs.lemmas.Bool.{both_ways, cases_Bool, or_right}
 use Rattle.std.proofs.lemmas.List.Elements.{All-append, All-filter}
@@ -20,7 +21,8 @@ use Rattle.binding_graph.specs.declared.change.Change.{Change}
 use Rattle.binding_graph.specs.declared.shown.Shown.{Shown}
 use Rattle.binding_graph.specs.Cache.{Cache, IsInStep, shown_by}
 use Rattle.binding_graph.specs.Drained.{IsDrained}
-use Rattle.binding_graph.specs.Graph.{Graph, all_shown, changes, has_turn, in_turn, is_open, notice, settled_changes, shown_as, shown_at, shown_now, warning, without_object}
+use Rattle.binding_graph.specs.Graph.{Graph, all_shown, changes, has_turn, in_turn, is_open, notice, settled_changes, shown_as, shown_at, shown_now, warning}
+use Rattle.binding_graph.specs.Graph.{without_object}
 use Rattle.binding_graph.specs.GraphAndCache.{without_shown}
 use Rattle.binding_graph.proofs.FoundLemmas.{shown_of}
 use Rattle.binding_graph.proofs.StepLemmas.{both_marked, more_in_step, more_of_both, nothing_marked, same_shown}
@@ -28,20 +30,27 @@ use Rattle.binding_graph.proofs.TouchedLemmas.{found_filter}
 
 -- what is kept is as right as before where the properties of the object are marked
 
-module _ (store : Store) (marks : Marks) (graph : Graph) (cache : Cache) (object : ℕ) (marked : (number : ℕ) → number ≤ length (fields_at store object) → is_marked cache.pending (record { object = object; number = number }) ≡ true) (step : IsInStep store marks graph cache) where
+module _ (store : Store) (marks : Marks) (graph : Graph) (cache : Cache) (object : ℕ)
+    (marked : (number : ℕ) → number ≤ length (fields_at store object) → is_marked cache.pending (record { object = object; number = number }) ≡ true)
+    (step : IsInStep store marks graph cache) where
   abbrev all : Marks
   all = both marks cache.pending
 
   same : AreAlikeBut all (scene_of store graph.bindings) (scene_of (without object store) (kept_objects object graph.bindings))
-  same = removal_is_alike store graph.bindings all object (λ number within. let q : Property = record { object = object; number = number } in both_marked marks cache.pending q ∙ or_right (is_marked marks q) _ (marked number within))
+  same = removal_is_alike store graph.bindings all object
+      (λ number within. let q : Property = record { object = object; number = number } in both_marked marks cache.pending q
+      ∙ or_right (is_marked marks q) _ (marked number within))
 
-  shown_without : (q : Property) → shown_at (filter (λ (shown : Shown). not (shown.at.object == object)) graph.last) q ≡ cond (not (q.object == object)) (shown_at graph.last q) None
+  shown_without : (q : Property) → shown_at (filter (λ (shown : Shown). not (shown.at.object == object)) graph.last) q
+      ≡ cond (not (q.object == object)) (shown_at graph.last q) None
   shown_without q = found_filter (λ p. not (p.object == object)) graph.last q
 
   pub gone_in_step : IsInStep (without object store) marks (without_shown object (without_object object graph)) cache
   gone_in_step = record {
-    right = stays_right (scene_of store graph.bindings) (scene_of (without object store) (kept_objects object graph.bindings)) all all (kept_of cache.kept) (λ q on. on) same step.right;
-    whole = stays_whole (scene_of store graph.bindings) (scene_of (without object store) (kept_objects object graph.bindings)) all all (kept_of cache.kept) (λ q on. on) same step.whole;
+    right = stays_right (scene_of store graph.bindings) (scene_of (without object store) (kept_objects object graph.bindings)) all all (kept_of cache.kept)
+        (λ q on. on) same step.right;
+    whole = stays_whole (scene_of store graph.bindings) (scene_of (without object store) (kept_objects object graph.bindings)) all all (kept_of cache.kept)
+        (λ q on. on) same step.whole;
     last = λ q off. shown_without q ∙ ⊎_elim (own q) (others q off) (cases_Bool (q.object == object));
     there = λ some q none. shown_without q ∙ ⊎_elim
         (λ gone. ap (λ t. cond (not t) (shown_at graph.last q) None) gone)
@@ -49,12 +58,16 @@ module _ (store : Store) (marks : Marks) (graph : Graph) (cache : Cache) (object
         (cases_Bool (q.object == object));
   }
     where
-      own : (q : Property) → (q.object == object) ≡ true → cond (not (q.object == object)) (shown_at graph.last q) None ≡ shown_by (without object store) (kept_objects object graph.bindings) (kept_of cache.kept) q
+      own : (q : Property) → (q.object == object) ≡ true → cond (not (q.object == object)) (shown_at graph.last q) None
+          ≡ shown_by (without object store) (kept_objects object graph.bindings) (kept_of cache.kept) q
       own q gone =
           ap (λ t. cond (not t) (shown_at graph.last q) None) gone
-          ∙ sym (ap (option_map (λ (cell : Cell). shown_as q cell.kind (known (scene_of (without object store) (kept_objects object graph.bindings)) (kept_of cache.kept) q))) (cell_gone object store q gone))
+          ∙ sym (ap (option_map (λ (cell : Cell). shown_as q cell.kind
+          (known (scene_of (without object store) (kept_objects object graph.bindings)) (kept_of cache.kept) q))) (cell_gone object store q gone))
 
-      others : (q : Property) → is_marked all q ≡ false → (q.object == object) ≡ false → cond (not (q.object == object)) (shown_at graph.last q) None ≡ shown_by (without object store) (kept_objects object graph.bindings) (kept_of cache.kept) q
+      others : (q : Property) → is_marked all q ≡ false → (q.object == object) ≡ false
+          → cond (not (q.object == object)) (shown_at graph.last q) None
+          ≡ shown_by (without object store) (kept_objects object graph.bindings) (kept_of cache.kept) q
       others q off apart =
           ap (λ t. cond (not t) (shown_at graph.last q) None) apart
           ∙ (step.last q off ∙ same_shown store (without object store) graph.bindings (kept_objects object graph.bindings) all (kept_of cache.kept) same q off)
@@ -65,7 +78,8 @@ same_map : (f g : Shown → Option Change) (rows : List Shown) → All (λ shown
 same_map f g [] all = refl
 same_map f g (row ∷ rows) all = ap₂ (λ one rest. cons_option one rest) (all 0 row (omega arith)) (same_map f g rows (λ k d lt. all (suc k) d (omega arith)))
 
-told_alike : (last other rows : List Shown) (written : Option Property) → All (λ shown. shown_at other shown.at ≡ shown_at last shown.at) rows → changes other rows written ≡ changes last rows written
+told_alike : (last other rows : List Shown) (written : Option Property) → All (λ shown. shown_at other shown.at ≡ shown_at last shown.at) rows
+    → changes other rows written ≡ changes last rows written
 told_alike last other rows written all = ap₂ (λ warnings notices. warnings ++ notices)
     (same_map (warning other) (warning last) (in_turn written rows) (λ k d lt. same_warning (get_or (in_turn written rows) k d) (turned k d lt)))
     (same_map (notice other) (notice last) (in_turn written rows) (λ k d lt. same_notice (get_or (in_turn written rows) k d) (turned k d lt)))
@@ -74,7 +88,8 @@ told_alike last other rows written all = ap₂ (λ warnings notices. warnings ++
     Same shown = shown_at other shown.at ≡ shown_at last shown.at
 
     turned : All Same (in_turn written rows)
-    turned = All-append Same (filter (has_turn written true) rows) (filter (has_turn written false) rows) (All-filter (has_turn written true) Same rows all) (All-filter (has_turn written false) Same rows all)
+    turned = All-append Same (filter (has_turn written true) rows) (filter (has_turn written false) rows) (All-filter (has_turn written true) Same rows all)
+        (All-filter (has_turn written false) Same rows all)
 
     same_warning : (shown : Shown) → Same shown → warning other shown ≡ warning last shown
     same_warning shown e = rw e refl
@@ -83,15 +98,22 @@ told_alike last other rows written all = ap₂ (λ warnings notices. warnings ++
     same_notice shown e = rw e refl
 
 pub told_without : (object : ℕ) (store : Store) (bindings : List Binding) (last : List Shown) (written : Option Property)
-    → changes (filter (λ (shown : Shown). not (shown.at.object == object)) last) (all_shown (without object store) bindings) written ≡ changes last (all_shown (without object store) bindings) written
+    → changes (filter (λ (shown : Shown). not (shown.at.object == object)) last) (all_shown (without object store) bindings) written
+    ≡ changes last (all_shown (without object store) bindings) written
 told_without object store bindings last written =
     told_alike last (filter (λ (shown : Shown). not (shown.at.object == object)) last) (all_shown (without object store) bindings) written
-    (all_given (shown_now (without object store) bindings) (λ (shown : Shown). shown_at (filter (λ (shown : Shown). not (shown.at.object == object)) last) shown.at ≡ shown_at last shown.at) (properties_in (without object store))
-    (λ k d lt shown e. found_filter (λ p. not (p.object == object)) last shown.at ∙ ap (λ t. cond (not t) (shown_at last shown.at) None) (apart (get_or (properties_in (without object store)) k d) shown e)))
+    (all_given (shown_now (without object store) bindings)
+    (λ (shown : Shown). shown_at (filter (λ (shown : Shown). not (shown.at.object == object)) last) shown.at ≡ shown_at last shown.at)
+    (properties_in (without object store))
+    (λ k d lt shown e. found_filter (λ p. not (p.object == object)) last shown.at
+    ∙ ap (λ t. cond (not t) (shown_at last shown.at) None) (apart (get_or (properties_in (without object store)) k d) shown e)))
   where
     apart : (p : Property) (shown : Shown) → shown_now (without object store) bindings p ≡ Some shown → (shown.at.object == object) ≡ false
     apart p shown e = ⊎_elim
-        (λ gone. absurd (let never : None ≡ Some shown = sym (ap (option_map (λ (cell : Cell). shown_as p cell.kind (outcome_in (without object store) bindings p))) (cell_gone object store p (ap (λ (q : Property). q.object == object) (sym (shown_of (without object store) bindings p shown e)) ∙ gone))) ∙ e in cc))
+        (λ gone. absurd
+        (let never : None ≡ Some shown = sym (ap (option_map (λ (cell : Cell). shown_as p cell.kind (outcome_in (without object store) bindings p)))
+        (cell_gone object store p (ap (λ (q : Property). q.object == object) (sym (shown_of (without object store) bindings p shown e)) ∙ gone)))
+        ∙ e in cc))
         (λ apart. apart)
         (cases_Bool (shown.at.object == object))
 
@@ -103,19 +125,28 @@ module _ (place object : ℕ) (old drained dropped new : StoresView) (is_place :
   removed_shelves = takes ∙ (drops ∙ ap (λ shelves. with_store shelves place (without object (store_at shelves place))) drains.shelves)
 
   pub removed_store : store_at new.shelves place ≡ without object (store_at old.shelves place)
-  removed_store = ap (λ shelves. store_at shelves place) removed_shelves ∙ with_there [] old.shelves.table place (without object (store_at old.shelves place)) is_place
+  removed_store = ap (λ shelves. store_at shelves place) removed_shelves
+      ∙ with_there [] old.shelves.table place (without object (store_at old.shelves place)) is_place
 
   -- what is told
-  pub removed_told : (graph : Graph) → is_open graph ≡ false → (told : List Change) → told ≡ changes (without_shown object (without_object object graph)).last (all_shown (store_at new.shelves place) (without_object object graph).bindings) None
+  pub removed_told : (graph : Graph) → is_open graph ≡ false → (told : List Change)
+      → told ≡ changes (without_shown object (without_object object graph)).last
+      (all_shown (store_at new.shelves place) (without_object object graph).bindings) None
       → told ≡ settled_changes (without object (store_at old.shelves place)) (without_object object graph) None
   removed_told graph shut told is =
       is
-      ∙ (ap (λ store. changes (without_shown object (without_object object graph)).last (all_shown store (without_object object graph).bindings) None) removed_store
+      ∙ (ap (λ store. changes (without_shown object (without_object object graph)).last (all_shown store (without_object object graph).bindings) None)
+      removed_store
       ∙ (told_without object (store_at old.shelves place) (without_object object graph).bindings graph.last None
-      ∙ sym (ap (λ deep. cond deep [] (changes graph.last (all_shown (without object (store_at old.shelves place)) (without_object object graph).bindings) None)) shut)))
+      ∙ sym (ap (λ deep. cond deep [] (changes graph.last (all_shown (without object (store_at old.shelves place)) (without_object object graph).bindings)
+      None)) shut)))
 
   -- where nothing was marked any longer, whatever is marked now is more
-  pub removed_in_step : (graph : Graph) (cache : Cache) → has_marks (marks_at drained.marks place) ≡ false → IsInStep (without object (store_at drained.shelves place)) (marks_at drained.marks place) graph cache → IsInStep (store_at new.shelves place) (marks_at new.marks place) graph cache
+  pub removed_in_step : (graph : Graph) (cache : Cache) → has_marks (marks_at drained.marks place) ≡ false
+      → IsInStep (without object (store_at drained.shelves place)) (marks_at drained.marks place) graph cache
+      → IsInStep (store_at new.shelves place) (marks_at new.marks place) graph cache
   removed_in_step graph cache none step =
-      subst (λ store. IsInStep store (marks_at new.marks place) graph cache) (ap (λ shelves. without object (store_at shelves place)) drains.shelves ∙ sym removed_store)
-      (more_in_step step (more_of_both (marks_at drained.marks place) (marks_at new.marks place) cache.pending (λ q on. absurd (both_ways (is_marked (marks_at drained.marks place) q) (nothing_marked (marks_at drained.marks place) none q) on))))
+      subst (λ store. IsInStep store (marks_at new.marks place) graph cache)
+      (ap (λ shelves. without object (store_at shelves place)) drains.shelves ∙ sym removed_store)
+      (more_in_step step (more_of_both (marks_at drained.marks place) (marks_at new.marks place) cache.pending
+      (λ q on. absurd (both_ways (is_marked (marks_at drained.marks place) q) (nothing_marked (marks_at drained.marks place) none q) on))))

@@ -28,10 +28,12 @@ module _ (new : Shown) (rows : List Shown) where
   pub found_with : (q : Property) → shown_at (with_shown new rows) q ≡ (if is_property q new.at then Some new else shown_at rows q)
   found_with q =
       find-append (λ (shown : Shown). is_property q shown.at) below (new ∷ above)
-      ∙ (ap₂ (λ front back. option_or front (cond (is_property q new.at) (Some new) back)) (found_filter (λ p. is_before p new.at) rows q) (found_filter (is_before new.at) rows q)
+      ∙ (ap₂ (λ front back. option_or front (cond (is_property q new.at) (Some new) back)) (found_filter (λ p. is_before p new.at) rows q)
+      (found_filter (is_before new.at) rows q)
       ∙ by (is_before q new.at) refl (is_property q new.at) refl (is_before new.at q) refl (shown_at rows q))
     where
-      by : (before : Bool) → is_before q new.at ≡ before → (same : Bool) → is_property q new.at ≡ same → (behind : Bool) → is_before new.at q ≡ behind → (found : Option Shown)
+      by : (before : Bool) → is_before q new.at ≡ before → (same : Bool) → is_property q new.at ≡ same → (behind : Bool) → is_before new.at q ≡ behind
+          → (found : Option Shown)
           → option_or (cond before found None) (cond same (Some new) (cond behind found None)) ≡ cond same (Some new) found
       by true e true f behind g found = absurd (both_ways _ (is_other q new.at e) f)
       by true e false f behind g (Some shown) = refl
@@ -45,21 +47,25 @@ module _ (new : Shown) (rows : List Shown) where
   pub are_shown_with : AreShown rows → IsOfKind new.kind new.value → AreShown (with_shown new rows)
   are_shown_with are fits = record {
     rising = with_rising (λ (shown : Shown). shown.at) new rows are.rising;
-    fitting = All-append Fits below (new ∷ above) (All-filter (λ shown. is_before shown.at new.at) Fits rows are.fitting) (All-cons Fits new above fits (All-filter (λ shown. is_before new.at shown.at) Fits rows are.fitting));
+    fitting = All-append Fits below (new ∷ above) (All-filter (λ shown. is_before shown.at new.at) Fits rows are.fitting)
+        (All-cons Fits new above fits (All-filter (λ shown. is_before new.at shown.at) Fits rows are.fitting));
   }
     where
       Fits : Shown → Type 0
       Fits shown = IsOfKind shown.kind shown.value
 
   -- the row in its place, by what was asked of the place
-  module _ (place : ℕ) (rising : IsRising (λ (shown : Shown). shown.at) rows) (count : IsCountBefore (λ (shown : Shown). shown.at) rows new.at place) (stands : Bool) (asked : stands ≡ option_map_or (λ (shown : Shown). is_property new.at shown.at) (slice_get rows place) false) where
+  module _ (place : ℕ) (rising : IsRising (λ (shown : Shown). shown.at) rows) (count : IsCountBefore (λ (shown : Shown). shown.at) rows new.at place)
+      (stands : Bool) (asked : stands ≡ option_map_or (λ (shown : Shown). is_property new.at shown.at) (slice_get rows place) false) where
     pub set_with : stands ≡ true → set rows place new ≡ with_shown new rows
     set_with is =
         let within = stands_within (λ (shown : Shown). shown.at) rows place new.at stands asked is in
-        replaced (λ (shown : Shown). shown.at) new rows place rising count new within (stands_so (λ (shown : Shown). shown.at) rows place new.at stands asked new within ∙ is)
+        replaced (λ (shown : Shown). shown.at) new rows place rising count new within
+        (stands_so (λ (shown : Shown). shown.at) rows place new.at stands asked new within ∙ is)
 
     pub insert_with : stands ≡ false → insert rows place new ≡ with_shown new rows
-    insert_with is = inserted (λ (shown : Shown). shown.at) new rows place rising count (λ d within. stands_so (λ (shown : Shown). shown.at) rows place new.at stands asked d within ∙ is)
+    insert_with is = inserted (λ (shown : Shown). shown.at) new rows place rising count
+        (λ d within. stands_so (λ (shown : Shown). shown.at) rows place new.at stands asked d within ∙ is)
 
 -- a row more of those that are put in place of others
 
@@ -69,9 +75,12 @@ rest_shown row rest are = record {
   fitting = λ k d lt. are.fitting (suc k) d (omega (arith, lt));
 }
 
-pub merged_next : (row : Shown) (rest rows new : List Shown) → AreShown (row ∷ rest) → IsPut row rows new → (q : Property) → option_map_or Some (shown_at rest q) (shown_at new q) ≡ option_map_or Some (shown_at (row ∷ rest) q) (shown_at rows q)
+pub merged_next : (row : Shown) (rest rows new : List Shown) → AreShown (row ∷ rest) → IsPut row rows new → (q : Property)
+    → option_map_or Some (shown_at rest q) (shown_at new q) ≡ option_map_or Some (shown_at (row ∷ rest) q) (shown_at rows q)
 merged_next row rest rows new are put q = by (is_property q row.at) refl (put q)
   where
-    by : (same : Bool) → is_property q row.at ≡ same → shown_at new q ≡ cond same (Some row) (shown_at rows q) → option_map_or Some (shown_at rest q) (shown_at new q) ≡ option_map_or Some (cond same (Some row) (shown_at rest q)) (shown_at rows q)
-    by true is found = ap (λ later. option_map_or Some later (shown_at new q)) (ap (shown_at rest) (property_eq q row.at is) ∙ none_behind row.at rest (behind_first row rest are.rising)) ∙ found
+    by : (same : Bool) → is_property q row.at ≡ same → shown_at new q ≡ cond same (Some row) (shown_at rows q)
+        → option_map_or Some (shown_at rest q) (shown_at new q) ≡ option_map_or Some (cond same (Some row) (shown_at rest q)) (shown_at rows q)
+    by true is found = ap (λ later. option_map_or Some later (shown_at new q))
+        (ap (shown_at rest) (property_eq q row.at is) ∙ none_behind row.at rest (behind_first row rest are.rising)) ∙ found
     by false is found = ap (option_map_or Some (shown_at rest q)) found

@@ -1,5 +1,6 @@
 -- What all properties show stands in order, and is of their kinds.
-use Rattle.std.proofs.Common.{◌≡◌, ◌∙◌, ℕ, zero, suc, ◌<◌, ◌≤◌, ◌==◌, ◌&&◌, ◌||◌, nat_lt, Bool, true, false, cond, List, [], ◌∷◌, ◌++◌, Option, Some, None, All, filter_map, length, get_or, option_map, take, drop, append-nil, append_assoc, refl, sym, ap, subst, arith}
+use Rattle.std.proofs.Common.{◌≡◌, ◌∙◌, ℕ, zero, suc, ◌<◌, ◌≤◌, ◌==◌, ◌&&◌, ◌||◌, nat_lt, Bool, true, false, cond, List, [], ◌∷◌, ◌++◌, Option, Some, None, All}
+use Rattle.std.proofs.Common.{filter_map, length, get_or, option_map, take, drop, append-nil, append_assoc, refl, sym, ap, subst, arith}
 use Rattle.std.specs.List.{AllPairs, flat_map}
 use Rattle.std.specs.Option.{option_map_or}
 use Rattle.std.proofs.lemmas.Bool.Decides.{nat_tests}
@@ -39,14 +40,17 @@ record IsFrom (object number : ℕ) (p : Property) : Type 0 where
 numbered_from : (object number : ℕ) (fields : List Field) → All (IsFrom object number) (numbered object number fields)
 numbered_from object number [] = All-nil (IsFrom object number)
 numbered_from object number (field ∷ fields) =
-    All-cons (IsFrom object number) (record { object = object; number = number }) (numbered object (suc number) fields) (record { object_is = refl; from = omega arith })
+    All-cons (IsFrom object number) (record { object = object; number = number }) (numbered object (suc number) fields)
+    (record { object_is = refl; from = omega arith })
     (λ k d lt. let later = numbered_from object (suc number) fields k d lt in record { object_is = later.object_is; from = omega (arith, later.from) })
 
 numbered_rising : (object number : ℕ) (fields : List Field) → AllPairs (λ (p : Property) (q : Property). is_before p q ≡ true) (numbered object number fields)
 numbered_rising object number [] = λ i j d lt within. absurd (omega arith)
 numbered_rising object number (field ∷ fields) =
     AllPairs-cons (λ (p : Property) (q : Property). is_before p q ≡ true) (record { object = object; number = number }) (numbered object (suc number) fields)
-    (λ k d lt. let later = numbered_from object (suc number) fields k d lt in before_next object number (get_or (numbered object (suc number) fields) k d).object (get_or (numbered object (suc number) fields) k d).number later.object_is (omega (arith, later.from)))
+    (λ k d lt. let later = numbered_from object (suc number) fields k d lt in before_next object number
+    (get_or (numbered object (suc number) fields) k d).object (get_or (numbered object (suc number) fields) k d).number later.object_is
+    (omega (arith, later.from)))
     (numbered_rising object (suc number) fields)
 
 all_above : (n : ℕ) (store : Store) → All (λ (of : Properties). n < of.object) store → All (λ (p : Property). n < p.object) (properties_in store)
@@ -56,22 +60,28 @@ all_above n (of ∷ store) all =
     (λ k d lt. let it = numbered_from of.object 0 of.fields k d lt in let above : n < of.object = all 0 of (omega arith) in omega (arith, it.object_is, above))
     (all_above n store (λ k d lt. all (suc k) d (omega arith)))
 
-properties_rising : (store : Store) → AllPairs (λ (earlier : Properties) (later : Properties). earlier.object < later.object) store → AllPairs (λ (p : Property) (q : Property). is_before p q ≡ true) (properties_in store)
+properties_rising : (store : Store) → AllPairs (λ (earlier : Properties) (later : Properties). earlier.object < later.object) store
+    → AllPairs (λ (p : Property) (q : Property). is_before p q ≡ true) (properties_in store)
 properties_rising [] rising = λ i j d lt within. absurd (omega arith)
 properties_rising (of ∷ store) rising =
     pairs_append (λ (p : Property) (q : Property). is_before p q ≡ true) (properties_of_object of) (properties_in store) (numbered_rising of.object 0 of.fields)
     (properties_rising store (λ i j d lt within. rising (suc i) (suc j) d (omega arith) (omega arith)))
     (λ k d lt j e within.
     let it = numbered_from of.object 0 of.fields k d lt in
-    let above : of.object < (get_or (properties_in store) j e).object = all_above of.object store (λ i f inside. rising 0 (suc i) f (omega arith) (omega arith)) j e within in
-    before_later (get_or (properties_of_object of) k d).object (get_or (properties_of_object of) k d).number (get_or (properties_in store) j e).object (get_or (properties_in store) j e).number (omega (arith, it.object_is, above)))
+    let above : of.object < (get_or (properties_in store) j e).object =
+    all_above of.object store (λ i f inside. rising 0 (suc i) f (omega arith) (omega arith)) j e within in
+    before_later (get_or (properties_of_object of) k d).object (get_or (properties_of_object of) k d).number (get_or (properties_in store) j e).object
+    (get_or (properties_in store) j e).number (omega (arith, it.object_is, above)))
 
 pub all_shown_sound : (store : Store) → IsSound store → (bindings : List Binding) → AreBindings bindings → AreShown (all_shown store bindings)
 all_shown_sound store sound bindings are = record {
-  rising = pairs_given (shown_now store bindings) (λ (p : Property) (q : Property). is_before p q ≡ true) (λ (a : Shown) (b : Shown). is_before a.at b.at ≡ true)
-      (λ p q a b before e f. subst (λ (x : Property). is_before x b.at ≡ true) (sym (shown_now_fits store sound bindings are.limited p a e).1) (subst (λ (x : Property). is_before p x ≡ true) (sym (shown_now_fits store sound bindings are.limited q b f).1) before))
+  rising = pairs_given (shown_now store bindings) (λ (p : Property) (q : Property). is_before p q ≡ true)
+      (λ (a : Shown) (b : Shown). is_before a.at b.at ≡ true)
+      (λ p q a b before e f. subst (λ (x : Property). is_before x b.at ≡ true) (sym (shown_now_fits store sound bindings are.limited p a e).1)
+      (subst (λ (x : Property). is_before p x ≡ true) (sym (shown_now_fits store sound bindings are.limited q b f).1) before))
       (properties_in store) (properties_rising store sound.rising);
-  fitting = all_given (shown_now store bindings) (λ (s : Shown). IsOfKind s.kind s.value) (properties_in store) (λ k d lt s e. (shown_now_fits store sound bindings are.limited (get_or (properties_in store) k d) s e).0);
+  fitting = all_given (shown_now store bindings) (λ (s : Shown). IsOfKind s.kind s.value) (properties_in store)
+      (λ k d lt s e. (shown_now_fits store sound bindings are.limited (get_or (properties_in store) k d) s e).0);
 }
 
 -- what is shown is short
@@ -88,28 +98,38 @@ value_short store sound g are q = told (shown_in store g q) (by (is_open g) (is_
         let there = found (λ (shown : Shown). is_property q shown.at) g.last s e in
         subst (λ (s : Shown). IsShort s.value) (there.is s) (are.last.fitting there.at s there.within).1
 
-    by : (deep bound : Bool) (c : Option Cell) → cell_in store q ≡ c → ShortIf (cond (deep && bound) (option_map (λ cell. option_map_or (λ (shown : Shown). shown) (shown_at g.last q) (fresh q cell.kind)) c) (shown_now store g.bindings q))
+    by : (deep bound : Bool) (c : Option Cell) → cell_in store q ≡ c
+        → ShortIf (cond (deep && bound) (option_map (λ cell. option_map_or (λ (shown : Shown). shown) (shown_at g.last q) (fresh q cell.kind)) c)
+        (shown_now store g.bindings q))
     by true true None e s f = absurd (cc)
-    by true true (Some cell) e s f = let same : option_map_or (λ (shown : Shown). shown) (shown_at g.last q) (fresh q cell.kind) ≡ s = cc in subst (λ (s : Shown). IsShort s.value) same (then_short cell.kind (shown_at g.last q) refl)
+    by true true (Some cell) e s f = let same : option_map_or (λ (shown : Shown). shown) (shown_at g.last q) (fresh q cell.kind) ≡ s = cc in subst
+        (λ (s : Shown). IsShort s.value) same (then_short cell.kind (shown_at g.last q) refl)
     by true false c e s f = (shown_now_fits store sound g.bindings are.bindings.limited q s f).0.1
     by false bound c e s f = (shown_now_fits store sound g.bindings are.bindings.limited q s f).0.1
 
-    told : (o : Option Shown) → ShortIf o → IsShort (option_map_or {U = Value × Option BindingError} (λ (shown : Shown). (shown.value, shown.error)) o (Invalid, None)).0
+    told : (o : Option Shown) → ShortIf o → IsShort
+        (option_map_or {U = Value × Option BindingError} (λ (shown : Shown). (shown.value, shown.error)) o (Invalid, None)).0
     told None short = tt
     told (Some s) short = short s refl
 
 -- one property more, and one object more
 
-pub next_numbered : {Y : Type 0} (f : Property → Option Y) (object m k : ℕ) (fields : List Field) → k < length fields → filter_map f (numbered object m (drop k fields)) ≡ filter_map f (record { object = object; number = m } ∷ []) ++ filter_map f (numbered object (suc m) (drop (suc k) fields))
+pub next_numbered : {Y : Type 0} (f : Property → Option Y) (object m k : ℕ) (fields : List Field) → k < length fields
+    → filter_map f (numbered object m (drop k fields)) ≡ filter_map f (record { object = object; number = m } ∷ [])
+    ++ filter_map f (numbered object (suc m) (drop (suc k) fields))
 next_numbered f object m k [] lt = absurd (omega arith)
 next_numbered f object m zero (field ∷ fields) lt = filter_map-append f (record { object = object; number = m } ∷ []) (numbered object (suc m) fields)
 next_numbered f object m (suc k) (field ∷ fields) lt = next_numbered f object m k fields (omega arith)
 
-pub next_object : {Y : Type 0} (f : Property → Option Y) (store : Store) (position : ℕ) (d : Properties) → position < length store → filter_map f (flat_map properties_of_object (take (suc position) store)) ≡ filter_map f (flat_map properties_of_object (take position store)) ++ filter_map f (properties_of_object (get_or store position d))
+pub next_object : {Y : Type 0} (f : Property → Option Y) (store : Store) (position : ℕ) (d : Properties) → position < length store
+    → filter_map f (flat_map properties_of_object (take (suc position) store)) ≡ filter_map f (flat_map properties_of_object (take position store))
+    ++ filter_map f (properties_of_object (get_or store position d))
 next_object f [] position d lt = absurd (omega arith)
 next_object f (of ∷ store) zero d lt = ap (filter_map f) (append-nil (properties_of_object of))
 next_object f (of ∷ store) (suc position) d lt =
     filter_map-append f (properties_of_object of) (flat_map properties_of_object (take (suc position) store))
     ∙ (ap (λ ys. filter_map f (properties_of_object of) ++ ys) (next_object f store position d (omega arith))
-    ∙ (sym (append_assoc (filter_map f (properties_of_object of)) (filter_map f (flat_map properties_of_object (take position store))) (filter_map f (properties_of_object (get_or store position d))))
-    ∙ ap (λ ys. ys ++ filter_map f (properties_of_object (get_or store position d))) (sym (filter_map-append f (properties_of_object of) (flat_map properties_of_object (take position store))))))
+    ∙ (sym (append_assoc (filter_map f (properties_of_object of)) (filter_map f (flat_map properties_of_object (take position store)))
+    (filter_map f (properties_of_object (get_or store position d))))
+    ∙ ap (λ ys. ys ++ filter_map f (properties_of_object (get_or store position d)))
+    (sym (filter_map-append f (properties_of_object of) (flat_map properties_of_object (take position store))))))

@@ -1,5 +1,6 @@
 -- What a settling tells is of the kinds of the properties.
-use Rattle.std.proofs.Common.{◌≡◌, ◌∙◌, Bool, true, false, cond, List, [], Option, Some, None, Ok, Err, All, IfSome, filter, filter_map, get_or, option_map, refl, sym, ap, subst}
+use Rattle.std.proofs.Common.{◌≡◌, ◌∙◌, Bool, true, false, cond, List, [], Option, Some, None, Ok, Err, All, IfSome, filter, filter_map, get_or, option_map}
+use Rattle.std.proofs.Common.{refl, sym, ap, subst}
 use Rattle.std.specs.Prelude.{if◌then◌else◌, option_and_then}
 use Rattle.std.specs.Option.{option_map_or}
 use Rattle.std.proofs.lemmas.List.Elements.{All-append, All-filter, All-nil}
@@ -12,7 +13,8 @@ use Rattle.binding_values.specs.declared.property.BindingError.{BindingError}
 use Rattle.property_store.specs.declared.property.Property.{Property}
 use Rattle.binding_graph.specs.declared.shown.Shown.{Shown}
 use Rattle.binding_graph.specs.Fitting.{IsFitting}
-use Rattle.binding_graph.specs.Graph.{Graph, all_shown, before, changes, has_turn, in_turn, is_open, is_same_error, notice, settled_changes, settled_graph, shown_as, shown_now, warning}
+use Rattle.binding_graph.specs.Graph.{Graph, all_shown, before, changes, has_turn, in_turn, is_open, is_same_error, notice, settled_changes, settled_graph}
+use Rattle.binding_graph.specs.Graph.{shown_as, shown_now, warning}
 use Rattle.binding_graph.specs.Graph as graph
 use Rattle.binding_values.specs.Scene.{Cell, Outcome}
 use Rattle.binding_values.specs.Stored.{cell_in, outcome_in, properties_in}
@@ -27,7 +29,11 @@ record IsShownThere (s : Store) (shown : Shown) : Type 0 where
 
 module _ (s : Store) (sound : store.IsSound s) (g : Graph) (are : graph.IsSound g) where
   there : (q : Property) (shown : Shown) → shown_now s g.bindings q ≡ Some shown → IsShownThere s shown
-  there q shown is = record { fits = fits.0; kind = subst (λ (p : Property). IfSome (cell_in s p) (λ (cell : Cell). cell.kind ≡ shown.kind)) (sym fits.1) (by (cell_in s q) is) }
+  there q shown is = record {
+    fits = fits.0;
+    kind = subst (λ (p : Property). IfSome (cell_in s p) (λ (cell : Cell). cell.kind ≡ shown.kind)) (sym fits.1)
+        (by (cell_in s q) is);
+  }
     where
       fits : IsOfKind shown.kind shown.value × (shown.at ≡ q)
       fits = shown_now_fits s sound g.bindings are.bindings.limited q shown is
@@ -38,13 +44,16 @@ module _ (s : Store) (sound : store.IsSound s) (g : Graph) (are : graph.IsSound 
 
       by : (c : Option Cell) → option_map (λ cell. shown_as q cell.kind (outcome_in s g.bindings q)) c ≡ Some shown → IfSome c (λ cell. cell.kind ≡ shown.kind)
       by None e = tt
-      by (Some cell) e = let same : shown_as q cell.kind (outcome_in s g.bindings q) ≡ shown = cc in sym (kept cell.kind (outcome_in s g.bindings q)) ∙ ap (λ (x : Shown). x.kind) same
+      by (Some cell) e = let same : shown_as q cell.kind (outcome_in s g.bindings q) ≡ shown = cc in sym (kept cell.kind (outcome_in s g.bindings q))
+          ∙ ap (λ (x : Shown). x.kind) same
 
   all_there : All (IsShownThere s) (all_shown s g.bindings)
   all_there = all_given (shown_now s g.bindings) (IsShownThere s) (properties_in s) (λ k d lt shown e. there (get_or (properties_in s) k d) shown e)
 
   turns_there : (written : Option Property) → All (IsShownThere s) (in_turn written (all_shown s g.bindings))
-  turns_there written = All-append (IsShownThere s) (filter (has_turn written true) (all_shown s g.bindings)) (filter (has_turn written false) (all_shown s g.bindings)) (All-filter (has_turn written true) (IsShownThere s) (all_shown s g.bindings) all_there) (All-filter (has_turn written false) (IsShownThere s) (all_shown s g.bindings) all_there)
+  turns_there written = All-append (IsShownThere s) (filter (has_turn written true) (all_shown s g.bindings))
+      (filter (has_turn written false) (all_shown s g.bindings)) (All-filter (has_turn written true) (IsShownThere s) (all_shown s g.bindings) all_there)
+      (All-filter (has_turn written false) (IsShownThere s) (all_shown s g.bindings) all_there)
 
   abbrev Fits : Change → Type 0
   Fits change = IsFitting s change.at change.told
@@ -52,11 +61,14 @@ module _ (s : Store) (sound : store.IsSound s) (g : Graph) (are : graph.IsSound 
   warns : (last : List Shown) (shown : Shown) (change : Change) → warning last shown ≡ Some change → Fits change
   warns last shown change is = by shown.error is
     where
-      at : (error : BindingError) (t : Bool) → cond t None (Some (let c : Change = record { at = shown.at; told = message.Error error } in c)) ≡ Some change → Fits change
+      at : (error : BindingError) (t : Bool) → cond t None (Some (let c : Change = record { at = shown.at; told = message.Error error } in c)) ≡ Some change
+          → Fits change
       at error true e = absurd (cc)
       at error false e = let same : (let c : Change = record { at = shown.at; told = message.Error error } in c) ≡ change = cc in subst Fits same tt
 
-      by : (o : Option BindingError) → option_and_then (λ error. if option_map_or (is_same_error error) (before last shown).error false then None else Some (let c : Change = record { at = shown.at; told = message.Error error } in c)) o ≡ Some change → Fits change
+      by : (o : Option BindingError) → option_and_then
+          (λ error. if option_map_or (is_same_error error) (before last shown).error false then None
+          else Some (let c : Change = record { at = shown.at; told = message.Error error } in c)) o ≡ Some change → Fits change
       by None e = absurd (cc)
       by (Some error) e = at error (option_map_or (is_same_error error) (before last shown).error false) e
 
@@ -69,13 +81,17 @@ module _ (s : Store) (sound : store.IsSound s) (g : Graph) (are : graph.IsSound 
 
       by : (t : Bool) → cond t None (Some (let c : Change = record { at = shown.at; told = message.Value shown.value } in c)) ≡ Some change → Fits change
       by true e = absurd (cc)
-      by false e = let same : (let c : Change = record { at = shown.at; told = message.Value shown.value } in c) ≡ change = cc in subst Fits same (fits (cell_in s shown.at) it.kind)
+      by false e = let same : (let c : Change = record { at = shown.at; told = message.Value shown.value } in c) ≡ change = cc in subst Fits same
+          (fits (cell_in s shown.at) it.kind)
 
   told_fit : (written : Option Property) → All Fits (changes g.last (all_shown s g.bindings) written)
   told_fit written =
-      All-append Fits (filter_map (warning g.last) (in_turn written (all_shown s g.bindings))) (filter_map (notice g.last) (in_turn written (all_shown s g.bindings)))
-      (all_given (warning g.last) Fits (in_turn written (all_shown s g.bindings)) (λ k d lt change e. warns g.last (get_or (in_turn written (all_shown s g.bindings)) k d) change e))
-      (all_given (notice g.last) Fits (in_turn written (all_shown s g.bindings)) (λ k d lt change e. notices g.last (get_or (in_turn written (all_shown s g.bindings)) k d) (turns_there written k d lt) change e))
+      All-append Fits (filter_map (warning g.last) (in_turn written (all_shown s g.bindings)))
+      (filter_map (notice g.last) (in_turn written (all_shown s g.bindings)))
+      (all_given (warning g.last) Fits (in_turn written (all_shown s g.bindings))
+      (λ k d lt change e. warns g.last (get_or (in_turn written (all_shown s g.bindings)) k d) change e))
+      (all_given (notice g.last) Fits (in_turn written (all_shown s g.bindings))
+      (λ k d lt change e. notices g.last (get_or (in_turn written (all_shown s g.bindings)) k d) (turns_there written k d lt) change e))
 
   pub changes_fit_at : (written : Option Property) → All Fits (settled_changes s g written)
   changes_fit_at written = by (is_open g)
@@ -91,7 +107,8 @@ module _ (s : Store) (sound : store.IsSound s) (g : Graph) (are : graph.IsSound 
       by true = are
       by false = record { bindings = are.bindings; last = all_shown_sound s sound g.bindings are.bindings; shallow = are.shallow }
 
-pub changes_fit : (s : Store) (g : Graph) → store.IsSound s → graph.IsSound g → (written : Option Property) → All (λ change. IsFitting s change.at change.told) (settled_changes s g written)
+pub changes_fit : (s : Store) (g : Graph) → store.IsSound s → graph.IsSound g → (written : Option Property)
+    → All (λ change. IsFitting s change.at change.told) (settled_changes s g written)
 changes_fit s g sound are written = changes_fit_at s sound g are written
 
 pub settling_sound : (s : Store) (g : Graph) → store.IsSound s → graph.IsSound g → graph.IsSound (settled_graph s g)

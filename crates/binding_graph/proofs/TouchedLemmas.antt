@@ -1,5 +1,6 @@
 -- What a settling tells where only the properties that may have changed are looked at again.
-use Rattle.std.proofs.Common.{◌≡◌, ◌∙◌, zero, suc, Bool, true, false, cond, List, [], ◌∷◌, ◌++◌, Option, Some, None, All, filter, filter_map, get_or, refl, sym, ap, ap₂, subst, arith}
+use Rattle.std.proofs.Common.{◌≡◌, ◌∙◌, zero, suc, Bool, true, false, cond, List, [], ◌∷◌, ◌++◌, Option, Some, None, All, filter, filter_map, get_or, refl, sym}
+use Rattle.std.proofs.Common.{ap, ap₂, subst, arith}
 use Rattle.std.specs.Prelude.{if◌then◌else◌, option_and_then}
 use Rattle.std.specs.List.{cons_option}
 use Rattle.std.specs.Option.{option_map_or}
@@ -47,7 +48,8 @@ each_found [] rising k d lt = absurd (omega arith)
 each_found (row ∷ rows) rising zero d lt = first_found row rows
 each_found (row ∷ rows) rising (suc k) d lt =
     let later = get_or rows k d in
-    let other : is_property later.at row.at ≡ false = is_property_sym later.at row.at ∙ is_other row.at later.at (behind_first row rows rising k d (omega arith)) in
+    let other : is_property later.at row.at ≡ false = is_property_sym later.at row.at
+    ∙ is_other row.at later.at (behind_first row rows rising k d (omega arith)) in
     rw other (each_found rows (without_first row rows rising) k d (omega arith))
 
 -- what is found in the rows whose properties pass a test
@@ -71,14 +73,17 @@ found_filter p (row ∷ rows) q = by (is_property q row.at) refl (p row.at) refl
 
 -- rising rows with the same look-up are the same
 
-first_is_first : (x y : Shown) (xs ys : List Shown) → Rising (y ∷ ys) → ((q : Property) → shown_at (x ∷ xs) q ≡ shown_at (y ∷ ys) q) → is_before x.at y.at ≡ true → ⊥
+first_is_first : (x y : Shown) (xs ys : List Shown) → Rising (y ∷ ys) → ((q : Property) → shown_at (x ∷ xs) q ≡ shown_at (y ∷ ys) q)
+    → is_before x.at y.at ≡ true → ⊥
 first_is_first x y xs ys rising same first =
     let all : All (λ (later : Shown). is_before x.at later.at ≡ true) (y ∷ ys) =
-    All-cons (λ (later : Shown). is_before x.at later.at ≡ true) y ys first (λ k d lt. before_trans x.at y.at (get_or ys k d).at first (behind_first y ys rising k d lt)) in
+    All-cons (λ (later : Shown). is_before x.at later.at ≡ true) y ys first
+    (λ k d lt. before_trans x.at y.at (get_or ys k d).at first (behind_first y ys rising k d lt)) in
     let never : Some x ≡ None = sym (first_found x xs) ∙ (same x.at ∙ none_behind x.at (y ∷ ys) all) in
     cc
 
-same_behind : (x : Shown) (xs ys : List Shown) → Rising (x ∷ xs) → Rising (x ∷ ys) → ((q : Property) → shown_at (x ∷ xs) q ≡ shown_at (x ∷ ys) q) → (q : Property) → shown_at xs q ≡ shown_at ys q
+same_behind : (x : Shown) (xs ys : List Shown) → Rising (x ∷ xs) → Rising (x ∷ ys) → ((q : Property) → shown_at (x ∷ xs) q ≡ shown_at (x ∷ ys) q)
+    → (q : Property) → shown_at xs q ≡ shown_at ys q
 same_behind x xs ys rising risen same q = by (is_property q x.at) refl
   where
     none : (rows : List Shown) → Rising (x ∷ rows) → is_property q x.at ≡ true → shown_at rows q ≡ None
@@ -88,19 +93,23 @@ same_behind x xs ys rising risen same q = by (is_property q x.at) refl
     by true e = none xs rising e ∙ sym (none ys risen e)
     by false e = rw e at (same q)
 
-pub same_rows : (xs ys : List Shown) → IsRising (λ (shown : Shown). shown.at) xs → IsRising (λ (shown : Shown). shown.at) ys → ((q : Property) → shown_at xs q ≡ shown_at ys q) → xs ≡ ys
+pub same_rows : (xs ys : List Shown) → IsRising (λ (shown : Shown). shown.at) xs → IsRising (λ (shown : Shown). shown.at) ys
+    → ((q : Property) → shown_at xs q ≡ shown_at ys q) → xs ≡ ys
 same_rows [] [] rising risen same = refl
 same_rows [] (y ∷ ys) rising risen same = absurd (let never : None ≡ Some y = same y.at ∙ first_found y ys in cc)
 same_rows (x ∷ xs) [] rising risen same = absurd (let never : Some x ≡ None = sym (first_found x xs) ∙ same x.at in cc)
-same_rows (x ∷ xs) (y ∷ ys) rising risen same = by (is_before x.at y.at) refl (is_property y.at x.at) refl (same_rows xs ys (without_first x xs rising) (without_first y ys risen))
+same_rows (x ∷ xs) (y ∷ ys) rising risen same = by (is_before x.at y.at) refl (is_property y.at x.at) refl
+    (same_rows xs ys (without_first x xs rising) (without_first y ys risen))
   where
-    by : (first : Bool) → is_before x.at y.at ≡ first → (level : Bool) → is_property y.at x.at ≡ level → (((q : Property) → shown_at xs q ≡ shown_at ys q) → xs ≡ ys) → x ∷ xs ≡ y ∷ ys
+    by : (first : Bool) → is_before x.at y.at ≡ first → (level : Bool) → is_property y.at x.at ≡ level
+        → (((q : Property) → shown_at xs q ≡ shown_at ys q) → xs ≡ ys) → x ∷ xs ≡ y ∷ ys
     by true e level f rest = absurd (first_is_first x y xs ys risen same e)
     by false e false f rest = absurd (first_is_first y x ys xs rising (λ q. sym (same q)) (is_behind x.at y.at e f))
     by false e true f rest =
         let found : Some x ≡ Some y = sym (first_found x xs) ∙ (same x.at ∙ (ap (shown_at (y ∷ ys)) (sym (property_eq y.at x.at f)) ∙ first_found y ys)) in
         let one : y ≡ x = cc in
-        let behind = same_behind x xs ys rising (subst (λ (row : Shown). Rising (row ∷ ys)) one risen) (λ q. same q ∙ ap (λ (row : Shown). shown_at (row ∷ ys) q) one) in
+        let behind = same_behind x xs ys rising (subst (λ (row : Shown). Rising (row ∷ ys)) one risen)
+        (λ q. same q ∙ ap (λ (row : Shown). shown_at (row ∷ ys) q) one) in
         ap (λ rows. x ∷ rows) (rest behind) ∙ ap (λ row. row ∷ ys) (sym one)
 
 -- nothing is told of what shows what it showed
@@ -118,7 +127,9 @@ same_value (v.Text text) = (bytes_eq-Decides text text).1 refl
 no_warning : (last : List Shown) (shown : Shown) → shown_at last shown.at ≡ Some shown → warning last shown ≡ None
 no_warning last shown stood = rw stood (by shown.error)
   where
-    by : (error : Option BindingError) → option_and_then (λ e. cond (option_map_or (is_same_error e) error false) None (Some (let change : Change = record { at = shown.at; told = message.Error e } in change))) error ≡ None
+    by : (error : Option BindingError) → option_and_then
+        (λ e. cond (option_map_or (is_same_error e) error false) None (Some (let change : Change = record { at = shown.at; told = message.Error e } in change)))
+        error ≡ None
     by None = refl
     by (Some BindingLoop) = refl
     by (Some EvaluationError) = refl
@@ -128,7 +139,8 @@ no_notice last shown stood = rw (stood, same_value shown.value) refl
 
 -- rows of which nothing is told may be left out
 
-left_out : {Y : Type 0} (g : Shown → Option Y) (turn p : Shown → Bool) (rows : List Shown) → All (λ shown. p shown ≡ false → g shown ≡ None) rows → filter_map g (filter turn rows) ≡ filter_map g (filter turn (filter p rows))
+left_out : {Y : Type 0} (g : Shown → Option Y) (turn p : Shown → Bool) (rows : List Shown) → All (λ shown. p shown ≡ false → g shown ≡ None) rows
+    → filter_map g (filter turn rows) ≡ filter_map g (filter turn (filter p rows))
 left_out g turn p [] all = refl
 left_out g turn p (row ∷ rows) all = by (p row) refl (turn row) refl (left_out g turn p rows (λ k d lt. all (suc k) d (omega arith)))
   where
@@ -142,15 +154,18 @@ left_out g turn p (row ∷ rows) all = by (p row) refl (turn row) refl (left_out
     by false e true f later = let none : g row ≡ None = all 0 row (omega arith) e in rw none later
     by false e false f later = later
 
-left_out_in_turn : (g : Shown → Option Change) (written : Option Property) (p : Shown → Bool) (rows : List Shown) → All (λ shown. p shown ≡ false → g shown ≡ None) rows → filter_map g (in_turn written rows) ≡ filter_map g (in_turn written (filter p rows))
+left_out_in_turn : (g : Shown → Option Change) (written : Option Property) (p : Shown → Bool) (rows : List Shown)
+    → All (λ shown. p shown ≡ false → g shown ≡ None) rows → filter_map g (in_turn written rows) ≡ filter_map g (in_turn written (filter p rows))
 left_out_in_turn g written p rows all =
     filter_map-append g (filter (has_turn written true) rows) (filter (has_turn written false) rows)
     ∙ (ap₂ (λ front back. front ++ back) (left_out g (has_turn written true) p rows all) (left_out g (has_turn written false) p rows all)
     ∙ sym (filter_map-append g (filter (has_turn written true) (filter p rows)) (filter (has_turn written false) (filter p rows))))
 
 -- what is told by the rows of the properties that may have changed
-pub changes_of_touched : (last now all : List Shown) (touched : List Property) (written : Option Property) → IsRising (λ (shown : Shown). shown.at) now → IsRising (λ (shown : Shown). shown.at) all
-    → ((q : Property) → shown_at now q ≡ (if among q touched then shown_at all q else None)) → ((q : Property) → among q touched ≡ false → shown_at last q ≡ shown_at all q)
+pub changes_of_touched : (last now all : List Shown) (touched : List Property) (written : Option Property) → IsRising (λ (shown : Shown). shown.at) now
+    → IsRising (λ (shown : Shown). shown.at) all
+    → ((q : Property) → shown_at now q ≡ (if among q touched then shown_at all q else None))
+    → ((q : Property) → among q touched ≡ false → shown_at last q ≡ shown_at all q)
     → changes last all written ≡ changes last now written
 changes_of_touched last now all touched written rising risen found stayed =
     ap₂ (λ warnings notices. warnings ++ notices)
@@ -165,17 +180,23 @@ changes_of_touched last now all touched written rising risen found stayed =
     stood k d lt untouched = stayed (get_or all k d).at untouched ∙ each_found all risen k d lt
 
     now_is : now ≡ filter looked_at all
-    now_is = same_rows now (filter looked_at all) rising (AllPairs-filter (λ (earlier : Shown) (later : Shown). is_before earlier.at later.at ≡ true) looked_at all risen) (λ q. found q ∙ sym (found_filter (λ p. among p touched) all q))
+    now_is = same_rows now (filter looked_at all) rising
+        (AllPairs-filter (λ (earlier : Shown) (later : Shown). is_before earlier.at later.at ≡ true) looked_at all risen)
+        (λ q. found q ∙ sym (found_filter (λ p. among p touched) all q))
 
 -- with their rows in place of those of before, all is as it is now
-pub merged_is_all : (last now new all : List Shown) (touched : List Property) → IsRising (λ (shown : Shown). shown.at) new → IsRising (λ (shown : Shown). shown.at) all
+pub merged_is_all : (last now new all : List Shown) (touched : List Property) → IsRising (λ (shown : Shown). shown.at) new
+    → IsRising (λ (shown : Shown). shown.at) all
     → ((q : Property) → shown_at new q ≡ option_map_or Some (shown_at now q) (shown_at last q))
-    → ((q : Property) → shown_at now q ≡ (if among q touched then shown_at all q else None)) → ((q : Property) → among q touched ≡ false → shown_at last q ≡ shown_at all q)
+    → ((q : Property) → shown_at now q ≡ (if among q touched then shown_at all q else None))
+    → ((q : Property) → among q touched ≡ false → shown_at last q ≡ shown_at all q)
     → ((q : Property) → among q touched ≡ true → shown_at all q ≡ None → shown_at last q ≡ None)
     → new ≡ all
-merged_is_all last now new all touched rising risen merged found stayed gone = same_rows new all rising risen (λ q. merged q ∙ by q (among q touched) refl (shown_at all q) refl)
+merged_is_all last now new all touched rising risen merged found stayed gone =
+    same_rows new all rising risen (λ q. merged q ∙ by q (among q touched) refl (shown_at all q) refl)
   where
-    by : (q : Property) (t : Bool) → among q touched ≡ t → (shows : Option Shown) → shown_at all q ≡ shows → option_map_or Some (shown_at now q) (shown_at last q) ≡ shown_at all q
+    by : (q : Property) (t : Bool) → among q touched ≡ t → (shows : Option Shown) → shown_at all q ≡ shows
+        → option_map_or Some (shown_at now q) (shown_at last q) ≡ shown_at all q
     by q true e None f = let none : shown_at now q ≡ None = found q ∙ rw (e, f) refl in rw (none, f) (gone q e f)
     by q true e (Some shown) f = let same : shown_at now q ≡ Some shown = found q ∙ rw (e, f) refl in rw (same, f) refl
     by q false e shows f = let none : shown_at now q ≡ None = found q ∙ rw e refl in rw none (stayed q e)

@@ -1,5 +1,6 @@
 -- The bindings of a place, with one more and with fewer.
-use Rattle.std.proofs.Common.{◌≡◌, ℕ, suc, ◌<◌, ◌≤◌, Bool, true, false, cond, List, [], ◌∷◌, Option, All, filter, length, get_or, option_map, sym, ap, subst, arith}
+use Rattle.std.proofs.Common.{◌≡◌, ℕ, suc, ◌<◌, ◌≤◌, Bool, true, false, cond, List, [], ◌∷◌, Option, All, filter, length, get_or, option_map, sym, ap, subst}
+use Rattle.std.proofs.Common.{arith}
 use Rattle.std.specs.Option.{is_some}
 use Rattle.std.proofs.lemmas.List.Elements.{All-append, All-cons, All-filter}
 use Rattle.std.proofs.lemmas.List.Kept.{AllPairs-filter}
@@ -13,20 +14,30 @@ use Rattle.binding_values.specs.Sorted.{IsCountBefore, IsRising, is_before}
 use Rattle.binding_values.proofs.SortedLemmas.{found_nowhere, with_rising}
 
 -- a property is not bound where no binding of it stands in its place
-pub unbound_there : (at : Property) (rows : List Binding) (count : ℕ) → IsRising (λ (binding : Binding). binding.at) rows → IsCountBefore (λ (binding : Binding). binding.at) rows at count → ((d : Binding) → count < length rows → is_property at (get_or rows count d).at ≡ false) → is_some (term_at rows at) ≡ false
-unbound_there at rows count rising is other = ap (λ (found : Option Binding). is_some (option_map (λ (binding : Binding). binding.expr) found)) (found_nowhere (λ (binding : Binding). binding.at) rows at count is rising other)
+pub unbound_there : (at : Property) (rows : List Binding) (count : ℕ) → IsRising (λ (binding : Binding). binding.at) rows
+    → IsCountBefore (λ (binding : Binding). binding.at) rows at count → ((d : Binding) → count < length rows → is_property at (get_or rows count d).at ≡ false)
+    → is_some (term_at rows at) ≡ false
+unbound_there at rows count rising is other = ap (λ (found : Option Binding). is_some (option_map (λ (binding : Binding). binding.expr) found))
+    (found_nowhere (λ (binding : Binding). binding.at) rows at count is rising other)
 
-pub with_limited : (new : Binding) (rows : List Binding) → is_within_limits new.expr ≡ true → All (λ (binding : Binding). is_within_limits binding.expr ≡ true) rows → All (λ (binding : Binding). is_within_limits binding.expr ≡ true) (with_binding new rows)
+pub with_limited : (new : Binding) (rows : List Binding) → is_within_limits new.expr ≡ true
+    → All (λ (binding : Binding). is_within_limits binding.expr ≡ true) rows
+    → All (λ (binding : Binding). is_within_limits binding.expr ≡ true) (with_binding new rows)
 with_limited new rows short all =
-    All-append P (filter (λ binding. is_before binding.at new.at) rows) (new ∷ filter (λ binding. is_before new.at binding.at) rows) (All-filter (λ binding. is_before binding.at new.at) P rows all) (All-cons P new (filter (λ binding. is_before new.at binding.at) rows) short (All-filter (λ binding. is_before new.at binding.at) P rows all))
+    All-append P (filter (λ binding. is_before binding.at new.at) rows) (new ∷ filter (λ binding. is_before new.at binding.at) rows)
+    (All-filter (λ binding. is_before binding.at new.at) P rows all)
+    (All-cons P new (filter (λ binding. is_before new.at binding.at) rows) short (All-filter (λ binding. is_before new.at binding.at) P rows all))
   where
     P : Binding → Type 0
     P binding = is_within_limits binding.expr ≡ true
 
 -- a list with one more, or another in a place
 
-pub still_sound : (new : Binding) (rows after : List Binding) → AreBindings rows → is_within_limits new.expr ≡ true → after ≡ with_binding new rows → length after ≤ 1024 → AreBindings after
-still_sound new rows after are short is few = subst (λ (bs : List Binding). length bs ≤ 1024 → AreBindings bs) (sym is) (λ le. record { few = le; rising = with_rising (λ (binding : Binding). binding.at) new rows are.rising; limited = with_limited new rows short are.limited }) few
+pub still_sound : (new : Binding) (rows after : List Binding) → AreBindings rows → is_within_limits new.expr ≡ true → after ≡ with_binding new rows
+    → length after ≤ 1024 → AreBindings after
+still_sound new rows after are short is few = subst (λ (bs : List Binding). length bs ≤ 1024 → AreBindings bs) (sym is)
+    (λ le. record { few = le; rising = with_rising (λ (binding : Binding). binding.at) new rows are.rising; limited = with_limited new rows short are.limited })
+    few
 
 -- with fewer
 

@@ -14,8 +14,18 @@ use Rattle.binding_values.specs.Right.{AreMore, IsClear, IsComplete, IsRightBut,
 pub part_is_right : (scene : Scene) (less keeping : Keeping) → IsRight scene keeping → IsWithin less keeping → IsClosed scene less → IsRight scene less
 part_is_right scene less keeping right within closed q kept is =
     let r = right q kept (within q kept is) in
-    let same = same_evaluation scene scene (known scene keeping) (known scene less) q.object r.term (λ k d lt. refl) (subst (All (λ r. known scene less r ≡ known scene keeping r)) (sym r.reads) (λ k d lt. known_in _ (closed q kept is k d lt))) in
-    record { cell = r.cell; term = r.term; there = r.there; bound = r.bound; outcome = ap (settled r.cell.kind) same.value ∙ r.outcome; reads = same.reads ∙ r.reads; value = r.value }
+    let same = same_evaluation scene scene (known scene keeping) (known scene less) q.object r.term (λ k d lt. refl)
+    (subst (All (λ r. known scene less r ≡ known scene keeping r)) (sym r.reads) (λ k d lt. known_in _ (closed q kept is k d lt))) in
+    record {
+      cell = r.cell;
+      term = r.term;
+      there = r.there;
+      bound = r.bound;
+      outcome = ap (settled r.cell.kind) same.value ∙ r.outcome;
+      reads = same.reads
+          ∙ r.reads;
+      value = r.value;
+    }
   where
     none_kept : (r : Property) → keeping r ≡ None → (o : Option EvalResult) → less r ≡ o → o ≡ None
     none_kept r none None e = refl
@@ -36,8 +46,10 @@ complete_is_known scene keeping complete q = by (complete.whole q)
     by (inl (kept, is)) = known_kept scene keeping q kept is ∙ sym (complete.right q kept is).value
     by (inr unbound) = known_unbound scene keeping complete.right q unbound ∙ sym (fresh_unbound scene [] q unbound refl)
 
-pub unmarked_is_complete : (scene : Scene) (marks : Marks) (keeping : Keeping) → AreMore marks no_marks → IsRightBut scene marks keeping → IsWhole scene marks keeping → IsComplete scene keeping
-unmarked_is_complete scene marks keeping none right whole = record { right = right keeping (λ q kept is. is) closed clear; closed = closed; whole = λ q. whole q (off q) }
+pub unmarked_is_complete : (scene : Scene) (marks : Marks) (keeping : Keeping) → AreMore marks no_marks → IsRightBut scene marks keeping
+    → IsWhole scene marks keeping → IsComplete scene keeping
+unmarked_is_complete scene marks keeping none right whole = record
+    { right = right keeping (λ q kept is. is) closed clear; closed = closed; whole = λ q. whole q (off q) }
   where
     off : (q : Property) → is_marked marks q ≡ false
     off q = false_from_ne_true (is_marked marks q) (λ on. both_ways false refl (none q on))
@@ -53,17 +65,20 @@ complete_is_right scene marks keeping complete part within closed clear = part_i
 
 -- what is kept of the rest
 
-pub rest_kept : (marks : Marks) (keeping : Keeping) (q : Property) (kept : EvalResult) → unmarked marks keeping q ≡ Some kept → (is_marked marks q ≡ false) × (keeping q ≡ Some kept)
+pub rest_kept : (marks : Marks) (keeping : Keeping) (q : Property) (kept : EvalResult) → unmarked marks keeping q ≡ Some kept
+    → (is_marked marks q ≡ false) × (keeping q ≡ Some kept)
 rest_kept marks keeping q kept is = by (is_marked marks q) is
   where
     by : (b : Bool) → cond b None (keeping q) ≡ Some kept → (b ≡ false) × (keeping q ≡ Some kept)
     by true e = absurd (cc)
     by false e = (refl, e)
 
-pub kept_of_rest : (marks : Marks) (keeping : Keeping) (q : Property) (kept : EvalResult) → is_marked marks q ≡ false → keeping q ≡ Some kept → unmarked marks keeping q ≡ Some kept
+pub kept_of_rest : (marks : Marks) (keeping : Keeping) (q : Property) (kept : EvalResult) → is_marked marks q ≡ false → keeping q ≡ Some kept
+    → unmarked marks keeping q ≡ Some kept
 kept_of_rest marks keeping q kept off is = ap (λ b. cond b None (keeping q)) off ∙ is
 
-pub rest_is_right : (scene : Scene) (marks : Marks) (keeping : Keeping) → IsRightBut scene marks keeping → IsSpread scene marks keeping → IsRight scene (unmarked marks keeping) × IsClosed scene (unmarked marks keeping)
+pub rest_is_right : (scene : Scene) (marks : Marks) (keeping : Keeping) → IsRightBut scene marks keeping → IsSpread scene marks keeping
+    → IsRight scene (unmarked marks keeping) × IsClosed scene (unmarked marks keeping)
 rest_is_right scene marks keeping right spread = (right (unmarked marks keeping) (λ q kept is. (rest_kept marks keeping q kept is).1) closed clear, closed)
   where
     there : (r : Property) → is_marked marks r ≡ false → IsKept keeping r ⊎ IsUnbound scene r → IsKept (unmarked marks keeping) r ⊎ IsUnbound scene r

@@ -1,5 +1,6 @@
 -- What is kept from one change to the next.
-use Rattle.std.proofs.Common.{◌≡◌, ◌∙◌, ℕ, zero, suc, ◌<◌, Bool, true, false, cond, not, List, [], ◌∷◌, ◌++◌, Option, Some, None, All, filter, find, length, get_or, set, refl, sym, ap, subst, arith}
+use Rattle.std.proofs.Common.{◌≡◌, ◌∙◌, ℕ, zero, suc, ◌<◌, Bool, true, false, cond, not, List, [], ◌∷◌, ◌++◌, Option, Some, None, All, filter, find, length}
+use Rattle.std.proofs.Common.{get_or, set, refl, sym, ap, subst, arith}
 use Rattle.std.specs.Prelude.{option_and_then}
 use Rattle.std.specs.List.{AllWithin, cons_option, insert}
 use Rattle.property_store.proofs.ForCallers.{filter_all, none_passes}
@@ -41,22 +42,27 @@ none_standing (row ∷ rows) q others = by row.kept (none_standing rows q (λ k 
     here : is_property q row.at ≡ false
     here = others 0 row (omega arith)
 
-    by : (kept : Option EvalResult) → kept_of (standing rows) q ≡ None → kept_of (cons_option (done_of (record { at = row.at; kept = kept })) (standing rows)) q ≡ None
+    by : (kept : Option EvalResult) → kept_of (standing rows) q ≡ None
+        → kept_of (cons_option (done_of (record { at = row.at; kept = kept })) (standing rows)) q ≡ None
     by (Some kept) rest = rw here rest
     by None rest = rest
 
-pub kept_at : (rows : List KeptRow) (q : Property) → IsRising (λ (row : KeptRow). row.at) rows → kept_of (standing rows) q ≡ kept_in (find (λ (row : KeptRow). is_property q row.at) rows)
+pub kept_at : (rows : List KeptRow) (q : Property) → IsRising (λ (row : KeptRow). row.at) rows
+    → kept_of (standing rows) q ≡ kept_in (find (λ (row : KeptRow). is_property q row.at) rows)
 kept_at [] q rising = refl
-kept_at (row ∷ rows) q rising = by (is_property q row.at) refl row.kept (kept_at rows q (λ i j d lt within. rising (suc i) (suc j) d (omega arith) (omega arith)))
+kept_at (row ∷ rows) q rising = by (is_property q row.at) refl row.kept
+    (kept_at rows q (λ i j d lt within. rising (suc i) (suc j) d (omega arith) (omega arith)))
   where
     wanted : KeptRow → Bool
     wanted row = is_property q row.at
 
     later : is_property q row.at ≡ true → All (λ (row : KeptRow). is_property q row.at ≡ false) rows
-    later same k d lt = is_other q (get_or rows k d).at (subst (λ (p : Property). is_before p (get_or rows k d).at ≡ true) (sym (property_eq q row.at same)) (rising 0 (suc k) d (omega arith) (omega arith)))
+    later same k d lt = is_other q (get_or rows k d).at
+        (subst (λ (p : Property). is_before p (get_or rows k d).at ≡ true) (sym (property_eq q row.at same)) (rising 0 (suc k) d (omega arith) (omega arith)))
 
     by : (same : Bool) → is_property q row.at ≡ same → (kept : Option EvalResult) → kept_of (standing rows) q ≡ kept_in (find wanted rows)
-        → kept_of (cons_option (done_of (record { at = row.at; kept = kept })) (standing rows)) q ≡ kept_in (cond same (Some (record { at = row.at; kept = kept })) (find wanted rows))
+        → kept_of (cons_option (done_of (record { at = row.at; kept = kept })) (standing rows)) q
+        ≡ kept_in (cond same (Some (record { at = row.at; kept = kept })) (find wanted rows))
     by true same (Some kept) rest = rw same refl
     by true same None rest = none_standing rows q (later same)
     by false other (Some kept) rest = rw other rest
@@ -64,7 +70,8 @@ kept_at (row ∷ rows) q rising = by (is_property q row.at) refl row.kept (kept_
 
 -- fewer rows
 
-pub standing_filter : (p : Property → Bool) (rows : List KeptRow) → standing (filter (λ (row : KeptRow). p row.at) rows) ≡ filter (λ (row : CacheEntry). p row.at) (standing rows)
+pub standing_filter : (p : Property → Bool) (rows : List KeptRow)
+    → standing (filter (λ (row : KeptRow). p row.at) rows) ≡ filter (λ (row : CacheEntry). p row.at) (standing rows)
 standing_filter p [] = refl
 standing_filter p (row ∷ rows) = by (p row.at) refl row.kept (standing_filter p rows)
   where
@@ -72,7 +79,8 @@ standing_filter p (row ∷ rows) = by (p row.at) refl row.kept (standing_filter 
     fewer = filter (λ (row : KeptRow). p row.at) rows
 
     by : (stays : Bool) → p row.at ≡ stays → (kept : Option EvalResult) → standing fewer ≡ filter (λ (row : CacheEntry). p row.at) (standing rows)
-        → standing (cond stays (record { at = row.at; kept = kept } ∷ fewer) fewer) ≡ filter (λ (row : CacheEntry). p row.at) (cons_option (done_of (record { at = row.at; kept = kept })) (standing rows))
+        → standing (cond stays (record { at = row.at; kept = kept } ∷ fewer) fewer)
+        ≡ filter (λ (row : CacheEntry). p row.at) (cons_option (done_of (record { at = row.at; kept = kept })) (standing rows))
     by true stays (Some kept) rest = rw stays (ap (λ (done : List CacheEntry). record { at = row.at; kept = kept } ∷ done) rest)
     by true stays None rest = rest
     by false goes (Some kept) rest = rw goes rest
@@ -85,16 +93,21 @@ module _ (at : Property) where
   all_others : (rows : List KeptRow) → All (λ (row : KeptRow). is_property at row.at ≡ false) rows → others rows ≡ rows
   all_others rows all = filter_all (λ (row : KeptRow). not (is_property at row.at)) rows (λ k d lt. ap not (all k d lt))
 
-  others_without : (rows : List KeptRow) (k : ℕ) (new d : KeptRow) → new.kept ≡ None → k < length rows → is_property at (get_or rows k d).at ≡ true → AllWithin (λ (row : KeptRow). is_property at row.at ≡ false) rows 0 k → AllWithin (λ (row : KeptRow). is_property at row.at ≡ false) rows (suc k) (length rows) → standing (set rows k new) ≡ standing (others rows)
+  others_without : (rows : List KeptRow) (k : ℕ) (new d : KeptRow) → new.kept ≡ None → k < length rows → is_property at (get_or rows k d).at ≡ true
+      → AllWithin (λ (row : KeptRow). is_property at row.at ≡ false) rows 0 k
+      → AllWithin (λ (row : KeptRow). is_property at row.at ≡ false) rows (suc k) (length rows) → standing (set rows k new) ≡ standing (others rows)
   others_without [] k new d gone lt here before behind = absurd (omega arith)
   others_without (row ∷ rows) zero new d gone lt here before behind =
       let same : others rows ≡ rows = all_others rows (λ j e lt. behind (suc j) e (omega arith) (omega arith)) in
       rw (gone, here, same) refl
   others_without (row ∷ rows) (suc k) new d gone lt here before behind =
       let first : is_property at row.at ≡ false = before 0 row (omega arith) (omega arith) in
-      rw first (ap (cons_option (done_of row)) (others_without rows k new d gone (omega arith) here (λ j e low high. before (suc j) e (omega arith) (omega arith)) (λ j e low high. behind (suc j) e (omega arith) (omega arith))))
+      rw first (ap (cons_option (done_of row))
+      (others_without rows k new d gone (omega arith) here (λ j e low high. before (suc j) e (omega arith) (omega arith))
+      (λ j e low high. behind (suc j) e (omega arith) (omega arith))))
 
-module _ (rows : List KeptRow) (place : ℕ) (at : Property) (rising : IsRising (λ (row : KeptRow). row.at) rows) (count : IsCountBefore (λ (row : KeptRow). row.at) rows at place) where
+module _ (rows : List KeptRow) (place : ℕ) (at : Property) (rising : IsRising (λ (row : KeptRow). row.at) rows)
+    (count : IsCountBefore (λ (row : KeptRow). row.at) rows at place) where
   -- no row of the property stands in its place
   module _ (other : (d : KeptRow) → place < length rows → is_property at (get_or rows place d).at ≡ false) where
     nowhere : find (λ (row : KeptRow). is_property at row.at) rows ≡ None
@@ -104,7 +117,8 @@ module _ (rows : List KeptRow) (place : ℕ) (at : Property) (rising : IsRising 
     none_there = kept_at rows at rising ∙ ap kept_in nowhere
 
     pub others_only : standing rows ≡ filter (λ (row : CacheEntry). not (is_property at row.at)) (standing rows)
-    others_only = ap standing (sym (all_others at rows (none_passes (λ (row : KeptRow). is_property at row.at) rows nowhere))) ∙ standing_filter (λ q. not (is_property at q)) rows
+    others_only = ap standing (sym (all_others at rows (none_passes (λ (row : KeptRow). is_property at row.at) rows nowhere)))
+        ∙ standing_filter (λ q. not (is_property at q)) rows
 
   -- its row does
   module _ (d : KeptRow) (within : place < length rows) (here : is_property at (get_or rows place d).at ≡ true) where
@@ -120,35 +134,47 @@ module _ (rows : List KeptRow) (place : ℕ) (at : Property) (rising : IsRising 
     pub still_rising : (new : KeptRow) → at ≡ new.at → IsRising (λ (row : KeptRow). row.at) (set rows place new)
     still_rising new is = subst (IsRising (λ (row : KeptRow). row.at)) (sym split) (with_rising (λ (row : KeptRow). row.at) new rows rising)
       where
-        split : set rows place new ≡ (filter (λ (row : KeptRow). is_before row.at new.at) rows ++ new ∷ filter (λ (row : KeptRow). is_before new.at row.at) rows)
-        split = replaced (λ (row : KeptRow). row.at) new rows place rising (subst (λ (q : Property). IsCountBefore (λ (row : KeptRow). row.at) rows q place) is count) d within (subst (λ (q : Property). is_property q (get_or rows place d).at ≡ true) is here)
+        split : set rows place new ≡ (filter (λ (row : KeptRow). is_before row.at new.at) rows ++ new
+            ∷ filter (λ (row : KeptRow). is_before new.at row.at) rows)
+        split = replaced (λ (row : KeptRow). row.at) new rows place rising
+            (subst (λ (q : Property). IsCountBefore (λ (row : KeptRow). row.at) rows q place) is count) d within
+            (subst (λ (q : Property). is_property q (get_or rows place d).at ≡ true) is here)
 
 -- one row more, or another in place of one
 
-module _ (rows : List KeptRow) (place : ℕ) (new : KeptRow) (rising : IsRising (λ (row : KeptRow). row.at) rows) (count : IsCountBefore (λ (row : KeptRow). row.at) rows new.at place) where
+module _ (rows : List KeptRow) (place : ℕ) (new : KeptRow) (rising : IsRising (λ (row : KeptRow). row.at) rows)
+    (count : IsCountBefore (λ (row : KeptRow). row.at) rows new.at place) where
   -- what is found of a property is the new row, or what was found before
   put_by : (row : CacheEntry) → new.at ≡ row.at → new.kept ≡ Some row.kept → (after : List KeptRow) → IsRising (λ (row : KeptRow). row.at) after
       → ((q : Property) → is_property q new.at ≡ true → find (λ (row : KeptRow). is_property q row.at) after ≡ Some new)
-      → ((q : Property) → is_property q new.at ≡ false → find (λ (row : KeptRow). is_property q row.at) after ≡ find (λ (row : KeptRow). is_property q row.at) rows)
+      → ((q : Property) → is_property q new.at ≡ false → find (λ (row : KeptRow). is_property q row.at) after
+      ≡ find (λ (row : KeptRow). is_property q row.at) rows)
       → IsPut row (standing rows) (standing after)
-  put_by row at_is kept_is after risen same other q = kept_at after q risen ∙ (by (is_property q new.at) refl ∙ ap (λ (p : Property). cond (is_property q p) (Some row.kept) (kept_of (standing rows) q)) at_is)
+  put_by row at_is kept_is after risen same other q = kept_at after q risen
+      ∙ (by (is_property q new.at) refl ∙ ap (λ (p : Property). cond (is_property q p) (Some row.kept) (kept_of (standing rows) q)) at_is)
     where
-      by : (t : Bool) → is_property q new.at ≡ t → kept_in (find (λ (row : KeptRow). is_property q row.at) after) ≡ cond t (Some row.kept) (kept_of (standing rows) q)
+      by : (t : Bool) → is_property q new.at ≡ t → kept_in (find (λ (row : KeptRow). is_property q row.at) after)
+          ≡ cond t (Some row.kept) (kept_of (standing rows) q)
       by true e = ap kept_in (same q e) ∙ kept_is
       by false e = ap kept_in (other q e) ∙ sym (kept_at rows q rising)
 
   module _ (other : (d : KeptRow) → place < length rows → is_property new.at (get_or rows place d).at ≡ false) where
     pub insert_rising : IsRising (λ (row : KeptRow). row.at) (insert rows place new)
-    insert_rising = subst (IsRising (λ (row : KeptRow). row.at)) (sym (inserted (λ (row : KeptRow). row.at) new rows place rising count other)) (with_rising (λ (row : KeptRow). row.at) new rows rising)
+    insert_rising = subst (IsRising (λ (row : KeptRow). row.at)) (sym (inserted (λ (row : KeptRow). row.at) new rows place rising count other))
+        (with_rising (λ (row : KeptRow). row.at) new rows rising)
 
     pub put_new : (row : CacheEntry) → new.at ≡ row.at → new.kept ≡ Some row.kept → IsPut row (standing rows) (standing (insert rows place new))
     put_new row at_is kept_is = put_by row at_is kept_is (insert rows place new) insert_rising
-        (λ q same. inserted_here (λ (row : KeptRow). is_property q row.at) rows place new same (ap (λ (p : Property). find (λ (row : KeptRow). is_property p row.at) rows) (property_eq q new.at same) ∙ nowhere rows place new.at rising count other))
+        (λ q same. inserted_here (λ (row : KeptRow). is_property q row.at) rows place new same
+        (ap (λ (p : Property). find (λ (row : KeptRow). is_property p row.at) rows) (property_eq q new.at same)
+        ∙ nowhere rows place new.at rising count other))
         (λ q differs. inserted_other (λ (row : KeptRow). is_property q row.at) rows place new differs)
 
   module _ (within : place < length rows) (here : is_property new.at (get_or rows place new).at ≡ true) where
     pub put_there : (row : CacheEntry) → new.at ≡ row.at → new.kept ≡ Some row.kept → IsPut row (standing rows) (standing (set rows place new))
     put_there row at_is kept_is = put_by row at_is kept_is (set rows place new) (still_rising rows place new.at rising count new within here new refl)
         (λ q same. set_here (λ (row : KeptRow). is_property q row.at) rows place new within same
-        (λ k d low high. ap (λ (p : Property). is_property p (get_or rows k d).at) (property_eq q new.at same) ∙ before_other (λ (row : KeptRow). row.at) rows new.at place count k d low high))
-        (λ q differs. set_other (λ (row : KeptRow). is_property q row.at) rows place new new differs (ap (is_property q) (sym (property_eq new.at (get_or rows place new).at here)) ∙ differs))
+        (λ k d low high. ap (λ (p : Property). is_property p (get_or rows k d).at) (property_eq q new.at same)
+        ∙ before_other (λ (row : KeptRow). row.at) rows new.at place count k d low high))
+        (λ q differs. set_other (λ (row : KeptRow). is_property q row.at) rows place new new differs
+        (ap (is_property q) (sym (property_eq new.at (get_or rows place new).at here)) ∙ differs))

@@ -1,5 +1,6 @@
 -- What a map gives, where it gives something.
-use Rattle.std.proofs.Common.{◌≡◌, ◌∙◌, zero, suc, List, [], ◌∷◌, ◌++◌, true, false, Option, Some, None, is_some, option_map, IfSome, filter_map, get_or, All, Contains, refl, sym, ap, arith}
+use Rattle.std.proofs.Common.{◌≡◌, ◌∙◌, zero, suc, List, [], ◌∷◌, ◌++◌, true, false, Option, Some, None, is_some, option_map, IfSome, filter_map, get_or, All}
+use Rattle.std.proofs.Common.{Contains, refl, sym, ap, arith}
 use Rattle.std.specs.List.{AllPairs, cons_option}
 use Rattle.std.proofs.lemmas.List.Elements.{All-append, All-nil, All-cons, All-head, All-tail}
 use Rattle.std.proofs.lemmas.List.Kept.{AllPairs-cons}
@@ -45,7 +46,8 @@ giver {X} h (x ∷ xs) y c = at (h x) refl c (giver h xs y)
     later : (x' : X) × Contains xs x' × (h x' ≡ Some y) → (x' : X) × Contains (x ∷ xs) x' × (h x' ≡ Some y)
     later (x', (k, lt, e), is) = (x', (suc k, omega arith, e), is)
 
-    at : (o : Option _) → h x ≡ o → Contains (cons_option o (filter_map h xs)) y → (Contains (filter_map h xs) y → (x' : X) × Contains xs x' × (h x' ≡ Some y)) → (x' : X) × Contains (x ∷ xs) x' × (h x' ≡ Some y)
+    at : (o : Option _) → h x ≡ o → Contains (cons_option o (filter_map h xs)) y → (Contains (filter_map h xs) y → (x' : X) × Contains xs x' × (h x' ≡ Some y))
+        → (x' : X) × Contains (x ∷ xs) x' × (h x' ≡ Some y)
     at None is d rest = later (rest d)
     at (Some z) is (zero, lt, e) rest = (x, (zero, omega arith, refl), is ∙ ap Some e)
     at (Some z) is (suc k, lt, e) rest = later (rest (k, omega arith, e))
@@ -74,13 +76,16 @@ all_given {X} {Y} h P (x ∷ xs) all = by (h x) refl (all_given h P xs (λ k d l
     by None e rest = rest
     by (Some y) e rest = All-cons P y (filter_map h xs) (all 0 x (omega arith) y e) rest
 
-pub pairs_given : {X Y : Type 0} (h : X → Option Y) (S : X → X → Type 0) (R : Y → Y → Type 0) → ((x x' : X) (y y' : Y) → S x x' → h x ≡ Some y → h x' ≡ Some y' → R y y') → (xs : List X) → AllPairs S xs → AllPairs R (filter_map h xs)
+pub pairs_given : {X Y : Type 0} (h : X → Option Y) (S : X → X → Type 0) (R : Y → Y → Type 0)
+    → ((x x' : X) (y y' : Y) → S x x' → h x ≡ Some y → h x' ≡ Some y' → R y y') → (xs : List X) → AllPairs S xs → AllPairs R (filter_map h xs)
 pairs_given h S R from [] pairs = λ i j d lt within. absurd (omega arith)
-pairs_given {X} {Y} h S R from (x ∷ xs) pairs = by (h x) refl (pairs_given h S R from xs (λ i j d lt within. pairs (suc i) (suc j) d (omega arith) (omega arith)))
+pairs_given {X} {Y} h S R from (x ∷ xs) pairs = by (h x) refl
+    (pairs_given h S R from xs (λ i j d lt within. pairs (suc i) (suc j) d (omega arith) (omega arith)))
   where
     by : (o : Option Y) → h x ≡ o → AllPairs R (filter_map h xs) → AllPairs R (cons_option o (filter_map h xs))
     by None e rest = rest
-    by (Some y) e rest = AllPairs-cons R y (filter_map h xs) (all_given h (R y) xs (λ k d lt y' f. from x (get_or xs k d) y y' (pairs 0 (suc k) d (omega arith) (omega arith)) e f)) rest
+    by (Some y) e rest = AllPairs-cons R y (filter_map h xs)
+        (all_given h (R y) xs (λ k d lt y' f. from x (get_or xs k d) y y' (pairs 0 (suc k) d (omega arith) (omega arith)) e f)) rest
 
 pub pairs_append : {X : Type 0} (R : X → X → Type 0) (xs ys : List X) → AllPairs R xs → AllPairs R ys → All (λ x. All (R x) ys) xs → AllPairs R (xs ++ ys)
 pairs_append R [] ys first second across = second

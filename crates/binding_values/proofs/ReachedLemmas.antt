@@ -1,5 +1,6 @@
 -- What a change reaches, of what is kept.
-use Rattle.std.proofs.Common.{◌≡◌, ◌∙◌, ◌||◌, ℕ, ◌+◌, ◌<◌, ◌≤◌, Bool, true, false, cond, not, List, [], ◌∷◌, ◌++◌, Option, Some, None, Result, Ok, Err, OnOk, All, Contains, find, is_some, length, get_or, option_map, take, append_assoc, length-append, refl, sym, ap, subst, arith}
+use Rattle.std.proofs.Common.{◌≡◌, ◌∙◌, ◌||◌, ℕ, ◌+◌, ◌<◌, ◌≤◌, Bool, true, false, cond, not, List, [], ◌∷◌, ◌++◌, Option, Some, None, Result, Ok, Err, OnOk}
+use Rattle.std.proofs.Common.{All, Contains, find, is_some, length, get_or, option_map, take, append_assoc, length-append, refl, sym, ap, subst, arith}
 use Rattle.std.specs.Prelude.{OnErr}
 use Rattle.std.proofs.lemmas.Bool.{false_from_ne_true, or_left}
 use Rattle.std.proofs.lemmas.List.{take_more, take-append-le}
@@ -35,13 +36,16 @@ kept_without at (row ∷ rows) q = by (is_property q row.at) (is_property at row
     own same = ap (is_property at) (sym (property_eq q row.at same))
 
     by : (t u : Bool) → is_property q row.at ≡ t → is_property at row.at ≡ u → kept_of (without at rows) q ≡ cond (is_property at q) None (kept_of rows q)
-        → kept_of (cond (not u) (row ∷ without at rows) (without at rows)) q ≡ cond (is_property at q) None (option_map (λ (row : CacheEntry). row.kept) (cond t (Some row) (find (λ (row : CacheEntry). is_property q row.at) rows)))
+        → kept_of (cond (not u) (row ∷ without at rows) (without at rows)) q
+        ≡ cond (is_property at q) None (option_map (λ (row : CacheEntry). row.kept)
+        (cond t (Some row) (find (λ (row : CacheEntry). is_property q row.at) rows)))
     by true true same goes rest = let here : is_property at q ≡ true = sym (own same) ∙ goes in rw here (rest ∙ rw here refl)
     by true false same stays rest = let here : is_property at q ≡ false = sym (own same) ∙ stays in rw (here, same) refl
     by false true other goes rest = rest
     by false false other stays rest = rw other rest
 
-other_kept : (at : Property) (rows : List CacheEntry) (q : Property) (kept : EvalResult) → kept_of (without at rows) q ≡ Some kept → (is_property at q ≡ false) × (kept_of rows q ≡ Some kept)
+other_kept : (at : Property) (rows : List CacheEntry) (q : Property) (kept : EvalResult) → kept_of (without at rows) q ≡ Some kept
+    → (is_property at q ≡ false) × (kept_of rows q ≡ Some kept)
 other_kept at rows q kept is = by (is_property at q) (sym (kept_without at rows q) ∙ is)
   where
     by : (t : Bool) → cond t None (kept_of rows q) ≡ Some kept → (t ≡ false) × (kept_of rows q ≡ Some kept)
@@ -49,14 +53,16 @@ other_kept at rows q kept is = by (is_property at q) (sym (kept_without at rows 
     by false e = (refl, e)
 
 pub without_twice : (at : Property) (rows : List CacheEntry) → without at (without at rows) ≡ without at rows
-without_twice at rows = filter_all (λ (row : CacheEntry). not (is_property at row.at)) (without at rows) (filter_passes (λ (row : CacheEntry). not (is_property at row.at)) rows)
+without_twice at rows = filter_all (λ (row : CacheEntry). not (is_property at row.at)) (without at rows)
+    (filter_passes (λ (row : CacheEntry). not (is_property at row.at)) rows)
 
 -- what was read knows its readers
 
 pub readers_within : (some more : List CacheEntry) (edges : List Edge) → IsWithin (kept_of some) (kept_of more) → HasReaders more edges → HasReaders some edges
 readers_within some more edges within has q kept is = has q kept (within q kept is)
 
-pub readers_same : (one other : List CacheEntry) (edges : List Edge) → ((q : Property) → kept_of one q ≡ kept_of other q) → HasReaders other edges → HasReaders one edges
+pub readers_same : (one other : List CacheEntry) (edges : List Edge) → ((q : Property) → kept_of one q ≡ kept_of other q) → HasReaders other edges
+    → HasReaders one edges
 readers_same one other edges same has q kept is = has q kept (sym (same q) ∙ is)
 
 pub readers_without : (at : Property) (rows : List CacheEntry) (edges : List Edge) → HasReaders rows edges → HasReaders (without at rows) edges
@@ -65,7 +71,8 @@ readers_without at rows edges has = readers_within (without at rows) rows edges 
 pub readers_more : (rows : List CacheEntry) (edges more : List Edge) → AreAmong edges more → HasReaders rows edges → HasReaders rows more
 readers_more rows edges more among has q kept is k d lt = among _ (has q kept is k d lt)
 
-pub readers_fewer : (at : Property) (rows : List CacheEntry) (old new : List Edge) → AreFewer at old new → HasReaders (without at rows) old → HasReaders (without at rows) new
+pub readers_fewer : (at : Property) (rows : List CacheEntry) (old new : List Edge) → AreFewer at old new → HasReaders (without at rows) old
+    → HasReaders (without at rows) new
 readers_fewer at rows old new fewer has q kept is k d lt = fewer.others (get_or kept.reads k d) q (other_kept at rows q kept is).0 (has q kept is k d lt)
 
 pub readers_of_none : (edges : List Edge) → HasReaders [] edges
@@ -76,10 +83,13 @@ unread_within old new within q unread reader there = unread reader (within (edge
 
 -- an edge that goes, and what is kept of its reader
 
-pub reader_gone : (read reader : Property) (rows : List CacheEntry) (edges : List Edge) → HasReaders rows edges → HasReaders (without reader rows) (without_link edge_cmp edges (edge_of read reader))
-reader_gone read reader rows edges has = readers_fewer reader rows edges (without_link edge_cmp edges (edge_of read reader)) (edge_gone edges read reader) (readers_without reader rows edges has)
+pub reader_gone : (read reader : Property) (rows : List CacheEntry) (edges : List Edge) → HasReaders rows edges
+    → HasReaders (without reader rows) (without_link edge_cmp edges (edge_of read reader))
+reader_gone read reader rows edges has = readers_fewer reader rows edges (without_link edge_cmp edges (edge_of read reader)) (edge_gone edges read reader)
+    (readers_without reader rows edges has)
 
-pub one_fewer : (edges : List Edge) (read reader : Property) → Contains edges (edge_of read reader) → length (without_link edge_cmp edges (edge_of read reader)) < length edges
+pub one_fewer : (edges : List Edge) (read reader : Property) → Contains edges (edge_of read reader)
+    → length (without_link edge_cmp edges (edge_of read reader)) < length edges
 one_fewer edges read reader there = length-without edge_total edges (edge_of read reader) there
 
 -- touched properties
@@ -122,8 +132,10 @@ among_contains q (m ∷ marks) h = by (is_property q m) refl h (among_contains q
 pub none_gone : (rows : List CacheEntry) → AreLetGo (kept_of rows) [] rows
 none_gone rows q = refl
 
-pub one_gone : (before : Keeping) (touched : List Property) (at : Property) (rows : List CacheEntry) → AreLetGo before touched rows → AreLetGo before (touched ++ at ∷ []) (without at rows)
-one_gone before touched at rows gone q = kept_without at rows q ∙ (ap (λ o. cond (is_property at q) None o) (gone q) ∙ (by (is_property at q) (among q touched) ∙ ap (λ b. cond b None (before q)) (sym joined)))
+pub one_gone : (before : Keeping) (touched : List Property) (at : Property) (rows : List CacheEntry) → AreLetGo before touched rows
+    → AreLetGo before (touched ++ at ∷ []) (without at rows)
+one_gone before touched at rows gone q = kept_without at rows q
+    ∙ (ap (λ o. cond (is_property at q) None o) (gone q) ∙ (by (is_property at q) (among q touched) ∙ ap (λ b. cond b None (before q)) (sym joined)))
   where
     joined : among q (touched ++ at ∷ []) ≡ (among q touched || (is_property at q || false))
     joined = among_join q touched (at ∷ []) ∙ ap (λ b. among q touched || (b || false)) (is_property_sym q at)
@@ -134,21 +146,25 @@ one_gone before touched at rows gone q = kept_without at rows q ∙ (ap (λ o. c
     by false true = refl
     by false false = refl
 
-pub gone_more : (before : Keeping) (touched : List Property) (k : ℕ) (default : Property) (rows : List CacheEntry) → k < length touched → AreLetGo before (take k touched) rows → AreLetGo before (take (k + 1) touched) (without (get_or touched k default) rows)
-gone_more before touched k default rows within gone = subst (λ some. AreLetGo before some (without (get_or touched k default) rows)) (sym (more touched k within)) (one_gone before (take k touched) (get_or touched k default) rows gone)
+pub gone_more : (before : Keeping) (touched : List Property) (k : ℕ) (default : Property) (rows : List CacheEntry) → k < length touched
+    → AreLetGo before (take k touched) rows → AreLetGo before (take (k + 1) touched) (without (get_or touched k default) rows)
+gone_more before touched k default rows within gone = subst (λ some. AreLetGo before some (without (get_or touched k default) rows))
+    (sym (more touched k within)) (one_gone before (take k touched) (get_or touched k default) rows gone)
   where
     more : (l : List Property) (k : ℕ) → k < length l → take (k + 1) l ≡ take k l ++ get_or l k default ∷ []
     more l k lt = take_more l k default lt
 
 -- what a property was read by is gone, and so for those before it
 
-pub unread_more : (old new : List Property) (edges fewer : List Edge) (at : ℕ) (d : Property) → at < length old → IsLonger old new → AreAmong fewer edges → All (IsUnread edges) (take at old) → IsUnread fewer (get_or old at d) → All (IsUnread fewer) (take (at + 1) new)
+pub unread_more : (old new : List Property) (edges fewer : List Edge) (at : ℕ) (d : Property) → at < length old → IsLonger old new → AreAmong fewer edges
+    → All (IsUnread edges) (take at old) → IsUnread fewer (get_or old at d) → All (IsUnread fewer) (take (at + 1) new)
 unread_more old new edges fewer at d lt longer within all here =
     subst (All (IsUnread fewer)) (sym (longer_take old new longer (at + 1) (omega (arith, lt))))
     (All-more (IsUnread fewer) old at d lt (All-weaker (IsUnread edges) (IsUnread fewer) (unread_within edges fewer within) (take at old) all) here)
 
 -- where nothing has read what is touched any longer
-pub nothing_reads : (before : Keeping) (touched : List Property) (rows : List CacheEntry) (edges : List Edge) → AreLetGo before touched rows → All (IsUnread edges) touched → HasReaders rows edges → IsReached before touched rows
+pub nothing_reads : (before : Keeping) (touched : List Property) (rows : List CacheEntry) (edges : List Edge) → AreLetGo before touched rows
+    → All (IsUnread edges) touched → HasReaders rows edges → IsReached before touched rows
 nothing_reads before touched rows edges gone unread has = record {
   gone = gone;
   unread = λ q kept is k d lt. false_from_ne_true (among (get_or kept.reads k d) touched) (λ on.
@@ -167,7 +183,8 @@ kept_join [] ys q = refl
 kept_join (x ∷ xs) ys q = by (is_property q x.at) (kept_join xs ys q)
   where
     by : (t : Bool) → kept_of (xs ++ ys) q ≡ first_kept (kept_of xs q) (kept_of ys q)
-        → option_map (λ (row : CacheEntry). row.kept) (cond t (Some x) (find (λ (row : CacheEntry). is_property q row.at) (xs ++ ys))) ≡ first_kept (option_map (λ (row : CacheEntry). row.kept) (cond t (Some x) (find (λ (row : CacheEntry). is_property q row.at) xs))) (kept_of ys q)
+        → option_map (λ (row : CacheEntry). row.kept) (cond t (Some x) (find (λ (row : CacheEntry). is_property q row.at) (xs ++ ys)))
+        ≡ first_kept (option_map (λ (row : CacheEntry). row.kept) (cond t (Some x) (find (λ (row : CacheEntry). is_property q row.at) xs))) (kept_of ys q)
     by true rest = refl
     by false rest = rest
 
@@ -175,7 +192,8 @@ pub kept_put : (row : CacheEntry) (old new : List CacheEntry) → IsPut row old 
 unfolding first_kept
 kept_put row old new put none q = put q ∙ (by (is_property q row.at) refl (kept_of old q) refl ∙ sym (kept_join old (row ∷ []) q))
   where
-    by : (t : Bool) → is_property q row.at ≡ t → (o : Option EvalResult) → kept_of old q ≡ o → cond t (Some row.kept) o ≡ first_kept o (option_map (λ (row : CacheEntry). row.kept) (cond t (Some row) None))
+    by : (t : Bool) → is_property q row.at ≡ t → (o : Option EvalResult) → kept_of old q ≡ o
+        → cond t (Some row.kept) o ≡ first_kept o (option_map (λ (row : CacheEntry). row.kept) (cond t (Some row) None))
     by true same None is = refl
     by true same (Some kept) is = absurd (let gone : None ≡ Some kept = sym none ∙ (ap (kept_of old) (sym (property_eq q row.at same)) ∙ is) in cc)
     by false other None is = refl
@@ -185,24 +203,30 @@ pub kept_already : (row : CacheEntry) (old : List CacheEntry) → is_some (kept_
 unfolding first_kept
 kept_already row old there q = by (is_property q row.at) refl (kept_of old q) refl ∙ sym (kept_join old (row ∷ []) q)
   where
-    by : (t : Bool) → is_property q row.at ≡ t → (o : Option EvalResult) → kept_of old q ≡ o → o ≡ first_kept o (option_map (λ (row : CacheEntry). row.kept) (cond t (Some row) None))
-    by true same None is = absurd (let gone : false ≡ true = sym (ap is_some is) ∙ (ap (λ (p : Property). is_some (kept_of old p)) (property_eq q row.at same) ∙ there) in cc)
+    by : (t : Bool) → is_property q row.at ≡ t → (o : Option EvalResult) → kept_of old q ≡ o
+        → o ≡ first_kept o (option_map (λ (row : CacheEntry). row.kept) (cond t (Some row) None))
+    by true same None is = absurd
+        (let gone : false ≡ true = sym (ap is_some is) ∙ (ap (λ (p : Property). is_some (kept_of old p)) (property_eq q row.at same) ∙ there) in cc)
     by true same (Some kept) is = refl
     by false other None is = refl
     by false other (Some kept) is = refl
 
-pub kept_next : (rows after : List CacheEntry) (row : CacheEntry) (rest all : List CacheEntry) → AreKeptToo (row ∷ []) rows after → ((q : Property) → kept_of (rows ++ row ∷ rest) q ≡ kept_of all q) → (q : Property) → kept_of (after ++ rest) q ≡ kept_of all q
+pub kept_next : (rows after : List CacheEntry) (row : CacheEntry) (rest all : List CacheEntry) → AreKeptToo (row ∷ []) rows after
+    → ((q : Property) → kept_of (rows ++ row ∷ rest) q ≡ kept_of all q) → (q : Property) → kept_of (after ++ rest) q ≡ kept_of all q
 kept_next rows after row rest all same before q =
-    kept_join after rest q ∙ (ap (λ o. first_kept o (kept_of rest q)) (same q) ∙ (sym (kept_join (rows ++ row ∷ []) rest q) ∙ (ap (λ l. kept_of l q) (append_assoc rows (row ∷ []) rest) ∙ before q)))
+    kept_join after rest q ∙ (ap (λ o. first_kept o (kept_of rest q)) (same q)
+    ∙ (sym (kept_join (rows ++ row ∷ []) rest q) ∙ (ap (λ l. kept_of l q) (append_assoc rows (row ∷ []) rest) ∙ before q)))
 
 -- with what is put, what it has read knows its reader
-pub readers_put : (row : CacheEntry) (old new : List CacheEntry) (edges : List Edge) → IsPut row old new → All (λ read. Contains edges (edge_of read row.at)) row.kept.reads → HasReaders old edges → HasReaders new edges
+pub readers_put : (row : CacheEntry) (old new : List CacheEntry) (edges : List Edge) → IsPut row old new
+    → All (λ read. Contains edges (edge_of read row.at)) row.kept.reads → HasReaders old edges → HasReaders new edges
 readers_put row old new edges put added has q kept is = by (is_property q row.at) refl (sym (put q) ∙ is)
   where
     by : (t : Bool) → is_property q row.at ≡ t → cond t (Some row.kept) (kept_of old q) ≡ Some kept → All (λ read. Contains edges (edge_of read q)) kept.reads
     by true same e =
         let one : row.kept ≡ kept = cc in
-        subst (λ (p : Property). All (λ read. Contains edges (edge_of read p)) kept.reads) (sym (property_eq q row.at same)) (subst (λ (k : EvalResult). All (λ read. Contains edges (edge_of read row.at)) k.reads) one added)
+        subst (λ (p : Property). All (λ read. Contains edges (edge_of read p)) kept.reads) (sym (property_eq q row.at same))
+        (subst (λ (k : EvalResult). All (λ read. Contains edges (edge_of read row.at)) k.reads) one added)
     by false other e = has q kept e
 
 -- what a look-up says of what is kept

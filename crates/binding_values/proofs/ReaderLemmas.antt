@@ -1,5 +1,6 @@
 -- Which bound properties have read a property.
-use Rattle.std.proofs.Common.{◌≡◌, ◌≢◌, ◌∙◌, ◌⊎◌, ℕ, ◌<◌, ◌≤◌, false, not, List, Some, None, All, Contains, length, refl, sym, ap, subst, arith, ⊎_elim, take, get_or, ◌+◌}
+use Rattle.std.proofs.Common.{◌≡◌, ◌≢◌, ◌∙◌, ◌⊎◌, ℕ, ◌<◌, ◌≤◌, false, not, List, Some, None, All, Contains, length, refl, sym, ap, subst, arith, ⊎_elim, take}
+use Rattle.std.proofs.Common.{get_or, ◌+◌}
 use Rattle.std.specs.Cmp.{IsTotalOrder}
 use Rattle.std.specs.Ordering.{is_eq, is_lt, nat_cmp, ordering_then}
 use Rattle.std.specs.declared.cmp.Ordering.{Ordering}
@@ -18,13 +19,17 @@ use Rattle.binding_values.specs.declared.readers.Edge.{Edge}
 use Rattle.binding_values.specs.Readers.{AreAmong, AreFewer, IsUnread, edge_cmp, edge_of}
 
 pub edge_total : IsTotalOrder edge_cmp
-edge_total = then_total (on_total (λ (edge : Edge). edge.read_object) nat_cmp_total) (then_total (on_total (λ (edge : Edge). edge.read_number) nat_cmp_total) (then_total (on_total (λ (edge : Edge). edge.reader_object) nat_cmp_total) (on_total (λ (edge : Edge). edge.reader_number) nat_cmp_total)))
+edge_total = then_total (on_total (λ (edge : Edge). edge.read_object) nat_cmp_total)
+    (then_total (on_total (λ (edge : Edge). edge.read_number) nat_cmp_total)
+    (then_total (on_total (λ (edge : Edge). edge.reader_object) nat_cmp_total) (on_total (λ (edge : Edge). edge.reader_number) nat_cmp_total)))
 
 -- edges that stand in one place are one
 pub edge_same : (x y : Edge) → edge_cmp x y ≡ Equal → x ≡ y
-edge_same x y e = by (nat_cmp x.read_object y.read_object) (nat_cmp x.read_number y.read_number) (nat_cmp x.reader_object y.reader_object) (nat_cmp x.reader_number y.reader_number) refl refl refl refl e
+edge_same x y e = by (nat_cmp x.read_object y.read_object) (nat_cmp x.read_number y.read_number) (nat_cmp x.reader_object y.reader_object)
+    (nat_cmp x.reader_number y.reader_number) refl refl refl refl e
   where
-    by : (a b c d : Ordering) → a ≡ nat_cmp x.read_object y.read_object → b ≡ nat_cmp x.read_number y.read_number → c ≡ nat_cmp x.reader_object y.reader_object → d ≡ nat_cmp x.reader_number y.reader_number → ordering_then a (ordering_then b (ordering_then c d)) ≡ Equal → x ≡ y
+    by : (a b c d : Ordering) → a ≡ nat_cmp x.read_object y.read_object → b ≡ nat_cmp x.read_number y.read_number → c ≡ nat_cmp x.reader_object y.reader_object
+        → d ≡ nat_cmp x.reader_number y.reader_number → ordering_then a (ordering_then b (ordering_then c d)) ≡ Equal → x ≡ y
     by Equal Equal Equal Equal a b c d e =
         let same_a : x.read_object ≡ y.read_object = ranked x.read_object y.read_object Equal a in
         let same_b : x.read_number ≡ y.read_number = ranked x.read_number y.read_number Equal b in
@@ -69,7 +74,8 @@ module _ (edges : List Edge) (order : IsInOrder edge_cmp edges) (read : Property
       both_ways _ (not_below read reader) below
 
   -- nor where the least of those is another's
-  pub others_of : (least : Edge) → first_from edge_cmp edges (from read) ≡ Some least → (least.read_object ≢ read.object) ⊎ (least.read_number ≢ read.number) → IsUnread edges read
+  pub others_of : (least : Edge) → first_from edge_cmp edges (from read) ≡ Some least → (least.read_object ≢ read.object) ⊎ (least.read_number ≢ read.number)
+      → IsUnread edges read
   others_of least found differs reader there =
       let first = first_some edge_total edge_same edges order (from read) least found in
       let low = at_least least (from read) first.1 in
@@ -80,7 +86,8 @@ module _ (edges : List Edge) (order : IsInOrder edge_cmp edges) (read : Property
       ⊎_elim (λ other. other same) (λ other. other (omega arith)) differs
 
   -- else that one is an edge of the property
-  pub one_of : (least : Edge) → first_from edge_cmp edges (from read) ≡ Some least → least.read_object ≡ read.object → least.read_number ≡ read.number → Contains edges (edge_of read (record { object = least.reader_object; number = least.reader_number }))
+  pub one_of : (least : Edge) → first_from edge_cmp edges (from read) ≡ Some least → least.read_object ≡ read.object → least.read_number ≡ read.number
+      → Contains edges (edge_of read (record { object = least.reader_object; number = least.reader_number }))
   one_of least found object number =
       subst (Contains edges)
       (ap (λ i. record { read_object = i; read_number = least.read_number; reader_object = least.reader_object; reader_number = least.reader_number }) object
@@ -100,15 +107,22 @@ pub other_edge : (read other reader q : Property) → is_property reader q ≡ f
 other_edge read other reader q differs same =
     let object : q.object ≡ reader.object = ap (λ (edge : Edge). edge.reader_object) same in
     let number : q.number ≡ reader.number = ap (λ (edge : Edge). edge.reader_number) same in
-    both_ways (is_property reader q) differs (ap (λ n. is_property reader (record { object = n; number = q.number })) object ∙ (ap (λ n. is_property reader (record { object = reader.object; number = n })) number ∙ is_itself reader))
+    both_ways (is_property reader q) differs
+    (ap (λ n. is_property reader (record { object = n; number = q.number })) object
+    ∙ (ap (λ n. is_property reader (record { object = reader.object; number = n })) number ∙ is_itself reader))
 
 pub fewer_links : (edges : List Edge) (edge : Edge) → length (without_link edge_cmp edges edge) ≤ length edges
-fewer_links edges edge = omega (arith, length-filter (λ other. not (is_eq (edge_cmp other edge))) edges, count_by-le-length (λ other. not (is_eq (edge_cmp other edge))) edges)
+fewer_links edges edge = omega (
+  arith,
+  length-filter (λ other. not (is_eq (edge_cmp other edge))) edges,
+  count_by-le-length (λ other. not (is_eq (edge_cmp other edge))) edges,
+)
 
 pub edge_gone : (edges : List Edge) (read reader : Property) → AreFewer reader edges (without_link edge_cmp edges (edge_of read reader))
 edge_gone edges read reader = record {
   within = λ edge there. (without_from edge_total edge_same edges (edge_of read reader) edge there).0;
-  others = λ other q differs there. without_others edge_total edge_same edges (edge_of read reader) (edge_of other q) there (other_edge read other reader q differs);
+  others = λ other q differs there. without_others edge_total edge_same edges (edge_of read reader) (edge_of other q) there
+      (other_edge read other reader q differs);
   few = fewer_links edges (edge_of read reader);
 }
 
@@ -123,10 +137,12 @@ fewer_then reader a b c ab bc = record {
 }
 
 -- one more that was read
-pub added_more : (edges : List Edge) (reads : List Property) (at : ℕ) (default : Property) (reader : Property) → at < length reads → All (λ read. Contains edges (edge_of read reader)) (take at reads)
+pub added_more : (edges : List Edge) (reads : List Property) (at : ℕ) (default : Property) (reader : Property) → at < length reads
+    → All (λ read. Contains edges (edge_of read reader)) (take at reads)
     → All (λ read. Contains (with_link edge_cmp edges (edge_of (get_or reads at default) reader)) (edge_of read reader)) (take (at + 1) reads)
 added_more edges reads at default reader within all =
     let new : List Edge = with_link edge_cmp edges (edge_of (get_or reads at default) reader) in
     All-more (λ read. Contains new (edge_of read reader)) reads at default within
-    (All-weaker (λ read. Contains edges (edge_of read reader)) (λ read. Contains new (edge_of read reader)) (λ read there. more_edges edges (edge_of (get_or reads at default) reader) (edge_of read reader) there) (take at reads) all)
+    (All-weaker (λ read. Contains edges (edge_of read reader)) (λ read. Contains new (edge_of read reader))
+    (λ read there. more_edges edges (edge_of (get_or reads at default) reader) (edge_of read reader) there) (take at reads) all)
     (edge_added edges (edge_of (get_or reads at default) reader))

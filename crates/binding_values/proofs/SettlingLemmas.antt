@@ -1,5 +1,6 @@
 -- How what is kept is settled.
-use Rattle.std.proofs.Common.{◌≡◌, ◌∙◌, ◌⊎◌, ◌||◌, Bool, true, false, cond, List, [], ◌∷◌, Option, Some, None, All, filter, map, refl, sym, ap, subst, inl, inr, ⊎_elim, ◌++◌}
+use Rattle.std.proofs.Common.{◌≡◌, ◌∙◌, ◌⊎◌, ◌||◌, Bool, true, false, cond, List, [], ◌∷◌, Option, Some, None, All, filter, map, refl, sym, ap, subst, inl, inr}
+use Rattle.std.proofs.Common.{⊎_elim, ◌++◌}
 use Rattle.std.proofs.lemmas.Bool.{both_ways, cases_Bool, false_from_ne_true}
 use Rattle.std.proofs.lemmas.List.Elements.{All-contains}
 use Rattle.property_store.specs.declared.property.Property.{Property}
@@ -23,15 +24,18 @@ still_settled scene less more within q (inr unbound) = inr unbound
 
 -- what is reached
 
-pub right_more : (scene : Scene) (old new : List Property) (keeping : Keeping) → IsLonger old new → IsRightBut scene (only old) keeping → IsRightBut scene (only new) keeping
+pub right_more : (scene : Scene) (old new : List Property) (keeping : Keeping) → IsLonger old new → IsRightBut scene (only old) keeping
+    → IsRightBut scene (only new) keeping
 right_more scene old new keeping longer right part within closed clear =
     right part within closed (λ q kept is. let c = clear q kept is in record { own = was_clear _ c.own; reads = λ k d lt. was_clear _ (c.reads k d lt) })
   where
     was_clear : (q : Property) → among q new ≡ false → among q old ≡ false
     was_clear q off = false_from_ne_true (among q old) (λ on. both_ways (among q new) off (longer_among old new longer q on))
 
-pub whole_more : (scene : Scene) (old new : List Property) (keeping : Keeping) → IsLonger old new → IsWhole scene (only old) keeping → IsWhole scene (only new) keeping
-whole_more scene old new keeping longer whole q off = whole q (false_from_ne_true (among q old) (λ on. both_ways (among q new) off (longer_among old new longer q on)))
+pub whole_more : (scene : Scene) (old new : List Property) (keeping : Keeping) → IsLonger old new → IsWhole scene (only old) keeping
+    → IsWhole scene (only new) keeping
+whole_more scene old new keeping longer whole q off = whole q
+    (false_from_ne_true (among q old) (λ on. both_ways (among q new) off (longer_among old new longer q on)))
 
 module _ (scene : Scene) (before : Keeping) (touched : List Property) (rows : List CacheEntry) (reached : IsReached before touched rows) where
   stays : (q : Property) (kept : EvalResult) → among q touched ≡ false → before q ≡ Some kept → kept_of rows q ≡ Some kept
@@ -43,7 +47,8 @@ module _ (scene : Scene) (before : Keeping) (touched : List Property) (rows : Li
   pub rest_right : IsRightBut scene (only touched) before → IsWhole scene (only touched) before → IsRight scene (kept_of rows) × IsClosed scene (kept_of rows)
   rest_right right whole =
       let same : unmarked (only touched) before ≡ kept_of rows = λ i q. sym (reached.gone q) i in
-      subst (λ (keeping : Keeping). IsRight scene keeping × IsClosed scene keeping) same (rest_is_right scene (only touched) before right (reached_spread whole))
+      subst (λ (keeping : Keeping). IsRight scene keeping × IsClosed scene keeping) same
+      (rest_is_right scene (only touched) before right (reached_spread whole))
 
   module _ (whole : IsWhole scene (only touched) before) (after : Keeping) (right : IsRight scene after) (within : IsWithin (kept_of rows) after) where
     pub is_complete : IsClosed scene after → All (IsSettled scene after) touched → IsComplete scene after
@@ -86,7 +91,9 @@ bound_or_not store bindings q off = inr (by bindings off)
     by [] off = refl
     by (b ∷ bs) off = one (is_property q b.at) refl (is_there store b) off (by bs)
       where
-        one : (t : Bool) → is_property q b.at ≡ t → (u : Bool) → (t || among q (map (λ (binding : Binding). binding.at) bs)) ≡ false → (among q (map (λ (binding : Binding). binding.at) bs) ≡ false → term_at (filter (is_there store) bs) q ≡ None) → term_at (cond u (b ∷ filter (is_there store) bs) (filter (is_there store) bs)) q ≡ None
+        one : (t : Bool) → is_property q b.at ≡ t → (u : Bool) → (t || among q (map (λ (binding : Binding). binding.at) bs)) ≡ false
+            → (among q (map (λ (binding : Binding). binding.at) bs) ≡ false → term_at (filter (is_there store) bs) q ≡ None)
+            → term_at (cond u (b ∷ filter (is_there store) bs) (filter (is_there store) bs)) q ≡ None
         one true same u e rest = absurd (cc)
         one false other true e rest = rw other (rest e)
         one false other false e rest = rest e

@@ -21,7 +21,8 @@ pub kept_stays_right : (a b : Scene) (keeping : Keeping) → IsRight a keeping �
 kept_stays_right a b keeping right agrees q kept is =
     let r = right q kept is in
     let there = cell_there a b keeping right agrees q kept is in
-    let same = same_evaluation a b (known a keeping) (known b keeping) q.object r.term ((agrees q kept is).names r.term r.bound) (λ k d lt. known_steady a b keeping right _ (steady_reads a b keeping right agrees q kept is k d lt)) in
+    let same = same_evaluation a b (known a keeping) (known b keeping) q.object r.term ((agrees q kept is).names r.term r.bound)
+    (λ k d lt. known_steady a b keeping right _ (steady_reads a b keeping right agrees q kept is k d lt)) in
     record {
       cell = there.0;
       term = r.term;
@@ -34,7 +35,8 @@ kept_stays_right a b keeping right agrees q kept is =
 
 -- where what changes is marked
 
-same_name : (marks : Marks) (o p : Option Property) → IfSome o (λ q. is_marked marks q ≡ false) → ((q : Property) → o ≡ Some q → is_marked marks q ≡ false → p ≡ Some q) → (o ≡ None → p ≡ None) → o ≡ p
+same_name : (marks : Marks) (o p : Option Property) → IfSome o (λ q. is_marked marks q ≡ false)
+    → ((q : Property) → o ≡ Some q → is_marked marks q ≡ false → p ≡ Some q) → (o ≡ None → p ≡ None) → o ≡ p
 same_name marks None p clear names nameless = sym (nameless refl)
 same_name marks (Some q) p clear names nameless = sym (names q refl clear)
 
@@ -42,7 +44,8 @@ same_name marks (Some q) p clear names nameless = sym (names q refl clear)
 pub record AreAlikeBut (marks : Marks) (a b : Scene) : Type 0 where
   pub cells : (q : Property) → is_marked marks q ≡ false → a.cell_at q ≡ b.cell_at q
   pub terms : (q : Property) → is_marked marks q ≡ false → term_at a.bindings q ≡ term_at b.bindings q
-  pub names : (object : ℕ) (target : Target) (name : List ℕ) (q : Property) → a.named object target name ≡ Some q → is_marked marks q ≡ false → b.named object target name ≡ Some q
+  pub names : (object : ℕ) (target : Target) (name : List ℕ) (q : Property) → a.named object target name ≡ Some q → is_marked marks q ≡ false
+      → b.named object target name ≡ Some q
   pub nameless : (object : ℕ) (target : Target) (name : List ℕ) → a.named object target name ≡ None → b.named object target name ≡ None
 
 pub alike : (marks : Marks) (a b : Scene) → DiffersAt marks a b → AreAlikeBut marks a b
@@ -69,7 +72,11 @@ module _ (a b : Scene) (marks more : Marks) (keeping : Keeping) (are_more : AreM
 
       steady : (r : Property) → is_marked more r ≡ false → IsKept part r ⊎ IsUnbound b r → IsSteady a b part r
       steady r off (inl kept) = inl kept
-      steady r off (inr unbound) = inr (unbound_in_a r off unbound, unbound, ap (λ o. option_map_or (λ (cell : Cell). Ok cell.value) o (Err EvaluationError)) (differs.cells r off))
+      steady r off (inr unbound) = inr (
+        unbound_in_a r off unbound,
+        unbound,
+        ap (λ o. option_map_or (λ (cell : Cell). Ok cell.value) o (Err EvaluationError)) (differs.cells r off),
+      )
 
       agrees : Agrees a b part
       agrees q kept is =
@@ -82,14 +89,18 @@ module _ (a b : Scene) (marks more : Marks) (keeping : Keeping) (are_more : AreM
             reads = λ k d lt. steady _ (c.reads k d lt) (closed q kept is k d lt);
           }
         where
-          names : (term : Term) → term_at a.bindings q ≡ Some term → All (λ read. a.named q.object read.target read.name ≡ b.named q.object read.target read.name) (met_by [] (reader a (known a part) q.object) term)
+          names : (term : Term) → term_at a.bindings q ≡ Some term
+              → All (λ read. a.named q.object read.target read.name ≡ b.named q.object read.target read.name)
+              (met_by [] (reader a (known a part) q.object) term)
           names term bound =
               let c = clear q kept is in
               let r = right q kept is in
               let one : r.term ≡ term = (let both : Some r.term ≡ Some term = sym r.bound ∙ bound in cc) in
-              subst (λ term. All (λ read. a.named q.object read.target read.name ≡ b.named q.object read.target read.name) (met_by [] (reader a (known a part) q.object) term)) one
+              subst (λ term. All (λ read. a.named q.object read.target read.name ≡ b.named q.object read.target read.name)
+              (met_by [] (reader a (known a part) q.object) term)) one
               (λ k d lt. same_name more _ _
-              (each_given (λ (read : Read). a.named q.object read.target read.name) (λ r. is_marked more r ≡ false) (met_by [] (reader a (known a part) q.object) r.term) (subst (All (λ r. is_marked more r ≡ false)) (sym r.reads) c.reads) k d lt)
+              (each_given (λ (read : Read). a.named q.object read.target read.name) (λ r. is_marked more r ≡ false)
+              (met_by [] (reader a (known a part) q.object) r.term) (subst (All (λ r. is_marked more r ≡ false)) (sym r.reads) c.reads) k d lt)
               (λ p e off. differs.names q.object _ _ p e off) (λ e. differs.nameless q.object _ _ e))
 
   pub stays_whole : IsWhole a marks keeping → IsWhole b more keeping

@@ -25,7 +25,8 @@ module _ (store : Store) (q : Property) where
       wanted : Binding → Bool
       wanted binding = is_property q binding.at
 
-      by : (is : Bool) → is_property q b.at ≡ is → (there : Bool) → is_there store b ≡ there → (here : Bool) → is_some (cell_in store q) ≡ here → term_at (filter (is_there store) bs) q ≡ cond here (term_at bs q) None
+      by : (is : Bool) → is_property q b.at ≡ is → (there : Bool) → is_there store b ≡ there → (here : Bool) → is_some (cell_in store q) ≡ here
+          → term_at (filter (is_there store) bs) q ≡ cond here (term_at bs q) None
           → term_at (cond there (b ∷ filter (is_there store) bs) (filter (is_there store) bs)) q ≡ cond here (expr_of (cond is (Some b) (find wanted bs))) None
       by true e true f true g rest = ap (λ t. expr_of (cond t (Some b) (find wanted (filter (is_there store) bs)))) e
       by true e true f false g rest = absurd (let same : true ≡ false = sym f ∙ (ap (λ p. is_some (cell_in store p)) (sym (property_eq q b.at e)) ∙ g) in cc)

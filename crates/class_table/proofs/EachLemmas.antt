@@ -13,7 +13,8 @@ next_in xs i x within is = rw (add-one, drop-cons xs i x) (ap (λ z. z ∷ drop 
 
 module _ {V A B T : Type 0} (f : A → Read B) (view : V → A) (seen : T → B) where
   -- one element more is read
-  pub each_next : (xs : List V) (i : ℕ) (x : V) (done more : List T) (y : T) → i < length xs → x ≡ get_or xs i x → more ≡ done ++ y ∷ [] → f (view x) ≡ Ok (seen y) → in_front (map seen more) (each f (map view (drop (i + 1) xs))) ≡ in_front (map seen done) (each f (map view (drop i xs)))
+  pub each_next : (xs : List V) (i : ℕ) (x : V) (done more : List T) (y : T) → i < length xs → x ≡ get_or xs i x → more ≡ done ++ y ∷ []
+      → f (view x) ≡ Ok (seen y) → in_front (map seen more) (each f (map view (drop (i + 1) xs))) ≡ in_front (map seen done) (each f (map view (drop i xs)))
   each_next xs i x done more y within is longer said =
       let split : drop i xs ≡ x ∷ drop (i + 1) xs = next_in xs i x within is in
       rw (longer, map-append seen done (y ∷ []), split, said) (in_front_push (map seen done) (seen y) (each f (map view (drop (i + 1) xs))))

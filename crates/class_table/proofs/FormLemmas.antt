@@ -14,7 +14,9 @@ list_any_map : {A B : Type 0} (test : B → Bool) (seen : A → B) (xs : List A)
 list_any_map test seen [] = refl
 list_any_map test seen (x ∷ xs) = ap (λ rest. test (seen x) || rest) (list_any_map test seen xs)
 
-pub keys_are_among_view : (known : List (Bor (List ℕ))) (entries : List (String Global × Value)) → keys_are_among (map (λ one. one.now) known) (members_view entries) ≡ list_all (λ key. list_any (λ one. bytes_eq (string_bytes key) one.now) known) (map (λ entry. entry.0) entries)
+pub keys_are_among_view : (known : List (Bor (List ℕ))) (entries : List (String Global × Value))
+    → keys_are_among (map (λ one. one.now) known) (members_view entries)
+    ≡ list_all (λ key. list_any (λ one. bytes_eq (string_bytes key) one.now) known) (map (λ entry. entry.0) entries)
 keys_are_among_view known [] = refl
 keys_are_among_view known (entry ∷ entries) =
     λ i. list_any_map (bytes_eq (string_bytes entry.0)) (λ one. one.now) known i && keys_are_among_view known entries i

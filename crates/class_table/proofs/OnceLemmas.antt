@@ -1,5 +1,6 @@
 -- Methods and properties that are declared once.
-use Rattle.std.proofs.Common.{Ordering, ◌≡◌, ◌∙◌, ℕ, zero, suc, ◌+◌, Bool, true, false, not, cond, ◌&&◌, ◌||◌, List, [], ◌∷◌, ◌++◌, Some, Ok, map, position, bytes_eq, is_none, slice_get, take, refl, sym, ap, subst, IsTrue, Decides}
+use Rattle.std.proofs.Common.{Ordering, ◌≡◌, ◌∙◌, ℕ, zero, suc, ◌+◌, Bool, true, false, not, cond, ◌&&◌, ◌||◌, List, [], ◌∷◌, ◌++◌, Some, Ok, map, position}
+use Rattle.std.proofs.Common.{bytes_eq, is_none, slice_get, take, refl, sym, ap, subst, IsTrue, Decides}
 use Rattle.std.specs.Cmp.Lexicographic.{pointwise, pointwise_decides, slice_cmp}
 use Rattle.std.specs.List.{All, list_all, list_any, position_from}
 use Rattle.std.specs.BTreeSet.{BTreeSet, Updates, contains}
@@ -20,7 +21,8 @@ use Rattle.class_table.specs.declared.declare.Signed.{Signed}
 use Rattle.class_table.specs.declared.form.PropertyForm.{PropertyForm}
 use Rattle.class_table.specs.Declaring.{new_names, new_signatures}
 use Rattle.class_table.specs.Forms.{property_seen}
-use Rattle.class_table.specs.Lookup.{are_distinct_methods, are_distinct_properties, is_distinct, is_same, method_number, names, property_number, signatures, text_of}
+use Rattle.class_table.specs.Lookup.{are_distinct_methods, are_distinct_properties, is_distinct, is_same, method_number, names, property_number, signatures}
+use Rattle.class_table.specs.Lookup.{text_of}
 use Rattle.class_table.specs.Signed.{signed_seen}
 use Rattle.class_table.specs.Steps.{Read}
 
@@ -33,7 +35,8 @@ none_from : {X : Type 0} (p : X → Bool) (at : ℕ) (xs : List X) → is_none (
 none_from p at [] = refl
 none_from p at (x ∷ xs) = by (p x) (none_from p (at + 1) xs)
   where
-    by : (b : Bool) → is_none (position_from p (at + 1) xs) ≡ not (list_any p xs) → is_none (cond b (Some at) (position_from p (at + 1) xs)) ≡ not (b || list_any p xs)
+    by : (b : Bool) → is_none (position_from p (at + 1) xs) ≡ not (list_any p xs)
+        → is_none (cond b (Some at) (position_from p (at + 1) xs)) ≡ not (b || list_any p xs)
     by true rest = refl
     by false rest = rest
 
@@ -62,13 +65,17 @@ module _ {X : Type 0} (same : X → X → Bool) where
   -- two lists, one behind the other, where the first has nothing twice
   pub distinct-append : (xs ys : List X) → IsTrue (is_distinct same xs) → is_distinct same (xs ++ ys) ≡ (are_apart xs ys && is_distinct same ys)
   distinct-append [] ys h = rw (all_true ys)
-  distinct-append (x ∷ xs) ys h = by (list_any (same x) xs) (is_distinct same xs) refl h (list_any-append (same x) xs ys) (distinct-append xs ys) (apart-cons x xs ys)
+  distinct-append (x ∷ xs) ys h = by (list_any (same x) xs) (is_distinct same xs) refl h (list_any-append (same x) xs ys) (distinct-append xs ys)
+      (apart-cons x xs ys)
     where
       swap : (a b c : Bool) → (not a && (b && c)) ≡ ((not a && b) && c)
       swap true b c = refl
       swap false b c = refl
 
-      by : (a b : Bool) → is_distinct same xs ≡ b → IsTrue (not a && b) → list_any (same x) (xs ++ ys) ≡ (a || list_any (same x) ys) → (IsTrue (is_distinct same xs) → is_distinct same (xs ++ ys) ≡ (are_apart xs ys && is_distinct same ys)) → are_apart (x ∷ xs) ys ≡ (not (list_any (same x) ys) && are_apart xs ys) → (not (list_any (same x) (xs ++ ys)) && is_distinct same (xs ++ ys)) ≡ (are_apart (x ∷ xs) ys && is_distinct same ys)
+      by : (a b : Bool) → is_distinct same xs ≡ b → IsTrue (not a && b) → list_any (same x) (xs ++ ys) ≡ (a || list_any (same x) ys)
+          → (IsTrue (is_distinct same xs) → is_distinct same (xs ++ ys) ≡ (are_apart xs ys && is_distinct same ys))
+          → are_apart (x ∷ xs) ys ≡ (not (list_any (same x) ys) && are_apart xs ys)
+          → (not (list_any (same x) (xs ++ ys)) && is_distinct same (xs ++ ys)) ≡ (are_apart (x ∷ xs) ys && is_distinct same ys)
       by true b e h any rest apart = absurd (cc)
       by false false e h any rest apart = absurd (cc)
       by false true e h any rest apart = rw (any, rest e, apart) (swap (list_any (same x) ys) (are_apart xs ys) (is_distinct same ys))
@@ -82,17 +89,28 @@ list_all-same p q e [] = refl
 list_all-same p q e (x ∷ xs) = λ i. e x i && list_all-same p q e xs i
 
 -- methods behind those of a superclass
-pub new_methods_once : (base : List Method) (new : List Signed) → IsTrue (are_distinct_methods (signatures base)) → are_distinct_methods (signatures base ++ new_signatures (map signed_seen new)) ≡ (list_all (λ n. is_none (method_number n.signature base)) new && are_distinct_methods (new_signatures (map signed_seen new)))
+pub new_methods_once : (base : List Method) (new : List Signed) → IsTrue (are_distinct_methods (signatures base))
+    → are_distinct_methods (signatures base ++ new_signatures (map signed_seen new))
+    ≡ (list_all (λ n. is_none (method_number n.signature base)) new && are_distinct_methods (new_signatures (map signed_seen new)))
 new_methods_once base new once =
     let apart : are_apart is_same (signatures base) (new_signatures (map signed_seen new)) ≡ list_all (λ n. is_none (method_number n.signature base)) new =
-    list_all-map _ (λ m. m.signature) (map signed_seen new) ∙ (list_all-map _ signed_seen new ∙ list_all-same _ _ (λ n. ap not (list_any-map (λ s. is_same s n.signature) (λ m. m.signature) base) ∙ sym (none-position (λ m. is_same m.signature n.signature) base)) new) in
-    distinct-append is_same (signatures base) (new_signatures (map signed_seen new)) once ∙ ap (λ a. a && are_distinct_methods (new_signatures (map signed_seen new))) apart
+    list_all-map _ (λ m. m.signature) (map signed_seen new) ∙
+    (list_all-map _ signed_seen new ∙ list_all-same _ _
+    (λ n. ap not (list_any-map (λ s. is_same s n.signature) (λ m. m.signature) base) ∙ sym (none-position (λ m. is_same m.signature n.signature) base))
+    new) in
+    distinct-append is_same (signatures base) (new_signatures (map signed_seen new)) once
+    ∙ ap (λ a. a && are_distinct_methods (new_signatures (map signed_seen new))) apart
 
-pub new_properties_once : (base : List Property) (new : List PropertyForm) → IsTrue (are_distinct_properties (names base)) → are_distinct_properties (names base ++ new_names (map property_seen new)) ≡ (list_all (λ n. is_none (property_number n.name.now base)) new && are_distinct_properties (new_names (map property_seen new)))
+pub new_properties_once : (base : List Property) (new : List PropertyForm) → IsTrue (are_distinct_properties (names base))
+    → are_distinct_properties (names base ++ new_names (map property_seen new))
+    ≡ (list_all (λ n. is_none (property_number n.name.now base)) new && are_distinct_properties (new_names (map property_seen new)))
 new_properties_once base new once =
     let apart : are_apart bytes_eq (names base) (new_names (map property_seen new)) ≡ list_all (λ n. is_none (property_number n.name.now base)) new =
-    list_all-map _ (λ p. p.name) (map property_seen new) ∙ (list_all-map _ property_seen new ∙ list_all-same _ _ (λ n. ap not (list_any-map (λ s. bytes_eq s n.name.now) (λ p. p.name) base) ∙ sym (none-position (λ p. bytes_eq p.name n.name.now) base)) new) in
-    distinct-append bytes_eq (names base) (new_names (map property_seen new)) once ∙ ap (λ a. a && are_distinct_properties (new_names (map property_seen new))) apart
+    list_all-map _ (λ p. p.name) (map property_seen new)
+    ∙ (list_all-map _ property_seen new ∙ list_all-same _ _
+    (λ n. ap not (list_any-map (λ s. bytes_eq s n.name.now) (λ p. p.name) base) ∙ sym (none-position (λ p. bytes_eq p.name n.name.now) base)) new) in
+    distinct-append bytes_eq (names base) (new_names (map property_seen new)) once
+    ∙ ap (λ a. a && are_distinct_properties (new_names (map property_seen new))) apart
 
 -- signatures by their normal texts
 
@@ -123,43 +141,51 @@ any_text : (a : Signature) (ss : List Signature) → IsNormal a → All IsNormal
 any_text a [] m all = refl
 any_text a (s ∷ ss) m all =
     let n = All-head IsNormal s ss all in
-    λ i. same_from_decides (is_same a s) (bytes_eq (text_of a) (text_of s)) (Decides-is_same a s) (Decides-text a s m n) i || any_text a ss m (All-tail IsNormal s ss all) i
+    λ i. same_from_decides (is_same a s) (bytes_eq (text_of a) (text_of s)) (Decides-is_same a s) (Decides-text a s m n) i
+    || any_text a ss m (All-tail IsNormal s ss all) i
 
 distinct_texts : (ss : List Signature) → All IsNormal ss → are_distinct_methods ss ≡ is_distinct bytes_eq (map text_of ss)
 distinct_texts [] all = refl
-distinct_texts (s ∷ ss) all = λ i. not (any_text s ss (All-head IsNormal s ss all) (All-tail IsNormal s ss all) i) && distinct_texts ss (All-tail IsNormal s ss all) i
+distinct_texts (s ∷ ss) all = λ i. not (any_text s ss (All-head IsNormal s ss all) (All-tail IsNormal s ss all) i)
+    && distinct_texts ss (All-tail IsNormal s ss all) i
 
 all_normal : (new : List Signed) → All (λ n. IsNormal n.signature) new → All IsNormal (new_signatures (map signed_seen new))
 all_normal [] all = All-nil IsNormal
-all_normal (n ∷ new) all = All-cons IsNormal n.signature (new_signatures (map signed_seen new)) (All-head (λ m. IsNormal m.signature) n new all) (all_normal new (All-tail (λ m. IsNormal m.signature) n new all))
+all_normal (n ∷ new) all = All-cons IsNormal n.signature (new_signatures (map signed_seen new)) (All-head (λ m. IsNormal m.signature) n new all)
+    (all_normal new (All-tail (λ m. IsNormal m.signature) n new all))
 
 texts_of : (new : List Signed) → map text_of (new_signatures (map signed_seen new)) ≡ map (λ n. text_of n.signature) new
 texts_of [] = refl
 texts_of (n ∷ new) = ap (λ rest. text_of n.signature ∷ rest) (texts_of new)
 
-pub methods_by_text : (new : List Signed) → All (λ n. IsNormal n.signature) new → are_distinct_methods (new_signatures (map signed_seen new)) ≡ is_distinct bytes_eq (map (λ n. text_of n.signature) new)
+pub methods_by_text : (new : List Signed) → All (λ n. IsNormal n.signature) new
+    → are_distinct_methods (new_signatures (map signed_seen new)) ≡ is_distinct bytes_eq (map (λ n. text_of n.signature) new)
 methods_by_text new all = distinct_texts (new_signatures (map signed_seen new)) (all_normal new all) ∙ ap (is_distinct bytes_eq) (texts_of new)
 
 names_of : (new : List PropertyForm) → new_names (map property_seen new) ≡ map (λ n. n.name.now) new
 names_of [] = refl
 names_of (n ∷ new) = ap (λ rest. n.name.now ∷ rest) (names_of new)
 
-pub properties_by_text : (new : List PropertyForm) → are_distinct_properties (new_names (map property_seen new)) ≡ is_distinct bytes_eq (map (λ n. n.name.now) new)
+pub properties_by_text : (new : List PropertyForm) → are_distinct_properties (new_names (map property_seen new))
+    ≡ is_distinct bytes_eq (map (λ n. n.name.now) new)
 properties_by_text new = ap (is_distinct bytes_eq) (names_of new)
 
 -- one text after another
 
 turned : (x y : List ℕ) → bytes_eq x y ≡ bytes_eq y x
-turned x y = same_from_decides (bytes_eq x y) (bytes_eq y x) (bytes_eq-Decides x y) (λ e. sym ((bytes_eq-Decides y x).0 e), λ e. (bytes_eq-Decides y x).1 (sym e))
+turned x y = same_from_decides (bytes_eq x y) (bytes_eq y x) (bytes_eq-Decides x y)
+    (λ e. sym ((bytes_eq-Decides y x).0 e), λ e. (bytes_eq-Decides y x).1 (sym e))
 
 any_turned : (text : List ℕ) (done : List (List ℕ)) → list_any (λ x. bytes_eq x text) done ≡ list_any (bytes_eq text) done
 any_turned text [] = refl
 any_turned text (x ∷ xs) = λ i. turned x text i || any_turned text xs i
 
-found_again : (done : List (List ℕ)) (text : List ℕ) (rest : List (List ℕ)) → IsTrue (is_distinct bytes_eq done) → list_any (bytes_eq text) done ≡ true → is_distinct bytes_eq (done ++ text ∷ rest) ≡ false
+found_again : (done : List (List ℕ)) (text : List ℕ) (rest : List (List ℕ)) → IsTrue (is_distinct bytes_eq done) → list_any (bytes_eq text) done ≡ true
+    → is_distinct bytes_eq (done ++ text ∷ rest) ≡ false
 found_again done text rest once found = rw (distinct-append bytes_eq done (text ∷ rest) once, any_turned text done, found)
 
-pub once_more : (done : List (List ℕ)) (text : List ℕ) → IsTrue (is_distinct bytes_eq done) → list_any (bytes_eq text) done ≡ false → IsTrue (is_distinct bytes_eq (done ++ text ∷ []))
+pub once_more : (done : List (List ℕ)) (text : List ℕ) → IsTrue (is_distinct bytes_eq done) → list_any (bytes_eq text) done ≡ false
+    → IsTrue (is_distinct bytes_eq (done ++ text ∷ []))
 once_more done text once new = rw (distinct-append bytes_eq done (text ∷ []) once, any_turned text done, new)
 
 -- one text after another, as a set keeps them
@@ -172,10 +198,12 @@ module _ {K : Type 0} (bytes : K → List ℕ) where
   abbrev pub HasSeen : BTreeSet K → List (List ℕ) → Type 0
   HasSeen seen done = (key : K) → contains in_order seen key ≡ list_any (bytes_eq (bytes key)) done
 
-  pub seen_more : (old new : BTreeSet K) (done : List (List ℕ)) (key : K) → HasSeen old done → Updates in_order old new key true → HasSeen new (done ++ bytes key ∷ [])
+  pub seen_more : (old new : BTreeSet K) (done : List (List ℕ)) (key : K) → HasSeen old done → Updates in_order old new key true
+      → HasSeen new (done ++ bytes key ∷ [])
   seen_more old new done key seen updates other =
       updates.0 other ∙ ((λ i. cond ((is_eq-slice_cmp (bytes key) (bytes other) ∙ turned (bytes key) (bytes other)) i) true (seen other i))
-      ∙ (by (bytes_eq (bytes other) (bytes key)) (list_any (bytes_eq (bytes other)) done) ∙ sym (list_any-append (bytes_eq (bytes other)) done (bytes key ∷ []))))
+      ∙ (by (bytes_eq (bytes other) (bytes key)) (list_any (bytes_eq (bytes other)) done)
+      ∙ sym (list_any-append (bytes_eq (bytes other)) done (bytes key ∷ []))))
     where
       by : (b c : Bool) → cond b true c ≡ (c || (b || false))
       by true true = refl
@@ -188,7 +216,8 @@ split [] i x e = absurd (cc)
 split (z ∷ zs) zero x e = let same : z ≡ x = cc in (zs, λ j. same j ∷ zs)
 split (z ∷ zs) (suc i) x e = let behind = split zs i x e in (behind.0, λ j. z ∷ behind.1 j)
 
-pub seen_twice : (texts : List (List ℕ)) (i : ℕ) (text : List ℕ) → Some text ≡ slice_get texts i → IsTrue (is_distinct bytes_eq (take i texts)) → list_any (bytes_eq text) (take i texts) ≡ true → is_distinct bytes_eq texts ≡ false
+pub seen_twice : (texts : List (List ℕ)) (i : ℕ) (text : List ℕ) → Some text ≡ slice_get texts i → IsTrue (is_distinct bytes_eq (take i texts))
+    → list_any (bytes_eq text) (take i texts) ≡ true → is_distinct bytes_eq texts ≡ false
 seen_twice texts i text at once found =
     let whole = split texts i text at in
     ap (is_distinct bytes_eq) whole.1 ∙ found_again (take i texts) text whole.0 once found

@@ -1,5 +1,6 @@
 -- What the classes of a table have.
-use Rattle.std.proofs.Common.{◌≡◌, ◌⊎◌, inl, inr, ℕ, zero, suc, ◌+◌, ◌<◌, ◌≤◌, Bool, List, [], ◌∷◌, ◌++◌, length, reverse, slice_get, Option, Some, None, true, IfSome, IsTrue, codes, is_some, refl, sym, ap, ◌∙◌, subst, arith, length-append, position, bytes_eq}
+use Rattle.std.proofs.Common.{◌≡◌, ◌⊎◌, inl, inr, ℕ, zero, suc, ◌+◌, ◌<◌, ◌≤◌, Bool, List, [], ◌∷◌, ◌++◌, length, reverse, slice_get, Option, Some, None, true}
+use Rattle.std.proofs.Common.{IfSome, IsTrue, codes, is_some, refl, sym, ap, ◌∙◌, subst, arith, length-append, position, bytes_eq}
 use Rattle.std.specs.List.{All}
 use Rattle.std.specs.Option.{option_map, option_map_or, option_or, ForSome}
 use Rattle.std.proofs.lemmas.List.{reverse-append, length-reverse}
@@ -18,11 +19,13 @@ use Rattle.class_table.proofs.ListLemmas.{eq_self, eq_other, position-seam}
 
 module _ {A : Type 0} (own : ℕ → Class → List A) where
   -- a further class leaves those before it as they were
-  pub gathered-earlier : (class : Class) (earlier : List Class) (index : ℕ) → index < length earlier → gathered own (class ∷ earlier) index ≡ gathered own earlier index
+  pub gathered-earlier : (class : Class) (earlier : List Class) (index : ℕ) → index < length earlier
+      → gathered own (class ∷ earlier) index ≡ gathered own earlier index
   unfolding gathered
   gathered-earlier class earlier index h = rw (eq_other index (length earlier) (λ e. omega arith))
 
-  pub gathered-new : (class : Class) (earlier : List Class) → gathered own (class ∷ earlier) (length earlier) ≡ option_map_or (λ base. gathered own earlier base) class.superclass [] ++ own (length earlier) class
+  pub gathered-new : (class : Class) (earlier : List Class) → gathered own (class ∷ earlier) (length earlier)
+      ≡ option_map_or (λ base. gathered own earlier base) class.superclass [] ++ own (length earlier) class
   unfolding gathered
   gathered-new class earlier = rw (eq_self (length earlier))
 
@@ -45,9 +48,11 @@ module _ {A : Type 0} (own : ℕ → Class → List A) (classes : List Class) (c
   pub of_class-new : of_class own (classes ++ class ∷ []) (length classes) ≡ inherited (of_class own classes) class.superclass ++ own (length classes) class
   of_class-new =
       let long = length-reverse classes in
-      (λ i. gathered own (turned i) (sym long i)) ∙ (gathered-new own class (reverse classes) ∙ λ i. inherited (of_class own classes) class.superclass ++ own (long i) class)
+      (λ i. gathered own (turned i) (sym long i))
+      ∙ (gathered-new own class (reverse classes) ∙ λ i. inherited (of_class own classes) class.superclass ++ own (long i) class)
 
-  pub inherited-earlier : (base : Option ℕ) → ForSome base (λ b. b < length classes) → inherited (of_class own (classes ++ class ∷ [])) base ≡ inherited (of_class own classes) base
+  pub inherited-earlier : (base : Option ℕ) → ForSome base (λ b. b < length classes)
+      → inherited (of_class own (classes ++ class ∷ [])) base ≡ inherited (of_class own classes) base
   inherited-earlier None h = refl
   inherited-earlier (Some b) h = of_class-earlier b (h b refl)
 
@@ -55,7 +60,8 @@ pub of_class-none : {A : Type 0} (own : ℕ → Class → List A) (classes : Lis
 of_class-none own classes index h = gathered-none own (reverse classes) index (omega (arith, length-reverse classes))
 
 -- a class that was there keeps what it has
-kept : (classes : List Class) (new : Class) (index : ℕ) (class : Class) → index < length classes → IsClassAt classes index class → IsClassAt (classes ++ new ∷ []) index class
+kept : (classes : List Class) (new : Class) (index : ℕ) (class : Class) → index < length classes → IsClassAt classes index class
+    → IsClassAt (classes ++ new ∷ []) index class
 kept classes new index class h is =
     let below : ForSome class.superclass (λ b. b < length classes) = λ b e. (let near : b < index = is.base_is_earlier b e in omega arith) in
     let same_line = inherited-earlier (λ at c. at ∷ []) classes new class.superclass below in
@@ -98,7 +104,8 @@ joined classes new fits =
     }
 
 -- a index in a longer list
-seam : {X : Type 0} (xs : List X) (y : X) (k : ℕ) (x : X) → slice_get (xs ++ y ∷ []) k ≡ Some x → ((k < length xs) × (slice_get xs k ≡ Some x)) ⊎ ((k ≡ length xs) × (y ≡ x))
+seam : {X : Type 0} (xs : List X) (y : X) (k : ℕ) (x : X) → slice_get (xs ++ y ∷ []) k ≡ Some x
+    → ((k < length xs) × (slice_get xs k ≡ Some x)) ⊎ ((k ≡ length xs) × (y ≡ x))
 seam [] y zero x e = inr (refl, (cc))
 seam [] y (suc k) x e = absurd (cc)
 seam (z ∷ zs) y zero x e = inl (omega arith, e)
@@ -117,7 +124,8 @@ IsTable-push classes new table room fits = record {
     still [] e = absurd (cc)
     still (class ∷ rest) e = e
 
-    based : (index : ℕ) (class : Class) → ((suc index < length classes) × (slice_get classes (suc index) ≡ Some class)) ⊎ ((suc index ≡ length classes) × (new ≡ class)) → IsTrue (is_some class.superclass)
+    based : (index : ℕ) (class : Class) → ((suc index < length classes) × (slice_get classes (suc index) ≡ Some class))
+        ⊎ ((suc index ≡ length classes) × (new ≡ class)) → IsTrue (is_some class.superclass)
     based index class (inl p) = subst (λ found. IfSome found (λ (class : Class). IsTrue (is_some class.superclass))) p.1 (table.below index)
     based index class (inr p) = subst (λ (class : Class). IsTrue (is_some class.superclass)) p.1 fits.below
 
@@ -125,7 +133,8 @@ IsTable-push classes new table room fits = record {
     below index None e = tt
     below index (Some class) e = based index class (seam classes new (suc index) class e)
 
-    by : (index : ℕ) (class : Class) → ((index < length classes) × (slice_get classes index ≡ Some class)) ⊎ ((index ≡ length classes) × (new ≡ class)) → IsClassAt (classes ++ new ∷ []) index class
+    by : (index : ℕ) (class : Class) → ((index < length classes) × (slice_get classes index ≡ Some class)) ⊎ ((index ≡ length classes) × (new ≡ class))
+        → IsClassAt (classes ++ new ∷ []) index class
     by index class (inl p) = kept classes new index class p.0 (table.each index class p.1)
     by index class (inr p) =
         let P : ℕ → Type 0 = λ k. IsClassAt (classes ++ new ∷ []) k class in
@@ -159,7 +168,8 @@ first_class = record {
   methods_once = refl;
   properties_once = refl;
   each_method = three _ _ _ (quiet (codes "destroyed") []) (quiet (codes "objectNameChanged") (kind.Text ∷ [])) posts;
-  each_property = one (λ property. IsTrue (is_told q_object.methods property)) (record { name = codes "objectName"; kind = kind.Text; notify = Some 1; bindable = true }) refl;
+  each_property = one (λ property. IsTrue (is_told q_object.methods property))
+      (record { name = codes "objectName"; kind = kind.Text; notify = Some 1; bindable = true }) refl;
 }
 
 pub first_table : IsTable (q_object ∷ [])
@@ -181,13 +191,16 @@ told_behind methods more property h = by property.notify h
     at (method ∷ rest) zero h = h
     at (method ∷ rest) (suc number) h = at rest number h
 
-    by : (notify : Option ℕ) → IsTrue (option_map_or (is_told_by methods property.kind) notify true) → IsTrue (option_map_or (is_told_by (methods ++ more) property.kind) notify true)
+    by : (notify : Option ℕ) → IsTrue (option_map_or (is_told_by methods property.kind) notify true)
+        → IsTrue (option_map_or (is_told_by (methods ++ more) property.kind) notify true)
     by None h = h
     by (Some number) h = at methods number h
 
 -- a step up from a class to its superclass, in the search for a property
 pub property-step : (classes : List Class) (index : ℕ) (class : Class) → IsClassAt classes index class → (name : List ℕ) (found : Option ℕ)
-    → option_or (property_number name (inherited (properties classes) class.superclass)) (option_or (option_map (λ i. class.property_offset + i) (property_number name class.properties)) found) ≡ option_or (property_number name (properties classes index)) found
+    → option_or (property_number name (inherited (properties classes) class.superclass))
+    (option_or (option_map (λ i. class.property_offset + i) (property_number name class.properties)) found)
+    ≡ option_or (property_number name (properties classes index)) found
 property-step classes index class has name found =
     let p : Property → Bool = λ property. bytes_eq property.name name in
     let base = inherited (properties classes) class.superclass in

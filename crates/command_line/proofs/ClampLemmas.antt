@@ -9,7 +9,14 @@ use Rattle.command_line.specs.Clamp.{clamp_body}
 pub clamp_is_body : (least most : ℤ) → IsBodyFor (Int ∷ []) (clamp_body least most)
 clamp_is_body least most =
     let within : 0 < 1 = omega arith in
-    record { takes = refl; keeps = record { limited = refl; arguments = (((within, tt), ((tt, tt), (((tt, within), ((tt, tt), (within, tt))), tt))), tt); named = refl } }
+    record {
+      takes = refl;
+      keeps = record {
+        limited = refl;
+        arguments = (((within, tt), ((tt, tt), (((tt, within), ((tt, tt), (within, tt))), tt))), tt);
+        named = refl;
+      };
+    }
 
 pub clamp_is_next : IsNext 1 state
 clamp_is_next = record { limited = refl; arguments = tt; unread = refl }

@@ -23,7 +23,9 @@ use Rattle.command_line.specs.declared.class_file.ClassFileError.TheVariants.{Re
 
 -- read as a class file, it is exactly these classes
 declares : table_of DEMONSTRATION.now ≡ Ok demonstration
-unfolding table_of json_in is_utf8 lex punctuate content word after_number items members value number_of classes_in declared signal_named is_declared_once class_below class_of slot_in property_in methods_in properties_in class_in gathered chars encode_utf8 scan_numeral sig.signature_of sig.word sig.skip sig.behind_mark sig.behind_word sig.inside_at sig.params_at sig.param_at sig.is_end demonstration
+unfolding table_of json_in is_utf8 lex punctuate content word after_number items members value number_of classes_in declared signal_named is_declared_once
+    class_below class_of slot_in property_in methods_in properties_in class_in gathered chars encode_utf8 scan_numeral sig.signature_of sig.word sig.skip
+    sig.behind_mark sig.behind_word sig.inside_at sig.params_at sig.param_at sig.is_end demonstration
 declares = refl
 
 answers_by : (result : Result (List Class) ClassFileError) → Answers result (Ok demonstration) → AnswersByDemonstration result
@@ -33,5 +35,6 @@ answers_by (Err Unreadable) is = absurd is
 answers_by (Err Memory) is = tt
 
 -- what these bytes answer is the demonstration classes
-pub by_demonstration : (bytes : List ℕ) (result : Result (List Class) ClassFileError) → bytes ≡ DEMONSTRATION.now → Answers result (table_of bytes) → AnswersByDemonstration result
+pub by_demonstration : (bytes : List ℕ) (result : Result (List Class) ClassFileError) → bytes ≡ DEMONSTRATION.now → Answers result (table_of bytes)
+    → AnswersByDemonstration result
 by_demonstration bytes result same is = answers_by result (subst (Answers result) (ap table_of same ∙ declares) is)

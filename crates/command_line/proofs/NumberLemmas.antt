@@ -1,5 +1,6 @@
 -- Which texts clap takes for a number of turns.
-use Rattle.std.proofs.Common.{◌≡◌, ◌∙◌, ◌==◌, ◌&&◌, ◌≤◌, ◌<◌, ◌^◌, ℕ, zero, suc, pos, Bool, true, false, refl, sym, ap, subst, [], ◌∷◌, Option, Some, None, inl, inr, arith, is_some, length, nat_le, nat_lt}
+use Rattle.std.proofs.Common.{◌≡◌, ◌∙◌, ◌==◌, ◌&&◌, ◌≤◌, ◌<◌, ◌^◌, ℕ, zero, suc, pos, Bool, true, false, refl, sym, ap, subst, [], ◌∷◌, Option, Some, None, inl}
+use Rattle.std.proofs.Common.{inr, arith, is_some, length, nat_le, nat_lt}
 use Rattle.std.specs.Prelude.{Result, Ok, Err, int_le, neg_ℤ, if◌then◌else◌, unwrap_or}
 use Rattle.std.specs.Char.{digit_value}
 use Rattle.std.specs.List.{list_all}
@@ -48,7 +49,8 @@ accepts-number (byte ∷ rest) = elim (cases_Bool (byte == 45)) [
       (none_below (is_numeral rest) _ _ _ (below_one (digits_value 10 rest)) ∙ ap (λ (o : Option ℕ). is_some o) (sym (no_number rest)))
   | inr other ↦
       let text = without_leading_plus (byte ∷ rest) in
-      rw other (ap (λ b. is_numeral text && b) (in_range (digits_value 10 text) (nat_le (digits_value 10 text) 1000000) refl) ∙ is_number _ (digits_value 10 text))
+      rw other (ap (λ b. is_numeral text && b) (in_range (digits_value 10 text) (nat_le (digits_value 10 text) 1000000) refl)
+      ∙ is_number _ (digits_value 10 text))
 ]
 
 -- a text that is one begins with no hyphen
@@ -91,7 +93,8 @@ number_digits text number is = go (is_numeral digits && (nat_le 1 value && nat_l
 
 -- what is read of the text for the turns is what the text gives
 pub turns_read : {E : Type 0} (reads : Text → Result ℕ E → Type 0) (found : Option Text) (read : Option ℕ) (number : ℕ) → Gives found number
-    → (found ≡ None → read ≡ None) → ((text : Text) → found ≡ Some text → ReadsOne reads text read) → ((text : Text) (result : Result ℕ E) → reads text result → ParsesUnsigned 32 10 text result)
+    → (found ≡ None → read ≡ None) → ((text : Text) → found ≡ Some text → ReadsOne reads text read)
+    → ((text : Text) (result : Result ℕ E) → reads text result → ParsesUnsigned 32 10 text result)
     → unwrap_or read DEFAULT_TURNS ≡ number
 turns_read reads None read number gives none value only = ap (λ (o : Option ℕ). unwrap_or o DEFAULT_TURNS) (none refl) ∙ sym gives
 turns_read reads (Some text) (Some n) number gives none value only = (only text (Ok n) (value text refl)).1 ∙ (number_digits text number gives).1

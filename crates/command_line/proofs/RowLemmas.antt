@@ -1,5 +1,6 @@
 -- The rows that clap has for what words have given, and what it makes of a further path or value.
-use Rattle.std.proofs.Common.{◌≡◌, ◌∙◌, ◌++◌, ℕ, true, false, refl, sym, ap, subst, List, [], ◌∷◌, Option, Some, None, codes, bytes_eq, append-nil, find, is_some, option_map, inl, inr}
+use Rattle.std.proofs.Common.{◌≡◌, ◌∙◌, ◌++◌, ℕ, true, false, refl, sym, ap, subst, List, [], ◌∷◌, Option, Some, None, codes, bytes_eq, append-nil, find}
+use Rattle.std.proofs.Common.{is_some, option_map, inl, inr}
 use Rattle.std.specs.Prelude.{if◌then◌else◌, option_and_then, slice_get, unwrap_or}
 use Rattle.std.proofs.lemmas.Bool.{cases_Bool}
 use Rattle.clap.specs.Faults.{use_fault}
@@ -91,19 +92,22 @@ abbrev pub HoldsWell : Given → List Row → Pending → Type 0
 HoldsWell given rows pending = (settle rows pending ≡ []) × AreRows given (settles rows pending)
 
 -- a first use
-used_first : (id : Text) (reading : Reading) (text : Text) (rows : List Row) → row_in id rows ≡ None → with_values id reading CommandLine (text ∷ []) (without id rows) ≡ rows ++ row_of id reading text ∷ []
+used_first : (id : Text) (reading : Reading) (text : Text) (rows : List Row) → row_in id rows ≡ None
+    → with_values id reading CommandLine (text ∷ []) (without id rows) ≡ rows ++ row_of id reading text ∷ []
 used_first id reading text rows none =
     let kept : without id rows ≡ rows = at_none id (λ _. []) [] rows none ∙ append-nil rows in
     ap (with_values id reading CommandLine (text ∷ [])) kept ∙ at_none id (more_values CommandLine (text ∷ [])) (row_of id reading text ∷ []) rows none
 
-path_added : (given : Given) (rows : List Row) (path : Text) → given.path ≡ None → AreRows given rows → AreRows (record given { path = Some path }) (rows ++ path_row path ∷ [])
+path_added : (given : Given) (rows : List Row) (path : Text) → given.path ≡ None → AreRows given rows
+    → AreRows (record given { path = Some path }) (rows ++ path_row path ∷ [])
 path_added given rows path first are = (
   added (codes "classes") rows (path_row path) (are.0 ∙ ap (option_map path_row) first) refl,
   subst (IsRead given.turns) (sym (stays (codes "turns") rows (path_row path) refl)) are.1,
   stays (codes "slice") rows (path_row path) refl ∙ are.2,
 )
 
-turns_added : (given : Given) (rows : List Row) (text : Text) (number : ℕ) → row_in (codes "turns") rows ≡ None → number_in text ≡ Some number → AreRows given rows
+turns_added : (given : Given) (rows : List Row) (text : Text) (number : ℕ) → row_in (codes "turns") rows ≡ None → number_in text ≡ Some number
+    → AreRows given rows
     → AreRows (record given { turns = Some number }) (rows ++ turns_row text ∷ [])
 turns_added given rows text number none is are = (
   stays (codes "classes") rows (turns_row text) refl ∙ are.0,
@@ -111,7 +115,8 @@ turns_added given rows text number none is are = (
   stays (codes "slice") rows (turns_row text) refl ∙ are.2,
 )
 
-slice_added : (given : Given) (rows : List Row) (name : Text) → given.slice ≡ None → AreRows given rows → AreRows (record given { slice = Some name }) (rows ++ slice_row name ∷ [])
+slice_added : (given : Given) (rows : List Row) (name : Text) → given.slice ≡ None → AreRows given rows
+    → AreRows (record given { slice = Some name }) (rows ++ slice_row name ∷ [])
 slice_added given rows name first are = (
   stays (codes "classes") rows (slice_row name) refl ∙ are.0,
   subst (IsRead given.turns) (sym (stays (codes "turns") rows (slice_row name) refl)) are.1,
@@ -119,7 +124,8 @@ slice_added given rows name first are = (
 )
 
 -- a first path
-pub path_held : (given : Given) (rows : List Row) (path : Text) → given.path ≡ None → AreRows given rows → HoldsWell (record given { path = Some path }) rows (Some (codes "classes", path ∷ []))
+pub path_held : (given : Given) (rows : List Row) (path : Text) → given.path ≡ None → AreRows given rows
+    → HoldsWell (record given { path = Some path }) rows (Some (codes "classes", path ∷ []))
 path_held given rows path first are =
     let none : row_in (codes "classes") rows ≡ None = are.0 ∙ ap (option_map path_row) first in (
       rw (has_none (codes "classes") rows none) refl,
@@ -135,7 +141,8 @@ Takes valued text given rows (Some more) =
     (use_fault false (rule_of valued) (text ∷ []) rows ≡ []) × (more.path ≡ given.path) × AreRows more (used (rule_of valued) (text ∷ []) rows)
 
 -- a second use
-used_twice : (valued : Valued) (text : Text) (rows : List Row) (row : Row) → row_in (name_of valued) rows ≡ Some row → IsMistake (use_fault false (rule_of valued) (text ∷ []) rows)
+used_twice : (valued : Valued) (text : Text) (rows : List Row) (row : Row) → row_in (name_of valued) rows ≡ Some row
+    → IsMistake (use_fault false (rule_of valued) (text ∷ []) rows)
 used_twice the_turns text rows row some = (ArgumentConflict, rw (has_some (codes "turns") rows row some) refl, refl)
 used_twice the_slice text rows row some = (ArgumentConflict, rw (has_some (codes "slice") rows row some) refl, refl)
 
@@ -154,7 +161,8 @@ turns_taken given rows text None (Some number) was is are =
     let none : row_in (codes "turns") rows ≡ None = subst (λ o. IsRead o (row_in (codes "turns") rows)) was are.1 in (
       rw (has_none (codes "turns") rows none, accepted text (Some number) is) refl,
       refl,
-      subst (AreRows (record given { turns = Some number })) (sym (used_first (codes "turns") WithoutMinus text rows none)) (turns_added given rows text number none is are),
+      subst (AreRows (record given { turns = Some number })) (sym (used_first (codes "turns") WithoutMinus text rows none))
+          (turns_added given rows text number none is are),
     )
 
 slice_taken : (given : Given) (rows : List Row) (name : Text) (before : Option Text) → given.slice ≡ before → AreRows given rows
@@ -167,13 +175,15 @@ slice_taken given rows name None was are =
       subst (AreRows (record given { slice = Some name })) (sym (used_first (codes "slice") AsWritten name rows none)) (slice_added given rows name was are),
     )
 
-pub value_taken : (valued : Valued) (text : Text) (given : Given) (rows : List Row) → AreRows given rows → Takes valued text given rows (with_value valued text given)
+pub value_taken : (valued : Valued) (text : Text) (given : Given) (rows : List Row) → AreRows given rows
+    → Takes valued text given rows (with_value valued text given)
 value_taken the_turns text given rows are = turns_taken given rows text given.turns (number_in text) refl refl are
 value_taken the_slice text given rows are = slice_taken given rows text given.slice refl are
 
 -- ---- what is found at the end
 
-text_in : (found : Option Row) (text : Option Text) (id : Text) (reading : Reading) → found ≡ option_map (row_of id reading) text → option_and_then (λ r. slice_get r.values 0) found ≡ text
+text_in : (found : Option Row) (text : Option Text) (id : Text) (reading : Reading) → found ≡ option_map (row_of id reading) text
+    → option_and_then (λ r. slice_get r.values 0) found ≡ text
 text_in found None id reading is = rw is refl
 text_in found (Some text) id reading is = rw is refl
 

@@ -28,7 +28,8 @@ ends_as files wanted options ending named are is ends =
     subst (λ (asked : Asked). EndsFor files asked ending) (sym are) (subst (λ b. EndsRun b files options.classes ending) (sym is) ends)
 
 -- where there are no classes, the program ends as it has to
-pub ends_for : (files : Files) (wanted : Asked) (options : Options) (error : ClassFileError) (ending : Ending) → AreOf wanted options → is_named options.slice ≡ true → AnswersAt files.holds files.readable options.classes (Err error)
+pub ends_for : (files : Files) (wanted : Asked) (options : Options) (error : ClassFileError) (ending : Ending) → AreOf wanted options
+    → is_named options.slice ≡ true → AnswersAt files.holds files.readable options.classes (Err error)
     → IsOutOfMemory ending ⊎ EndsByClasses error ending → IsOutOfMemory ending ⊎ EndsFor files wanted ending
 ends_for files wanted options error ending are named answers (inl memory) = inl memory
 ends_for files wanted options error ending are named answers (inr ends) = elim (ends_at files options.classes error ending answers ends) [
@@ -37,7 +38,8 @@ ends_for files wanted options error ending are named answers (inr ends) = elim (
 ]
 
 -- and where the name is none
-pub ends_by_name : (files : Files) (wanted : Asked) (options : Options) (ending : Ending) → AreOf wanted options → is_named options.slice ≡ false → IsOfBadName ending → EndsFor files wanted ending
+pub ends_by_name : (files : Files) (wanted : Asked) (options : Options) (ending : Ending) → AreOf wanted options → is_named options.slice ≡ false
+    → IsOfBadName ending → EndsFor files wanted ending
 ends_by_name files wanted options ending are unnamed ends = ends_as files wanted options ending false are unnamed ends
 
 -- a start by these words is one by the words of the command line
@@ -47,7 +49,8 @@ starts_by texts (Some words) files found result are starts = subst (λ (ws : Lis
 starts_by texts None files found result are starts = inl (texts found, starts)
 
 -- and so is an end where there are no words
-pub ends_without : {T : Type 0} (texts : T → List (List ℕ)) (given : Option (List (List ℕ))) (files : Files) (ending : Ending) (result : Result Beginning Ending)
+pub ends_without : {T : Type 0} (texts : T → List (List ℕ)) (given : Option (List (List ℕ))) (files : Files) (ending : Ending)
+    (result : Result Beginning Ending)
     → IsErrAnd result (λ it. it ≡ ending) → AreWords texts given (Err ending) → StartsByProcess given files result
 ends_without texts given files ending (Ok beginning) is are = absurd is
 ends_without texts (Some words) files ending (Err it) is are = inl (subst (λ (e : Ending). IsOutOfMemory e) (sym is) are)

@@ -19,7 +19,9 @@ use Rattle.command_line.specs.Count.{one_more}
 state_number : (n : ℕ) → number_in (state_value n) ≡ Some (pos n)
 state_number n = by (nat_le n 2147483647) (nat_le n 9223372036854775807) (nat_le 0 n && nat_le n 18446744073709551615)
   where
-    by : (a b c : Bool) → number_in (unwrap_or (option_or (if a then Some (v.Int (pos n)) else None) (option_or (if b then Some (v.Longlong (pos n)) else None) (if c then Some (v.Ulonglong n) else None))) (v.Ulonglong n)) ≡ Some (pos n)
+    by : (a b c : Bool) → number_in (unwrap_or
+        (option_or (if a then Some (v.Int (pos n)) else None)
+        (option_or (if b then Some (v.Longlong (pos n)) else None) (if c then Some (v.Ulonglong n) else None))) (v.Ulonglong n)) ≡ Some (pos n)
     by true b c = refl
     by false true c = refl
     by false false true = refl
@@ -43,7 +45,10 @@ inferred_state n less =
     let high : nat_le n 18446744073709551615 ≡ true = le-leb n 18446744073709551615 (omega arith) in
     by (nat_le n 2147483647) (nat_le n 9223372036854775807) (nat_le 0 n && nat_le n 18446744073709551615) (rw low high)
   where
-    by : (a b c : Bool) → c ≡ true → (let found = option_or (if a then Some (v.Int (pos n)) else None) (option_or (if b then Some (v.Longlong (pos n)) else None) (if c then Some (v.Ulonglong n) else None)) in found ≡ Some (unwrap_or found (v.Ulonglong n)))
+    by : (a b c : Bool) → c ≡ true →
+        (let found = option_or (if a then Some (v.Int (pos n)) else None)
+        (option_or (if b then Some (v.Longlong (pos n)) else None) (if c then Some (v.Ulonglong n) else None)) in found
+        ≡ Some (unwrap_or found (v.Ulonglong n)))
     by true b c is = refl
     by false true c is = refl
     by false false true is = refl
@@ -56,7 +61,9 @@ inferred_none n more =
     let ulonglong : nat_le n 18446744073709551615 ≡ false = grind (arith, nat_tests) in
     by (nat_le n 2147483647) (nat_le n 9223372036854775807) (nat_le 0 n) (nat_le n 18446744073709551615) int longlong ulonglong
   where
-    by : (a b c d : Bool) → a ≡ false → b ≡ false → d ≡ false → option_or (if a then Some (v.Int (pos n)) else None) (option_or (if b then Some (v.Longlong (pos n)) else None) (if c && d then Some (v.Ulonglong n) else None)) ≡ None
+    by : (a b c d : Bool) → a ≡ false → b ≡ false → d ≡ false
+        → option_or (if a then Some (v.Int (pos n)) else None)
+        (option_or (if b then Some (v.Longlong (pos n)) else None) (if c && d then Some (v.Ulonglong n) else None)) ≡ None
     by true b c d one two three = absurd (cc)
     by false true c d one two three = absurd (cc)
     by false false c true one two three = absurd (cc)
@@ -76,7 +83,8 @@ state_counts n args less =
     below : n + 1 < 18446744073709551616 → state_or n (answer (number_value (Some (pos (n + 1))))) ≡ min (n + 1) 18446744073709551615
     below fits =
         let is : min (n + 1) 18446744073709551615 ≡ n + 1 = omega arith in
-        ap (λ found. state_or n (answer (ok_or found BadValue))) (inferred_state (n + 1) fits) ∙ ap (λ found. unwrap_or found n) (state_read (n + 1) fits) ∙ sym is
+        ap (λ found. state_or n (answer (ok_or found BadValue))) (inferred_state (n + 1) fits) ∙ ap (λ found. unwrap_or found n) (state_read (n + 1) fits)
+        ∙ sym is
 
     above : 18446744073709551616 ≤ n + 1 → state_or n (answer (number_value (Some (pos (n + 1))))) ≡ min (n + 1) 18446744073709551615
     above beyond =

@@ -1,5 +1,6 @@
 -- What clap makes of the words of metad's command line, word by word.
-use Rattle.std.proofs.Common.{◌≡◌, ◌∙◌, ◌==◌, ◌&&◌, ℕ, suc, Bool, true, false, refl, sym, ap, List, [], ◌∷◌, Option, Some, None, inl, inr, codes, bytes_eq, subst, ap₂, ◌+◌, arith, take, drop}
+use Rattle.std.proofs.Common.{◌≡◌, ◌∙◌, ◌==◌, ◌&&◌, ℕ, suc, Bool, true, false, refl, sym, ap, List, [], ◌∷◌, Option, Some, None, inl, inr, codes, bytes_eq}
+use Rattle.std.proofs.Common.{subst, ap₂, ◌+◌, arith, take, drop}
 use Rattle.std.specs.Prelude.{slice_get, is_some, if◌then◌else◌}
 use Rattle.std.specs.List.{before_first, after_first, position_or_len}
 use Rattle.std.specs.Str.{chars}
@@ -64,7 +65,8 @@ opened valued = Some (name_of valued, [])
 
 -- where the walk stands between two words
 abbrev pub at : Bool → Option Valued → Option Text → List Row → Pending → Walk
-at is_trailing awaits path rows pending = record { held = held rows pending; waiting = waiting awaits; position = position path; is_trailing = is_trailing; stopped = None }
+at is_trailing awaits path rows pending =
+    record { held = held rows pending; waiting = waiting awaits; position = position path; is_trailing = is_trailing; stopped = None }
 
 -- what is wrong with what is pending, and the rows where it is used
 abbrev pub settle : List Row → Pending → Kinds
@@ -113,10 +115,14 @@ plain_word word no_dashes no_long no_short rows pending =
     (rw (no_dashes, no_long, no_short, and_false) refl, rw (no_dashes, no_long, no_short, and_false) refl, λ path. rw (no_dashes, no_long, no_short) refl)
 
 -- a hyphen with no character behind it
-blank_word : (word : Text) (byte : ℕ) (rest : Text) → bytes_eq word (codes "--") ≡ false → long_of word ≡ None → short_of word ≡ Some (byte ∷ rest) → slice_get (chars (byte ∷ rest)) 0 ≡ None → IsPathWord false None word
+blank_word : (word : Text) (byte : ℕ) (rest : Text) → bytes_eq word (codes "--") ≡ false → long_of word ≡ None → short_of word ≡ Some (byte ∷ rest)
+    → slice_get (chars (byte ∷ rest)) 0 ≡ None → IsPathWord false None word
 unfolding walked bundle_met flags_fault
-blank_word word byte rest no_dashes no_long a_short no_letter rows pending =
-    (rw (no_dashes, no_long, a_short, no_letter, and_false) refl, rw (no_dashes, no_long, a_short, no_letter, and_false) refl, λ path. rw (no_dashes, no_long, a_short, no_letter) refl)
+blank_word word byte rest no_dashes no_long a_short no_letter rows pending = (
+  rw (no_dashes, no_long, a_short, no_letter, and_false) refl,
+  rw (no_dashes, no_long, a_short, no_letter, and_false) refl,
+  λ path. rw (no_dashes, no_long, a_short, no_letter) refl,
+)
 
 -- such words where the value of an option is awaited
 abbrev IsValueWord : Valued → Text → Type 0
@@ -128,23 +134,30 @@ unfolding walked
 plain_value the_turns word no_dashes no_long no_short path rows = (rw (no_dashes, no_long, no_short) refl, rw (no_dashes, no_long, no_short) refl)
 plain_value the_slice word no_dashes no_long no_short path rows = (rw (no_dashes, no_long, no_short) refl, rw (no_dashes, no_long, no_short) refl)
 
-blank_value : (valued : Valued) (word : Text) (byte : ℕ) (rest : Text) → bytes_eq word (codes "--") ≡ false → long_of word ≡ None → short_of word ≡ Some (byte ∷ rest) → slice_get (chars (byte ∷ rest)) 0 ≡ None → IsValueWord valued word
+blank_value : (valued : Valued) (word : Text) (byte : ℕ) (rest : Text) → bytes_eq word (codes "--") ≡ false → long_of word ≡ None
+    → short_of word ≡ Some (byte ∷ rest) → slice_get (chars (byte ∷ rest)) 0 ≡ None → IsValueWord valued word
 unfolding walked bundle_met flags_fault
-blank_value the_turns word byte rest no_dashes no_long a_short no_letter path rows = (rw (no_dashes, no_long, a_short, no_letter) refl, rw (no_dashes, no_long, a_short, no_letter) refl)
-blank_value the_slice word byte rest no_dashes no_long a_short no_letter path rows = (rw (no_dashes, no_long, a_short, no_letter) refl, rw (no_dashes, no_long, a_short, no_letter) refl)
+blank_value the_turns word byte rest no_dashes no_long a_short no_letter path rows =
+    (rw (no_dashes, no_long, a_short, no_letter) refl, rw (no_dashes, no_long, a_short, no_letter) refl)
+blank_value the_slice word byte rest no_dashes no_long a_short no_letter path rows =
+    (rw (no_dashes, no_long, a_short, no_letter) refl, rw (no_dashes, no_long, a_short, no_letter) refl)
 
 abbrev short_kinds : Bool → Kinds → Kinds
 short_kinds true s = or_else s (DisplayHelp ∷ [])
 short_kinds false s = UnknownArgument ∷ []
 
 -- a hyphen with a character behind it
-short_word : (awaits : Option Valued) (path : Option Text) (rows : List Row) (pending : Pending) (s : Kinds) (word : Text) (byte : ℕ) (rest : Text) (letter : ℕ) (is_h : Bool)
+short_word : (awaits : Option Valued) (path : Option Text) (rows : List Row) (pending : Pending) (s : Kinds) (word : Text) (byte : ℕ) (rest : Text) (letter : ℕ)
+    (is_h : Bool)
     → settle rows pending ≡ s → bytes_eq word (codes "--") ≡ false → long_of word ≡ None → short_of word ≡ Some (byte ∷ rest)
     → slice_get (chars (byte ∷ rest)) 0 ≡ Some letter → (104 == letter) ≡ is_h → IsTurn (at false awaits path rows pending) word (short_kinds is_h s)
 unfolding walked bundle_met flags_fault
-short_word awaits path rows pending [] word byte rest letter true is no_dashes no_long a_short a_letter h = rw (no_subcommand, no_dashes, no_long, a_short, a_letter, h, is) refl
-short_word awaits path rows pending (k ∷ ks) word byte rest letter true is no_dashes no_long a_short a_letter h = rw (no_subcommand, no_dashes, no_long, a_short, a_letter, h, is) refl
-short_word awaits path rows pending s word byte rest letter false is no_dashes no_long a_short a_letter h = rw (no_subcommand, no_dashes, no_long, a_short, a_letter, h) refl
+short_word awaits path rows pending [] word byte rest letter true is no_dashes no_long a_short a_letter h =
+    rw (no_subcommand, no_dashes, no_long, a_short, a_letter, h, is) refl
+short_word awaits path rows pending (k ∷ ks) word byte rest letter true is no_dashes no_long a_short a_letter h =
+    rw (no_subcommand, no_dashes, no_long, a_short, a_letter, h, is) refl
+short_word awaits path rows pending s word byte rest letter false is no_dashes no_long a_short a_letter h =
+    rw (no_subcommand, no_dashes, no_long, a_short, a_letter, h) refl
 
 abbrev long_kinds : Bool → Option Text → Kinds → Kinds
 long_kinds true None s = or_else s (DisplayHelp ∷ [])
@@ -156,13 +169,17 @@ abbrev IsNoName : Text → Type 0
 IsNoName name = (bytes_eq (codes "turns") name ≡ false) × (bytes_eq (codes "slice") name ≡ false)
 
 -- two hyphens with such a name behind them
-long_word : (awaits : Option Valued) (path : Option Text) (rows : List Row) (pending : Pending) (s : Kinds) (word : Text) (name : Text) (value : Option Text) (is_help : Bool)
+long_word : (awaits : Option Valued) (path : Option Text) (rows : List Row) (pending : Pending) (s : Kinds) (word : Text) (name : Text) (value : Option Text)
+    (is_help : Bool)
     → settle rows pending ≡ s → bytes_eq word (codes "--") ≡ false → long_of word ≡ Some (name, value)
     → IsNoName name → bytes_eq (codes "help") name ≡ is_help → IsTurn (at false awaits path rows pending) word (long_kinds is_help value s)
 unfolding walked
-long_word awaits path rows pending [] word name None true is no_dashes a_long no_name h = rw (no_subcommand, no_dashes, a_long, no_name.0, no_name.1, h, is) refl
-long_word awaits path rows pending (k ∷ ks) word name None true is no_dashes a_long no_name h = rw (no_subcommand, no_dashes, a_long, no_name.0, no_name.1, h, is) refl
-long_word awaits path rows pending s word name (Some value) true is no_dashes a_long no_name h = rw (no_subcommand, no_dashes, a_long, no_name.0, no_name.1, h) refl
+long_word awaits path rows pending [] word name None true is no_dashes a_long no_name h =
+    rw (no_subcommand, no_dashes, a_long, no_name.0, no_name.1, h, is) refl
+long_word awaits path rows pending (k ∷ ks) word name None true is no_dashes a_long no_name h =
+    rw (no_subcommand, no_dashes, a_long, no_name.0, no_name.1, h, is) refl
+long_word awaits path rows pending s word name (Some value) true is no_dashes a_long no_name h =
+    rw (no_subcommand, no_dashes, a_long, no_name.0, no_name.1, h) refl
 long_word awaits path rows pending s word name value false is no_dashes a_long no_name h = rw (no_subcommand, no_dashes, a_long, no_name.0, no_name.1, h) refl
 
 or_nothing : (kinds : Kinds) → or_else kinds [] ≡ kinds
@@ -178,8 +195,16 @@ TakesValue valued awaits path rows pending word value =
 pub value_attached : (valued : Valued) (awaits : Option Valued) (path : Option Text) (rows : List Row) (pending : Pending) (word value : Text)
     → bytes_eq word (codes "--") ≡ false → long_of word ≡ Some (name_of valued, Some value) → TakesValue valued awaits path rows pending word value
 unfolding walked
-value_attached the_turns awaits path rows pending word value no_dashes a_long = (rw (no_subcommand, no_dashes, a_long) (or_nothing (or_else (settle rows pending) (use_fault false (rule_of the_turns) (value ∷ []) (settles rows pending)))), rw (no_subcommand, no_dashes, a_long) refl)
-value_attached the_slice awaits path rows pending word value no_dashes a_long = (rw (no_subcommand, no_dashes, a_long) (or_nothing (or_else (settle rows pending) (use_fault false (rule_of the_slice) (value ∷ []) (settles rows pending)))), rw (no_subcommand, no_dashes, a_long) refl)
+value_attached the_turns awaits path rows pending word value no_dashes a_long = (
+  rw (no_subcommand, no_dashes, a_long) (or_nothing
+      (or_else (settle rows pending) (use_fault false (rule_of the_turns) (value ∷ []) (settles rows pending)))),
+  rw (no_subcommand, no_dashes, a_long) refl,
+)
+value_attached the_slice awaits path rows pending word value no_dashes a_long = (
+  rw (no_subcommand, no_dashes, a_long) (or_nothing
+      (or_else (settle rows pending) (use_fault false (rule_of the_slice) (value ∷ []) (settles rows pending)))),
+  rw (no_subcommand, no_dashes, a_long) refl,
+)
 
 -- and alone
 pub value_awaited : (valued : Valued) (awaits : Option Valued) (path : Option Text) (rows : List Row) (pending : Pending)
@@ -236,7 +261,8 @@ all_before (x ∷ rest) h =
     before_more x rest parts.0 ∙ ap (λ l. x ∷ l) (all_before rest parts.1)
 
 differs : (text other : Text) → bytes_eq text other ≡ false → bytes_eq other text ≡ false
-differs text other unlike = false_from_ne_true _ (λ yes. let same : other ≡ text = (bytes_eq-Decides other text).0 yes in both_ways _ unlike ((bytes_eq-Decides text other).1 (sym same)))
+differs text other unlike = false_from_ne_true _
+    (λ yes. let same : other ≡ text = (bytes_eq-Decides other text).0 yes in both_ways _ unlike ((bytes_eq-Decides text other).1 (sym same)))
 
 hyphen_first : (rest : Text) → slice_get (chars (45 ∷ rest)) 0 ≡ Some 45
 unfolding chars
@@ -266,7 +292,8 @@ names_none true slice is = let bad : Some the_turns ≡ None = is in cc
 names_none false true is = let bad : Some the_slice ≡ None = is in cc
 names_none false false is = (refl, refl)
 
-an_option : (turns slice : Bool) (valued : Valued) (word : Text) → option_by turns slice ≡ Some valued → bytes_eq (named word) (codes "--turns") ≡ turns → bytes_eq (named word) (codes "--slice") ≡ slice → named word ≡ spelled valued
+an_option : (turns slice : Bool) (valued : Valued) (word : Text) → option_by turns slice ≡ Some valued → bytes_eq (named word) (codes "--turns") ≡ turns
+    → bytes_eq (named word) (codes "--slice") ≡ slice → named word ≡ spelled valued
 an_option true slice the_turns word is turns_is slice_is = (bytes_eq-Decides _ _).0 turns_is
 an_option true slice the_slice word is turns_is slice_is = let bad : Some the_turns ≡ Some the_slice = is in cc
 an_option false true the_turns word is turns_is slice_is = let bad : Some the_slice ≡ Some the_turns = is in cc
@@ -298,7 +325,8 @@ help_long : (awaits : Option Valued) (s : Kinds) → AtOption awaits s true (cod
 help_long awaits s is_bad path rows pending is stands =
     refuses_help is_bad s _ stands (long_word awaits path rows pending s (codes "--help") (codes "help") None true is refl refl (refl, refl) refl)
 
-other_long : (awaits : Option Valued) (s : Kinds) (byte : ℕ) (rest : Text) (has : Bool) → has_byte 61 (byte ∷ rest) ≡ has → option_in (45 ∷ 45 ∷ byte ∷ rest) ≡ None → bytes_eq (byte ∷ rest) (codes "help") ≡ false
+other_long : (awaits : Option Valued) (s : Kinds) (byte : ℕ) (rest : Text) (has : Bool) → has_byte 61 (byte ∷ rest) ≡ has
+    → option_in (45 ∷ 45 ∷ byte ∷ rest) ≡ None → bytes_eq (byte ∷ rest) (codes "help") ≡ false
     → AtOption awaits s false (45 ∷ 45 ∷ byte ∷ rest)
 other_long awaits s byte rest false no_value unnamed no_help is_bad path rows pending is stands =
     let whole = all_before (byte ∷ rest) no_value in
@@ -309,11 +337,18 @@ other_long awaits s byte rest true value unnamed no_help is_bad path rows pendin
     let after = value_in (byte ∷ rest) in
     let a_long : long_of (45 ∷ 45 ∷ byte ∷ rest) ≡ Some (name, Some after) = rw value refl in
     refuses_other is_bad _ (elim (cases_Bool (bytes_eq (codes "help") name)) [
-      | inl like ↦ (TooManyValues, long_word awaits path rows pending s (45 ∷ 45 ∷ byte ∷ rest) name (Some after) true is refl a_long (no_name (byte ∷ rest) unnamed) like, refl)
-      | inr unlike ↦ unknown _ (long_word awaits path rows pending s (45 ∷ 45 ∷ byte ∷ rest) name (Some after) false is refl a_long (no_name (byte ∷ rest) unnamed) unlike)
+      | inl like ↦ (
+        TooManyValues,
+        long_word awaits path rows pending s (45 ∷ 45 ∷ byte ∷ rest) name (Some after) true is refl a_long
+            (no_name (byte ∷ rest) unnamed) like,
+        refl,
+      )
+      | inr unlike ↦ unknown _ (long_word awaits path rows pending s (45 ∷ 45 ∷ byte ∷ rest) name (Some after) false is refl a_long
+          (no_name (byte ∷ rest) unnamed) unlike)
     ])
 
-long_refused : (awaits : Option Valued) (s : Kinds) (byte : ℕ) (rest : Text) (is_help : Bool) → option_in (45 ∷ 45 ∷ byte ∷ rest) ≡ None → bytes_eq (byte ∷ rest) (codes "help") ≡ is_help
+long_refused : (awaits : Option Valued) (s : Kinds) (byte : ℕ) (rest : Text) (is_help : Bool) → option_in (45 ∷ 45 ∷ byte ∷ rest) ≡ None
+    → bytes_eq (byte ∷ rest) (codes "help") ≡ is_help
     → AtOption awaits s is_help (45 ∷ 45 ∷ byte ∷ rest)
 long_refused awaits s byte rest true unnamed is_help =
     let same : byte ∷ rest ≡ codes "help" = (bytes_eq-Decides (byte ∷ rest) (codes "help")).0 is_help in
@@ -321,13 +356,16 @@ long_refused awaits s byte rest true unnamed is_help =
 long_refused awaits s byte rest false unnamed no_help = other_long awaits s byte rest (has_byte 61 (byte ∷ rest)) refl unnamed no_help
 
 -- which letter stands behind a hyphen, where it is no hyphen
-short_refused : (awaits : Option Valued) (s : Kinds) (byte : ℕ) (rest : Text) (letter : ℕ) (is_h : Bool) → (byte == 45) ≡ false → slice_get (chars (byte ∷ rest)) 0 ≡ Some letter
+short_refused : (awaits : Option Valued) (s : Kinds) (byte : ℕ) (rest : Text) (letter : ℕ) (is_h : Bool) → (byte == 45) ≡ false
+    → slice_get (chars (byte ∷ rest)) 0 ≡ Some letter
     → (letter == 104) ≡ is_h → AtOption awaits s is_h (45 ∷ byte ∷ rest)
 short_refused awaits s byte rest letter true no_hyphen a_letter h is_bad path rows pending is stands =
     let same : letter ≡ 104 = eqb-true letter 104 h in
-    refuses_help is_bad s _ stands (short_word awaits path rows pending s (45 ∷ byte ∷ rest) byte rest letter true is (rw no_hyphen refl) (rw no_hyphen refl) (rw no_hyphen refl) a_letter (eq-eqb 104 letter (sym same)))
+    refuses_help is_bad s _ stands (short_word awaits path rows pending s (45 ∷ byte ∷ rest) byte rest letter true is (rw no_hyphen refl) (rw no_hyphen refl)
+    (rw no_hyphen refl) a_letter (eq-eqb 104 letter (sym same)))
 short_refused awaits s byte rest letter false no_hyphen a_letter h is_bad path rows pending is stands =
-    refuses_other is_bad _ (unknown _ (short_word awaits path rows pending s (45 ∷ byte ∷ rest) byte rest letter false is (rw no_hyphen refl) (rw no_hyphen refl) (rw no_hyphen refl) a_letter
+    refuses_other is_bad _ (unknown _ (short_word awaits path rows pending s (45 ∷ byte ∷ rest) byte rest letter false is (rw no_hyphen refl)
+    (rw no_hyphen refl) (rw no_hyphen refl) a_letter
     (ne_eqb 104 letter (λ same. eqb-false letter 104 h (sym same)))))
 
 -- what the definition says of an option
@@ -339,7 +377,8 @@ asks_short : (byte : ℕ) (rest : Text) (letter : ℕ) (is_h : Bool) → (byte =
     → (letter == 104) ≡ is_h → asks_help (45 ∷ byte ∷ rest) ≡ is_h
 asks_short byte rest letter is_h no_hyphen a_letter h = rw (no_hyphen, a_letter) h
 
-option_after : (awaits : Option Valued) (s : Kinds) (rest : Text) (letter : Option ℕ) → bytes_eq (45 ∷ rest) (codes "--") ≡ false → option_in (45 ∷ rest) ≡ None → slice_get (chars rest) 0 ≡ letter → is_some letter ≡ true
+option_after : (awaits : Option Valued) (s : Kinds) (rest : Text) (letter : Option ℕ) → bytes_eq (45 ∷ rest) (codes "--") ≡ false → option_in (45 ∷ rest) ≡ None
+    → slice_get (chars rest) 0 ≡ letter → is_some letter ≡ true
     → AtOption awaits s (asks_help (45 ∷ rest)) (45 ∷ rest)
 option_after awaits s rest None no_dashes unnamed is some = absurd (false≢true some)
 option_after awaits s [] (Some letter) no_dashes unnamed is some = let bad : None ≡ Some letter = sym nothing_first ∙ is in cc
@@ -353,40 +392,51 @@ option_after awaits s (byte ∷ rest) (Some letter) no_dashes unnamed is some = 
     Holds : ℕ → Type 0
     Holds b = bytes_eq (45 ∷ b ∷ rest) (codes "--") ≡ false → option_in (45 ∷ b ∷ rest) ≡ None → AtOption awaits s (asks_help (45 ∷ b ∷ rest)) (45 ∷ b ∷ rest)
 
-    long : (text : Text) → bytes_eq (45 ∷ 45 ∷ text) (codes "--") ≡ false → option_in (45 ∷ 45 ∷ text) ≡ None → AtOption awaits s (asks_help (45 ∷ 45 ∷ text)) (45 ∷ 45 ∷ text)
+    long : (text : Text) → bytes_eq (45 ∷ 45 ∷ text) (codes "--") ≡ false → option_in (45 ∷ 45 ∷ text) ≡ None
+        → AtOption awaits s (asks_help (45 ∷ 45 ∷ text)) (45 ∷ 45 ∷ text)
     long [] unlike unnamed = absurd (true≢false unlike)
     long (b ∷ text) unlike unnamed =
         subst (λ h. AtOption awaits s h (45 ∷ 45 ∷ b ∷ text)) (sym (asks_long b text (bytes_eq (b ∷ text) (codes "help")) refl))
         (long_refused awaits s b text (bytes_eq (b ∷ text) (codes "help")) unnamed refl)
 
 -- what the walk says of a word that the definition calls an option
-pub option_word : (awaits : Option Valued) (s : Kinds) (word : Text) → bytes_eq word (codes "--") ≡ false → option_in word ≡ None → is_option word ≡ true → AtOption awaits s (asks_help word) word
+pub option_word : (awaits : Option Valued) (s : Kinds) (word : Text) → bytes_eq word (codes "--") ≡ false → option_in word ≡ None → is_option word ≡ true
+    → AtOption awaits s (asks_help word) word
 option_word awaits s [] no_dashes unnamed dashed = absurd (false≢true dashed)
 option_word awaits s (byte ∷ rest) no_dashes unnamed dashed = elim (cases_Bool (byte == 45)) [
-  | inl hyphen ↦ subst Holds (sym (eqb-true byte 45 hyphen)) (λ unlike other is. option_after awaits s rest (slice_get (chars rest) 0) unlike other refl is) no_dashes unnamed dashed
+  | inl hyphen ↦ subst Holds (sym (eqb-true byte 45 hyphen)) (λ unlike other is. option_after awaits s rest (slice_get (chars rest) 0) unlike other refl is)
+      no_dashes unnamed dashed
   | inr other ↦ let bad : false ≡ true = rw other at dashed in absurd (false≢true bad)
 ]
   where
     Holds : ℕ → Type 0
-    Holds b = bytes_eq (b ∷ rest) (codes "--") ≡ false → option_in (b ∷ rest) ≡ None → is_option (b ∷ rest) ≡ true → AtOption awaits s (asks_help (b ∷ rest)) (b ∷ rest)
+    Holds b = bytes_eq (b ∷ rest) (codes "--") ≡ false → option_in (b ∷ rest) ≡ None → is_option (b ∷ rest) ≡ true
+        → AtOption awaits s (asks_help (b ∷ rest)) (b ∷ rest)
 
 -- ---- words that are none
 
 abbrev IsPlain : Text → Type 0
 IsPlain word = IsPathWord false None word × ((valued : Valued) → IsValueWord valued word)
 
-path_after : (rest : Text) (letter : Option ℕ) → bytes_eq (45 ∷ rest) (codes "--") ≡ false → slice_get (chars rest) 0 ≡ letter → is_some letter ≡ false → IsPlain (45 ∷ rest)
+path_after : (rest : Text) (letter : Option ℕ) → bytes_eq (45 ∷ rest) (codes "--") ≡ false → slice_get (chars rest) 0 ≡ letter → is_some letter ≡ false
+    → IsPlain (45 ∷ rest)
 path_after rest (Some letter) no_dashes is some = absurd (true≢false some)
 path_after [] None no_dashes is some = (plain_word (45 ∷ []) no_dashes refl refl, λ valued. plain_value valued (45 ∷ []) no_dashes refl refl)
 path_after (byte ∷ rest) None no_dashes is some = elim (cases_Bool (byte == 45)) [
   | inl hyphen ↦
       let nothing : Some 45 ≡ None = sym (hyphen_first rest) ∙ (ap (λ b. slice_get (chars (b ∷ rest)) 0) (sym (eqb-true byte 45 hyphen)) ∙ is) in
       absurd (true≢false (ap (λ (o : Option ℕ). is_some o) nothing))
-  | inr other ↦ (blank_word (45 ∷ byte ∷ rest) byte rest no_dashes (rw other refl) (rw other refl) is, λ valued. blank_value valued (45 ∷ byte ∷ rest) byte rest no_dashes (rw other refl) (rw other refl) is)
+  | inr other ↦ (
+    blank_word (45 ∷ byte ∷ rest) byte rest no_dashes (rw other refl) (rw other refl) is,
+    λ valued. blank_value valued (45 ∷ byte ∷ rest) byte rest no_dashes (rw other refl) (rw other refl) is,
+  )
 ]
 
 bare_word : (byte : ℕ) (rest : Text) → bytes_eq (byte ∷ rest) (codes "--") ≡ false → (byte == 45) ≡ false → IsPlain (byte ∷ rest)
-bare_word byte rest no_dashes other = (plain_word (byte ∷ rest) no_dashes (rw other refl) (rw other refl), λ valued. plain_value valued (byte ∷ rest) no_dashes (rw other refl) (rw other refl))
+bare_word byte rest no_dashes other = (
+  plain_word (byte ∷ rest) no_dashes (rw other refl) (rw other refl),
+  λ valued. plain_value valued (byte ∷ rest) no_dashes (rw other refl) (rw other refl),
+)
 
 -- a word that it calls none is not `--`
 no_dashes : (word : Text) → is_option word ≡ false → bytes_eq word (codes "--") ≡ false
@@ -412,7 +462,8 @@ path_word word no_option = plain_by word (no_dashes word no_option) no_option
 
 -- ---- words that name an option with a value
 
-head_before : (byte : ℕ) (rest : Text) (first : ℕ) (more : Text) → before_first (λ x. x == 61) (byte ∷ rest) ≡ first ∷ more → (byte ≡ first) × (before_first (λ x. x == 61) rest ≡ more)
+head_before : (byte : ℕ) (rest : Text) (first : ℕ) (more : Text) → before_first (λ x. x == 61) (byte ∷ rest) ≡ first ∷ more
+    → (byte ≡ first) × (before_first (λ x. x == 61) rest ≡ more)
 head_before byte rest first more is = elim (cases_Bool (byte == 61)) [
   | inl equals ↦ let none : [] ≡ first ∷ more = rw equals at is in cc
   | inr other ↦

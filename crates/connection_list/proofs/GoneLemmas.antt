@@ -1,5 +1,6 @@
 -- Rows that go, with the links to them.
-use Rattle.std.proofs.Common.{◌≡◌, ◌≢◌, ◌∙◌, ℕ, ◌<◌, ◌≤◌, ◌^◌, ◌==◌, Bool, true, false, not, List, [], Some, IsSome, length, map, filter, refl, sym, ap, subst, arith}
+use Rattle.std.proofs.Common.{◌≡◌, ◌≢◌, ◌∙◌, ℕ, ◌<◌, ◌≤◌, ◌^◌, ◌==◌, Bool, true, false, not, List, [], Some, IsSome, length, map, filter, refl, sym, ap, subst}
+use Rattle.std.proofs.Common.{arith}
 use Rattle.std.specs.List.{All, Any}
 use Rattle.std.proofs.lemmas.Bool.Decides.{nat_tests}
 use Rattle.std.proofs.lemmas.List.{get_or-map, length-map}
@@ -24,10 +25,12 @@ use Rattle.connection_list.proofs.RoutesLemmas.{rising_keyed}
 -- what holds of each row holds of it with its key
 pub all_keyed : (P : Connection → Type 0) (rows : List (Keyed Connection)) → All P (map (λ keyed. keyed.row) rows) → All (λ keyed. P keyed.row) rows
 all_keyed P rows all k default within =
-    subst P (get_or-map (λ (keyed : Keyed Connection). keyed.row) rows k default default.row within) (all k default.row (omega (arith, length-map rows (λ (keyed : Keyed Connection). keyed.row), within)))
+    subst P (get_or-map (λ (keyed : Keyed Connection). keyed.row) rows k default default.row within)
+    (all k default.row (omega (arith, length-map rows (λ (keyed : Keyed Connection). keyed.row), within)))
 
 -- a place stays sound where rows go
-sound_filter : (keep : Keyed Connection → Bool) (rows : List (Keyed Connection)) (old new : Routes) → IsSound (place_of rows old) → new.last_number ≡ old.last_number → IsSound (place_of (filter keep rows) new)
+sound_filter : (keep : Keyed Connection → Bool) (rows : List (Keyed Connection)) (old new : Routes) → IsSound (place_of rows old)
+    → new.last_number ≡ old.last_number → IsSound (place_of (filter keep rows) new)
 sound_filter keep rows old new sound same = record {
   rising = λ i j default below within.
       let inside : j < length (filter keep rows) = omega (arith, within, length-map (filter keep rows) (λ (keyed : Keyed Connection). keyed.row)) in
@@ -36,18 +39,29 @@ sound_filter keep rows old new sound same = record {
       omega (
         arith,
         rise,
-        ap (λ (row : Connection). row.number) (get_or-map (λ (keyed : Keyed Connection). keyed.row) (filter keep rows) i blank default (omega (arith, below, inside))),
+        ap (λ (row : Connection). row.number) (get_or-map (λ (keyed : Keyed Connection). keyed.row) (filter keep rows) i blank default
+            (omega (arith, below, inside))),
         ap (λ (row : Connection). row.number) (get_or-map (λ (keyed : Keyed Connection). keyed.row) (filter keep rows) j blank default inside),
       );
-  from_one = All-map (λ row. 1 ≤ row.number) (λ (keyed : Keyed Connection). keyed.row) (filter keep rows) (All-filter keep (λ keyed. 1 ≤ keyed.row.number) rows (all_keyed (λ row. 1 ≤ row.number) rows sound.from_one));
-  given = All-map (λ row. row.number ≤ new.last_number) (λ (keyed : Keyed Connection). keyed.row) (filter keep rows) (All-filter keep (λ keyed. keyed.row.number ≤ new.last_number) rows (all_keyed (λ row. row.number ≤ new.last_number) rows (rw same sound.given)));
+  from_one = All-map (λ row. 1 ≤ row.number) (λ (keyed : Keyed Connection). keyed.row) (filter keep rows)
+      (All-filter keep (λ keyed. 1 ≤ keyed.row.number) rows (all_keyed (λ row. 1 ≤ row.number) rows sound.from_one));
+  given = All-map (λ row. row.number ≤ new.last_number) (λ (keyed : Keyed Connection). keyed.row) (filter keep rows)
+      (All-filter keep (λ keyed. keyed.row.number ≤ new.last_number) rows (all_keyed (λ row. row.number ≤ new.last_number) rows (rw same sound.given)));
   fits = omega (arith, same, sound.fits);
   few =
-      omega (arith, sound.few, length-map rows (λ (keyed : Keyed Connection). keyed.row), length-map (filter keep rows) (λ (keyed : Keyed Connection). keyed.row), length-filter keep rows, count_by-le-length keep rows);
+      omega (
+        arith,
+        sound.few,
+        length-map rows (λ (keyed : Keyed Connection). keyed.row),
+        length-map (filter keep rows) (λ (keyed : Keyed Connection). keyed.row),
+        length-filter keep rows,
+        count_by-le-length keep rows,
+      );
 }
 
 module _ (key : ℕ) (row : Connection) (rows : List (Keyed Connection)) (apart : IsApart rows) (stands : row_under rows key ≡ Some row) where
-  linked_without : (link_of : Keyed Connection → Link) → ((keyed : Keyed Connection) → (link_of keyed).key ≡ keyed.key) → (links : List Link) → AreLinked link_of rows links
+  linked_without : (link_of : Keyed Connection → Link) → ((keyed : Keyed Connection) → (link_of keyed).key ≡ keyed.key) → (links : List Link)
+      → AreLinked link_of rows links
       → AreLinked link_of (without rows key) (without_link link_cmp links (link_of (record { key = key; row = row })))
   linked_without link_of key_is links linked =
       linked_filter link_total link_same link_of (λ keyed. not (keyed.key == key)) rows links (link_of (record { key = key; row = row })) linked
@@ -59,7 +73,8 @@ module _ (key : ℕ) (row : Connection) (rows : List (Keyed Connection)) (apart 
       let same_row : keyed.row ≡ row = only_under rows key row apart stands keyed there same_key in
       ap (λ k. link_of (record { key = k; row = keyed.row })) same_key ∙ ap (λ r. link_of (record { key = key; row = r })) same_row))
 
-  pub kept_without : (old new : Routes) → IsPlaceKept rows old → new.last_number ≡ old.last_number → new.sent.links ≡ without_link link_cmp old.sent.links (sent_of (record { key = key; row = row }))
+  pub kept_without : (old new : Routes) → IsPlaceKept rows old → new.last_number ≡ old.last_number
+      → new.sent.links ≡ without_link link_cmp old.sent.links (sent_of (record { key = key; row = row }))
       → new.received.links ≡ without_link link_cmp old.received.links (received_of (record { key = key; row = row })) → IsPlaceKept (without rows key) new
   kept_without old new kept same sent received = record {
     sound = sound_filter (λ keyed. not (keyed.key == key)) rows old new kept.sound same;
@@ -72,23 +87,30 @@ module _ (key : ℕ) (row : Connection) (rows : List (Keyed Connection)) (apart 
   }
 
 -- the row under a key is gone
-module _ (place key : ℕ) (row : Connection) (old new : Table (List (Keyed Connection))) (before after : Routes) (is_place : IsPlace old place) (kept : IsPlaceKept (rows_at old place) before) (stands : row_under (rows_at old place) key ≡ Some row) where
+module _ (place key : ℕ) (row : Connection) (old new : Table (List (Keyed Connection))) (before after : Routes) (is_place : IsPlace old place)
+    (kept : IsPlaceKept (rows_at old place) before) (stands : row_under (rows_at old place) key ≡ Some row) where
   pub short_key : key < 2 ^ 32
-  short_key = subst (λ (keyed : Keyed Connection). keyed.key < 2 ^ 32) (stands_under (rows_at old place) key row stands).2 (kept.short (stands_under (rows_at old place) key row stands).0 (record { key = key; row = row }) (stands_under (rows_at old place) key row stands).1)
+  short_key = subst (λ (keyed : Keyed Connection). keyed.key < 2 ^ 32) (stands_under (rows_at old place) key row stands).2
+      (kept.short (stands_under (rows_at old place) key row stands).0 (record { key = key; row = row }) (stands_under (rows_at old place) key row stands).1)
 
-  pub one_gone : new ≡ with_place old place (without (rows_at old place) key) → after.last_number ≡ before.last_number → after.sent.links ≡ without_link link_cmp before.sent.links (sent_of (record { key = key; row = row }))
-      → after.received.links ≡ without_link link_cmp before.received.links (received_of (record { key = key; row = row })) → AreGone (λ keyed. keyed.key == key) place old new before after
+  pub one_gone : new ≡ with_place old place (without (rows_at old place) key) → after.last_number ≡ before.last_number
+      → after.sent.links ≡ without_link link_cmp before.sent.links (sent_of (record { key = key; row = row }))
+      → after.received.links ≡ without_link link_cmp before.received.links (received_of (record { key = key; row = row }))
+      → AreGone (λ keyed. keyed.key == key) place old new before after
   one_gone changed same sent received =
-      let now : rows_at new place ≡ without (rows_at old place) key = ap (λ table. rows_at table place) changed ∙ with_there [] old place (without (rows_at old place) key) is_place in
+      let now : rows_at new place ≡ without (rows_at old place) key = ap (λ table. rows_at table place) changed
+      ∙ with_there [] old place (without (rows_at old place) key) is_place in
       record {
         elsewhere = changes_with [] old new place (without (rows_at old place) key) is_place changed;
         rows = now;
         last_number = same;
-        kept = subst (λ rows. IsPlaceKept rows after) (sym now) (kept_without key row (rows_at old place) kept.apart stands before after kept same sent received);
+        kept = subst (λ rows. IsPlaceKept rows after) (sym now)
+            (kept_without key row (rows_at old place) kept.apart stands before after kept same sent received);
       }
 
 -- at both ends its link is gone
-pub links_without : (old new : Routes) (keyed : Keyed Connection) → new.sent.links ≡ without_link link_cmp old.sent.links (sent_of keyed) → new.received.links ≡ without_link link_cmp old.received.links (received_of keyed)
+pub links_without : (old new : Routes) (keyed : Keyed Connection) → new.sent.links ≡ without_link link_cmp old.sent.links (sent_of keyed)
+    → new.received.links ≡ without_link link_cmp old.received.links (received_of keyed)
     → (received : Bool) → links_of received new ≡ without_link link_cmp (links_of received old) (link_of received keyed)
 links_without old new keyed sent received true = received
 links_without old new keyed sent received false = sent
@@ -110,28 +132,35 @@ pub record AreGoing (gone : Keyed Connection → Bool) (place : ℕ) (old now : 
   pub last_number : after.last_number ≡ before.last_number
   pub kept : IsPlaceKept (rows_at now place) after
 
-pub none_gone : (gone : Keyed Connection → Bool) (place : ℕ) (table : Table (List (Keyed Connection))) (routes : Routes) → IsPlaceKept (rows_at table place) routes → AreGoing gone place table table routes routes
+pub none_gone : (gone : Keyed Connection → Bool) (place : ℕ) (table : Table (List (Keyed Connection))) (routes : Routes)
+    → IsPlaceKept (rows_at table place) routes → AreGoing gone place table table routes routes
 none_gone gone place table routes kept = record { elsewhere = changes_same [] table table place refl; left = refl; last_number = refl; kept = kept }
 
-module _ (gone : Keyed Connection → Bool) (place : ℕ) (old now : Table (List (Keyed Connection))) (before middle : Routes) (going : AreGoing gone place old now before middle) where
+module _ (gone : Keyed Connection → Bool) (place : ℕ) (old now : Table (List (Keyed Connection))) (before middle : Routes)
+    (going : AreGoing gone place old now before middle) where
   pub still_place : IsPlace old place → IsPlace now place
   still_place is_place = changes_open [] old now place going.elsewhere is_place
 
-  pub one_more_gone : (next : Table (List (Keyed Connection))) (after : Routes) (key : ℕ) → Stands gone (rows_at now place) key → AreGone (λ other. other.key == key) place now next middle after → AreGoing gone place old next before after
+  pub one_more_gone : (next : Table (List (Keyed Connection))) (after : Routes) (key : ℕ) → Stands gone (rows_at now place) key
+      → AreGone (λ other. other.key == key) place now next middle after → AreGoing gone place old next before after
   one_more_gone next after key stands out = record {
     elsewhere = changes_twice [] old now next place going.elsewhere out.elsewhere;
     left =
         ap (filter (λ other. not (gone other))) out.rows
-        ∙ (filter_without (λ other. not (gone other)) (rows_at now place) key (all_from (λ other. other.key ≡ key → not (gone other) ≡ false) (rows_at now place) (λ other there same.
+        ∙ (filter_without (λ other. not (gone other)) (rows_at now place) key
+        (all_from (λ other. other.key ≡ key → not (gone other) ≡ false) (rows_at now place) (λ other there same.
         let under = under_key (rows_at now place) stands.1 going.kept.apart (stands.0, stands.2, stands.3) in
-        let same_row : other.row ≡ stands.1.row = only_under (rows_at now place) stands.1.key stands.1.row going.kept.apart under other there (same ∙ sym stands.4.0) in
-        ap (λ k. not (gone (record { key = k; row = other.row }))) (same ∙ sym stands.4.0) ∙ (ap (λ r. not (gone (record { key = stands.1.key; row = r }))) same_row ∙ ap not stands.4.1)))
+        let same_row : other.row ≡ stands.1.row = only_under (rows_at now place) stands.1.key stands.1.row going.kept.apart under other there
+        (same ∙ sym stands.4.0) in
+        ap (λ k. not (gone (record { key = k; row = other.row }))) (same ∙ sym stands.4.0)
+        ∙ (ap (λ r. not (gone (record { key = stands.1.key; row = r }))) same_row ∙ ap not stands.4.1)))
         ∙ going.left);
     last_number = out.last_number ∙ going.last_number;
     kept = out.kept;
   }
 
-  pub fewer : (next : Table (List (Keyed Connection))) (after : Routes) (key : ℕ) → IsSome (row_under (rows_at now place) key) → AreGone (λ other. other.key == key) place now next middle after → length (rows_at next place) < length (rows_at now place)
+  pub fewer : (next : Table (List (Keyed Connection))) (after : Routes) (key : ℕ) → IsSome (row_under (rows_at now place) key)
+      → AreGone (λ other. other.key == key) place now next middle after → length (rows_at next place) < length (rows_at now place)
   fewer next after key some out = rw out.rows (length-without (rows_at now place) key some)
 
   pub all_gone : All (λ keyed. gone keyed ≡ false) (rows_at now place) → AreGone gone place old now before middle

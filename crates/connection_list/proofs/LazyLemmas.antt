@@ -7,10 +7,12 @@ use Rattle.connection_list.specs.declared.routes.Routes.{Routes}
 use Rattle.connection_list.specs.Routes.{IsRouted, no_routes, routes_in}
 
 -- what contracts see of routes that were made
-pub seen_made : {made : Option (Box Routes Global)} {seen at : Routes} {routes : Box Routes Global} → routes_in made ≡ seen → made ≡ Some routes → at ≡ routes.value → at ≡ seen
+pub seen_made : {made : Option (Box Routes Global)} {seen at : Routes} {routes : Box Routes Global} → routes_in made ≡ seen → made ≡ Some routes
+    → at ≡ routes.value → at ≡ seen
 seen_made view_is is value = value ∙ (sym (ap routes_in is) ∙ view_is)
 
-module _ (made : Option (Box Routes Global)) (seen : Routes) (view_is : routes_in made ≡ seen) (none : made ≡ None) (rows : List (Keyed Connection)) (routed : IsRouted rows seen) where
+module _ (made : Option (Box Routes Global)) (seen : Routes) (view_is : routes_in made ≡ seen) (none : made ≡ None) (rows : List (Keyed Connection))
+    (routed : IsRouted rows seen) where
   seen_none : seen ≡ no_routes
   seen_none = sym view_is ∙ ap routes_in none
 

@@ -16,7 +16,9 @@ use Rattle.connection_list.specs.declared.link.Link.{Link}
 use Rattle.connection_list.specs.Routes.{is_before, is_past, link_cmp}
 
 pub link_total : IsTotalOrder link_cmp
-link_total = then_total (on_total (λ (link : Link). link.object) nat_cmp_total) (then_total (on_total (λ (link : Link). link.signal) nat_cmp_total) (then_total (on_total (λ (link : Link). link.number) nat_cmp_total) (on_total (λ (link : Link). link.key) nat_cmp_total)))
+link_total = then_total (on_total (λ (link : Link). link.object) nat_cmp_total)
+    (then_total (on_total (λ (link : Link). link.signal) nat_cmp_total)
+    (then_total (on_total (λ (link : Link). link.number) nat_cmp_total) (on_total (λ (link : Link). link.key) nat_cmp_total)))
 
 then_equal : (a b : Ordering) → ordering_then a b ≡ Equal → (a ≡ Equal) × (b ≡ Equal)
 then_equal Less b e = absurd (cc)
@@ -46,7 +48,11 @@ pub record IsAtLeast (x y : Link) : Type 0 where
   pub number : y.object ≡ x.object → y.signal ≡ x.signal → y.number ≤ x.number
 
 pub at_least : (x y : Link) → is_lt (link_cmp x y) ≡ false → IsAtLeast x y
-at_least x y e = record { object = grind (arith, nat_tests, e); signal = λ same. grind (arith, nat_tests, e, same); number = λ same other. grind (arith, nat_tests, e, same, other) }
+at_least x y e = record {
+  object = grind (arith, nat_tests, e);
+  signal = λ same. grind (arith, nat_tests, e, same);
+  number = λ same other. grind (arith, nat_tests, e, same, other);
+}
 
 pub not_below : (x : Link) (number : ℕ) → number ≤ x.number → is_lt (link_cmp x (from x.object x.signal number)) ≡ false
 not_below x number within = grind (arith, nat_tests)
@@ -77,14 +83,16 @@ past_on object (Some signal) x y least past = ⊎_elim
 module _ (links : List Link) (order : IsInOrder link_cmp links) (object : ℕ) (signal : Option ℕ) where
   pub before_parted : IsPartitionedBy (is_before object signal) links
   before_parted i j d upto within before = ⊎_elim
-      (λ (front : i < j). before_on object signal (get_or links i d) (get_or links j d) (before_other (get_or links i d) (get_or links j d) (order i j d front within)) before)
+      (λ (front : i < j). before_on object signal (get_or links i d) (get_or links j d)
+      (before_other (get_or links i d) (get_or links j d) (order i j d front within)) before)
       (λ (at : j ≤ i). let same : i ≡ j = omega (arith, at, upto) in ap (λ n. is_before object signal (get_or links n d)) same ∙ before)
       (cases_lt i j)
 
   pub past_parted : IsPartitionedBy (λ link. not (is_past object signal link)) links
   past_parted i j d upto within kept = ⊎_elim
       (λ (front : i < j).
-      ap not (past_on object signal (get_or links i d) (get_or links j d) (before_other (get_or links i d) (get_or links j d) (order i j d front within)) (unless (is_past object signal (get_or links j d)) kept)))
+      ap not (past_on object signal (get_or links i d) (get_or links j d) (before_other (get_or links i d) (get_or links j d) (order i j d front within))
+      (unless (is_past object signal (get_or links j d)) kept)))
       (λ (at : j ≤ i). let same : i ≡ j = omega (arith, at, upto) in ap (λ n. not (is_past object signal (get_or links n d))) same ∙ kept)
       (cases_lt i j)
     where
@@ -93,7 +101,9 @@ module _ (links : List Link) (order : IsInOrder link_cmp links) (object : ℕ) (
       unless false kept = refl
 
 -- where those below a link end, two neighbours tell
-pub parted_at : (links : List Link) → IsInOrder link_cmp links → (link : Link) (at : ℕ) → at ≤ length links → (0 < at → (d : Link) → is_lt (link_cmp (get_or links (at - 1) d) link) ≡ true) → (at < length links → (d : Link) → is_lt (link_cmp (get_or links at d) link) ≡ false)
+pub parted_at : (links : List Link) → IsInOrder link_cmp links → (link : Link) (at : ℕ) → at ≤ length links
+    → (0 < at → (d : Link) → is_lt (link_cmp (get_or links (at - 1) d) link) ≡ true)
+    → (at < length links → (d : Link) → is_lt (link_cmp (get_or links at d) link) ≡ false)
     → IsPartitionPoint (λ other. is_lt (link_cmp other link) ≡ true) (λ other. is_lt (link_cmp other link) ≡ false) links at
 parted_at links order link at within low high = (
   λ k d first upto. below_parted link_total links order link k (at - 1) d (omega (arith, upto)) (omega (arith, upto, within)) (low (omega (arith, upto)) d),
@@ -123,5 +133,7 @@ module _ (links : List Link) (order : IsInOrder link_cmp links) (object : ℕ) w
       differs (omega (arith, low.object, above.object, same)))
 
   -- else that one leads to a connection of the object
-  pub one_of : (least : Link) → first_from link_cmp links (from object 0 0) ≡ Some least → least.object ≡ object → Any (λ link. (link.object ≡ object) × (link.key ≡ least.key)) links
-  one_of least found same = any_of (λ link. (link.object ≡ object) × (link.key ≡ least.key)) links least (first_some link_total link_same links order (from object 0 0) least found).0 (same, refl)
+  pub one_of : (least : Link) → first_from link_cmp links (from object 0 0) ≡ Some least → least.object ≡ object
+      → Any (λ link. (link.object ≡ object) × (link.key ≡ least.key)) links
+  one_of least found same = any_of (λ link. (link.object ≡ object) × (link.key ≡ least.key)) links least
+      (first_some link_total link_same links order (from object 0 0) least found).0 (same, refl)

@@ -1,5 +1,6 @@
 -- What the links of a place tell of its connections.
-use Rattle.std.proofs.Common.{◌≡◌, ◌≢◌, ◌∙◌, ℕ, zero, suc, ◌+◌, ◌-◌, ◌<◌, ◌≤◌, ◌^◌, Bool, true, false, List, [], ◌∷◌, Option, Some, None, IfNone, IfSome, length, find, get_or, refl, sym, ap, arith, ⊎_elim}
+use Rattle.std.proofs.Common.{◌≡◌, ◌≢◌, ◌∙◌, ℕ, zero, suc, ◌+◌, ◌-◌, ◌<◌, ◌≤◌, ◌^◌, Bool, true, false, List, [], ◌∷◌, Option, Some, None, IfNone, IfSome}
+use Rattle.std.proofs.Common.{length, find, get_or, refl, sym, ap, arith, ⊎_elim}
 use Rattle.std.specs.List.{All, AllPairs, Any, Contains}
 use Rattle.std.specs.Option.{option_map}
 use Rattle.std.specs.Ordering.{is_lt}
@@ -37,16 +38,25 @@ rising_keyed rows routes sound i j default below within =
 pub last_bound : (rows : List (Keyed Connection)) (routes : Routes) → IsSound (place_of rows routes) → All (λ keyed. keyed.row.number < 2 ^ 32) rows
 last_bound rows routes sound k default within =
     let given = sound.given k default.row (omega (arith, length-map rows (λ (keyed : Keyed Connection). keyed.row), within)) in
-    omega (arith, given, sound.fits, ap (λ (row : Connection). row.number) (get_or-map (λ (keyed : Keyed Connection). keyed.row) rows k default default.row within))
+    omega (
+      arith,
+      given,
+      sound.fits,
+      ap (λ (row : Connection). row.number)
+          (get_or-map (λ (keyed : Keyed Connection). keyed.row) rows k default default.row within),
+    )
 
 -- the first that passes, where none that passes has a smaller number
-find_least : {X : Type 0} (number_of : X → ℕ) (test : X → Bool) (rows : List X) → AllPairs (λ earlier later. number_of earlier < number_of later) rows → (row : X) → Contains rows row → test row ≡ true
+find_least : {X : Type 0} (number_of : X → ℕ) (test : X → Bool) (rows : List X) → AllPairs (λ earlier later. number_of earlier < number_of later) rows
+    → (row : X) → Contains rows row → test row ≡ true
     → All (λ other. test other ≡ true → number_of row ≤ number_of other) rows → find test rows ≡ Some row
 find_least number_of test [] rising row there passes least = absurd (omega (arith, there.1))
 find_least {X} number_of test (first ∷ rows) rising row there passes least =
-    by there.0 there.1 there.2 (λ at within is. find_least number_of test rows (λ i j d low high. rising (suc i) (suc j) d (omega arith) (omega arith)) row (at, within, is) passes (λ k d lt yes. least (suc k) d (omega arith) yes))
+    by there.0 there.1 there.2 (λ at within is. find_least number_of test rows (λ i j d low high. rising (suc i) (suc j) d (omega arith) (omega arith)) row
+    (at, within, is) passes (λ k d lt yes. least (suc k) d (omega arith) yes))
   where
-    by : (at : ℕ) → at < length (first ∷ rows) → get_or (first ∷ rows) at row ≡ row → ((at : ℕ) → at < length rows → get_or rows at row ≡ row → find test rows ≡ Some row) → find test (first ∷ rows) ≡ Some row
+    by : (at : ℕ) → at < length (first ∷ rows) → get_or (first ∷ rows) at row ≡ row
+        → ((at : ℕ) → at < length rows → get_or rows at row ≡ row → find test rows ≡ Some row) → find test (first ∷ rows) ≡ Some row
     by zero within is later = let here : test first ≡ true = ap test is ∙ passes in rw here (ap Some is)
     by (suc at) within is later =
         let below : number_of first < number_of row = omega (arith, rising 0 (suc at) row (omega arith) within, ap number_of is) in
@@ -59,7 +69,8 @@ find_least {X} number_of test (first ∷ rows) rising row there passes least =
 -- nothing is found where all fail
 pub find_none : (test : Keyed Connection → Bool) (rows : List (Keyed Connection)) → All (λ keyed. test keyed ≡ false) rows → find test rows ≡ None
 find_none test [] none = refl
-find_none test (first ∷ rows) none = let here : test first ≡ false = none 0 first (omega arith) in rw here (find_none test rows (λ k d within. none (suc k) d (omega arith)))
+find_none test (first ∷ rows) none = let here : test first ≡ false = none 0 first (omega arith) in rw here
+    (find_none test rows (λ k d within. none (suc k) d (omega arith)))
 
 -- what fails where it can't pass
 fails_where : (b : Bool) → (b ≡ true → ⊥) → b ≡ false
@@ -80,7 +91,12 @@ module _ (sender signal after up_to : ℕ) (rows : List (Keyed Connection)) (rou
     within : keyed.row.number ≤ up_to
 
   facts : (keyed : Keyed Connection) → calls_next keyed ≡ true → IsNext keyed
-  facts keyed next = record { sender_is = grind (arith, nat_tests, next); signal_is = grind (arith, nat_tests, next); above = grind (arith, nat_tests, next); within = grind (arith, nat_tests, next) }
+  facts keyed next = record {
+    sender_is = grind (arith, nat_tests, next);
+    signal_is = grind (arith, nat_tests, next);
+    above = grind (arith, nat_tests, next);
+    within = grind (arith, nat_tests, next);
+  }
 
   none_from : All (λ keyed. calls_next keyed ≡ true → ⊥) rows → None ≡ key_in (find calls_next rows)
   none_from never = sym (ap key_in (find_none calls_next rows (λ k d within. fails_where (calls_next (get_or rows k d)) (never k d within))))
@@ -99,21 +115,25 @@ module _ (sender signal after up_to : ℕ) (rows : List (Keyed Connection)) (rou
 
   pub none_next : first_from link_cmp routes.sent.links (from sender signal (after + 1)) ≡ None → None ≡ key_in (find calls_next rows)
   none_next none = none_from (λ k d within next.
-      let low = first_none link_total link_same routes.sent.links (from sender signal (after + 1)) none (sent_of (get_or rows k d)) (kept.routed.sent.each k d within) in
+      let low = first_none link_total link_same routes.sent.links (from sender signal (after + 1)) none (sent_of (get_or rows k d))
+      (kept.routed.sent.each k d within) in
       let high = reaches (get_or rows k d) next in
       absurd (cc (low, high)))
 
-  module _ (order : IsInOrder link_cmp routes.sent.links) (link : Link) (found : first_from link_cmp routes.sent.links (from sender signal (after + 1)) ≡ Some link) where
+  module _ (order : IsInOrder link_cmp routes.sent.links) (link : Link)
+      (found : first_from link_cmp routes.sent.links (from sender signal (after + 1)) ≡ Some link) where
     low : is_lt (link_cmp link (from sender signal (after + 1))) ≡ false
     low = (first_some link_total link_same routes.sent.links order (from sender signal (after + 1)) link found).1
 
     upto : (keyed : Keyed Connection) → Contains routes.sent.links (sent_of keyed) → calls_next keyed ≡ true → is_lt (link_cmp (sent_of keyed) link) ≡ false
-    upto keyed there next = (first_some link_total link_same routes.sent.links order (from sender signal (after + 1)) link found).2 (sent_of keyed) there (reaches keyed next)
+    upto keyed there next = (first_some link_total link_same routes.sent.links order (from sender signal (after + 1)) link found).2 (sent_of keyed) there
+        (reaches keyed next)
 
     pub next_key : link.object ≡ sender → link.signal ≡ signal → link.number ≤ up_to → Some link.key ≡ key_in (find calls_next rows)
     next_key object same_signal within =
         let stands = (first_some link_total link_same routes.sent.links order (from sender signal (after + 1)) link found).0 in
-        let any : Any (λ keyed. sent_of keyed ≡ link) rows = All-contains (λ link. Any (λ keyed. sent_of keyed ≡ link) rows) routes.sent.links link kept.routed.sent.all stands in
+        let any : Any (λ keyed. sent_of keyed ≡ link) rows = All-contains
+        (λ link. Any (λ keyed. sent_of keyed ≡ link) rows) routes.sent.links link kept.routed.sent.all stands in
         let keyed : Keyed Connection = any.1 in
         let is : sent_of keyed ≡ link = any.4 in
         let bound = (at_least link (from sender signal (after + 1)) low).number (sym object) (sym same_signal) in
@@ -122,7 +142,8 @@ module _ (sender signal after up_to : ℕ) (rows : List (Keyed Connection)) (rou
         let number_is : keyed.row.number ≡ link.number = ap (λ (l : Link). l.number) is in
         let next : calls_next keyed ≡ true = grind (arith, nat_tests, sender_is, signal_is, number_is, within, bound) in
         ap Some (sym (ap (λ (l : Link). l.key) is))
-        ∙ sym (ap key_in (find_least (λ (k : Keyed Connection). k.row.number) calls_next rows (rising_keyed rows routes kept.sound) keyed (any.0, any.2, any.3) next (λ k d inside other_next.
+        ∙ sym (ap key_in (find_least (λ (k : Keyed Connection). k.row.number) calls_next rows (rising_keyed rows routes kept.sound) keyed
+        (any.0, any.2, any.3) next (λ k d inside other_next.
         let other = facts (get_or rows k d) other_next in
         let above = at_least (sent_of (get_or rows k d)) link (upto (get_or rows k d) (kept.routed.sent.each k d inside) other_next) in
         omega (arith, number_is, above.number (object ∙ sym other.sender_is) (same_signal ∙ sym other.signal_is)))))
@@ -137,7 +158,9 @@ module _ (sender signal after up_to : ℕ) (rows : List (Keyed Connection)) (rou
         differs object same_signal (omega (arith, is.within, above.number (object ∙ sym is.sender_is) (same_signal ∙ sym is.signal_is))))
 
 -- one more connection is found from both ends
-pub routed_push : (rows : List (Keyed Connection)) (old new : Routes) (keyed : Keyed Connection) → IsRouted rows old → new.sent.links ≡ with_link link_cmp old.sent.links (sent_of keyed) → new.received.links ≡ with_link link_cmp old.received.links (received_of keyed) → IsRouted (added rows keyed.key keyed.row) new
+pub routed_push : (rows : List (Keyed Connection)) (old new : Routes) (keyed : Keyed Connection) → IsRouted rows old
+    → new.sent.links ≡ with_link link_cmp old.sent.links (sent_of keyed) → new.received.links ≡ with_link link_cmp old.received.links (received_of keyed)
+    → IsRouted (added rows keyed.key keyed.row) new
 routed_push rows old new keyed routed sent received = record {
   sent = rw sent (linked_push link_total link_same sent_of rows old.sent.links keyed routed.sent);
   received = rw received (linked_push link_total link_same received_of rows old.received.links keyed routed.received);
@@ -148,22 +171,37 @@ module _ (object : ℕ) (rows : List (Keyed Connection)) (routes : Routes) (rout
   abbrev Touching : ℕ → Type 0
   Touching key = Any (λ keyed. (keyed.key ≡ key) × (touches object keyed.row ≡ true)) rows
 
-  touches_from : (link_of : Keyed Connection → Link) → ((keyed : Keyed Connection) → (link_of keyed).key ≡ keyed.key) → ((keyed : Keyed Connection) → (link_of keyed).object ≡ object → touches object keyed.row ≡ true)
+  touches_from : (link_of : Keyed Connection → Link) → ((keyed : Keyed Connection) → (link_of keyed).key ≡ keyed.key)
+      → ((keyed : Keyed Connection) → (link_of keyed).object ≡ object → touches object keyed.row ≡ true)
       → (links : List Link) → AreLinked link_of rows links → (key : ℕ) → Any (λ link. (link.object ≡ object) × (link.key ≡ key)) links → Touching key
   touches_from link_of key_is ends_at links linked key any =
-      let row : Any (λ keyed. link_of keyed ≡ any.1) rows = All-contains (λ link. Any (λ keyed. link_of keyed ≡ link) rows) links any.1 linked.all (any.0, any.2, any.3) in
-      (row.0, row.1, row.2, row.3, (sym (key_is row.1) ∙ (ap (λ (l : Link). l.key) row.4 ∙ any.4.1), ends_at row.1 (ap (λ (l : Link). l.object) row.4 ∙ any.4.0)))
+      let row : Any (λ keyed. link_of keyed ≡ any.1) rows = All-contains (λ link. Any (λ keyed. link_of keyed ≡ link) rows) links any.1 linked.all
+      (any.0, any.2, any.3) in (
+        row.0,
+        row.1,
+        row.2,
+        row.3,
+        (
+          sym (key_is row.1) ∙ (ap (λ (l : Link). l.key) row.4 ∙ any.4.1),
+          ends_at row.1 (ap (λ (l : Link). l.object) row.4 ∙ any.4.0),
+        ),
+      )
 
   pub touching_sent : (key : ℕ) → Any (λ link. (link.object ≡ object) × (link.key ≡ key)) routes.sent.links → Touching key
   touching_sent key any = touches_from sent_of (λ keyed. refl) (λ keyed is. grind (arith, nat_tests, is)) routes.sent.links routed.sent key any
 
-  pub touching_received : (found : Option ℕ) → IfSome found (λ key. Any (λ link. (link.object ≡ object) × (link.key ≡ key)) routes.received.links) → IfSome found Touching
+  pub touching_received : (found : Option ℕ) → IfSome found (λ key. Any (λ link. (link.object ≡ object) × (link.key ≡ key)) routes.received.links)
+      → IfSome found Touching
   touching_received None any = tt
-  touching_received (Some key) any = touches_from received_of (λ keyed. refl) (λ keyed is. grind (arith, nat_tests, is)) routes.received.links routed.received key any
+  touching_received (Some key) any = touches_from received_of (λ keyed. refl)
+      (λ keyed is. grind (arith, nat_tests, is)) routes.received.links routed.received key any
 
-  pub touching_none : All (λ link. link.object ≢ object) routes.sent.links → (found : Option ℕ) → IfNone found (All (λ link. link.object ≢ object) routes.received.links) → IfNone found (All (λ keyed. touches object keyed.row ≡ false) rows)
+  pub touching_none : All (λ link. link.object ≢ object) routes.sent.links → (found : Option ℕ)
+      → IfNone found (All (λ link. link.object ≢ object) routes.received.links) → IfNone found (All (λ keyed. touches object keyed.row ≡ false) rows)
   touching_none sent (Some key) received = tt
   touching_none sent None received = λ k d within.
-      let no_sender : (get_or rows k d).row.sender ≢ object = All-contains (λ link. link.object ≢ object) routes.sent.links (sent_of (get_or rows k d)) sent (routed.sent.each k d within) in
-      let no_receiver : (get_or rows k d).row.receiver ≢ object = All-contains (λ link. link.object ≢ object) routes.received.links (received_of (get_or rows k d)) received (routed.received.each k d within) in
+      let no_sender : (get_or rows k d).row.sender ≢ object =
+      All-contains (λ link. link.object ≢ object) routes.sent.links (sent_of (get_or rows k d)) sent (routed.sent.each k d within) in
+      let no_receiver : (get_or rows k d).row.receiver ≢ object =
+      All-contains (λ link. link.object ≢ object) routes.received.links (received_of (get_or rows k d)) received (routed.received.each k d within) in
       grind (arith, nat_tests, no_sender, no_receiver)

@@ -1,5 +1,6 @@
 -- What contracts see of rows and routes.
-use Rattle.std.proofs.Common.{◌≡◌, ◌≢◌, ◌∙◌, ℕ, ◌-◌, ◌<◌, ◌≤◌, ◌^◌, ◌==◌, Bool, not, List, [], ◌∷◌, ◌++◌, Option, Some, None, length, map, filter, get_or, set, min, refl, sym, ap, subst, arith, ⊎_elim}
+use Rattle.std.proofs.Common.{◌≡◌, ◌≢◌, ◌∙◌, ℕ, ◌-◌, ◌<◌, ◌≤◌, ◌^◌, ◌==◌, Bool, not, List, [], ◌∷◌, ◌++◌, Option, Some, None, length, map, filter, get_or, set}
+use Rattle.std.proofs.Common.{min, refl, sym, ap, subst, arith, ⊎_elim}
 use Rattle.std.specs.List.{All, Contains, count_by}
 use Rattle.std.specs.Option.{option_map}
 use Rattle.std.proofs.lemmas.Bool.{cases_eq, cases_lt, eq-eqb}
@@ -35,12 +36,19 @@ pub record IsSeen (rows : Table (List (Keyed Connection))) (routes : Table Route
 abbrev pub blank : Routes
 blank = record { last_number = 0; sent = record { links = []; capacity = 0 }; received = record { links = []; capacity = 0 } }
 
-places_there : (rows : Table (List (Keyed Connection))) (routes : Table Routes) (table : Table Rows) (place : ℕ) → AreKept rows.places routes.places → paired_tables place_of rows routes ≡ table → IsPlace table place → IsPlace rows place × IsPlace routes place
+places_there : (rows : Table (List (Keyed Connection))) (routes : Table Routes) (table : Table Rows) (place : ℕ) → AreKept rows.places routes.places
+    → paired_tables place_of rows routes ≡ table → IsPlace table place → IsPlace rows place × IsPlace routes place
 places_there rows routes table place kept view_is is_place =
-    let within : IsPlace rows place = omega (arith, is_place, ap (λ (t : Table Rows). length t.places) view_is, length-paired place_of rows.places routes.places kept.same) in
+    let within : IsPlace rows place = omega (
+      arith,
+      is_place,
+      ap (λ (t : Table Rows). length t.places) view_is,
+      length-paired place_of rows.places routes.places kept.same,
+    ) in
     (within, omega (arith, within, kept.same))
 
-module _ {rows : Table (List (Keyed Connection))} {routes : Table Routes} {table : Table Rows} {place : ℕ} (kept : AreKept rows.places routes.places) (view_is : paired_tables place_of rows routes ≡ table) (is_place : IsPlace table place) where
+module _ {rows : Table (List (Keyed Connection))} {routes : Table Routes} {table : Table Rows} {place : ℕ} (kept : AreKept rows.places routes.places)
+    (view_is : paired_tables place_of rows routes ≡ table) (is_place : IsPlace table place) where
   pub seen : {at : Routes} → ((default : Routes) → at ≡ get_or routes.places place default) → IsSeen rows routes table place at
   seen {at} is =
       let there = places_there rows routes table place kept view_is is_place in
@@ -51,14 +59,16 @@ module _ {rows : Table (List (Keyed Connection))} {routes : Table Routes} {table
         routes_place = there.1;
         is = is;
         kept = subst (IsPlaceKept (shared.rows_at rows place)) (sym (is at)) (kept.each place at there.0);
-        shows = ap (λ (t : Table Rows). rows_at t place) (sym view_is) ∙ (paired_at place_of rows.places routes.places place [] at no_rows kept.same there.0 ∙ ap (place_of (shared.rows_at rows place)) (sym (is at)));
+        shows = ap (λ (t : Table Rows). rows_at t place) (sym view_is)
+            ∙ (paired_at place_of rows.places routes.places place [] at no_rows kept.same there.0 ∙ ap (place_of (shared.rows_at rows place)) (sym (is at)));
       }
 
   -- also where nothing was read there
   pub seen_anyhow : IsSeen rows routes table place (get_or routes.places place blank)
   seen_anyhow = seen (λ default. get_or_default routes.places place blank default (places_there rows routes table place kept view_is is_place).1)
 
-module _ {rows : Table (List (Keyed Connection))} {routes : Table Routes} {table : Table Rows} {place : ℕ} {at : Routes} (seen : IsSeen rows routes table place at) where
+module _ {rows : Table (List (Keyed Connection))} {routes : Table Routes} {table : Table Rows} {place : ℕ} {at : Routes}
+    (seen : IsSeen rows routes table place at) where
   -- as many rows are seen as stand there
   pub shown_count : length (rows_at table place).rows ≡ length (shared.rows_at rows place)
   shown_count = ap (λ (p : Rows). length p.rows) seen.shows ∙ length-map (shared.rows_at rows place) (λ keyed. keyed.row)
@@ -75,13 +85,15 @@ module _ {rows : Table (List (Keyed Connection))} {routes : Table Routes} {table
           subst (λ p. IsPlaceKept (get_or (set rows.places place list) p []) (get_or (set routes.places place new) p default)) (sym here) there)
           (λ (elsewhere : other ≢ place).
           let inside : other < length rows.places = omega (arith, within, length-set rows.places place list) in
-          rw (get_or-set_other rows.places place other list [] elsewhere, get_or-set_other routes.places place other new default elsewhere) (seen.tables.each other default inside))
+          rw (get_or-set_other rows.places place other list [] elsewhere, get_or-set_other routes.places place other new default elsewhere)
+          (seen.tables.each other default inside))
           (cases_eq other place);
     }
 
     pub view_changed : paired_tables place_of (with_place rows place list) (with_place routes place new) ≡ with_rows table place (place_of list new)
     view_changed =
-        ap (λ places. record { places = places; room = min rows.room routes.room }) (paired_set place_of rows.places routes.places place list new seen.tables.same)
+        ap (λ places. record { places = places; room = min rows.room routes.room })
+        (paired_set place_of rows.places routes.places place list new seen.tables.same)
         ∙ ap (λ t. with_place t place (place_of list new)) seen.view
 
   -- rows are gone
@@ -103,37 +115,63 @@ module _ {rows : Table (List (Keyed Connection))} {routes : Table Routes} {table
           ap (λ (t : Table (List (Keyed Connection))). paired_tables place_of t (with_place routes place after)) out.elsewhere
           ∙ (view_changed out.kept
           ∙ (ap (λ list. with_rows table place (record { rows = list; last_number = after.last_number })) gone_rows
-          ∙ ap (λ n. with_rows table place (record { rows = filter (λ row. not (test row)) (rows_at table place).rows; last_number = n })) (out.last_number ∙ ap (λ (p : Rows). p.last_number) (sym seen.shows))))
+          ∙ ap (λ n. with_rows table place (record { rows = filter (λ row. not (test row)) (rows_at table place).rows; last_number = n }))
+          (out.last_number ∙ ap (λ (p : Rows). p.last_number) (sym seen.shows))))
 
       -- as many went as passed
-      pub gone_count : {before left : ℕ} → before ≡ length (shared.rows_at rows place) → left ≡ length (shared.rows_at new place) → (left ≤ before) × (before < 2 ^ 32) × (before - left ≡ count_by test (rows_at table place).rows)
+      pub gone_count : {before left : ℕ} → before ≡ length (shared.rows_at rows place) → left ≡ length (shared.rows_at new place)
+          → (left ≤ before) × (before < 2 ^ 32) × (before - left ≡ count_by test (rows_at table place).rows)
       gone_count {before} {left} before_is left_is =
           let first : length (rows_at table place).rows ≡ before = shown_count ∙ sym before_is in
-          let last : left ≡ length (filter (λ row. not (test row)) (rows_at table place).rows) = left_is ∙ (sym (length-map (shared.rows_at new place) (λ keyed. keyed.row)) ∙ ap length gone_rows) in (
-            omega (arith, first, last, length-filter (λ row. not (test row)) (rows_at table place).rows, count_by-le-length (λ row. not (test row)) (rows_at table place).rows),
+          let last : left ≡ length (filter (λ row. not (test row)) (rows_at table place).rows) = left_is
+          ∙ (sym (length-map (shared.rows_at new place) (λ keyed. keyed.row)) ∙ ap length gone_rows) in (
+            omega (
+              arith,
+              first,
+              last,
+              length-filter (λ row. not (test row)) (rows_at table place).rows,
+              count_by-le-length (λ row. not (test row)) (rows_at table place).rows,
+            ),
             omega (arith, seen.kept.sound.few, before_is, length-map (shared.rows_at rows place) (λ (keyed : Keyed Connection). keyed.row)),
             omega (arith, first, last, length-without test (rows_at table place).rows),
           )
 
 -- rows of one number are one
-only_numbered : (rows : List (Keyed Connection)) (routes : Routes) → IsSound (place_of rows routes) → (x y : Keyed Connection) → Contains rows x → Contains rows y → x.row.number ≡ y.row.number → x ≡ y
+only_numbered : (rows : List (Keyed Connection)) (routes : Routes) → IsSound (place_of rows routes) → (x y : Keyed Connection) → Contains rows x
+    → Contains rows y → x.row.number ≡ y.row.number → x ≡ y
 only_numbered rows routes sound x y there also same =
     let first : get_or rows there.0 x ≡ x = there.2 in
     let second : get_or rows also.0 x ≡ y = get_or_default rows also.0 x y also.1 ∙ also.2 in
     let number_of = λ (k : Keyed Connection). k.row.number in
     ⊎_elim
-    (λ (less : there.0 < also.0). absurd (omega (arith, rising_keyed rows routes sound there.0 also.0 x less also.1, ap number_of first, ap number_of second, same)))
+    (λ (less : there.0 < also.0). absurd (omega (
+      arith,
+      rising_keyed rows routes sound there.0 also.0 x less also.1,
+      ap number_of first,
+      ap number_of second,
+      same,
+    )))
     (λ (more : also.0 ≤ there.0). ⊎_elim
     (λ (here : also.0 ≡ there.0). sym first ∙ (ap (λ i. get_or rows i x) (sym here) ∙ second))
-    (λ (differ : also.0 ≢ there.0). absurd (omega (arith, more, differ, rising_keyed rows routes sound also.0 there.0 x (omega (arith, more, differ)) there.1, ap number_of first, ap number_of second, same)))
+    (λ (differ : also.0 ≢ there.0). absurd (omega (
+      arith,
+      more,
+      differ,
+      rising_keyed rows routes sound also.0 there.0 x (omega (arith, more, differ)) there.1,
+      ap number_of first,
+      ap number_of second,
+      same,
+    )))
     (cases_eq also.0 there.0))
     (cases_lt there.0 also.0)
 
 -- the row under the key of a number is the one with that number
-pub numbered_alike : (rows : List (Keyed Connection)) (routes : Routes) (number key : ℕ) → IsPlaceKept rows routes → option_map (λ row. row.number) (row_under rows key) ≡ Some number → All (λ keyed. (keyed.key == key) ≡ has_number number keyed.row) rows
+pub numbered_alike : (rows : List (Keyed Connection)) (routes : Routes) (number key : ℕ) → IsPlaceKept rows routes
+    → option_map (λ row. row.number) (row_under rows key) ≡ Some number → All (λ keyed. (keyed.key == key) ≡ has_number number keyed.row) rows
 numbered_alike rows routes number key kept stands = by (row_under rows key) refl stands
   where
-    by : (o : Option Connection) → o ≡ row_under rows key → option_map (λ (row : Connection). row.number) o ≡ Some number → All (λ keyed. (keyed.key == key) ≡ has_number number keyed.row) rows
+    by : (o : Option Connection) → o ≡ row_under rows key → option_map (λ (row : Connection). row.number) o ≡ Some number
+        → All (λ keyed. (keyed.key == key) ≡ has_number number keyed.row) rows
     by None is stands = absurd (cc)
     by (Some row) is stands =
         let numbered : row.number ≡ number = cc in
@@ -143,14 +181,22 @@ numbered_alike rows routes number key kept stands = by (row_under rows key) refl
         let same_number : keyed.row.number ≡ number = ap (λ (r : Connection). r.number) same_row ∙ numbered in
         eq-eqb keyed.key key same ∙ sym (eq-eqb keyed.row.number number same_number))
         (λ (differ : keyed.key ≢ key).
-        let other : keyed.row.number ≢ number = λ same_number. differ (ap (λ (k : Keyed Connection). k.key) (only_numbered rows routes kept.sound keyed (record { key = key; row = row }) there (stands_under rows key row (sym is)) (same_number ∙ sym numbered))) in
+        let other : keyed.row.number ≢ number = λ same_number. differ
+        (ap (λ (k : Keyed Connection). k.key) (only_numbered rows routes kept.sound keyed (record { key = key; row = row }) there
+        (stands_under rows key row (sym is)) (same_number ∙ sym numbered))) in
         grind (arith, nat_tests, differ, other))
         (cases_eq keyed.key key))
 
 -- a place where nothing was ever connected
 pub empty_kept : (routes : Routes) → routes.last_number ≡ 0 → IsRouted [] routes → IsPlaceKept [] routes
 empty_kept routes none routed = record {
-  sound = record { rising = λ i j d below within. absurd (omega (arith, within)); from_one = λ k d within. absurd (omega (arith, within)); given = λ k d within. absurd (omega (arith, within)); fits = omega (arith, none); few = omega arith };
+  sound = record {
+    rising = λ i j d below within. absurd (omega (arith, within));
+    from_one = λ k d within. absurd (omega (arith, within));
+    given = λ k d within. absurd (omega (arith, within));
+    fits = omega (arith, none);
+    few = omega arith;
+  };
   apart = λ i j d below within. absurd (omega (arith, within));
   short = λ k d within. absurd (omega (arith, within));
   routed = routed;
@@ -160,12 +206,16 @@ pub empty_shows : (routes : Routes) → routes.last_number ≡ 0 → place_of []
 empty_shows routes none = ap (λ n. record { rows = []; last_number = n }) none
 
 -- one more place
-module _ (rows : Table (List (Keyed Connection))) (routes : Table Routes) {table : Table Rows} (kept : AreKept rows.places routes.places) (view_is : paired_tables place_of rows routes ≡ table) {at : Routes} (none : at.last_number ≡ 0) (routed : IsRouted [] at) where
+module _ (rows : Table (List (Keyed Connection))) (routes : Table Routes) {table : Table Rows} (kept : AreKept rows.places routes.places)
+    (view_is : paired_tables place_of rows routes ≡ table) {at : Routes} (none : at.last_number ≡ 0) (routed : IsRouted [] at) where
   pub kept_opened : AreKept (rows.places ++ [] ∷ []) (routes.places ++ at ∷ [])
   kept_opened = record {
     same = omega (arith, kept.same, length_push rows.places [], length_push routes.places at);
     each = λ place default within. ⊎_elim
-        (λ (old : place < length rows.places). rw (get_or_append_left rows.places ([] ∷ []) [] place old, get_or_append_left routes.places (at ∷ []) default place (omega (arith, old, kept.same))) (kept.each place default old))
+        (λ (old : place < length rows.places). rw (
+          get_or_append_left rows.places ([] ∷ []) [] place old,
+          get_or_append_left routes.places (at ∷ []) default place (omega (arith, old, kept.same)),
+        ) (kept.each place default old))
         (λ (last : length rows.places ≤ place).
         let here : length rows.places ≡ place = omega (arith, last, within, length_push rows.places []) in
         rw (get_or_push rows.places [] [] place here, get_or_push routes.places at default place (sym kept.same ∙ here)) (empty_kept at none routed))
@@ -174,7 +224,8 @@ module _ (rows : Table (List (Keyed Connection))) (routes : Table Routes) {table
 
   pub view_opened : paired_tables place_of (opened rows []) (opened routes at) ≡ opened table no_rows
   view_opened =
-      ap (λ places. record { places = places; room = min (rows.room - 1) (routes.room - 1) }) (paired_push place_of rows.places routes.places [] at kept.same ∙ ap (λ p. paired place_of rows.places routes.places ++ p ∷ []) (empty_shows at none))
+      ap (λ places. record { places = places; room = min (rows.room - 1) (routes.room - 1) })
+      (paired_push place_of rows.places routes.places [] at kept.same ∙ ap (λ p. paired place_of rows.places routes.places ++ p ∷ []) (empty_shows at none))
       ∙ (ap (λ room. record { places = paired place_of rows.places routes.places ++ no_rows ∷ []; room = room }) rooms
       ∙ ap (λ t. opened t no_rows) view_is)
     where

@@ -14,28 +14,38 @@ module _ (change : Connection → Connection) where
 
   pub find-changed : (test : Connection → Bool) → IsUnseen test → (rows : List Connection) → find test (map change rows) ≡ option_map change (find test rows)
   find-changed test keeps [] = refl
-  find-changed test keeps (row ∷ rows) = rw (keeps row) (⊎_elim (λ (yes : test row ≡ true). rw yes refl) (λ (no : test row ≡ false). rw no (find-changed test keeps rows)) (cases_Bool (test row)))
+  find-changed test keeps (row ∷ rows) = rw (keeps row)
+      (⊎_elim (λ (yes : test row ≡ true). rw yes refl) (λ (no : test row ≡ false). rw no (find-changed test keeps rows)) (cases_Bool (test row)))
 
   pub filter-changed : (test : Connection → Bool) → IsUnseen test → (rows : List Connection) → filter test (map change rows) ≡ map change (filter test rows)
   filter-changed test keeps [] = refl
   filter-changed test keeps (row ∷ rows) =
-      rw (keeps row) (⊎_elim (λ (yes : test row ≡ true). rw yes (ap (λ rest. change row ∷ rest) (filter-changed test keeps rows))) (λ (no : test row ≡ false). rw no (filter-changed test keeps rows)) (cases_Bool (test row)))
+      rw (keeps row) (⊎_elim (λ (yes : test row ≡ true). rw yes (ap (λ rest. change row ∷ rest) (filter-changed test keeps rows)))
+      (λ (no : test row ≡ false). rw no (filter-changed test keeps rows)) (cases_Bool (test row)))
 
-  pub all_changed : (P Q : Connection → Type 0) → ((row : Connection) → P row → Q (change row)) → (rows : List Connection) → All P rows → All Q (map change rows)
+  pub all_changed : (P Q : Connection → Type 0) → ((row : Connection) → P row → Q (change row)) → (rows : List Connection) → All P rows
+      → All Q (map change rows)
   all_changed P Q each rows all = λ i d within.
       let inside : i < length rows = omega (arith, within, length-map rows change) in
       subst Q (sym (get_or-map change rows i d d inside)) (each _ (all i d inside))
 
-  pub sound_changed : IsUnseen (λ row. row.number) → (place : Rows) → IsSound place → IsSound (record { rows = map change place.rows; last_number = place.last_number })
+  pub sound_changed : IsUnseen (λ row. row.number) → (place : Rows) → IsSound place
+      → IsSound (record { rows = map change place.rows; last_number = place.last_number })
   sound_changed keeps place sound =
       let many = length-map place.rows change in
       record {
         rising = λ i j d below within.
             let later : j < length place.rows = omega (arith, within, many) in
             let earlier : i < length place.rows = omega (arith, below, later) in
-            rw (get_or-map change place.rows i d d earlier, get_or-map change place.rows j d d later, keeps (get_or place.rows i d), keeps (get_or place.rows j d)) (sound.rising i j d below later);
+            rw (
+              get_or-map change place.rows i d d earlier,
+              get_or-map change place.rows j d d later,
+              keeps (get_or place.rows i d),
+              keeps (get_or place.rows j d),
+            ) (sound.rising i j d below later);
         from_one = all_changed (λ row. 1 ≤ row.number) (λ row. 1 ≤ row.number) (λ row h. omega (arith, h, keeps row)) place.rows sound.from_one;
-        given = all_changed (λ row. row.number ≤ place.last_number) (λ row. row.number ≤ place.last_number) (λ row h. omega (arith, h, keeps row)) place.rows sound.given;
+        given = all_changed (λ row. row.number ≤ place.last_number) (λ row. row.number ≤ place.last_number)
+            (λ row h. omega (arith, h, keeps row)) place.rows sound.given;
         fits = sound.fits;
         few = omega (arith, sound.few, many);
       }
@@ -52,7 +62,8 @@ module _ (number state : ℕ) where
       by true = stateless row
       by false = refl
 
-  pub all_stepped : (P : Connection → Type 0) → ((row : Connection) → P row → P (record row { state = state })) → (rows : List Connection) → All P rows → All P (map stepped_row rows)
+  pub all_stepped : (P : Connection → Type 0) → ((row : Connection) → P row → P (record row { state = state })) → (rows : List Connection) → All P rows
+      → All P (map stepped_row rows)
   all_stepped P each rows all = all_changed stepped_row P P (λ row. by row (is_of_functor number row)) rows all
     where
       by : (row : Connection) (b : Bool) → P row → P (cond b (record row { state = state }) row)

@@ -1,5 +1,6 @@
 -- A place where the functor of a connection gets another state.
-use Rattle.std.proofs.Common.{◌≡◌, ◌∙◌, ℕ, suc, ◌<◌, ◌==◌, ◌&&◌, Bool, true, false, cond, List, [], ◌∷◌, Option, Some, None, find, get_or, length, map, refl, sym, ap, subst, arith}
+use Rattle.std.proofs.Common.{◌≡◌, ◌∙◌, ℕ, suc, ◌<◌, ◌==◌, ◌&&◌, Bool, true, false, cond, List, [], ◌∷◌, Option, Some, None, find, get_or, length, map, refl}
+use Rattle.std.proofs.Common.{sym, ap, subst, arith}
 use Rattle.std.specs.List.{All, Contains}
 use Rattle.std.specs.Option.{option_map}
 use Rattle.std.specs.Prelude.{option_and_then, if◌then◌else◌}
@@ -24,13 +25,15 @@ use Rattle.connection_list.proofs.StateLemmas.{sound_stepped, stepped-same, step
 
 map_alike : {X Y : Type 0} (f g : X → Y) (xs : List X) → All (λ x. f x ≡ g x) xs → map f xs ≡ map g xs
 map_alike f g [] alike = refl
-map_alike f g (x ∷ xs) alike = let here : f x ≡ g x = alike 0 x (omega arith) in rw here (ap (λ rest. g x ∷ rest) (map_alike f g xs (λ k d within. alike (suc k) d (omega arith))))
+map_alike f g (x ∷ xs) alike = let here : f x ≡ g x = alike 0 x (omega arith) in rw here
+    (ap (λ rest. g x ∷ rest) (map_alike f g xs (λ k d within. alike (suc k) d (omega arith))))
 
 module _ (number state : ℕ) where
   abbrev stepped_keyed : Keyed Connection → Keyed Connection
   stepped_keyed keyed = record { key = keyed.key; row = stepped_row number state keyed.row }
 
-  rows_stepped : (rows : List (Keyed Connection)) → map (λ keyed. keyed.row) (map stepped_keyed rows) ≡ map (stepped_row number state) (map (λ keyed. keyed.row) rows)
+  rows_stepped : (rows : List (Keyed Connection)) → map (λ keyed. keyed.row) (map stepped_keyed rows)
+      ≡ map (stepped_row number state) (map (λ keyed. keyed.row) rows)
   rows_stepped [] = refl
   rows_stepped (keyed ∷ rows) = ap (λ rest. stepped_row number state keyed.row ∷ rest) (rows_stepped rows)
 
@@ -45,7 +48,8 @@ module _ (number state : ℕ) where
         apart = λ i j d below within.
             let inside : j < length rows = omega (arith, within, many) in
             rw (get_or-map stepped_keyed rows i d d (omega (arith, below, inside)), get_or-map stepped_keyed rows j d d inside) (kept.apart i j d below inside);
-        short = λ i d within. let inside : i < length rows = omega (arith, within, many) in rw (get_or-map stepped_keyed rows i d d inside) (kept.short i d inside);
+        short = λ i d within. let inside : i < length rows = omega (arith, within, many) in rw (get_or-map stepped_keyed rows i d d inside)
+            (kept.short i d inside);
         routed = record {
           sent = linked_same sent_of stepped_keyed sent_same rows routes.sent.links kept.routed.sent;
           received = linked_same received_of stepped_keyed received_same rows routes.received.links kept.routed.received;
@@ -59,11 +63,14 @@ module _ (number state : ℕ) where
       received_same keyed = stepped-same number state (λ row. received_of (record { key = keyed.key; row = row })) (λ row. refl) keyed.row
 
   -- the row under a key is the one of the number
-  with_row_stepped : (rows : List (Keyed Connection)) (key : ℕ) (row : Connection) → IsApart rows → row_under rows key ≡ Some row → calls_functor row.callee ≡ true → All (λ keyed. (keyed.key == key) ≡ has_number number keyed.row) rows
+  with_row_stepped : (rows : List (Keyed Connection)) (key : ℕ) (row : Connection) → IsApart rows → row_under rows key ≡ Some row
+      → calls_functor row.callee ≡ true → All (λ keyed. (keyed.key == key) ≡ has_number number keyed.row) rows
       → with_row rows key (record row { state = state }) ≡ map stepped_keyed rows
-  with_row_stepped rows key row apart under calls alike = map_alike _ stepped_keyed rows (λ k d within. one (get_or rows k d) (Contains-get_or rows k d within) (alike k d within))
+  with_row_stepped rows key row apart under calls alike = map_alike _ stepped_keyed rows
+      (λ k d within. one (get_or rows k d) (Contains-get_or rows k d within) (alike k d within))
     where
-      one : (keyed : Keyed Connection) → Contains rows keyed → (keyed.key == key) ≡ has_number number keyed.row → cond (keyed.key == key) (record { key = key; row = record row { state = state } }) keyed ≡ stepped_keyed keyed
+      one : (keyed : Keyed Connection) → Contains rows keyed → (keyed.key == key) ≡ has_number number keyed.row
+          → cond (keyed.key == key) (record { key = key; row = record row { state = state } }) keyed ≡ stepped_keyed keyed
       one keyed there same = by (keyed.key == key) refl
         where
           by : (here : Bool) → (keyed.key == key) ≡ here → cond here (record { key = key; row = record row { state = state } }) keyed ≡ stepped_keyed keyed
@@ -83,17 +90,21 @@ module _ (number state : ℕ) where
   -- nothing is changed where none is the one
   same_stepped : (rows : List Connection) → All (λ row. is_of_functor number row ≡ false) rows → map (stepped_row number state) rows ≡ rows
   same_stepped [] none = refl
-  same_stepped (row ∷ rows) none = let here : is_of_functor number row ≡ false = none 0 row (omega arith) in rw here (ap (λ rest. row ∷ rest) (same_stepped rows (λ k d within. none (suc k) d (omega arith))))
+  same_stepped (row ∷ rows) none = let here : is_of_functor number row ≡ false = none 0 row (omega arith) in rw here
+      (ap (λ rest. row ∷ rest) (same_stepped rows (λ k d within. none (suc k) d (omega arith))))
 
 none_numbered : (number : ℕ) (rows : List Connection) → None ≡ find (has_number number) rows → All (λ row. is_of_functor number row ≡ false) rows
 none_numbered number [] none = λ k d within. absurd (omega arith)
 none_numbered number (row ∷ rows) none = by (has_number number row) refl none (none_numbered number rows)
   where
-    by : (here : Bool) → has_number number row ≡ here → None ≡ cond here (Some row) (find (has_number number) rows) → (None ≡ find (has_number number) rows → All (λ row. is_of_functor number row ≡ false) rows) → All (λ row. is_of_functor number row ≡ false) (row ∷ rows)
+    by : (here : Bool) → has_number number row ≡ here → None ≡ cond here (Some row) (find (has_number number) rows)
+        → (None ≡ find (has_number number) rows → All (λ row. is_of_functor number row ≡ false) rows)
+        → All (λ row. is_of_functor number row ≡ false) (row ∷ rows)
     by true is none rest = absurd (cc)
     by false is none rest = All-cons (λ row. is_of_functor number row ≡ false) row rows (ap (λ b. b && calls_functor row.callee) is) (rest none)
 
-module _ {rows : Table (List (Keyed Connection))} {routes : Table Routes} {table : Table Rows} {place : ℕ} {at : Routes} (seen : IsSeen rows routes table place at) (number state : ℕ) where
+module _ {rows : Table (List (Keyed Connection))} {routes : Table Routes} {table : Table Rows} {place : ℕ} {at : Routes}
+    (seen : IsSeen rows routes table place at) (number state : ℕ) where
   -- where no connection has the number
   module _ (none : None ≡ option_map (λ keyed. keyed.key) (find (λ keyed. has_number number keyed.row) (shared.rows_at rows place))) where
     not_found : None ≡ find (has_number number) (rows_at table place).rows
@@ -103,10 +114,13 @@ module _ {rows : Table (List (Keyed Connection))} {routes : Table Routes} {table
     absent_state = ap (λ (found : Option Connection). option_and_then (λ row. if calls_functor row.callee then Some row.state else None) found) (sym not_found)
 
     pub absent_same : table ≡ with_rows table place (with_state number state (rows_at table place))
-    absent_same = sym (ap (λ list. with_rows table place (record { rows = list; last_number = (rows_at table place).last_number })) (same_stepped number state (rows_at table place).rows (none_numbered number (rows_at table place).rows not_found)) ∙ with_same no_rows table place)
+    absent_same = sym (ap (λ list. with_rows table place (record { rows = list; last_number = (rows_at table place).last_number }))
+        (same_stepped number state (rows_at table place).rows (none_numbered number (rows_at table place).rows not_found)) ∙ with_same no_rows table place)
 
   -- where one has it
-  module _ (key : ℕ) {row : Connection} (found : Some key ≡ option_map (λ keyed. keyed.key) (find (λ keyed. has_number number keyed.row) (shared.rows_at rows place))) (under : row_under (shared.rows_at rows place) key ≡ Some row) (stands : option_map (λ row. row.number) (row_under (shared.rows_at rows place) key) ≡ Some number) where
+  module _ (key : ℕ) {row : Connection} (found : Some key ≡ option_map (λ keyed. keyed.key)
+      (find (λ keyed. has_number number keyed.row) (shared.rows_at rows place))) (under : row_under (shared.rows_at rows place) key ≡ Some row)
+      (stands : option_map (λ row. row.number) (row_under (shared.rows_at rows place) key) ≡ Some number) where
     alike : All (λ keyed. (keyed.key == key) ≡ has_number number keyed.row) (shared.rows_at rows place)
     alike = numbered_alike (shared.rows_at rows place) at number key seen.kept stands
 
@@ -118,7 +132,8 @@ module _ {rows : Table (List (Keyed Connection))} {routes : Table Routes} {table
     stood_state : state_of number (rows_at table place) ≡ (if calls_functor row.callee then Some row.state else None)
     stood_state = ap (λ (found : Option Connection). option_and_then (λ row. if calls_functor row.callee then Some row.state else None) found) is_found
 
-    module _ (calls : calls_functor row.callee ≡ true) {new : Table (List (Keyed Connection))} (changed : new ≡ with_place rows place (with_row (shared.rows_at rows place) key (record row { state = state }))) where
+    module _ (calls : calls_functor row.callee ≡ true) {new : Table (List (Keyed Connection))}
+        (changed : new ≡ with_place rows place (with_row (shared.rows_at rows place) key (record row { state = state }))) where
       pub functor_state : state_of number (rows_at table place) ≡ Some row.state
       functor_state = stood_state ∙ ap (λ b. if b then Some row.state else None) calls
 
@@ -134,13 +149,15 @@ module _ {rows : Table (List (Keyed Connection))} {routes : Table Routes} {table
       pub stepped_kept : AreKept new.places routes.places
       stepped_kept =
           subst (λ (t : Table (List (Keyed Connection))). AreKept t.places routes.places) (sym new_is)
-          (subst (λ (t : Table Routes). AreKept (with_place rows place (map (stepped_keyed number state) (shared.rows_at rows place))).places t.places) routes_same
+          (subst (λ (t : Table Routes). AreKept (with_place rows place (map (stepped_keyed number state) (shared.rows_at rows place))).places t.places)
+          routes_same
           (kept_changed seen place_kept))
 
       pub stepped_view : paired_tables place_of new routes ≡ with_rows table place (with_state number state (rows_at table place))
       stepped_view =
           ap (λ (t : Table (List (Keyed Connection))). paired_tables place_of t routes) new_is
-          ∙ (ap (λ (t : Table Routes). paired_tables place_of (with_place rows place (map (stepped_keyed number state) (shared.rows_at rows place))) t) (sym routes_same)
+          ∙ (ap (λ (t : Table Routes). paired_tables place_of (with_place rows place (map (stepped_keyed number state) (shared.rows_at rows place))) t)
+          (sym routes_same)
           ∙ (view_changed seen place_kept
           ∙ (ap (with_rows table place) (place_stepped number state (shared.rows_at rows place) at)
           ∙ ap (λ p. with_rows table place (with_state number state p)) (sym seen.shows))))
@@ -152,15 +169,19 @@ module _ {rows : Table (List (Keyed Connection))} {routes : Table Routes} {table
       none_is : All (λ keyed. is_of_functor number keyed.row ≡ false) (shared.rows_at rows place)
       none_is = λ k d within. one (get_or (shared.rows_at rows place) k d) (Contains-get_or (shared.rows_at rows place) k d within) (alike k d within)
         where
-          one : (keyed : Keyed Connection) → Contains (shared.rows_at rows place) keyed → (keyed.key == key) ≡ has_number number keyed.row → is_of_functor number keyed.row ≡ false
+          one : (keyed : Keyed Connection) → Contains (shared.rows_at rows place) keyed → (keyed.key == key) ≡ has_number number keyed.row
+              → is_of_functor number keyed.row ≡ false
           one keyed there same = by (has_number number keyed.row) refl
             where
               by : (here : Bool) → has_number number keyed.row ≡ here → (here && calls_functor keyed.row.callee) ≡ false
-              by true is = ap (λ (r : Connection). calls_functor r.callee) (only_under (shared.rows_at rows place) key row seen.kept.apart under keyed there (eqb-true keyed.key key (same ∙ is))) ∙ calls
+              by true is = ap (λ (r : Connection). calls_functor r.callee)
+                  (only_under (shared.rows_at rows place) key row seen.kept.apart under keyed there (eqb-true keyed.key key (same ∙ is))) ∙ calls
               by false is = refl
 
       pub method_same : table ≡ with_rows table place (with_state number state (rows_at table place))
       method_same =
           sym (ap (λ (p : Rows). with_rows table place (with_state number state p)) seen.shows
-          ∙ (ap (λ list. with_rows table place (record { rows = list; last_number = at.last_number })) (same_stepped number state (map (λ keyed. keyed.row) (shared.rows_at rows place)) (All-map (λ row. is_of_functor number row ≡ false) (λ keyed. keyed.row) (shared.rows_at rows place) none_is))
+          ∙ (ap (λ list. with_rows table place (record { rows = list; last_number = at.last_number }))
+          (same_stepped number state (map (λ keyed. keyed.row) (shared.rows_at rows place))
+          (All-map (λ row. is_of_functor number row ≡ false) (λ keyed. keyed.row) (shared.rows_at rows place) none_is))
           ∙ (ap (with_rows table place) (sym seen.shows) ∙ with_same no_rows table place)))

@@ -1,5 +1,6 @@
 -- Walks along the links of one end.
-use Rattle.std.proofs.Common.{◌≡◌, ◌∙◌, ℕ, ◌+◌, ◌<◌, ◌≤◌, Bool, true, false, List, Some, None, length, filter, get_or, remove, refl, sym, ap, subst, arith, ⊎_elim}
+use Rattle.std.proofs.Common.{◌≡◌, ◌∙◌, ℕ, ◌+◌, ◌<◌, ◌≤◌, Bool, true, false, List, Some, None, length, filter, get_or, remove, refl, sym, ap, subst, arith}
+use Rattle.std.proofs.Common.{⊎_elim}
 use Rattle.std.specs.Cmp.{tied_itself}
 use Rattle.std.specs.List.{All, AllWithin, Any, Contains}
 use Rattle.std.proofs.lemmas.Bool.{cases_lt}
@@ -23,7 +24,8 @@ use Rattle.connection_list.proofs.KeyedLemmas.{IsApart, only_under, under_key}
 use Rattle.connection_list.proofs.LinkLemmas.{link_total}
 
 -- both ends are linked alike
-pub linked_end : (received : Bool) (rows : List (Keyed Connection)) (routes : Routes) → IsRouted rows routes → AreLinked (link_of received) rows (links_of received routes)
+pub linked_end : (received : Bool) (rows : List (Keyed Connection)) (routes : Routes) → IsRouted rows routes
+    → AreLinked (link_of received) rows (links_of received routes)
 linked_end true rows routes routed = routed.received
 linked_end false rows routes routed = routed.sent
 
@@ -38,7 +40,8 @@ pub record IsLed (received : Bool) (rows : List (Keyed Connection)) (links : Lis
   pub under : row_under rows key ≡ Some row
   pub link : (default : Link) → link_of received (record { key = key; row = row }) ≡ get_or links at default
 
-pub led : (received : Bool) (rows : List (Keyed Connection)) (routes : Routes) (at key : ℕ) → IsPlaceKept rows routes → at < length (links_of received routes) → ((default : Link) → key ≡ (get_or (links_of received routes) at default).key) → IsLed received rows (links_of received routes) at key
+pub led : (received : Bool) (rows : List (Keyed Connection)) (routes : Routes) (at key : ℕ) → IsPlaceKept rows routes → at < length (links_of received routes)
+    → ((default : Link) → key ≡ (get_or (links_of received routes) at default).key) → IsLed received rows (links_of received routes) at key
 led received rows routes at key kept within key_there =
     let linked = linked_end received rows routes kept.routed in
     let default : Link = record { object = 0; signal = 0; number = 0; key = 0 } in
@@ -65,7 +68,8 @@ module _ (received : Bool) (test : Keyed Connection → Bool) where
     pub past : AllWithin (Fails rows) links end (length links)
 
   -- where nothing is left, no row passes
-  pub none_left : (rows : List (Keyed Connection)) (links : List Link) (start end : ℕ) → AreLinked (link_of received) rows links → AreLeft rows links start end → end ≤ start → All (λ keyed. test keyed ≡ false) rows
+  pub none_left : (rows : List (Keyed Connection)) (links : List Link) (start end : ℕ) → AreLinked (link_of received) rows links → AreLeft rows links start end
+      → end ≤ start → All (λ keyed. test keyed ≡ false) rows
   none_left rows links start end linked left none = all_from (λ keyed. test keyed ≡ false) rows (λ keyed there.
       let link : Contains links (link_of received keyed) = All-contains (λ k. Contains links (link_of received k)) rows keyed linked.each there in
       ⊎_elim
@@ -74,38 +78,47 @@ module _ (received : Bool) (test : Keyed Connection → Bool) where
       (cases_lt link.0 start))
 
   -- a link that leads to a row which fails
-  led_fails : (rows : List (Keyed Connection)) (links : List Link) (at key : ℕ) (row : Connection) → IsApart rows → row_under rows key ≡ Some row → IsLed received rows links at key → test (record { key = key; row = row }) ≡ false → (d : Link) → Fails rows (get_or links at d)
+  led_fails : (rows : List (Keyed Connection)) (links : List Link) (at key : ℕ) (row : Connection) → IsApart rows → row_under rows key ≡ Some row
+      → IsLed received rows links at key → test (record { key = key; row = row }) ≡ false → (d : Link) → Fails rows (get_or links at d)
   led_fails rows links at key row apart under its fails d keyed there is =
       let same_link : link_of received keyed ≡ link_of received (record { key = key; row = its.row }) = is ∙ sym (its.link d) in
-      let same_key : keyed.key ≡ key = sym (key_is received keyed) ∙ (ap (λ (l : Link). l.key) same_link ∙ key_is received (record { key = key; row = its.row })) in
+      let same_key : keyed.key ≡ key = sym (key_is received keyed)
+      ∙ (ap (λ (l : Link). l.key) same_link ∙ key_is received (record { key = key; row = its.row })) in
       let same_row : keyed.row ≡ row = only_under rows key row apart under keyed there same_key in
       ap (λ k. test (record { key = k; row = keyed.row })) same_key ∙ (ap (λ r. test (record { key = key; row = r })) same_row ∙ fails)
 
   -- one more is looked at from the front
-  pub left_front : (rows : List (Keyed Connection)) (links : List Link) (start end key : ℕ) (row : Connection) → IsApart rows → row_under rows key ≡ Some row → IsLed received rows links start key → test (record { key = key; row = row }) ≡ false → AreLeft rows links start end → AreLeft rows links (start + 1) end
+  pub left_front : (rows : List (Keyed Connection)) (links : List Link) (start end key : ℕ) (row : Connection) → IsApart rows → row_under rows key ≡ Some row
+      → IsLed received rows links start key → test (record { key = key; row = row }) ≡ false → AreLeft rows links start end → AreLeft rows links (start + 1) end
   left_front rows links start end key row apart under its fails left = record {
     within = left.within;
     before = λ k d low high. ⊎_elim
         (λ (front : k < start). left.before k d low front)
-        (λ (here : start ≤ k). let same : k ≡ start = omega (arith, here, high) in subst (λ i. Fails rows (get_or links i d)) (sym same) (led_fails rows links start key row apart under its fails d))
+        (λ (here : start ≤ k). let same : k ≡ start = omega (arith, here, high) in subst (λ i. Fails rows (get_or links i d)) (sym same)
+        (led_fails rows links start key row apart under its fails d))
         (cases_lt k start);
     past = left.past;
   }
 
   -- or from the back
-  pub left_back : (rows : List (Keyed Connection)) (links : List Link) (start end at key : ℕ) (row : Connection) → end ≡ at + 1 → IsApart rows → row_under rows key ≡ Some row → IsLed received rows links at key → test (record { key = key; row = row }) ≡ false → AreLeft rows links start end → AreLeft rows links start at
+  pub left_back : (rows : List (Keyed Connection)) (links : List Link) (start end at key : ℕ) (row : Connection) → end ≡ at + 1 → IsApart rows
+      → row_under rows key ≡ Some row → IsLed received rows links at key → test (record { key = key; row = row }) ≡ false → AreLeft rows links start end
+      → AreLeft rows links start at
   left_back rows links start end at key row next apart under its fails left = record {
     within = omega (arith, left.within, next);
     before = left.before;
     past = λ k d low high. ⊎_elim
         (λ (later : at < k). left.past k d (omega (arith, later, next)) high)
-        (λ (here : k ≤ at). let same : k ≡ at = omega (arith, here, low) in subst (λ i. Fails rows (get_or links i d)) (sym same) (led_fails rows links at key row apart under its fails d))
+        (λ (here : k ≤ at). let same : k ≡ at = omega (arith, here, low) in subst (λ i. Fails rows (get_or links i d)) (sym same)
+        (led_fails rows links at key row apart under its fails d))
         (cases_lt at k);
   }
 
   -- or it goes, with its row
-  pub left_gone : (rows next : List (Keyed Connection)) (links after : List Link) (start end at key : ℕ) → IsInOrder link_cmp links → end ≡ at + 1 → start < end → (keep : Keyed Connection → Bool) → next ≡ filter keep rows → (its : IsLed received rows links at key)
-      → after ≡ without_link link_cmp links (link_of received (record { key = key; row = its.row })) → AreLeft rows links start end → AreLeft next after start at
+  pub left_gone : (rows next : List (Keyed Connection)) (links after : List Link) (start end at key : ℕ) → IsInOrder link_cmp links → end ≡ at + 1 → start < end
+      → (keep : Keyed Connection → Bool) → next ≡ filter keep rows → (its : IsLed received rows links at key)
+      → after ≡ without_link link_cmp links (link_of received (record { key = key; row = its.row })) → AreLeft rows links start end
+      → AreLeft next after start at
   left_gone rows next links after start end at key order next_is some keep rows_are its links_are left =
       let link : Link = link_of received (record { key = key; row = its.row }) in
       let within : at < length links = omega (arith, left.within, next_is) in
@@ -114,12 +127,15 @@ module _ (received : Bool) (test : Keyed Connection → Bool) where
       let shorter : length (remove links at) + 1 ≡ length links = length-remove links at within in
       rw (removed, rows_are) (record {
         within = omega (arith, shorter, within);
-        before = λ k d low high keyed there is. left.before k d low high keyed (contains_from keep rows keyed there).0 (is ∙ get_or-remove_below links at d k (omega (arith, high, some, next_is)) within);
-        past = λ k d low high keyed there is. left.past (k + 1) d (omega (arith, low, next_is)) (omega (arith, high, shorter)) keyed (contains_from keep rows keyed there).0 (is ∙ get_or-remove_above links at d k low within);
+        before = λ k d low high keyed there is. left.before k d low high keyed (contains_from keep rows keyed there).0
+            (is ∙ get_or-remove_below links at d k (omega (arith, high, some, next_is)) within);
+        past = λ k d low high keyed there is. left.past (k + 1) d (omega (arith, low, next_is)) (omega (arith, high, shorter)) keyed
+            (contains_from keep rows keyed there).0 (is ∙ get_or-remove_above links at d k low within);
       })
 
 -- a group is what is left at first
-pub left_first : (test : Keyed Connection → Bool) (rows : List (Keyed Connection)) (routes : Routes) (group : Group) → IsGroup test routes group → AreLeft group.received test rows (links_of group.received routes) group.start group.end
+pub left_first : (test : Keyed Connection → Bool) (rows : List (Keyed Connection)) (routes : Routes) (group : Group) → IsGroup test routes group
+    → AreLeft group.received test rows (links_of group.received routes) group.start group.end
 left_first test rows routes group is = record {
   within = is.within;
   before = λ k d low high keyed there. is.before k d low high keyed;
@@ -130,7 +146,8 @@ left_first test rows routes group is = record {
 abbrev pub pattern_of : NewConnection → Pattern
 pattern_of new = record { sender = new.sender; signal = Some new.signal; receiver = Some (record { object = new.receiver; method = None }) }
 
-pub joins_group : (new : NewConnection) (routes : Routes) (group : Group) → IsGroup (λ keyed. matches (pattern_of new) keyed.row) routes group → IsGroup (λ keyed. same_ends new keyed.row) routes group
+pub joins_group : (new : NewConnection) (routes : Routes) (group : Group) → IsGroup (λ keyed. matches (pattern_of new) keyed.row) routes group
+    → IsGroup (λ keyed. same_ends new keyed.row) routes group
 joins_group new routes group is = record {
   within = is.within;
   before = λ k d low high keyed link. fails keyed.row (is.before k d low high keyed link);

@@ -37,35 +37,43 @@ module _ (place target : ℕ) (old new : Tables) (output : CommandOutput) (earli
   put_there : (state : State) → new ≡ with_state old place state → doing_at place new output earlier ≡ in_state (doing_at place old output earlier) state
   put_there state e = ap (λ (state : State). in_state (doing_at place old output earlier) state) (state_with old new place state placed e)
 
-  marked_is : new ≡ with_state old place (dying_in (state_at old place) target) → doing_at place new output earlier ≡ dying (doing_at place old output earlier) target
+  marked_is : new ≡ with_state old place (dying_in (state_at old place) target)
+      → doing_at place new output earlier ≡ dying (doing_at place old output earlier) target
   unfolding dying
   marked_is e = put_there (dying_in (state_at old place) target) e
 
-  severed_is : new ≡ with_state old place (without_ties (state_at old place) target) → doing_at place new output earlier ≡ severed (doing_at place old output earlier) target
+  severed_is : new ≡ with_state old place (without_ties (state_at old place) target)
+      → doing_at place new output earlier ≡ severed (doing_at place old output earlier) target
   unfolding severed
   severed_is e = put_there (without_ties (state_at old place) target) e
 
   -- an object that goes is told of by these changes
-  pub gone_told : (settings : Settings) (depth : ℕ) (told : List Change) → told ≡ changes (state_at old place) (state_at new place) None → new ≡ with_state old place (without_object (state_at old place) target)
-      → step settings (Remove target depth) (doing_at place old output earlier) ≡ puts (told_items settings (state_at new place) depth told) (doing_at place new output earlier)
+  pub gone_told : (settings : Settings) (depth : ℕ) (told : List Change) → told ≡ changes (state_at old place) (state_at new place) None
+      → new ≡ with_state old place (without_object (state_at old place) target)
+      → step settings (Remove target depth) (doing_at place old output earlier)
+      ≡ puts (told_items settings (state_at new place) depth told) (doing_at place new output earlier)
   gone_told settings depth told e f =
       let there : state_at new place ≡ without_object (state_at old place) target = state_with old new place _ placed f in
       rule.gone_now settings target depth (doing_at place old output earlier)
-      ∙ ap (λ (state : State). puts (told_items settings state depth (changes (state_at old place) state None)) (in_state (doing_at place old output earlier) state)) (sym there)
+      ∙ ap (λ (state : State). puts (told_items settings state depth (changes (state_at old place) state None))
+      (in_state (doing_at place old output earlier) state)) (sym there)
       ∙ ap (λ (told : List Change). puts (told_items settings (state_at new place) depth told) (doing_at place new output earlier)) (sym e)
 
   -- marking a living object leaves less to do
-  pub left_marked : lives (doing_at place old output earlier) target ≡ true → new ≡ with_state old place (dying_in (state_at old place) target) → left_at place new output < left_at place old output
+  pub left_marked : lives (doing_at place old output earlier) target ≡ true → new ≡ with_state old place (dying_in (state_at old place) target)
+      → left_at place new output < left_at place old output
   left_marked living e =
       let less = dying_less (doing_at place old output earlier) target living in
-      let same : living_rows (state_at new place).forest.rows ≡ living_rows (dying (doing_at place old output earlier) target).state.forest.rows = ap (λ (doing : Execution). living_rows doing.state.forest.rows) (marked_is e) in
+      let same : living_rows (state_at new place).forest.rows ≡ living_rows (dying (doing_at place old output earlier) target).state.forest.rows =
+      ap (λ (doing : Execution). living_rows doing.state.forest.rows) (marked_is e) in
       omega (arith, less, same)
 
   -- what breaks its ties leaves as much
   pub left_severed : new ≡ with_state old place (without_ties (state_at old place) target) → left_at place new output ≤ left_at place old output
   left_severed e =
       let less = (severed_shrinks (doing_at place old output earlier) target).living in
-      let same : living_rows (state_at new place).forest.rows ≡ living_rows (severed (doing_at place old output earlier) target).state.forest.rows = ap (λ (doing : Execution). living_rows doing.state.forest.rows) (severed_is e) in
+      let same : living_rows (state_at new place).forest.rows ≡ living_rows (severed (doing_at place old output earlier) target).state.forest.rows =
+      ap (λ (doing : Execution). living_rows doing.state.forest.rows) (severed_is e) in
       omega (arith, less, same)
 
 module _ (settings : Settings) (target depth : ℕ) where
@@ -77,17 +85,21 @@ module _ (settings : Settings) (target depth : ℕ) where
   delete_none doing dead = by_change settings (Delete target depth) doing doing (rule.delete_none settings target depth doing dead)
 
   -- what ties a dying object to others is broken, and then there are its children
-  pub detach_first : (place : ℕ) (old new : Tables) (output : CommandOutput) (earlier : List Post) → IsPlaced old place → (found : List ℕ) → found ≡ children (state_at old place).forest.rows (Some target)
+  pub detach_first : (place : ℕ) (old new : Tables) (output : CommandOutput) (earlier : List Post) → IsPlaced old place → (found : List ℕ)
+      → found ≡ children (state_at old place).forest.rows (Some target)
       → new ≡ with_state old place (without_ties (state_at old place) target)
-      → run settings (delete_children_from found) (doing_at place new output earlier) ≡ run settings (Detach target depth ∷ []) (doing_at place old output earlier)
+      → run settings (delete_children_from found) (doing_at place new output earlier)
+      ≡ run settings (Detach target depth ∷ []) (doing_at place old output earlier)
   unfolding delete_children
   detach_first place old new output earlier placed found e f =
       ap (run settings (delete_children_from found)) (severed_is place target old new output earlier placed f)
       ∙ ap (λ numbers. run settings (delete_children_from numbers) (severed (doing_at place old output earlier) target)) e
-      ∙ sym (by_step settings (Detach target depth) (doing_at place old output earlier) _ (rule.detach_delete_children settings target depth (doing_at place old output earlier)))
+      ∙ sym (by_step settings (Detach target depth) (doing_at place old output earlier) _
+      (rule.detach_delete_children settings target depth (doing_at place old output earlier)))
 
   -- one child is deleted, and then those behind it
-  pub detach_next : (i : ℕ) (found : List ℕ) (old middle new : Execution) → i < length found → run settings (DeleteChild target (get_or found i 0) depth ∷ []) middle ≡ new
+  pub detach_next : (i : ℕ) (found : List ℕ) (old middle new : Execution) → i < length found
+      → run settings (DeleteChild target (get_or found i 0) depth ∷ []) middle ≡ new
       → run settings (delete_children_from (drop i found)) middle ≡ old → run settings (delete_children_from (drop (i + 1) found)) new ≡ old
   detach_next i found old middle new within does before =
       ap (run settings (delete_children_from (drop (i + 1) found))) (sym does)
@@ -97,30 +109,45 @@ module _ (settings : Settings) (target depth : ℕ) where
 
   -- with no child left all is done
   pub detach_last : (i : ℕ) (found : List ℕ) (old new : Execution) → length found ≤ i → run settings (delete_children_from (drop i found)) new ≡ old → old ≡ new
-  detach_last i found old new past before = sym before ∙ ap (λ numbers. run settings (delete_children_from numbers) new) (drop_all i found past) ∙ at_end settings new
+  detach_last i found old new past before = sym before ∙ ap (λ numbers. run settings (delete_children_from numbers) new) (drop_all i found past)
+      ∙ at_end settings new
 
-  pub delete_child_none : (child : ℕ) (doing : Execution) → lives_below doing target child ≡ false → run settings (DeleteChild target child depth ∷ []) doing ≡ doing
-  delete_child_none child doing other = by_change settings (DeleteChild target child depth) doing doing (rule.delete_child_none settings target child depth doing other)
+  pub delete_child_none : (child : ℕ) (doing : Execution) → lives_below doing target child ≡ false
+      → run settings (DeleteChild target child depth ∷ []) doing ≡ doing
+  delete_child_none child doing other = by_change settings (DeleteChild target child depth) doing doing
+      (rule.delete_child_none settings target child depth doing other)
 
-  pub delete_child_some : (child : ℕ) (doing new : Execution) → lives_below doing target child ≡ true → run settings (Delete child depth ∷ []) doing ≡ new → run settings (DeleteChild target child depth ∷ []) doing ≡ new
-  delete_child_some child doing new living does = by_step settings (DeleteChild target child depth) doing _ (rule.delete_child_some settings target child depth doing living) ∙ does
+  pub delete_child_some : (child : ℕ) (doing new : Execution) → lives_below doing target child ≡ true → run settings (Delete child depth ∷ []) doing ≡ new
+      → run settings (DeleteChild target child depth ∷ []) doing ≡ new
+  delete_child_some child doing new living does = by_step settings (DeleteChild target child depth) doing _
+      (rule.delete_child_some settings target child depth doing living) ∙ does
 
 -- a living object is marked, and then it says that it goes, what ties it is cut, and it goes
-pub delete_begins : (caller : SessionContext) (target depth : ℕ) (old dead : Tables) (before : CommandOutput) → IsPlaced old caller.place → lives (doing_at caller.place old before []) target ≡ true → dead ≡ with_state old caller.place (dying_in (state_at old caller.place) target)
-    → SoFar caller (here caller (Delete target depth ∷ []) old before) (here caller (Emit target DESTROYED [] depth ∷ Detach target depth ∷ Remove target depth ∷ []) dead before) old dead before before
+pub delete_begins : (caller : SessionContext) (target depth : ℕ) (old dead : Tables) (before : CommandOutput) → IsPlaced old caller.place
+    → lives (doing_at caller.place old before []) target ≡ true → dead ≡ with_state old caller.place (dying_in (state_at old caller.place) target)
+    → SoFar caller (here caller (Delete target depth ∷ []) old before)
+    (here caller (Emit target DESTROYED [] depth ∷ Detach target depth ∷ Remove target depth ∷ []) dead before) old dead before before
 delete_begins caller target depth old dead before placed living marked =
     let settings = settings_of caller.setup.now in
-    far_none caller (here caller (Delete target depth ∷ []) old before) old before placed (here caller (Emit target DESTROYED [] depth ∷ Detach target depth ∷ Remove target depth ∷ []) dead before) dead before (keeps_with old dead caller.place _ placed marked) refl
+    far_none caller (here caller (Delete target depth ∷ []) old before) old before placed
+    (here caller (Emit target DESTROYED [] depth ∷ Detach target depth ∷ Remove target depth ∷ []) dead before) dead before
+    (keeps_with old dead caller.place _ placed marked) refl
     (λ earlier.
-    ap (run settings (Emit target DESTROYED [] depth ∷ Detach target depth ∷ Remove target depth ∷ [])) (marked_is caller.place target old dead before earlier placed marked)
-    ∙ sym (by_step settings (Delete target depth) (doing_at caller.place old before earlier) _ (rule.delete_some settings target depth (doing_at caller.place old before earlier) living)))
+    ap (run settings (Emit target DESTROYED [] depth ∷ Detach target depth ∷ Remove target depth ∷ []))
+    (marked_is caller.place target old dead before earlier placed marked)
+    ∙ sym (by_step settings (Delete target depth) (doing_at caller.place old before earlier) _
+    (rule.delete_some settings target depth (doing_at caller.place old before earlier) living)))
 
 -- so far it has said so, and what ties it was cut
-pub delete_loose : (caller : SessionContext) (target depth : ℕ) (old dead sent loose : Tables) (before between after : CommandOutput) {T E T' E' : Type 0} (said : T) (detach : T') → IsPlaced old caller.place → lives (doing_at caller.place old before []) target ≡ true → dead ≡ with_state old caller.place (dying_in (state_at old caller.place) target)
+pub delete_loose : (caller : SessionContext) (target depth : ℕ) (old dead sent loose : Tables) (before between after : CommandOutput) {T E T' E' : Type 0}
+    (said : T) (detach : T') → IsPlaced old caller.place → lives (doing_at caller.place old before []) target ≡ true
+    → dead ≡ with_state old caller.place (dying_in (state_at old caller.place) target)
     → RunsNext {E = E} caller (here caller (Emit target DESTROYED [] depth ∷ []) dead before) dead sent before between (Ok said)
     → RunsNext {E = E'} caller (here caller (Detach target depth ∷ []) sent between) sent loose between after (Ok detach)
     → SoFar caller (here caller (Delete target depth ∷ []) old before) (here caller (Remove target depth ∷ []) loose after) old loose before after
 delete_loose caller target depth old dead sent loose before between after said detach placed living marked says cuts =
-    far_item caller (here caller (Delete target depth ∷ []) old before) old before placed (Detach target depth) (Remove target depth ∷ []) sent loose between after detach
-    (far_item caller (here caller (Delete target depth ∷ []) old before) old before placed (Emit target DESTROYED [] depth) (Detach target depth ∷ Remove target depth ∷ []) dead sent before between said
+    far_item caller (here caller (Delete target depth ∷ []) old before) old before placed (Detach target depth)
+    (Remove target depth ∷ []) sent loose between after detach
+    (far_item caller (here caller (Delete target depth ∷ []) old before) old before placed (Emit target DESTROYED [] depth)
+    (Detach target depth ∷ Remove target depth ∷ []) dead sent before between said
     (delete_begins caller target depth old dead before placed living marked) says) cuts

@@ -27,7 +27,8 @@ module _ (settings : Settings) (depth : ℕ) where
   told_from told = map (announced depth) told
 
   -- one of them is told, and then those behind it
-  pub told_next : (i : ℕ) (told : List Announcement) (announcement : Announcement) (old middle new : Execution) → i < length told → announcement ≡ get_or told i announcement
+  pub told_next : (i : ℕ) (told : List Announcement) (announcement : Announcement) (old middle new : Execution) → i < length told
+      → announcement ≡ get_or told i announcement
       → run settings (announced depth announcement ∷ []) middle ≡ new
       → run settings (told_from (drop i told)) middle ≡ old → run settings (told_from (drop (i + 1) told)) new ≡ old
   told_next i told announcement old middle new within is does before =
@@ -42,8 +43,10 @@ module _ (settings : Settings) (depth : ℕ) where
       sym before ∙ ap (λ (told : List Announcement). run settings (told_from told) new) (drop_all i told past) ∙ at_end settings new
 
 -- the error of a bound property is warned of by its name
-pub warn_of_done : (settings : Settings) (place : ℕ) (tables : Tables) (before after : CommandOutput) (earlier : List Post) (at : Property) (error : BindingError) (name : List ℕ) → name ≡ name_of settings (state_at tables place) at → after ≡ with_line before (BindingWarning at.object name error)
+pub warn_of_done : (settings : Settings) (place : ℕ) (tables : Tables) (before after : CommandOutput) (earlier : List Post) (at : Property)
+    (error : BindingError) (name : List ℕ) → name ≡ name_of settings (state_at tables place) at → after ≡ with_line before (BindingWarning at.object name error)
     → run settings (WarnOf at error ∷ []) (doing_at place tables before earlier) ≡ doing_at place tables after earlier
 warn_of_done settings place tables before after earlier at error name named e =
     by_change settings (WarnOf at error) (doing_at place tables before earlier) _ (rule.warn_of_told settings (doing_at place tables before earlier) at error)
-    ∙ told_is place tables before after earlier (binding_line settings (state_at tables place) at error) (e ∙ ap (λ name. with_line before (BindingWarning at.object name error)) named)
+    ∙ told_is place tables before after earlier (binding_line settings (state_at tables place) at error)
+    (e ∙ ap (λ name. with_line before (BindingWarning at.object name error)) named)

@@ -8,7 +8,8 @@ use Rattle.session_model.specs.declared.line.Line.TheVariants.{Warning}
 use Rattle.session_model.specs.declared.post.Post.{Post}
 use Rattle.session_model.specs.Agenda.{step}
 use Rattle.session_model.specs.Operations.{operation_done}
-use Rattle.session_model.specs.Execution.{Execution, dying, first_taken, in_state, lost, enqueued, posting, severed, single_shot_broken, stepped, line_told, turn_taken, used_up}
+use Rattle.session_model.specs.Execution.{Execution, dying, first_taken, in_state, lost, enqueued, posting, severed, single_shot_broken, stepped, line_told}
+use Rattle.session_model.specs.Execution.{turn_taken, used_up}
 use Rattle.session_model.specs.Items.{Item, Next}
 use Rattle.session_model.specs.Run.{run}
 use Rattle.session_model.specs.Settings.{Settings}
@@ -46,8 +47,10 @@ holds = record {
   tells = λ doing said. same doing;
   publishes = λ doing more. (more, refl);
   takes_turn = same;
-  uses_up = λ doing. cond_both doing.spent doing (record doing { spent = true; lines = doing.lines ++ Warning TurnsUsedUp None ∷ [] }) (PostsBehind doing) (λ spent. same doing) (λ fresh. same doing);
-  shoots = λ doing row. cond_both row.single (in_state doing (without_connections doing.state (has_number row.number))) doing (PostsBehind doing) (λ single. same doing) (λ lasting. same doing);
+  uses_up = λ doing. cond_both doing.spent doing (record doing { spent = true; lines = doing.lines ++ Warning TurnsUsedUp None ∷ [] }) (PostsBehind doing)
+      (λ spent. same doing) (λ fresh. same doing);
+  shoots = λ doing row. cond_both row.single (in_state doing (without_connections doing.state (has_number row.number))) doing (PostsBehind doing)
+      (λ single. same doing) (λ lasting. same doing);
   posts = λ doing event. same doing;
   loses = same;
   takes = same;

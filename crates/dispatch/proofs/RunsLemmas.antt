@@ -44,9 +44,11 @@ abbrev pub done_by : SessionContext → Next → Execution
 done_by caller next = run (settings_of caller.setup.now) next.items next.doing
 
 -- what changes only the session itself posts nothing
-pub reaches_none : (caller : SessionContext) (old new : Tables) (before after : Bool) → KeepsOthers caller.place old new → after ≡ before → Reaches caller.setup.now.classes caller.name.now caller.place [] old new before after
+pub reaches_none : (caller : SessionContext) (old new : Tables) (before after : Bool) → KeepsOthers caller.place old new → after ≡ before
+    → Reaches caller.setup.now.classes caller.name.now caller.place [] old new before after
 reaches_none caller old new before after keeps same =
-    subst (Reaches caller.setup.now.classes caller.name.now caller.place [] old new before) (sym same) (reaches_changed caller.setup.now.classes caller.name.now caller.place old new before keeps.only keeps.failed)
+    subst (Reaches caller.setup.now.classes caller.name.now caller.place [] old new before) (sym same)
+    (reaches_changed caller.setup.now.classes caller.name.now caller.place old new before keeps.only keeps.failed)
 
 module _ (caller : SessionContext) (next : List Post → Next) (old : Tables) (before : CommandOutput) where
   -- where something is posted only behind what was before
@@ -56,8 +58,10 @@ module _ (caller : SessionContext) (next : List Post → Next) (old : Tables) (b
     none_front earlier = front_nothing earlier _ (run_front (settings_of caller.setup.now) earlier (next earlier) (begins earlier))
 
     -- what is done without a post
-    pub next_none : {T E : Type 0} (new : Tables) (after : CommandOutput) (result : Result T E) → KeepsOthers caller.place old new → after.failing ≡ before.failing
-        → OnOk result ((earlier : List Post) → done_by caller (next earlier) ≡ doing_at caller.place new after earlier) → RunsNext caller next old new before after result
+    pub next_none : {T E : Type 0} (new : Tables) (after : CommandOutput) (result : Result T E) → KeepsOthers caller.place old new
+        → after.failing ≡ before.failing
+        → OnOk result ((earlier : List Post) → done_by caller (next earlier) ≡ doing_at caller.place new after earlier)
+        → RunsNext caller next old new before after result
     next_none new after result keeps same does = record {
       posts = [];
       runs = OnOk-map result (λ h earlier. h earlier ∙ ap (doing_at caller.place new after) (sym (append-nil earlier))) does;
@@ -66,18 +70,23 @@ module _ (caller : SessionContext) (next : List Post → Next) (old : Tables) (b
     }
 
     -- memory is wanted before anything is posted
-    pub next_wanting : {T E : Type 0} (new : Tables) (after : CommandOutput) (result : Result T E) → IsErr result → KeepsOthers caller.place old new → after.failing ≡ before.failing → RunsNext caller next old new before after result
+    pub next_wanting : {T E : Type 0} (new : Tables) (after : CommandOutput) (result : Result T E) → IsErr result → KeepsOthers caller.place old new
+        → after.failing ≡ before.failing → RunsNext caller next old new before after result
     next_wanting new after result wanted keeps same = next_none new after result keeps same (on_wanting _ result wanted)
 
   -- what comes to something else when the session has changed, and is done by that
-  pub does_after : {T E : Type 0} (other : List Post → Next) (middle new : Tables) (between after : CommandOutput) (result : Result T E) → IsPlaced old caller.place → KeepsOthers caller.place old middle → between.failing ≡ before.failing
+  pub does_after : {T E : Type 0} (other : List Post → Next) (middle new : Tables) (between after : CommandOutput) (result : Result T E)
+      → IsPlaced old caller.place → KeepsOthers caller.place old middle → between.failing ≡ before.failing
       → ((earlier : List Post) (done : Execution) → done_by caller (other earlier) ≡ done → done_by caller (next earlier) ≡ done)
       → RunsNext caller other middle new between after result → RunsNext caller next old new before after result
   does_after other middle new between after result placed keeps same by does = record {
     posts = does.posts;
     runs = OnOk-map result (λ h earlier. by earlier _ (h earlier)) does.runs;
-    front = OnErr-map result (λ h earlier. subst (λ (done : Execution). IsPrefix (earlier ++ does.posts) done.posts) (sym (by earlier _ refl)) (h earlier)) does.front;
-    reaches = reaches_twice caller.setup.now.classes caller.name.now caller.place [] does.posts old middle new before.failing between.failing after.failing placed (reaches_none caller old middle before.failing between.failing keeps same) does.reaches;
+    front = OnErr-map result (λ h earlier. subst (λ (done : Execution). IsPrefix (earlier ++ does.posts) done.posts) (sym (by earlier _ refl)) (h earlier))
+        does.front;
+    reaches = reaches_twice caller.setup.now.classes caller.name.now caller.place
+        [] does.posts old middle new before.failing between.failing after.failing placed
+        (reaches_none caller old middle before.failing between.failing keeps same) does.reaches;
   }
 
   -- the same of a session that has not changed
@@ -87,7 +96,8 @@ module _ (caller : SessionContext) (next : List Post → Next) (old : Tables) (b
   does_by other new after result by does = record {
     posts = does.posts;
     runs = OnOk-map result (λ h earlier. by earlier _ (h earlier)) does.runs;
-    front = OnErr-map result (λ h earlier. subst (λ (done : Execution). IsPrefix (earlier ++ does.posts) done.posts) (sym (by earlier _ refl)) (h earlier)) does.front;
+    front = OnErr-map result (λ h earlier. subst (λ (done : Execution). IsPrefix (earlier ++ does.posts) done.posts) (sym (by earlier _ refl)) (h earlier))
+        does.front;
     reaches = does.reaches;
   }
 
@@ -97,15 +107,19 @@ here caller items tables output posts = puts items (doing_at caller.place tables
 
 -- items that are done without a post, or where memory is wanted before one
 module _ (caller : SessionContext) (items : List Item) (old : Tables) (before : CommandOutput) where
-  pub does_none : {T E : Type 0} (new : Tables) (after : CommandOutput) (result : Result T E) → KeepsOthers caller.place old new → after.failing ≡ before.failing
-      → OnOk result ((earlier : List Post) → done_by caller (here caller items old before earlier) ≡ doing_at caller.place new after earlier) → RunsNext caller (here caller items old before) old new before after result
+  pub does_none : {T E : Type 0} (new : Tables) (after : CommandOutput) (result : Result T E) → KeepsOthers caller.place old new
+      → after.failing ≡ before.failing
+      → OnOk result ((earlier : List Post) → done_by caller (here caller items old before earlier) ≡ doing_at caller.place new after earlier)
+      → RunsNext caller (here caller items old before) old new before after result
   does_none new after result keeps same does = next_none caller (here caller items old before) old before front_same new after result keeps same does
 
-  pub does_wanting : {T E : Type 0} (new : Tables) (after : CommandOutput) (result : Result T E) → IsErr result → KeepsOthers caller.place old new → after.failing ≡ before.failing → RunsNext caller (here caller items old before) old new before after result
+  pub does_wanting : {T E : Type 0} (new : Tables) (after : CommandOutput) (result : Result T E) → IsErr result → KeepsOthers caller.place old new
+      → after.failing ≡ before.failing → RunsNext caller (here caller items old before) old new before after result
   does_wanting new after result wanted keeps same = next_wanting caller (here caller items old before) old before front_same new after result wanted keeps same
 
 -- a place stays one
-pub placed_reached : (caller : SessionContext) (old new : Tables) (posts : List Post) (before after : Bool) → Reaches caller.setup.now.classes caller.name.now caller.place posts old new before after → IsPlaced old caller.place → IsPlaced new caller.place
+pub placed_reached : (caller : SessionContext) (old new : Tables) (posts : List Post) (before after : Bool)
+    → Reaches caller.setup.now.classes caller.name.now caller.place posts old new before after → IsPlaced old caller.place → IsPlaced new caller.place
 placed_reached caller old new posts before after reaches placed = placed_shaped old new caller.place reaches.shape placed
 
 -- of all that something comes to a part is done, with these posts, and this is the rest
@@ -124,13 +138,17 @@ module _ (caller : SessionContext) (whole : List Post → Next) (old : Tables) (
     reaches = reaches_none caller old now before.failing between.failing keeps same;
   }
 
-  module _ (rest : List Post → Next) (now : Tables) (between : CommandOutput) (so : SoFar caller whole rest old now before between) (step : List Post → Next) (new : Tables) (after : CommandOutput) where
-    joined : {T E : Type 0} (result : Result T E) (does : RunsNext caller step now new between after result) → Reaches caller.setup.now.classes caller.name.now caller.place (so.posts ++ does.posts) old new before.failing after.failing
-    joined result does = reaches_twice caller.setup.now.classes caller.name.now caller.place so.posts does.posts old now new before.failing between.failing after.failing placed so.reaches does.reaches
+  module _ (rest : List Post → Next) (now : Tables) (between : CommandOutput) (so : SoFar caller whole rest old now before between) (step : List Post → Next)
+      (new : Tables) (after : CommandOutput) where
+    joined : {T E : Type 0} (result : Result T E) (does : RunsNext caller step now new between after result)
+        → Reaches caller.setup.now.classes caller.name.now caller.place (so.posts ++ does.posts) old new before.failing after.failing
+    joined result does = reaches_twice caller.setup.now.classes caller.name.now caller.place so.posts does.posts old now new before.failing between.failing
+        after.failing placed so.reaches does.reaches
 
     -- a step is done, and this is the rest then
     pub far_next : {T E : Type 0} (value : T) (later : List Post → Next) → RunsNext {E = E} caller step now new between after (Ok value)
-        → ((posts more : List Post) (done : Execution) → done_by caller (step posts) ≡ doing_at caller.place new after more → done_by caller (rest posts) ≡ done → done_by caller (later more) ≡ done)
+        → ((posts more : List Post) (done : Execution) → done_by caller (step posts) ≡ doing_at caller.place new after more → done_by caller (rest posts) ≡ done
+        → done_by caller (later more) ≡ done)
         → SoFar caller whole later old new before after
     far_next {T} {E} value later does on = record {
       posts = so.posts ++ does.posts;
@@ -141,16 +159,19 @@ module _ (caller : SessionContext) (whole : List Post → Next) (old : Tables) (
     }
 
     -- what a step has posted until it stopped is the front of all, where the rest posts behind what the step does
-    joined_front : (posts : List Post) → ((earlier : List Post) → IsPrefix (earlier ++ posts) (done_by caller (step earlier)).posts) → ((earlier : List Post) → IsPrefix (done_by caller (step earlier)).posts (done_by caller (rest earlier)).posts)
+    joined_front : (posts : List Post) → ((earlier : List Post) → IsPrefix (earlier ++ posts) (done_by caller (step earlier)).posts)
+        → ((earlier : List Post) → IsPrefix (done_by caller (step earlier)).posts (done_by caller (rest earlier)).posts)
         → (earlier : List Post) → IsPrefix (earlier ++ (so.posts ++ posts)) (done_by caller (whole earlier)).posts
     joined_front posts stopped behind earlier =
         subst (λ (done : Execution). IsPrefix (earlier ++ (so.posts ++ posts)) done.posts) (so.runs earlier)
         (subst (λ front. IsPrefix front (done_by caller (rest (earlier ++ so.posts))).posts) (append_assoc earlier so.posts posts)
-        (front_both ((earlier ++ so.posts) ++ posts) (done_by caller (step (earlier ++ so.posts))).posts (done_by caller (rest (earlier ++ so.posts))).posts (stopped (earlier ++ so.posts)) (behind (earlier ++ so.posts))))
+        (front_both ((earlier ++ so.posts) ++ posts) (done_by caller (step (earlier ++ so.posts))).posts (done_by caller (rest (earlier ++ so.posts))).posts
+        (stopped (earlier ++ so.posts)) (behind (earlier ++ so.posts))))
 
     -- memory is wanted in a step
     pub far_wanting : {T E T' E' : Type 0} (error : E) (end : Result T' E') → IsErr end → RunsNext {T = T} caller step now new between after (Err error)
-        → ((earlier : List Post) → IsPrefix (done_by caller (step earlier)).posts (done_by caller (rest earlier)).posts) → RunsNext caller whole old new before after end
+        → ((earlier : List Post) → IsPrefix (done_by caller (step earlier)).posts (done_by caller (rest earlier)).posts)
+        → RunsNext caller whole old new before after end
     far_wanting {T} {E} error end wanted does behind = record {
       posts = so.posts ++ does.posts;
       runs = on_wanting _ end wanted;
@@ -160,32 +181,43 @@ module _ (caller : SessionContext) (whole : List Post → Next) (old : Tables) (
 
     -- the last step is done
     pub far_last : {T E : Type 0} (result : Result T E) → RunsNext caller step now new between after result
-        → ((posts : List Post) (done : Execution) → done_by caller (step posts) ≡ done → done_by caller (rest posts) ≡ done) → RunsNext caller whole old new before after result
+        → ((posts : List Post) (done : Execution) → done_by caller (step posts) ≡ done → done_by caller (rest posts) ≡ done)
+        → RunsNext caller whole old new before after result
     far_last result does by = record {
       posts = so.posts ++ does.posts;
-      runs = OnOk-map result (λ h earlier. sym (so.runs earlier) ∙ by (earlier ++ so.posts) _ (h (earlier ++ so.posts)) ∙ ap (doing_at caller.place new after) (append_assoc earlier so.posts does.posts)) does.runs;
-      front = OnErr-map result (λ h. joined_front does.posts h (λ earlier. subst (λ (done : Execution). IsPrefix (done_by caller (step earlier)).posts done.posts) (sym (by earlier _ refl)) (front_same (done_by caller (step earlier)).posts))) does.front;
+      runs = OnOk-map result (λ h earlier. sym (so.runs earlier) ∙ by (earlier ++ so.posts) _ (h (earlier ++ so.posts))
+          ∙ ap (doing_at caller.place new after) (append_assoc earlier so.posts does.posts)) does.runs;
+      front = OnErr-map result (λ h. joined_front does.posts h
+          (λ earlier. subst (λ (done : Execution). IsPrefix (done_by caller (step earlier)).posts done.posts) (sym (by earlier _ refl))
+          (front_same (done_by caller (step earlier)).posts))) does.front;
       reaches = joined result does;
     }
 
   -- the first item of the rest is done
-  pub far_item : {T E : Type 0} (item : Item) (items : List Item) (now new : Tables) (between after : CommandOutput) (value : T) → SoFar caller whole (here caller (item ∷ items) now between) old now before between
-      → RunsNext {E = E} caller (here caller (item ∷ []) now between) now new between after (Ok value) → SoFar caller whole (here caller items new after) old new before after
+  pub far_item : {T E : Type 0} (item : Item) (items : List Item) (now new : Tables) (between after : CommandOutput) (value : T)
+      → SoFar caller whole (here caller (item ∷ items) now between) old now before between
+      → RunsNext {E = E} caller (here caller (item ∷ []) now between) now new between after (Ok value)
+      → SoFar caller whole (here caller items new after) old new before after
   far_item item items now new between after value so does =
       far_next (here caller (item ∷ items) now between) now between so (here caller (item ∷ []) now between) new after value (here caller items new after) does
       (λ posts more done e rest.
-      ap (run (settings_of caller.setup.now) items) (sym e) ∙ sym (after_first (settings_of caller.setup.now) item items (doing_at caller.place now between posts)) ∙ rest)
+      ap (run (settings_of caller.setup.now) items) (sym e) ∙ sym
+      (after_first (settings_of caller.setup.now) item items (doing_at caller.place now between posts)) ∙ rest)
 
   -- memory is wanted in it
-  pub item_wanting : {T E T' E' : Type 0} (item : Item) (items : List Item) (now new : Tables) (between after : CommandOutput) (error : E) (end : Result T' E') → IsErr end → SoFar caller whole (here caller (item ∷ items) now between) old now before between
+  pub item_wanting : {T E T' E' : Type 0} (item : Item) (items : List Item) (now new : Tables) (between after : CommandOutput) (error : E) (end : Result T' E')
+      → IsErr end → SoFar caller whole (here caller (item ∷ items) now between) old now before between
       → RunsNext {T = T} caller (here caller (item ∷ []) now between) now new between after (Err error) → RunsNext caller whole old new before after end
   item_wanting item items now new between after error end wanted so does =
       far_wanting (here caller (item ∷ items) now between) now between so (here caller (item ∷ []) now between) new after error end wanted does
-      (λ posts. part_front (settings_of caller.setup.now) items (done_by caller (here caller (item ∷ []) now between posts)) (done_by caller (here caller (item ∷ items) now between posts)) (sym (after_first (settings_of caller.setup.now) item items (doing_at caller.place now between posts))))
+      (λ posts. part_front (settings_of caller.setup.now) items (done_by caller (here caller (item ∷ []) now between posts))
+      (done_by caller (here caller (item ∷ items) now between posts))
+      (sym (after_first (settings_of caller.setup.now) item items (doing_at caller.place now between posts))))
 
   -- nothing is left
   pub far_end : {T E : Type 0} (rest : List Post → Next) (now : Tables) (between : CommandOutput) (value : T) → SoFar caller whole rest old now before between
-      → ((posts : List Post) (done : Execution) → done_by caller (rest posts) ≡ done → done ≡ doing_at caller.place now between posts) → RunsNext {E = E} caller whole old now before between (Ok value)
+      → ((posts : List Post) (done : Execution) → done_by caller (rest posts) ≡ done → done ≡ doing_at caller.place now between posts)
+      → RunsNext {E = E} caller whole old now before between (Ok value)
   far_end rest now between value so end = record {
     posts = so.posts;
     runs = λ earlier. end (earlier ++ so.posts) _ (so.runs earlier);
@@ -194,12 +226,16 @@ module _ (caller : SessionContext) (whole : List Post → Next) (old : Tables) (
   }
 
   -- memory is wanted while the session changes, and what is left posts only behind what was before
-  pub far_stopped : {T E : Type 0} (rest : List Post → Next) (now new : Tables) (between : CommandOutput) (end : Result T E) → IsErr end → SoFar caller whole rest old now before between → KeepsOthers caller.place now new
+  pub far_stopped : {T E : Type 0} (rest : List Post → Next) (now new : Tables) (between : CommandOutput) (end : Result T E) → IsErr end
+      → SoFar caller whole rest old now before between → KeepsOthers caller.place now new
       → ((earlier : List Post) → IsPrefix earlier (rest earlier).doing.posts) → RunsNext caller whole old new before between end
   far_stopped rest now new between end wanted so keeps begins = record {
     posts = so.posts;
     runs = on_wanting _ end wanted;
-    front = on_error end (λ earlier. subst (λ (done : Execution). IsPrefix (earlier ++ so.posts) done.posts) (so.runs earlier) (run_front (settings_of caller.setup.now) (earlier ++ so.posts) (rest (earlier ++ so.posts)) (begins (earlier ++ so.posts))));
+    front = on_error end (λ earlier. subst (λ (done : Execution). IsPrefix (earlier ++ so.posts) done.posts) (so.runs earlier)
+        (run_front (settings_of caller.setup.now) (earlier ++ so.posts) (rest (earlier ++ so.posts)) (begins (earlier ++ so.posts))));
     reaches = subst (λ posts. Reaches caller.setup.now.classes caller.name.now caller.place posts old new before.failing between.failing) (append-nil so.posts)
-        (reaches_twice caller.setup.now.classes caller.name.now caller.place so.posts [] old now new before.failing between.failing between.failing placed so.reaches (reaches_none caller now new between.failing between.failing keeps refl));
+        (reaches_twice caller.setup.now.classes caller.name.now caller.place so.posts
+        [] old now new before.failing between.failing between.failing placed so.reaches
+        (reaches_none caller now new between.failing between.failing keeps refl));
   }

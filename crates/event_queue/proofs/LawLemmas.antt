@@ -1,5 +1,6 @@
 -- Queues by priority.
-use Rattle.std.proofs.Common.{◌≡◌, ◌∙◌, ℕ, ◌==◌, Bool, true, false, not, cond, inl, inr, ◌⊎◌, List, [], ◌∷◌, ◌++◌, ◌<◌, nat_le, drop, filter, find, is_some, refl, ap, arith, rules}
+use Rattle.std.proofs.Common.{◌≡◌, ◌∙◌, ℕ, ◌==◌, Bool, true, false, not, cond, inl, inr, ◌⊎◌, List, [], ◌∷◌, ◌++◌, ◌<◌, nat_le, drop, filter, find, is_some}
+use Rattle.std.proofs.Common.{refl, ap, arith, rules}
 use Rattle.std.proofs.lemmas.Grind.{common_steps}
 use Rattle.std.specs.List.{slice_get}
 use Rattle.std.proofs.lemmas.Bool.{eqb-true, false≢true}
@@ -28,12 +29,14 @@ module _ (posts : List Event) where
   of priority = filter (has priority) posts
 
   -- those of events by priority that pass a test
-  parted : (test : Event → Bool) (high normal low : List Event) → filter test (of High) ≡ high → filter test (of Normal) ≡ normal → filter test (of Low) ≡ low → filter test (by_priority posts) ≡ high ++ (normal ++ low)
+  parted : (test : Event → Bool) (high normal low : List Event) → filter test (of High) ≡ high → filter test (of Normal) ≡ normal → filter test (of Low) ≡ low
+      → filter test (by_priority posts) ≡ high ++ (normal ++ low)
   parted test high normal low is_high is_normal is_low = grind (arith, common_steps)
 
   module _ (event : Event) where
     -- and of one more
-    more : (high normal low : List Event) → filter (has High) (event ∷ []) ≡ high → filter (has Normal) (event ∷ []) ≡ normal → filter (has Low) (event ∷ []) ≡ low
+    more : (high normal low : List Event) → filter (has High) (event ∷ []) ≡ high → filter (has Normal) (event ∷ []) ≡ normal
+        → filter (has Low) (event ∷ []) ≡ low
         → by_priority (posts ++ event ∷ []) ≡ (of High ++ high) ++ ((of Normal ++ normal) ++ (of Low ++ low))
     more high normal low is_high is_normal is_low = grind (arith, common_steps)
 
@@ -42,16 +45,22 @@ module _ (posts : List Event) where
 
     -- events of a priority stand all before the event or all behind it
     front_of : (priority : Priority) → filter (λ earlier. is_before earlier event) (of priority) ≡ cond (nat_le (rank_of priority) own) (of priority) []
-    front_of priority = filter_even (λ earlier. is_before earlier event) (has priority) (nat_le (rank_of priority) own) (λ x is. ap (λ n. nat_le n own) (eqb-true (rank_of (priority_of x)) (rank_of priority) is)) posts
+    front_of priority = filter_even (λ earlier. is_before earlier event) (has priority) (nat_le (rank_of priority) own)
+        (λ x is. ap (λ n. nat_le n own) (eqb-true (rank_of (priority_of x)) (rank_of priority) is)) posts
 
-    back_of : (priority : Priority) → filter (λ earlier. not (is_before earlier event)) (of priority) ≡ cond (not (nat_le (rank_of priority) own)) (of priority) []
-    back_of priority = filter_even (λ earlier. not (is_before earlier event)) (has priority) (not (nat_le (rank_of priority) own)) (λ x is. ap (λ n. not (nat_le n own)) (eqb-true (rank_of (priority_of x)) (rank_of priority) is)) posts
+    back_of : (priority : Priority) → filter (λ earlier. not (is_before earlier event)) (of priority)
+        ≡ cond (not (nat_le (rank_of priority) own)) (of priority) []
+    back_of priority = filter_even (λ earlier. not (is_before earlier event)) (has priority) (not (nat_le (rank_of priority) own))
+        (λ x is. ap (λ n. not (nat_le n own)) (eqb-true (rank_of (priority_of x)) (rank_of priority) is)) posts
 
     -- an event in its place behind those that were posted earlier
     placed_by : (priority : Priority) → priority_of event ≡ priority → placed event (by_priority posts) ≡ by_priority (posts ++ event ∷ [])
-    placed_by High is = let rank : own ≡ 0 = ap rank_of is in grind (arith, common_steps, rank, front_of High, front_of Normal, front_of Low, back_of High, back_of Normal, back_of Low)
-    placed_by Normal is = let rank : own ≡ 1 = ap rank_of is in grind (arith, common_steps, rank, front_of High, front_of Normal, front_of Low, back_of High, back_of Normal, back_of Low)
-    placed_by Low is = let rank : own ≡ 2 = ap rank_of is in grind (arith, common_steps, rank, front_of High, front_of Normal, front_of Low, back_of High, back_of Normal, back_of Low)
+    placed_by High is = let rank : own ≡ 0 = ap rank_of is in
+        grind (arith, common_steps, rank, front_of High, front_of Normal, front_of Low, back_of High, back_of Normal, back_of Low)
+    placed_by Normal is = let rank : own ≡ 1 = ap rank_of is in
+        grind (arith, common_steps, rank, front_of High, front_of Normal, front_of Low, back_of High, back_of Normal, back_of Low)
+    placed_by Low is = let rank : own ≡ 2 = ap rank_of is in
+        grind (arith, common_steps, rank, front_of High, front_of Normal, front_of Low, back_of High, back_of Normal, back_of Low)
 
 -- where an event of a kind is found it is the first of them, and without it the others are left
 none_found : (test : Event → Bool) (posts : List Event) → is_some (find test posts) ≡ false → filter test posts ≡ []
@@ -66,7 +75,8 @@ first_of_all : (test : Event → Bool) (posts : List Event) → slice_get (filte
 first_of_all test [] = refl
 first_of_all test (post ∷ posts) = search (rules, test post, first_of_all test posts)
 
-rest_found : (priority : Priority) (posts rest : List Event) → is_some (find (has priority) posts) ≡ true → drop 1 (filter (has priority) posts ++ rest) ≡ filter (has priority) (without_one priority posts) ++ rest
+rest_found : (priority : Priority) (posts rest : List Event) → is_some (find (has priority) posts) ≡ true
+    → drop 1 (filter (has priority) posts ++ rest) ≡ filter (has priority) (without_one priority posts) ++ rest
 rest_found priority [] rest some = absurd (false≢true some)
 rest_found priority (post ∷ posts) rest some = search (rules, rest_found priority posts rest)
 
@@ -74,20 +84,44 @@ rest_of_all : (priority : Priority) (posts : List Event) → drop 1 (filter (has
 rest_of_all priority [] = refl
 rest_of_all priority (post ∷ posts) = search (rules, rest_of_all priority posts)
 
-others_stay : (priority other : Priority) → rank_of other < rank_of priority ⊎ rank_of priority < rank_of other → (posts : List Event) → filter (has other) (without_one priority posts) ≡ filter (has other) posts
+others_stay : (priority other : Priority) → rank_of other < rank_of priority ⊎ rank_of priority < rank_of other → (posts : List Event)
+    → filter (has other) (without_one priority posts) ≡ filter (has other) posts
 others_stay priority other apart [] = refl
 others_stay priority other apart (post ∷ posts) = search (rules, others_stay priority other apart posts, not_other)
 
 module _ (posts : List Event) where
-  first_is : (high normal : Bool) → is_some (find (has High) posts) ≡ high → is_some (find (has Normal) posts) ≡ normal → slice_get (by_priority posts) 0 ≡ first_of posts
+  first_is : (high normal : Bool) → is_some (find (has High) posts) ≡ high → is_some (find (has Normal) posts) ≡ normal
+      → slice_get (by_priority posts) 0 ≡ first_of posts
   first_is true normal high_is normal_is = grind (arith, common_steps, first_found (has High) posts (of posts Normal ++ of posts Low))
   first_is false true high_is normal_is = grind (arith, common_steps, none_found (has High) posts, first_found (has Normal) posts (of posts Low))
   first_is false false high_is normal_is = grind (arith, common_steps, none_found (has High) posts, none_found (has Normal) posts, first_of_all (has Low) posts)
 
-  rest_is : (high normal : Bool) → is_some (find (has High) posts) ≡ high → is_some (find (has Normal) posts) ≡ normal → drop 1 (by_priority posts) ≡ by_priority (without_one (highest posts) posts)
-  rest_is true normal high_is normal_is = grind (arith, common_steps, rest_found High posts (of posts Normal ++ of posts Low), others_stay High Normal (inr (omega arith)) posts, others_stay High Low (inr (omega arith)) posts)
-  rest_is false true high_is normal_is = grind (arith, common_steps, none_found (has High) posts, rest_found Normal posts (of posts Low), others_stay Normal Low (inr (omega arith)) posts, others_stay Normal High (inl (omega arith)) posts)
-  rest_is false false high_is normal_is = grind (arith, common_steps, none_found (has High) posts, none_found (has Normal) posts, rest_of_all Low posts, others_stay Low Normal (inl (omega arith)) posts, others_stay Low High (inl (omega arith)) posts)
+  rest_is : (high normal : Bool) → is_some (find (has High) posts) ≡ high → is_some (find (has Normal) posts) ≡ normal
+      → drop 1 (by_priority posts) ≡ by_priority (without_one (highest posts) posts)
+  rest_is true normal high_is normal_is = grind (
+    arith,
+    common_steps,
+    rest_found High posts (of posts Normal ++ of posts Low),
+    others_stay High Normal (inr (omega arith)) posts,
+    others_stay High Low (inr (omega arith)) posts,
+  )
+  rest_is false true high_is normal_is = grind (
+    arith,
+    common_steps,
+    none_found (has High) posts,
+    rest_found Normal posts (of posts Low),
+    others_stay Normal Low (inr (omega arith)) posts,
+    others_stay Normal High (inl (omega arith)) posts,
+  )
+  rest_is false false high_is normal_is = grind (
+    arith,
+    common_steps,
+    none_found (has High) posts,
+    none_found (has Normal) posts,
+    rest_of_all Low posts,
+    others_stay Low Normal (inl (omega arith)) posts,
+    others_stay Low High (inl (omega arith)) posts,
+  )
 
   others_are : (object : ℕ) → others object (by_priority posts) ≡ by_priority (others object posts)
   others_are object = search (rules, parted, filter_turned)

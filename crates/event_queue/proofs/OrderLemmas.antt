@@ -1,5 +1,6 @@
 -- The events of a place in their order.
-use Rattle.std.proofs.Common.{◌≡◌, ◌≢◌, ◌∙◌, ℕ, zero, suc, ◌+◌, ◌<◌, ◌≤◌, ◌-◌, ◌==◌, Bool, true, false, not, List, [], ◌∷◌, ◌++◌, Some, length, map, filter, take, drop, get_or, refl, sym, ap, arith, rules}
+use Rattle.std.proofs.Common.{◌≡◌, ◌≢◌, ◌∙◌, ℕ, zero, suc, ◌+◌, ◌<◌, ◌≤◌, ◌-◌, ◌==◌, Bool, true, false, not, List, [], ◌∷◌, ◌++◌, Some, length, map, filter}
+use Rattle.std.proofs.Common.{take, drop, get_or, refl, sym, ap, arith, rules}
 use Rattle.std.proofs.lemmas.Grind.{common_steps}
 use Rattle.std.proofs.lemmas.Bool.Decides.{nat_tests}
 use Rattle.std.specs.List.{All, AllPairs, slice_get}
@@ -28,7 +29,8 @@ module _ {X : Type 0} (keep : X → Bool) where
   sifted_at (item ∷ items) zero d within = refl
   sifted_at (item ∷ items) (suc position) d within = sifted_at items position d (omega arith)
 
-  pub sifted_kept : (items : List X) (position : ℕ) (d : X) → position < length items → keep (get_or items position d) ≡ true → sifted items (suc position) ≡ sifted items position
+  pub sifted_kept : (items : List X) (position : ℕ) (d : X) → position < length items → keep (get_or items position d) ≡ true
+      → sifted items (suc position) ≡ sifted items position
   sifted_kept [] position d within kept = absurd (omega arith)
   sifted_kept (item ∷ items) zero d within kept = rw kept refl
   sifted_kept (item ∷ items) (suc position) d within kept = search (rules, sifted_kept items position d (omega arith) kept)
@@ -51,7 +53,8 @@ module _ {R X : Type 0} (f : R → X) where
       rw other (ap (λ rest. first ∷ rest) (without_none rows key (λ k d within. apart (suc k) d (omega arith))))
 
   -- without the key of a row that row goes, and no other
-  pub shown_without : (rows : List (Keyed R)) → AllPairs (λ earlier later. earlier.key ≢ later.key) rows → (at key : ℕ) (row : R) → at < length rows → IsAtPosition rows at key row
+  pub shown_without : (rows : List (Keyed R)) → AllPairs (λ earlier later. earlier.key ≢ later.key) rows → (at key : ℕ) (row : R) → at < length rows
+      → IsAtPosition rows at key row
       → Shown (without rows key) ≡ take at (Shown rows) ++ drop (suc at) (Shown rows)
   shown_without [] apart at key row within is = absurd (omega arith)
   shown_without (first ∷ rows) apart zero key row within is =
@@ -61,14 +64,17 @@ module _ {R X : Type 0} (f : R → X) where
   shown_without (first ∷ rows) apart (suc at) key row within is =
       let there : (get_or rows at first).key ≡ key = ap (λ (keyed : Keyed R). keyed.key) (is first) in
       let other : (first.key == key) ≡ false = ne_eqb first.key key (λ same. apart 0 (suc at) first (omega arith) within (same ∙ sym there)) in
-      rw other (ap (λ rest. f first.row ∷ rest) (shown_without rows (λ i j d lt inner. apart (suc i) (suc j) d (omega arith) (omega arith)) at key row (omega arith) is))
+      rw other (ap (λ rest. f first.row ∷ rest)
+      (shown_without rows (λ i j d lt inner. apart (suc i) (suc j) d (omega arith) (omega arith)) at key row (omega arith) is))
 
 -- a place with other rows has their events
-pub has_events : (old new : Table (List (Keyed QueuedEvent))) (place : ℕ) (rows : List (Keyed QueuedEvent)) (events : List Event) → IsPlace old place → new ≡ with_place old place rows → events_of rows ≡ events → HasEvents old new place events
+pub has_events : (old new : Table (List (Keyed QueuedEvent))) (place : ℕ) (rows : List (Keyed QueuedEvent)) (events : List Event) → IsPlace old place
+    → new ≡ with_place old place rows → events_of rows ≡ events → HasEvents old new place events
 has_events old new place rows events is_place is shown = grind (arith, common_steps)
 
 -- the row that is found under the key of the first has the first event
-pub first_event : (rows : List (Keyed QueuedEvent)) (key : ℕ) (row found : QueuedEvent) → 0 < length rows → IsAtPosition rows 0 key row → row_under rows key ≡ Some found → Some found.event ≡ slice_get (events_of rows) 0
+pub first_event : (rows : List (Keyed QueuedEvent)) (key : ℕ) (row found : QueuedEvent) → 0 < length rows → IsAtPosition rows 0 key row
+    → row_under rows key ≡ Some found → Some found.event ≡ slice_get (events_of rows) 0
 first_event [] key row found some is under = absurd (omega arith)
 first_event (first ∷ rows) key row found some is under = search (rules, is first, eq-eqb)
 
@@ -80,8 +86,10 @@ pub record IsSweeping (old now : Table (List (Keyed QueuedEvent))) (place : ℕ)
   pub going : IsGoing before after (events_at now place)
 
 -- a place after rows went, and what waits there now
-pub has_waiting : (old now : Table (List (Keyed QueuedEvent))) (place : ℕ) (before after : ObjectCounts) (events : List Event) → ChangesAt [] place old now → IsGoing before after (events_at now place)
-    → waiting before (events_at now place) ≡ events → length (events_at now place) + length (waiting before (events_at old place)) ≤ length (events_at old place) + length events → HasWaiting old now place before after events
+pub has_waiting : (old now : Table (List (Keyed QueuedEvent))) (place : ℕ) (before after : ObjectCounts) (events : List Event) → ChangesAt [] place old now
+    → IsGoing before after (events_at now place)
+    → waiting before (events_at now place) ≡ events → length (events_at now place) + length (waiting before (events_at old place)) ≤ length
+    (events_at old place) + length events → HasWaiting old now place before after events
 has_waiting old now place before after events changed going waits fewer = search (rules, same_waiting)
 
 module _ {old : Table (List (Keyed QueuedEvent))} {place : ℕ} {before : ObjectCounts} where
@@ -116,20 +124,30 @@ module _ {old : Table (List (Keyed QueuedEvent))} {place : ℕ} {before : Object
         event_was = search (rules, sifted_at, event_is)
 
         waited : (b : Bool) → is_dropped after (object_of row.event) ≡ b → waits before (get_or (events_at old place) position row.event) ≡ not b
-        waited b is = ap (waits before) event_was ∙ ap not (sym (mark_was before after after (events_at now place) under.going position row.event event_there event_is) ∙ is)
+        waited b is = ap (waits before) event_was
+            ∙ ap not (sym (mark_was before after after (events_at now place) under.going position row.event event_there event_is) ∙ is)
 
         -- an event that waits stays
         pub sweep_passes : is_dropped after (object_of row.event) ≡ false → IsSweeping old now place before after position
-        sweep_passes waits_yet = grind (arith, nat_tests, sifted_kept (waits before) (events_at old place) position row.event inside (waited false waits_yet), waited false waits_yet)
+        sweep_passes waits_yet = grind (
+          arith,
+          nat_tests,
+          sifted_kept (waits before) (events_at old place) position row.event inside (waited false waits_yet),
+          waited false waits_yet,
+        )
 
         -- and one that was dropped goes
-        pub sweep_drops : {now' : Table (List (Keyed QueuedEvent))} (next : ObjectCounts) → is_dropped after (object_of row.event) ≡ true → now' ≡ with_place now place (without (rows_at now place) key)
-            → IsCounted after next (object_of row.event) (count_of after (object_of row.event) - 1) → KeepsMarks after next → IsSweeping old now' place before next position
+        pub sweep_drops : {now' : Table (List (Keyed QueuedEvent))} (next : ObjectCounts) → is_dropped after (object_of row.event) ≡ true
+            → now' ≡ with_place now place (without (rows_at now place) key)
+            → IsCounted after next (object_of row.event) (count_of after (object_of row.event) - 1) → KeepsMarks after next
+            → IsSweeping old now' place before next position
         sweep_drops {now'} next gone is counted keeps =
             let shown = shown_without (λ (posted : QueuedEvent). posted.event) (rows_at now place) under.apart position key row row_there at in
             let without_it = has_events now now' place (without (rows_at now place) key) (without_at (events_at now place) position) place_there is shown in
-            let left : rows_at now' place ≡ without (rows_at now place) key = ap (λ t. rows_at t place) is ∙ with_there [] now place (without (rows_at now place) key) place_there in
-            let apart = AllPairs-filter (λ (earlier later : Keyed QueuedEvent). earlier.key ≢ later.key) (λ keyed. not (keyed.key == key)) (rows_at now place) under.apart in
+            let left : rows_at now' place ≡ without (rows_at now place) key = ap (λ t. rows_at t place) is
+            ∙ with_there [] now place (without (rows_at now place) key) place_there in
+            let apart = AllPairs-filter (λ (earlier later : Keyed QueuedEvent). earlier.key ≢ later.key) (λ keyed. not (keyed.key == key))
+            (rows_at now place) under.apart in
             let goes = row_goes before after next (events_at now place) under.going position row.event event_there event_is counted keeps in
             let sifts = sifted_gone (waits before) (events_at old place) position row.event inside (waited true gone) in
             grind (arith, common_steps, changes_twice, without_it, left, apart, goes, sifts, under.has)
@@ -147,7 +165,8 @@ module _ {old : Table (List (Keyed QueuedEvent))} {place : ℕ} {before : Object
       changed_on : ChangesAt [] place old now'
       changed_on = search (rules, changes_twice)
 
-      module _ {event : Event} (first : slice_get (events_at now place) 0 ≡ Some event) (next : ObjectCounts) (counted : IsCounted after next (object_of event) (count_of after (object_of event) - 1)) (keeps : KeepsMarks after next) where
+      module _ {event : Event} (first : slice_get (events_at now place) 0 ≡ Some event) (next : ObjectCounts)
+          (counted : IsCounted after next (object_of event) (count_of after (object_of event) - 1)) (keeps : KeepsMarks after next) where
         pub record IsFirst (rest : List Event) : Type 0 where
           pub now_is : events_at now place ≡ event ∷ rest
           pub next_is : events_at now' place ≡ rest
@@ -173,8 +192,17 @@ module _ {old : Table (List (Keyed QueuedEvent))} {place : ℕ} {before : Object
         taking_on gone = search (rules, first_row, changed_on, taking_less)
 
         -- and where it waits it is the first that does
-        pub taking_first : is_dropped after (object_of event) ≡ false → (Some event ≡ slice_get (waiting before (events_at old place)) 0) × HasWaiting old now' place before next (drop 1 (waiting before (events_at old place)))
-        taking_first stays = grind (arith, nat_tests, first_row, first_waits before event, has_waiting old now' place before next (drop 1 (waiting before (events_at old place))) changed_on, taking_less)
+        pub taking_first : is_dropped after (object_of event) ≡ false
+            → (Some event ≡ slice_get (waiting before (events_at old place)) 0)
+            × HasWaiting old now' place before next (drop 1 (waiting before (events_at old place)))
+        taking_first stays = grind (
+          arith,
+          nat_tests,
+          first_row,
+          first_waits before event,
+          has_waiting old now' place before next (drop 1 (waiting before (events_at old place))) changed_on,
+          taking_less,
+        )
 
 -- where as many rows stand as events wait, or all others were swept out, no object that has a row is dropped
 module _ (objects : ObjectCounts) (held : List Event) (counted : AreCounted objects held) (all : held ≡ waiting objects held) where

@@ -33,8 +33,18 @@ module _ {X : Type 0} where
   pub filter_even : (b : Bool) (test : X → Bool) (items : List X) → All (λ item. test item ≡ b) items → filter test items ≡ cond b items []
   filter_even true test [] all = refl
   filter_even false test [] all = refl
-  filter_even b test (item ∷ items) all = grind (arith, nat_tests, all 0 item (omega arith), filter_even b test items (λ k d within. all (suc k) d (omega arith)))
+  filter_even b test (item ∷ items) all = grind (
+    arith,
+    nat_tests,
+    all 0 item (omega arith),
+    filter_even b test items (λ k d within. all (suc k) d (omega arith)),
+  )
 
 -- behind all others, where none of them is of a lower priority
 pub placed_last : (event : Event) (events : List Event) → All (λ earlier. is_before earlier event ≡ true) events → placed event events ≡ events ++ event ∷ []
-placed_last event events all = grind (arith, common_steps, filter_even true (ahead event events) events all, filter_even false (behind event events) events (λ k d within. ap not (all k d within)))
+placed_last event events all = grind (
+  arith,
+  common_steps,
+  filter_even true (ahead event events) events all,
+  filter_even false (behind event events) events (λ k d within. ap not (all k d within)),
+)

@@ -1,5 +1,6 @@
 -- Where the row of an event stands among the rows of its place.
-use Rattle.std.proofs.Common.{◌≡◌, ◌≢◌, ◌∙◌, ℕ, suc, ◌+◌, ◌-◌, ◌*◌, ◌/◌, ◌^◌, ◌<◌, ◌≤◌, ◌==◌, Bool, true, false, not, nat_lt, List, [], ◌∷◌, ◌++◌, None, length, filter, get_or, refl, sym, ap, arith, rules}
+use Rattle.std.proofs.Common.{◌≡◌, ◌≢◌, ◌∙◌, ℕ, suc, ◌+◌, ◌-◌, ◌*◌, ◌/◌, ◌^◌, ◌<◌, ◌≤◌, ◌==◌, Bool, true, false, not, nat_lt, List, [], ◌∷◌, ◌++◌, None, length}
+use Rattle.std.proofs.Common.{filter, get_or, refl, sym, ap, arith, rules}
 use Rattle.std.proofs.lemmas.Grind.{common_steps}
 use Rattle.std.specs.List.{All, AllWithin}
 use Rattle.std.proofs.lemmas.Bool.{cases_lt, ne_eqb}
@@ -21,9 +22,11 @@ behind_end : (posted : QueuedEvent) (rank : ℕ) → rank * 2 ^ 62 + 2 ^ 62 ≤ 
 behind_end posted rank behind = omega (arith, behind)
 
 -- of rows that pass a test the events are those that pass one that agrees
-shown_filter : (test : Keyed QueuedEvent → Bool) (keep : Event → Bool) (rows : List (Keyed QueuedEvent)) → All (λ keyed. test keyed ≡ keep keyed.row.event) rows → events_of (filter test rows) ≡ filter keep (events_of rows)
+shown_filter : (test : Keyed QueuedEvent → Bool) (keep : Event → Bool) (rows : List (Keyed QueuedEvent)) → All (λ keyed. test keyed ≡ keep keyed.row.event) rows
+    → events_of (filter test rows) ≡ filter keep (events_of rows)
 shown_filter test keep [] agree = refl
-shown_filter test keep (first ∷ rows) agree = grind (arith, nat_tests, agree 0 first (omega arith), shown_filter test keep rows (λ k d within. agree (suc k) d (omega arith)))
+shown_filter test keep (first ∷ rows) agree =
+    grind (arith, nat_tests, agree 0 first (omega arith), shown_filter test keep rows (λ k d within. agree (suc k) d (omega arith)))
 
 key_absent : (rows : List (Keyed QueuedEvent)) (number : ℕ) → All (λ keyed. number_of keyed.row ≢ number) rows → key_of number_of rows number ≡ None
 key_absent [] number apart = refl
@@ -31,19 +34,25 @@ key_absent (first ∷ rows) number apart =
     let other : (number_of first.row == number) ≡ false = ne_eqb (number_of first.row) number (apart 0 first (omega arith)) in
     rw other (key_absent rows number (λ k d within. apart (suc k) d (omega arith)))
 
-module _ (rows : List (Keyed QueuedEvent)) (row : QueuedEvent) (start : ℕ) (is : start ≡ rank_of (priority_of row.event) * 2 ^ 62) (low : number_of row < start + 2 ^ 62) (seat : IsSeat rows (number_of row) (start + 2 ^ 62)) where
+module _ (rows : List (Keyed QueuedEvent)) (row : QueuedEvent) (start : ℕ) (is : start ≡ rank_of (priority_of row.event) * 2 ^ 62)
+    (low : number_of row < start + 2 ^ 62) (seat : IsSeat rows (number_of row) (start + 2 ^ 62)) where
   -- a row of the number stands where the event has its place
   pub shown_inserted : (key : ℕ) → events_of (inserted number_of rows key row) ≡ placed row.event (events_of rows)
   shown_inserted key =
-      map-append (λ (keyed : Keyed QueuedEvent). keyed.row.event) (filter (λ keyed. nat_lt (number_of keyed.row) (number_of row)) rows) (record { key = key; row = row } ∷ filter (λ keyed. nat_lt (number_of row) (number_of keyed.row)) rows)
-      ∙ (ap (λ front. front ++ row.event ∷ events_of (filter (λ keyed. nat_lt (number_of row) (number_of keyed.row)) rows)) (shown_filter (λ keyed. nat_lt (number_of keyed.row) (number_of row)) (λ earlier. is_before earlier row.event) rows front)
-      ∙ ap (λ rest. filter (λ earlier. is_before earlier row.event) (events_of rows) ++ row.event ∷ rest) (shown_filter (λ keyed. nat_lt (number_of row) (number_of keyed.row)) (λ earlier. not (is_before earlier row.event)) rows back))
+      map-append (λ (keyed : Keyed QueuedEvent). keyed.row.event) (filter (λ keyed. nat_lt (number_of keyed.row) (number_of row)) rows)
+      (record { key = key; row = row } ∷ filter (λ keyed. nat_lt (number_of row) (number_of keyed.row)) rows)
+      ∙ (ap (λ front. front ++ row.event ∷ events_of (filter (λ keyed. nat_lt (number_of row) (number_of keyed.row)) rows))
+      (shown_filter (λ keyed. nat_lt (number_of keyed.row) (number_of row)) (λ earlier. is_before earlier row.event) rows front)
+      ∙ ap (λ rest. filter (λ earlier. is_before earlier row.event) (events_of rows) ++ row.event ∷ rest)
+      (shown_filter (λ keyed. nat_lt (number_of row) (number_of keyed.row)) (λ earlier. not (is_before earlier row.event)) rows back))
     where
       front : All (λ keyed. nat_lt (number_of keyed.row) (number_of row) ≡ is_before keyed.row.event row.event) rows
-      front k d within = let lower = below_end (get_or rows k d).row in let higher = behind_end (get_or rows k d).row in grind (arith, nat_tests, is, low, seat k d within, lower (rank_of (priority_of row.event)), higher (rank_of (priority_of row.event)))
+      front k d within = let lower = below_end (get_or rows k d).row in let higher = behind_end (get_or rows k d).row in
+          grind (arith, nat_tests, is, low, seat k d within, lower (rank_of (priority_of row.event)), higher (rank_of (priority_of row.event)))
 
       back : All (λ keyed. nat_lt (number_of row) (number_of keyed.row) ≡ not (is_before keyed.row.event row.event)) rows
-      back k d within = let lower = below_end (get_or rows k d).row in let higher = behind_end (get_or rows k d).row in grind (arith, nat_tests, is, low, seat k d within, lower (rank_of (priority_of row.event)), higher (rank_of (priority_of row.event)))
+      back k d within = let lower = below_end (get_or rows k d).row in let higher = behind_end (get_or rows k d).row in
+          grind (arith, nat_tests, is, low, seat k d within, lower (rank_of (priority_of row.event)), higher (rank_of (priority_of row.event)))
 
   -- no row has the number yet
   pub number_absent : key_of number_of rows (number_of row) ≡ None
@@ -54,7 +63,8 @@ module _ (rows : List (Keyed QueuedEvent)) (row : QueuedEvent) (start : ℕ) (is
     pub shown_added : (key : ℕ) → events_of (added rows key row) ≡ placed row.event (events_of rows)
     shown_added key =
         map-append (λ (keyed : Keyed QueuedEvent). keyed.row.event) rows (record { key = key; row = row } ∷ [])
-        ∙ sym (placed_last row.event (events_of rows) (All-map (λ earlier. is_before earlier row.event ≡ true) (λ (keyed : Keyed QueuedEvent). keyed.row.event) rows before))
+        ∙ sym (placed_last row.event (events_of rows)
+        (All-map (λ earlier. is_before earlier row.event ≡ true) (λ (keyed : Keyed QueuedEvent). keyed.row.event) rows before))
       where
         before : All (λ keyed. is_before keyed.row.event row.event ≡ true) rows
         before k d within =
@@ -62,7 +72,8 @@ module _ (rows : List (Keyed QueuedEvent)) (row : QueuedEvent) (start : ℕ) (is
             grind (arith, nat_tests, no_lower)
 
 -- the row that is made for an event, of a number of its priority that has a seat
-module _ (rows : List (Keyed QueuedEvent)) (event : Event) (number start : ℕ) (is : start ≡ rank_of (priority_of event) * 2 ^ 62) (few : number < 2 ^ 62) (seat : IsSeat rows (start + number) (start + 2 ^ 62)) where
+module _ (rows : List (Keyed QueuedEvent)) (event : Event) (number start : ℕ) (is : start ≡ rank_of (priority_of event) * 2 ^ 62) (few : number < 2 ^ 62)
+    (seat : IsSeat rows (start + number) (start + 2 ^ 62)) where
   abbrev made : QueuedEvent
   made = record { number = number; event = event }
 
@@ -93,8 +104,10 @@ module _ (rows : List (Keyed QueuedEvent)) (end : ℕ) where
       omega (arith, under, same)
 
   -- a number above that of the last row below the end
-  pub seat_behind : IsSound number_of rows → (count at number key : ℕ) (row : QueuedEvent) → IsCountBelow rows end count → count ≡ at + 1 → IsAtPosition rows at key row → number_of row < number → IsSeat rows number end
-  seat_behind sound count at number key row below is stands above k d within = grind (arith, nat_tests, stands d, sound.rising k, below.in_range, below.above k d)
+  pub seat_behind : IsSound number_of rows → (count at number key : ℕ) (row : QueuedEvent) → IsCountBelow rows end count → count ≡ at + 1
+      → IsAtPosition rows at key row → number_of row < number → IsSeat rows number end
+  seat_behind sound count at number key row below is stands above k d within =
+      grind (arith, nat_tests, stands d, sound.rising k, below.in_range, below.above k d)
 
 -- all rows before `low` are below the number, all from `high` on are not, and the next look is between
 pub record IsLooking (rows : List (Keyed QueuedEvent)) (number low high at : ℕ) : Type 0 where
@@ -104,7 +117,8 @@ pub record IsLooking (rows : List (Keyed QueuedEvent)) (number low high at : ℕ
   pub above : AllWithin (λ keyed. number ≤ number_of keyed.row) rows high (length rows)
 
 module _ (rows : List (Keyed QueuedEvent)) (sound : IsSound number_of rows) (number : ℕ) where
-  module _ (low high at next key : ℕ) (row : QueuedEvent) (looking : IsLooking rows number low high at) (some : low < high) (stands : IsAtPosition rows at key row) where
+  module _ (low high at next key : ℕ) (row : QueuedEvent) (looking : IsLooking rows number low high at) (some : low < high)
+      (stands : IsAtPosition rows at key row) where
     within : at < length rows
     within = omega (arith, (looking.between some).1, looking.in_range.1)
 

@@ -9,17 +9,21 @@ use Rattle.isolation.proofs.Worlds.{after-other, after-own}
 
 module _ {Name State Command Line Post : Type 0} (m : Machine Name State Command Line Post) where
   -- items in two lists, one after another
-  pub alone_after-append : (s : Name) (state : State) (xs ys : List (Item Name Command Post)) → alone_after m s state (xs ++ ys) ≡ alone_after m s (alone_after m s state xs) ys
+  pub alone_after-append : (s : Name) (state : State) (xs ys : List (Item Name Command Post))
+      → alone_after m s state (xs ++ ys) ≡ alone_after m s (alone_after m s state xs) ys
   alone_after-append s state [] ys = refl
   alone_after-append s state (Own command ∷ xs) ys = alone_after-append s (m.does s state command).state xs ys
   alone_after-append s state (Arrival from post ∷ xs) ys = alone_after-append s (m.arrives state from post) xs ys
 
-  pub alone_lines-append : (s : Name) (state : State) (xs ys : List (Item Name Command Post)) → alone_lines m s state (xs ++ ys) ≡ alone_lines m s state xs ++ alone_lines m s (alone_after m s state xs) ys
+  pub alone_lines-append : (s : Name) (state : State) (xs ys : List (Item Name Command Post))
+      → alone_lines m s state (xs ++ ys) ≡ alone_lines m s state xs ++ alone_lines m s (alone_after m s state xs) ys
   alone_lines-append s state [] ys = refl
-  alone_lines-append s state (Own command ∷ xs) ys = ap (λ lines. (m.does s state command).lines ∷ lines) (alone_lines-append s (m.does s state command).state xs ys)
+  alone_lines-append s state (Own command ∷ xs) ys = ap (λ lines. (m.does s state command).lines ∷ lines)
+      (alone_lines-append s (m.does s state command).state xs ys)
   alone_lines-append s state (Arrival from post ∷ xs) ys = alone_lines-append s (m.arrives state from post) xs ys
 
-  pub alone_posts-append : (s : Name) (state : State) (xs ys : List (Item Name Command Post)) → alone_posts m s state (xs ++ ys) ≡ alone_posts m s state xs ++ alone_posts m s (alone_after m s state xs) ys
+  pub alone_posts-append : (s : Name) (state : State) (xs ys : List (Item Name Command Post))
+      → alone_posts m s state (xs ++ ys) ≡ alone_posts m s state xs ++ alone_posts m s (alone_after m s state xs) ys
   alone_posts-append s state [] ys = refl
   alone_posts-append s state (Own command ∷ xs) ys =
       ap (λ posts. (m.does s state command).posts ++ posts) (alone_posts-append s (m.does s state command).state xs ys)
@@ -27,26 +31,32 @@ module _ {Name State Command Line Post : Type 0} (m : Machine Name State Command
   alone_posts-append s state (Arrival from post ∷ xs) ys = alone_posts-append s (m.arrives state from post) xs ys
 
   -- what comes in a run of two lists, one after another
-  pub items-append : (s : Name) (world : Name → State) (ts us : List (Tagged Name Command)) → items m s world (ts ++ us) ≡ items m s world ts ++ items m s (world_after m world ts) us
+  pub items-append : (s : Name) (world : Name → State) (ts us : List (Tagged Name Command))
+      → items m s world (ts ++ us) ≡ items m s world ts ++ items m s (world_after m world ts) us
   items-append s world [] us = refl
-  items-append s world (t ∷ ts) us = ap (λ rest. given m s world t ++ rest) (items-append s (after m world t) ts us) ∙ sym (append_assoc (given m s world t) _ _)
+  items-append s world (t ∷ ts) us = ap (λ rest. given m s world t ++ rest) (items-append s (after m world t) ts us)
+      ∙ sym (append_assoc (given m s world t) _ _)
 
   -- posts of another session before the other items
-  alone_after-posts : (s : Name) (state : State) (from : Name) (posts : List Post) (rest : List (Item Name Command Post)) → alone_after m s state (map (Arrival from) posts ++ rest) ≡ alone_after m s (all_arrive m state from posts) rest
+  alone_after-posts : (s : Name) (state : State) (from : Name) (posts : List Post) (rest : List (Item Name Command Post))
+      → alone_after m s state (map (Arrival from) posts ++ rest) ≡ alone_after m s (all_arrive m state from posts) rest
   alone_after-posts s state from [] rest = refl
   alone_after-posts s state from (post ∷ posts) rest = alone_after-posts s (m.arrives state from post) from posts rest
 
-  alone_lines-posts : (s : Name) (state : State) (from : Name) (posts : List Post) (rest : List (Item Name Command Post)) → alone_lines m s state (map (Arrival from) posts ++ rest) ≡ alone_lines m s (all_arrive m state from posts) rest
+  alone_lines-posts : (s : Name) (state : State) (from : Name) (posts : List Post) (rest : List (Item Name Command Post))
+      → alone_lines m s state (map (Arrival from) posts ++ rest) ≡ alone_lines m s (all_arrive m state from posts) rest
   alone_lines-posts s state from [] rest = refl
   alone_lines-posts s state from (post ∷ posts) rest = alone_lines-posts s (m.arrives state from post) from posts rest
 
-  alone_posts-posts : (s : Name) (state : State) (from : Name) (posts : List Post) (rest : List (Item Name Command Post)) → alone_posts m s state (map (Arrival from) posts ++ rest) ≡ alone_posts m s (all_arrive m state from posts) rest
+  alone_posts-posts : (s : Name) (state : State) (from : Name) (posts : List Post) (rest : List (Item Name Command Post))
+      → alone_posts m s state (map (Arrival from) posts ++ rest) ≡ alone_posts m s (all_arrive m state from posts) rest
   alone_posts-posts s state from [] rest = refl
   alone_posts-posts s state from (post ∷ posts) rest = alone_posts-posts s (m.arrives state from post) from posts rest
 
   module _ (lawful : IsLawful m) where
     -- a command of s itself
-    own_step : (s : Name) (world : Name → State) (t : Tagged Name Command) (ts : List (Tagged Name Command)) → m.same s t.session ≡ true → IsAlone m s (after m world t) ts → IsAlone m s world (t ∷ ts)
+    own_step : (s : Name) (world : Name → State) (t : Tagged Name Command) (ts : List (Tagged Name Command)) → m.same s t.session ≡ true
+        → IsAlone m s (after m world t) ts → IsAlone m s world (t ∷ ts)
     own_step s world t ts own rest =
         let e : s ≡ t.session = lawful.equal s t.session own in
         let now : after m world t s ≡ (effect m world t).state = after-own m lawful world t s own in
@@ -58,7 +68,8 @@ module _ {Name State Command Line Post : Type 0} (m : Machine Name State Command
         }
 
     -- a command of another session
-    other_step : (s : Name) (world : Name → State) (t : Tagged Name Command) (ts : List (Tagged Name Command)) → m.same s t.session ≡ false → IsAlone m s (after m world t) ts → IsAlone m s world (t ∷ ts)
+    other_step : (s : Name) (world : Name → State) (t : Tagged Name Command) (ts : List (Tagged Name Command)) → m.same s t.session ≡ false
+        → IsAlone m s (after m world t) ts → IsAlone m s world (t ∷ ts)
     other_step s world t ts other rest =
         let now : after m world t s ≡ all_arrive m (world s) t.session (effect m world t).posts = after-other m world t s other in
         let posts = (effect m world t).posts in

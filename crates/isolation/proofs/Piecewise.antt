@@ -11,7 +11,8 @@ use Rattle.isolation.proofs.LeftOut.{IsClosed-after, effect-kept, Agree-kept, Ag
 use Rattle.isolation.proofs.Reaching.{influences-self, IsClosed-influences}
 
 -- of what passes one test, what passes a narrower one
-filter_within : {A : Type 0} (narrow wide : A → Bool) → ((x : A) → narrow x ≡ true → wide x ≡ true) → (xs : List A) → filter narrow (filter wide xs) ≡ filter narrow xs
+filter_within : {A : Type 0} (narrow wide : A → Bool) → ((x : A) → narrow x ≡ true → wide x ≡ true) → (xs : List A)
+    → filter narrow (filter wide xs) ≡ filter narrow xs
 filter_within narrow wide within [] = refl
 filter_within narrow wide within (x ∷ xs) =
     let rest : filter narrow (filter wide xs) ≡ filter narrow xs = filter_within narrow wide within xs in
@@ -25,7 +26,8 @@ commands_of-append (Given t ∷ xs) ys = ap (λ ts. t ∷ ts) (commands_of-appen
 commands_of-append (Faulty fault ∷ xs) ys = commands_of-append xs ys
 
 -- the commands of the kept pieces are the kept commands
-pub commands_of-only_pieces : {Name Command Fault : Type 0} (keep : Name → Bool) (passes : Fault → Bool) (pieces : List (Piece Name Command Fault)) → commands_of (only_pieces keep passes pieces) ≡ only keep (commands_of pieces)
+pub commands_of-only_pieces : {Name Command Fault : Type 0} (keep : Name → Bool) (passes : Fault → Bool) (pieces : List (Piece Name Command Fault))
+    → commands_of (only_pieces keep passes pieces) ≡ only keep (commands_of pieces)
 commands_of-only_pieces keep passes [] = refl
 commands_of-only_pieces keep passes (Given t ∷ pieces) =
     let rest : commands_of (only_pieces keep passes pieces) ≡ only keep (commands_of pieces) = commands_of-only_pieces keep passes pieces in
@@ -36,22 +38,28 @@ commands_of-only_pieces keep passes (Faulty fault ∷ pieces) =
 
 module _ {Name State Command Line Post : Type 0} (m : Machine Name State Command Line Post) where
   -- the answers to two inputs, one after another
-  pub piece_answers-append : {Fault : Type 0} (world : Name → State) (xs ys : List (Piece Name Command Fault)) → piece_answers m world (xs ++ ys) ≡ piece_answers m world xs ++ piece_answers m (world_after m world (commands_of xs)) ys
+  pub piece_answers-append : {Fault : Type 0} (world : Name → State) (xs ys : List (Piece Name Command Fault))
+      → piece_answers m world (xs ++ ys) ≡ piece_answers m world xs ++ piece_answers m (world_after m world (commands_of xs)) ys
   piece_answers-append world [] ys = refl
-  piece_answers-append world (Given t ∷ xs) ys = ap (λ answers. Told t.session (effect m world t).lines ∷ answers) (piece_answers-append (after m world t) xs ys)
+  piece_answers-append world (Given t ∷ xs) ys = ap (λ answers. Told t.session (effect m world t).lines ∷ answers)
+      (piece_answers-append (after m world t) xs ys)
   piece_answers-append world (Faulty fault ∷ xs) ys = ap (λ answers. Blamed fault ∷ answers) (piece_answers-append world xs ys)
 
   -- one more piece at the end
-  pub piece_answers-given : {Fault : Type 0} (world : Name → State) (xs : List (Piece Name Command Fault)) (t : Tagged Name Command) → piece_answers m world (xs ++ Given t ∷ []) ≡ piece_answers m world xs ++ Told t.session (effect m (world_after m world (commands_of xs)) t).lines ∷ []
+  pub piece_answers-given : {Fault : Type 0} (world : Name → State) (xs : List (Piece Name Command Fault)) (t : Tagged Name Command)
+      → piece_answers m world (xs ++ Given t ∷ []) ≡ piece_answers m world xs ++ Told t.session (effect m (world_after m world (commands_of xs)) t).lines ∷ []
   piece_answers-given world xs t = piece_answers-append world xs (Given t ∷ [])
 
-  pub piece_answers-faulty : {Fault : Type 0} (world : Name → State) (xs : List (Piece Name Command Fault)) (fault : Fault) → piece_answers m world (xs ++ Faulty fault ∷ []) ≡ piece_answers m world xs ++ Blamed fault ∷ []
+  pub piece_answers-faulty : {Fault : Type 0} (world : Name → State) (xs : List (Piece Name Command Fault)) (fault : Fault)
+      → piece_answers m world (xs ++ Faulty fault ∷ []) ≡ piece_answers m world xs ++ Blamed fault ∷ []
   piece_answers-faulty world xs fault = piece_answers-append world xs (Faulty fault ∷ [])
 
   -- what the commands of s are told is what they are told in the run of the commands
-  pub told-piece_answers : {Fault : Type 0} (s : Name) (world : Name → State) (pieces : List (Piece Name Command Fault)) → told m s (piece_answers m world pieces) ≡ at_session m s (commands_of pieces) (world_lines m world (commands_of pieces))
+  pub told-piece_answers : {Fault : Type 0} (s : Name) (world : Name → State) (pieces : List (Piece Name Command Fault))
+      → told m s (piece_answers m world pieces) ≡ at_session m s (commands_of pieces) (world_lines m world (commands_of pieces))
   told-piece_answers s world [] = refl
-  told-piece_answers s world (Given t ∷ pieces) = ap (λ lines. cond (m.same s t.session) ((effect m world t).lines ∷ lines) lines) (told-piece_answers s (after m world t) pieces)
+  told-piece_answers s world (Given t ∷ pieces) = ap (λ lines. cond (m.same s t.session) ((effect m world t).lines ∷ lines) lines)
+      (told-piece_answers s (after m world t) pieces)
   told-piece_answers s world (Faulty fault ∷ pieces) = told-piece_answers s world pieces
 
 module _ {Name State Command Line Post : Type 0} (Fault : Type 0) (m : Machine Name State Command Line Post) (lawful : IsLawful m) where
@@ -65,7 +73,8 @@ module _ {Name State Command Line Post : Type 0} (Fault : Type 0) (m : Machine N
       let does_same = effect-kept m lawful keep world other t agree kept in
       rw kept (ap₂ (λ (e : Effect State Line Post) (answers : List (Answer Name Line Fault)). Told t.session e.lines ∷ answers) does_same rest))
       (λ left_out.
-      let rest = leaving_out_pieces keep passes (after m world t) other pieces later (Agree-left_out m lawful keep world other t agree left_out (unknown_to_kept m lawful keep world t (commands_of pieces) closed left_out)) in
+      let rest = leaving_out_pieces keep passes (after m world t) other pieces later
+      (Agree-left_out m lawful keep world other t agree left_out (unknown_to_kept m lawful keep world t (commands_of pieces) closed left_out)) in
       rw left_out rest)
       (cases_Bool (keep t.session))
   leaving_out_pieces keep passes world other (Faulty fault ∷ pieces) closed agree =
@@ -76,18 +85,22 @@ module _ {Name State Command Line Post : Type 0} (Fault : Type 0) (m : Machine N
       (cases_Bool (passes fault))
 
   -- what is said to a kept session passes
-  said_passes : (keep : Name → Bool) (passes its_own : Fault → Bool) (s : Name) → keep s ≡ true → ((fault : Fault) → its_own fault ≡ true → passes fault ≡ true) → (answer : Answer Name Line Fault) → answer_passes (m.same s) its_own answer ≡ true → answer_passes keep passes answer ≡ true
+  said_passes : (keep : Name → Bool) (passes its_own : Fault → Bool) (s : Name) → keep s ≡ true → ((fault : Fault) → its_own fault ≡ true → passes fault ≡ true)
+      → (answer : Answer Name Line Fault) → answer_passes (m.same s) its_own answer ≡ true → answer_passes keep passes answer ≡ true
   said_passes keep passes its_own s kept within (Told session lines) h = ap keep (sym (lawful.equal s session h)) ∙ kept
   said_passes keep passes its_own s kept within (Blamed fault) h = within fault h
 
   pub said_stays : SaidStays Fault m
   said_stays keep passes its_own world other pieces closed agree s kept within =
       ap (said m s its_own) (leaving_out_pieces keep passes world other pieces closed agree)
-      ∙ filter_within (answer_passes (m.same s) its_own) (answer_passes keep passes) (said_passes keep passes its_own s kept within) (piece_answers m world pieces)
+      ∙ filter_within (answer_passes (m.same s) its_own) (answer_passes keep passes) (said_passes keep passes its_own s kept within)
+      (piece_answers m world pieces)
 
   pub said_by_influence : SaidByInfluence Fault m
   said_by_influence its_own world known pieces knows s =
-      said_stays (influences m world known (commands_of pieces) s) (λ fault. true) its_own world world pieces (IsClosed-influences m lawful world known (commands_of pieces) knows s) (λ name passes. refl) s (influences-self m lawful world known (commands_of pieces) s) (λ fault own. refl)
+      said_stays (influences m world known (commands_of pieces) s) (λ fault. true) its_own world world pieces
+      (IsClosed-influences m lawful world known (commands_of pieces) knows s) (λ name passes. refl) s
+      (influences-self m lawful world known (commands_of pieces) s) (λ fault own. refl)
 
   pub told_alone : ToldAlone Fault m
   told_alone s world pieces = told-piece_answers m s world pieces ∙ (first_half m lawful s world (commands_of pieces)).lines

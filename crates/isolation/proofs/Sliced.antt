@@ -1,5 +1,6 @@
 -- A run of the commands that a slice keeps.
-use Rattle.std.proofs.Common.{◌≡◌, Bool, true, false, cond, ◌||◌, ◌&&◌, List, [], ◌∷◌, ◌++◌, length, map, filter, refl, sym, ap, ap₂, subst, ◌∙◌, ⊎_elim, arith, suc}
+use Rattle.std.proofs.Common.{◌≡◌, Bool, true, false, cond, ◌||◌, ◌&&◌, List, [], ◌∷◌, ◌++◌, length, map, filter, refl, sym, ap, ap₂, subst, ◌∙◌, ⊎_elim, arith}
+use Rattle.std.proofs.Common.{suc}
 use Rattle.std.specs.List.{list_any}
 use Rattle.std.proofs.lemmas.Bool.{both_ways, false_from_ne_true, or_cases, or_left, or_right, or_parts, and_parts}
 use Rattle.isolation.specs.Machine.{Effect, Machine, IsLawful, Tagged}
@@ -31,7 +32,8 @@ module _ {Name State Command Line Post : Type 0} (m : Machine Name State Command
       one_more ∙ ap suc (length-marks s (after m world t) ts)
 
   -- no member joins a session that does not matter
-  pub unknown_to_members : (world : Name → State) (members : List Name) (t : Name) → list_any (λ r. m.names (world r) t) members ≡ false → (r : Name) → IsLawful m → is_in m r members ≡ true → m.names (world r) t ≡ false
+  pub unknown_to_members : (world : Name → State) (members : List Name) (t : Name) → list_any (λ r. m.names (world r) t) members ≡ false → (r : Name)
+      → IsLawful m → is_in m r members ≡ true → m.names (world r) t ≡ false
   unknown_to_members world [] t none r lawful listed = absurd cc
   unknown_to_members world (member ∷ members) t none r lawful listed =
       let both = or_parts (m.names (world member) t) _ none in
@@ -41,13 +43,15 @@ module _ {Name State Command Line Post : Type 0} (m : Machine Name State Command
       (or_cases (m.same r member) _ listed)
 
   -- a member stays one before another command
-  is_in-with_mark : (mark : Bool) (name : Name) (rest : Slice Name) (r : Name) → is_in m r rest.members ≡ true → is_in m r (with_mark mark name rest).members ≡ true
+  is_in-with_mark : (mark : Bool) (name : Name) (rest : Slice Name) (r : Name) → is_in m r rest.members ≡ true
+      → is_in m r (with_mark mark name rest).members ≡ true
   is_in-with_mark true name rest r listed = or_right (m.same r name) _ listed
   is_in-with_mark false name rest r listed = listed
 
   module _ (lawful : IsLawful m) where
     -- the member that joins a session
-    joining_member : (world : Name → State) (members : List Name) (t : Name) → list_any (λ r. m.names (world r) t) members ≡ true → (r : Name) × (is_in m r members ≡ true) × (m.names (world r) t ≡ true)
+    joining_member : (world : Name → State) (members : List Name) (t : Name) → list_any (λ r. m.names (world r) t) members ≡ true
+        → (r : Name) × (is_in m r members ≡ true) × (m.names (world r) t ≡ true)
     joining_member world [] t h = absurd cc
     joining_member world (member ∷ members) t h = ⊎_elim
         (λ here. (member, or_left _ _ (lawful.itself member), here))
@@ -63,7 +67,11 @@ module _ {Name State Command Line Post : Type 0} (m : Machine Name State Command
         is_in-with_mark (matters m world rest.members t.session) t.session rest s listed
 
     -- one more command before a run, by its mark
-    kept_step : (s : Name) (world other : Name → State) (t : Tagged Name Command) (ts : List (Tagged Name Command)) (rest : Slice Name) (mark : Bool) → mark ≡ matters m world rest.members t.session → is_in m s rest.members ≡ true → Agree (λ name. is_in m name (with_mark mark t.session rest).members) world other → ((next : Name → State) → Agree (λ name. is_in m name rest.members) (after m world t) next → SameFor m s (after m world t) ts next (kept rest.marks ts)) → SameFor m s world (t ∷ ts) other (kept (with_mark mark t.session rest).marks (t ∷ ts))
+    kept_step : (s : Name) (world other : Name → State) (t : Tagged Name Command) (ts : List (Tagged Name Command)) (rest : Slice Name) (mark : Bool)
+        → mark ≡ matters m world rest.members t.session → is_in m s rest.members ≡ true
+        → Agree (λ name. is_in m name (with_mark mark t.session rest).members) world other
+        → ((next : Name → State) → Agree (λ name. is_in m name rest.members) (after m world t) next
+        → SameFor m s (after m world t) ts next (kept rest.marks ts)) → SameFor m s world (t ∷ ts) other (kept (with_mark mark t.session rest).marks (t ∷ ts))
     kept_step s world other t ts rest true is listed agree later =
         let does_same = effect-kept m lawful (λ name. is_in m name (t.session ∷ rest.members)) world other t agree (or_left _ _ (lawful.itself t.session)) in
         let agrees = Agree-kept m lawful (λ name. is_in m name (t.session ∷ rest.members)) world other t agree (or_left _ _ (lawful.itself t.session)) in
@@ -77,14 +85,17 @@ module _ {Name State Command Line Post : Type 0} (m : Machine Name State Command
         let unknown = λ (r : Name) (in_rest : is_in m r rest.members ≡ true). unknown_to_members world rest.members t.session parts.1 r lawful in_rest in
         let agrees = Agree-left_out m lawful (λ name. is_in m name rest.members) world other t agree parts.0 unknown in
         let same = later other agrees in
-        let differs : m.same s t.session ≡ false = false_from_ne_true _ (λ e. both_ways (is_in m t.session rest.members) parts.0 (ap (λ n. is_in m n rest.members) (sym (lawful.equal s t.session e)) ∙ listed)) in
+        let differs : m.same s t.session ≡ false = false_from_ne_true _
+        (λ e. both_ways (is_in m t.session rest.members) parts.0 (ap (λ n. is_in m n rest.members) (sym (lawful.equal s t.session e)) ∙ listed)) in
         record {
           lines = rw differs same.lines;
           state = same.state;
         }
 
     -- of one more member, which is one already or which a member joins
-    within_step : (s : Name) (world : Name → State) (t : Tagged Name Command) (ts : List (Tagged Name Command)) (rest : Slice Name) (mark : Bool) → mark ≡ matters m world rest.members t.session → ((r : Name) → is_in m r rest.members ≡ true → Influences m world (t ∷ ts) s r) → (name : Name) → is_in m name (with_mark mark t.session rest).members ≡ true → Influences m world (t ∷ ts) s name
+    within_step : (s : Name) (world : Name → State) (t : Tagged Name Command) (ts : List (Tagged Name Command)) (rest : Slice Name) (mark : Bool)
+        → mark ≡ matters m world rest.members t.session → ((r : Name) → is_in m r rest.members ≡ true → Influences m world (t ∷ ts) s r) → (name : Name)
+        → is_in m name (with_mark mark t.session rest).members ≡ true → Influences m world (t ∷ ts) s name
     within_step s world t ts rest false is members name listed = members name listed
     within_step s world t ts rest true is members name listed = ⊎_elim
         (λ here. subst (λ n. Influences m world (t ∷ ts) s n) (sym (lawful.equal name t.session here)) (⊎_elim
@@ -99,7 +110,9 @@ module _ {Name State Command Line Post : Type 0} (m : Machine Name State Command
     -- a run of the kept commands, from any world that is alike at the members
     pub slice_from_members : SliceFromMembers m
     slice_from_members s world other [] agree = record { lines = refl; state = agree s (or_left _ _ (lawful.itself s)) }
-    slice_from_members s world other (t ∷ ts) agree = kept_step s world other t ts (slice m s (after m world t) ts) (matters m world (slice m s (after m world t) ts).members t.session) refl (is_in-members s (after m world t) ts) agree (λ next agrees. slice_from_members s (after m world t) next ts agrees)
+    slice_from_members s world other (t ∷ ts) agree = kept_step s world other t ts (slice m s (after m world t) ts)
+        (matters m world (slice m s (after m world t) ts).members t.session) refl (is_in-members s (after m world t) ts) agree
+        (λ next agrees. slice_from_members s (after m world t) next ts agrees)
 
     pub slice_law : SliceLaw m
     slice_law s world ts = slice_from_members s world world ts (λ name listed. refl)
@@ -112,11 +125,13 @@ module _ {Name State Command Line Post : Type 0} (m : Machine Name State Command
         (or_cases (m.same name s) _ listed)
     slice_within_influence s world (t ∷ ts) name listed =
         within_step s world t ts (slice m s (after m world t) ts) (matters m world (slice m s (after m world t) ts).members t.session) refl
-        (λ r in_rest. Reached-more (joined m (after m world t) ts) (joined m world (t ∷ ts)) (joined-after m lawful world t ts) s r (slice_within_influence s (after m world t) ts r in_rest))
+        (λ r in_rest. Reached-more (joined m (after m world t) ts) (joined m world (t ∷ ts)) (joined-after m lawful world t ts) s r
+        (slice_within_influence s (after m world t) ts r in_rest))
         name listed
 
     -- a note and the state before its command tell alike whether the command matters
-    matters-note : (world : Name → State) (t : Tagged Name Command) (note : Note Name) → IsNote m world t note → (members : List Name) → list_any (λ r. is_in m r note.joiners) members ≡ list_any (λ r. m.names (world r) t.session) members
+    matters-note : (world : Name → State) (t : Tagged Name Command) (note : Note Name) → IsNote m world t note → (members : List Name)
+        → list_any (λ r. is_in m r note.joiners) members ≡ list_any (λ r. m.names (world r) t.session) members
     matters-note world t note right [] = refl
     matters-note world t note right (member ∷ members) = ap₂ (λ a b. a || b) (right.joiners member) (matters-note world t note right members)
 
@@ -131,21 +146,24 @@ module _ {Name State Command Line Post : Type 0} (m : Machine Name State Command
         grind (arith, rest, here, session)
 
     -- the note of one more command at the end
-    pub AreNotes-push : (world : Name → State) (ts : List (Tagged Name Command)) (notes : List (Note Name)) (t : Tagged Name Command) (note : Note Name) → AreNotes m world ts notes → IsNote m (world_after m world ts) t note → AreNotes m world (ts ++ t ∷ []) (notes ++ note ∷ [])
+    pub AreNotes-push : (world : Name → State) (ts : List (Tagged Name Command)) (notes : List (Note Name)) (t : Tagged Name Command) (note : Note Name)
+        → AreNotes m world ts notes → IsNote m (world_after m world ts) t note → AreNotes m world (ts ++ t ∷ []) (notes ++ note ∷ [])
     AreNotes-push world [] [] t note right here = (here, refl)
     AreNotes-push world [] (other ∷ notes) t note right here = absurd (cc right)
     AreNotes-push world (u ∷ ts) [] t note right here = absurd right
     AreNotes-push world (u ∷ ts) (other ∷ notes) t note right here = (right.0, AreNotes-push (after m world u) ts notes t note right.1 here)
 
     -- the joiners among the known names are all, where all with a join are known
-    is_in-joiners : (world : Name → State) (known : List Name) (t r : Name) → is_in m r (filter (λ r. m.names (world r) t) known) ≡ (is_in m r known && m.names (world r) t)
+    is_in-joiners : (world : Name → State) (known : List Name) (t r : Name)
+        → is_in m r (filter (λ r. m.names (world r) t) known) ≡ (is_in m r known && m.names (world r) t)
     is_in-joiners world [] t r = refl
     is_in-joiners world (name ∷ known) t r =
         let rest : is_in m r (filter (λ r. m.names (world r) t) known) ≡ (is_in m r known && m.names (world r) t) = is_in-joiners world known t r in
         let one = λ (e : m.same r name ≡ true). ap (λ n. m.names (world n) t) (lawful.equal r name e) in
         grind (arith, rest, one)
 
-    pub IsNote-known : (world : Name → State) (known : List Name) (t : Tagged Name Command) → KnowsAll m world known → IsNote m world t (record { session = t.session; joiners = filter (λ r. m.names (world r) t.session) known })
+    pub IsNote-known : (world : Name → State) (known : List Name) (t : Tagged Name Command) → KnowsAll m world known
+        → IsNote m world t (record { session = t.session; joiners = filter (λ r. m.names (world r) t.session) known })
     IsNote-known world known t knows = record {
       session = refl;
       joiners = λ r.
@@ -155,7 +173,8 @@ module _ {Name State Command Line Post : Type 0} (m : Machine Name State Command
     }
 
     -- the names stay all that is known, where the session of the command is one of them
-    pub KnowsAll-after : (world : Name → State) (known : List Name) (t : Tagged Name Command) → KnowsAll m world known → is_in m t.session known ≡ true → KnowsAll m (after m world t) known
+    pub KnowsAll-after : (world : Name → State) (known : List Name) (t : Tagged Name Command) → KnowsAll m world known → is_in m t.session known ≡ true
+        → KnowsAll m (after m world t) known
     KnowsAll-after world known t knows listed = λ name joined h. ⊎_elim
         (λ stood. knows name joined stood)
         (λ made.
@@ -164,11 +183,15 @@ module _ {Name State Command Line Post : Type 0} (m : Machine Name State Command
         (names-after m lawful world t name joined h)
 
     -- the notes over names that are all that is known and hold the sessions of the run
-    pub AreNotes-notes_of : (world : Name → State) (names : List Name) (ts : List (Tagged Name Command)) → KnowsAll m world names → ((name : Name) → is_in m name (map (λ t. t.session) ts) ≡ true → is_in m name names ≡ true) → AreNotes m world ts (notes_of m names world ts)
+    pub AreNotes-notes_of : (world : Name → State) (names : List Name) (ts : List (Tagged Name Command)) → KnowsAll m world names
+        → ((name : Name) → is_in m name (map (λ t. t.session) ts) ≡ true → is_in m name names ≡ true) → AreNotes m world ts (notes_of m names world ts)
     AreNotes-notes_of world names [] knows within = refl
     AreNotes-notes_of world names (t ∷ ts) knows within =
-        let listed = within t.session (or_left _ _ (lawful.itself t.session)) in
-        (IsNote-known world names t knows, AreNotes-notes_of (after m world t) names ts (KnowsAll-after world names t knows listed) (λ name h. within name (or_right (m.same name t.session) _ h)))
+        let listed = within t.session (or_left _ _ (lawful.itself t.session)) in (
+          IsNote-known world names t knows,
+          AreNotes-notes_of (after m world t) names ts (KnowsAll-after world names t knows listed)
+              (λ name h. within name (or_right (m.same name t.session) _ h)),
+        )
 
     pub notes_are_right : NotesAreRight m
     notes_are_right world known ts knows =

@@ -18,7 +18,8 @@ module _ {Name State Command Line Post : Type 0} (m : Machine Name State Command
       → ((old r).failed ≡ true) ⊎ (old r ≡ record { state = world r; failed = false })
       → ((new r).failed ≡ true) ⊎ (new r ≡ record { state = after m world t r; failed = false })
   other_stands world old new t posts r (inr fails) arrive stood = inl fails
-  other_stands world old new t posts r (inl hears) arrive (inl failed) = inl (ap (λ session. session.failed) (hears ∙ heard_failed t.session posts (old r) failed) ∙ failed)
+  other_stands world old new t posts r (inl hears) arrive (inl failed) =
+      inl (ap (λ session. session.failed) (hears ∙ heard_failed t.session posts (old r) failed) ∙ failed)
   other_stands world old new t posts r (inl hears) arrive (inr stands) =
       inr (hears ∙ ap (heard m anew t.session posts) stands ∙ ap (λ state. record { state = state; failed = false }) arrive)
 
@@ -28,7 +29,8 @@ module _ {Name State Command Line Post : Type 0} (m : Machine Name State Command
       → ((old t.session).failed ≡ true) ⊎ (old t.session ≡ record { state = world t.session; failed = false })
       → m.does t.session (old t.session).state t.command ≡ effect m world t
   does_same begins world old t ajar (inr stands) = ap (λ (session : Mortal State). m.does t.session session.state t.command) stands
-  does_same begins world old t ajar (inl failed) = begins t.session (old t.session).state (world t.session) t.command (is_anew (old t.session).failed (anew t.command) failed ajar)
+  does_same begins world old t ajar (inl failed) = begins t.session (old t.session).state (world t.session) t.command
+      (is_anew (old t.session).failed (anew t.command) failed ajar)
     where
       is_anew : (failed is : Bool) → failed ≡ true → (failed && not is) ≡ false → is ≡ true
       is_anew true true e h = refl
@@ -44,7 +46,8 @@ module _ {Name State Command Line Post : Type 0} (m : Machine Name State Command
       ∙ ap (λ (e : Effect State Line Post). record { state = e.state; failed = false }) does
       ∙ ap (λ state. record { state = state; failed = false }) (sym (after-own m lawful world t name own))))
       (λ other. other_stands world old new t step.posts name (step.others name other)
-      (ap (all_arrive m (world name) t.session) (step.posted lines some ajar ∙ ap (λ (e : Effect State Line Post). e.posts) does) ∙ sym (after-other m world t name other))
+      (ap (all_arrive m (world name) t.session) (step.posted lines some ajar ∙ ap (λ (e : Effect State Line Post). e.posts) does)
+      ∙ sym (after-other m world t name other))
       (stood name passes))
       (cases_Bool (m.same name t.session))
 
@@ -52,36 +55,48 @@ module _ {Name State Command Line Post : Type 0} (m : Machine Name State Command
       → IsLossy m anew old new t told → keep t.session ≡ false → ((r : Name) → keep r ≡ true → m.names (world r) t.session ≡ false)
       → EndIn m anew keep world old → EndIn m anew keep (after m world t) new
   stands_left_out keep world old new t told step left_out unknown stood = λ name passes.
-      let differs : m.same name t.session ≡ false = false_from_ne_true _ (λ e. both_ways (keep t.session) left_out (ap keep (sym (lawful.equal name t.session e)) ∙ passes)) in
+      let differs : m.same name t.session ≡ false = false_from_ne_true _
+      (λ e. both_ways (keep t.session) left_out (ap keep (sym (lawful.equal name t.session e)) ∙ passes)) in
       other_stands world old new t step.posts name (step.others name differs)
-      (all_arrive-stranger m lawful (world name) t.session step.posts (unknown name passes) ∙ sym (strangers m lawful world t name differs (unknown name passes)))
+      (all_arrive-stranger m lawful (world name) t.session step.posts (unknown name passes)
+      ∙ sym (strangers m lawful world t name differs (unknown name passes)))
       (stood name passes)
 
-  entry_kept : (keep : Name → Bool) (t : Tagged Name Command) (ts : List (Tagged Name Command)) (told : Told Line) (rest : List (Told Line)) (lines : List Line) (others : List (List Line))
+  entry_kept : (keep : Name → Bool) (t : Tagged Name Command) (ts : List (Tagged Name Command)) (told : Told Line) (rest : List (Told Line)) (lines : List Line)
+      (others : List (List Line))
       → keep t.session ≡ true → told.lines ≡ Some lines
       → map (λ (one : Told Line). one.lines) (entries_of keep ts rest) ≡ map Some (entries_of keep ts others)
       → map (λ (one : Told Line). one.lines) (entries_of keep (t ∷ ts) (told ∷ rest)) ≡ map Some (entries_of keep (t ∷ ts) (lines ∷ others))
   entry_kept keep t ts told rest lines others passes some same = rw passes (ap₂ (λ x xs. x ∷ xs) some same)
 
-  entry_left_out : (keep : Name → Bool) (t : Tagged Name Command) (ts : List (Tagged Name Command)) (told : Told Line) (rest : List (Told Line)) (lines : List Line) (others : List (List Line))
+  entry_left_out : (keep : Name → Bool) (t : Tagged Name Command) (ts : List (Tagged Name Command)) (told : Told Line) (rest : List (Told Line))
+      (lines : List Line) (others : List (List Line))
       → keep t.session ≡ false
       → map (λ (one : Told Line). one.lines) (entries_of keep ts rest) ≡ map Some (entries_of keep ts others)
       → map (λ (one : Told Line). one.lines) (entries_of keep (t ∷ ts) (told ∷ rest)) ≡ map Some (entries_of keep (t ∷ ts) (lines ∷ others))
   entry_left_out keep t ts told rest lines others left_out same = rw left_out same
 
   -- one more command of a session that passes the test,
-  spared_step : (keep : Name → Bool) (world : Name → State) (new : Name → Mortal State) (t : Tagged Name Command) (ts : List (Tagged Name Command)) (told : Told Line) (rest : List (Told Line))
+  spared_step : (keep : Name → Bool) (world : Name → State) (new : Name → Mortal State) (t : Tagged Name Command) (ts : List (Tagged Name Command))
+      (told : Told Line) (rest : List (Told Line))
       → keep t.session ≡ true → told.lines ≡ Some (effect m world t).lines
       → AreSpared m anew keep (after m world t) ts rest new → AreSpared m anew keep world (t ∷ ts) (told ∷ rest) new
   spared_step keep world new t ts told rest passes said later =
-      record { lines = entry_kept keep t ts told rest (effect m world t).lines (world_lines m (after m world t) ts) passes said later.lines; states = later.states }
+      record {
+        lines = entry_kept keep t ts told rest (effect m world t).lines (world_lines m (after m world t) ts) passes said later.lines;
+        states = later.states;
+      }
 
   -- and of one that does not
-  left_out_step : (keep : Name → Bool) (world : Name → State) (new : Name → Mortal State) (t : Tagged Name Command) (ts : List (Tagged Name Command)) (told : Told Line) (rest : List (Told Line))
+  left_out_step : (keep : Name → Bool) (world : Name → State) (new : Name → Mortal State) (t : Tagged Name Command) (ts : List (Tagged Name Command))
+      (told : Told Line) (rest : List (Told Line))
       → keep t.session ≡ false
       → AreSpared m anew keep (after m world t) ts rest new → AreSpared m anew keep world (t ∷ ts) (told ∷ rest) new
   left_out_step keep world new t ts told rest left_out later =
-      record { lines = entry_left_out keep t ts told rest (effect m world t).lines (world_lines m (after m world t) ts) left_out later.lines; states = later.states }
+      record {
+        lines = entry_left_out keep t ts told rest (effect m world t).lines (world_lines m (after m world t) ts) left_out later.lines;
+        states = later.states;
+      }
 
   pub spared_law : SparedLaw m anew
   spared_law begins keep world old new [] [] closed stood steps done = record { lines = refl; states = rw steps stood }
@@ -96,9 +111,11 @@ module _ {Name State Command Line Post : Type 0} (m : Machine Name State Command
       let fine = done.0 passes in
       let lines = fine.found.0 in
       let does = does_same begins world old t (sym step.shut ∙ fine.ajar) (stood t.session passes) in
-      let said : told.lines ≡ Some (effect m world t).lines = fine.found.1 ∙ ap Some (step.tells lines fine.found.1 fine.ajar ∙ ap (λ (e : Effect State Line Post). e.lines) does) in
+      let said : told.lines ≡ Some (effect m world t).lines = fine.found.1
+      ∙ ap Some (step.tells lines fine.found.1 fine.ajar ∙ ap (λ (e : Effect State Line Post). e.lines) does) in
       spared_step keep world new t ts told rest passes said
-      (spared_law begins keep (after m world t) between new ts rest later (stands_kept keep world old between t told lines step fine.found.1 fine.ajar does stood) steps.2 done.1))
+      (spared_law begins keep (after m world t) between new ts rest later
+      (stands_kept keep world old between t told lines step fine.found.1 fine.ajar does stood) steps.2 done.1))
       (λ left_out.
       left_out_step keep world new t ts told rest left_out
       (spared_law begins keep (after m world t) between new ts rest later

@@ -1,5 +1,6 @@
 -- What the grammar makes of the tokens of members, and what data that is.
-use Rattle.std.proofs.Common.{◌≡◌, ℕ, ◌-◌, ◌≤◌, List, [], ◌∷◌, ◌++◌, length, map, Some, None, option_map, option_and_then, decimal, refl, ap, ◌∙◌, arith, append_assoc, length-append}
+use Rattle.std.proofs.Common.{◌≡◌, ℕ, ◌-◌, ◌≤◌, List, [], ◌∷◌, ◌++◌, length, map, Some, None, option_map, option_and_then, decimal, refl, ap, ◌∙◌, arith}
+use Rattle.std.proofs.Common.{append_assoc, length-append}
 use Rattle.json.specs.Token.{Token}
 use Rattle.json.specs.Token as token
 use Rattle.json.specs.Lex.{tokens}
@@ -94,7 +95,8 @@ members_value (m ∷ ms) h n le =
     let first = field_tokens m.value in
     let left = member_tokens ms ++ token.end_object ∷ [] in
     let same = append_assoc first (member_tokens ms) (token.end_object ∷ []) in
-    members_more (value 126) n m.key.now (token.key m.key.now ∷ ((first ++ member_tokens ms) ++ token.end_object ∷ [])) ((first ++ member_tokens ms) ++ token.end_object ∷ []) left (field_json m.value)
+    members_more (value 126) n m.key.now (token.key m.key.now ∷ ((first ++ member_tokens ms) ++ token.end_object ∷ []))
+    ((first ++ member_tokens ms) ++ token.end_object ∷ []) left (field_json m.value)
     (omega arith) refl (ap (value 126) same ∙ field_value m.value h.0 left)
     ∙ ap (parse_map (json.member m.key.now (field_json m.value))) (members_value ms h.1 (n - 1) (omega (arith, ap length same, length-append first left)))
 
@@ -103,5 +105,6 @@ pub reads_members : (text : List ℕ) (ms : List Member) → AreSpelled ms → t
 reads_members text ms h e =
     let left = member_tokens ms ++ token.end_object ∷ [] in
     ap (λ ts. option_and_then of_json (option_and_then (λ p. if_last p.0 p.1) (value 127 ts))) e
-    ∙ ap (λ o. option_and_then of_json (option_and_then (λ p. if_last p.0 p.1) o)) (value-begin_object 127 left (omega arith) ∙ ap (parse_map json.object) (members_value ms h (length left) (omega arith)))
+    ∙ ap (λ o. option_and_then of_json (option_and_then (λ p. if_last p.0 p.1) o))
+    (value-begin_object 127 left (omega arith) ∙ ap (parse_map json.object) (members_value ms h (length left) (omega arith)))
     ∙ ap (option_map object) (members_read no_members ms h)

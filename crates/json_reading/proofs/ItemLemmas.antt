@@ -39,7 +39,8 @@ before_item (r ∷ ss) s = ap (λ b. separator b (scalar_token s)) (items_end fa
 
 items_text-push : (ss : List Scalar) (s : Scalar) → items_text (ss ++ s ∷ []) ≡ items_text ss ++ (comma_after ss ++ token_text (scalar_token s))
 items_text-push ss s =
-    ap print (tokens_push ss s) ∙ print_from_push false (map scalar_token ss) (scalar_token s) ∙ ap (λ l. items_text ss ++ (l ++ token_text (scalar_token s))) (before_item ss s)
+    ap print (tokens_push ss s) ∙ print_from_push false (map scalar_token ss) (scalar_token s)
+    ∙ ap (λ l. items_text ss ++ (l ++ token_text (scalar_token s))) (before_item ss s)
 
 no_comma : (b : Bool) → separator b end_array ≡ []
 no_comma true = refl
@@ -47,25 +48,32 @@ no_comma false = refl
 
 closed : (ss : List Scalar) → print (map scalar_token ss ++ end_array ∷ []) ≡ items_text ss ++ 93 ∷ []
 closed ss =
-    print_from_push false (map scalar_token ss) end_array ∙ ap (λ l. items_text ss ++ (l ++ 93 ∷ [])) (no_comma (fold (λ _ t. ends t) false (map scalar_token ss)))
+    print_from_push false (map scalar_token ss) end_array ∙ ap (λ l. items_text ss ++ (l ++ 93 ∷ []))
+    (no_comma (fold (λ _ t. ends t) false (map scalar_token ss)))
 
-item_grown : (d : List ℕ) (ss : List Scalar) (s : Scalar) (from at end : ℕ) → drop from d ≡ items_text ss ++ (comma_after ss ++ drop at d) → StandsAt d at (token_text (scalar_token s)) end
+item_grown : (d : List ℕ) (ss : List Scalar) (s : Scalar) (from at end : ℕ) → drop from d ≡ items_text ss ++ (comma_after ss ++ drop at d)
+    → StandsAt d at (token_text (scalar_token s)) end
     → drop from d ≡ items_text (ss ++ s ∷ []) ++ drop end d
 item_grown d ss s from at end so_far stands =
-    grows (drop from d) (items_text ss) (comma_after ss) (token_text (scalar_token s)) (drop at d) (drop end d) (items_text (ss ++ s ∷ [])) so_far stands.text (items_text-push ss s)
+    grows (drop from d) (items_text ss) (comma_after ss) (token_text (scalar_token s)) (drop at d) (drop end d) (items_text (ss ++ s ∷ [])) so_far stands.text
+    (items_text-push ss s)
 
-pub item_grown_by_comma : (d : List ℕ) (ss : List Scalar) (s : Scalar) (from at end : ℕ) → drop from d ≡ items_text ss ++ (comma_after ss ++ drop at d) → StandsAt d at (token_text (scalar_token s)) end → get_or d end 0 ≡ 44
+pub item_grown_by_comma : (d : List ℕ) (ss : List Scalar) (s : Scalar) (from at end : ℕ) → drop from d ≡ items_text ss ++ (comma_after ss ++ drop at d)
+    → StandsAt d at (token_text (scalar_token s)) end → get_or d end 0 ≡ 44
     → drop from d ≡ items_text (ss ++ s ∷ []) ++ (comma_after (ss ++ s ∷ []) ++ drop (end + 1) d)
 item_grown_by_comma d ss s from at end so_far stands comma =
     item_grown d ss s from at end so_far stands
     ∙ ap (λ l. items_text (ss ++ s ∷ []) ++ l) ((byte_stands d end 44 comma (omega arith)).text ∙ ap (λ l. l ++ drop (end + 1) d) (sym (comma_after-push ss s)))
 
 -- the closing bracket stands behind the items
-closes : (d : List ℕ) (ss : List Scalar) (from end : ℕ) → drop from d ≡ items_text ss ++ drop end d → get_or d end 0 ≡ 93 → drop from d ≡ print (map scalar_token ss ++ end_array ∷ []) ++ drop (end + 1) d
+closes : (d : List ℕ) (ss : List Scalar) (from end : ℕ) → drop from d ≡ items_text ss ++ drop end d → get_or d end 0 ≡ 93
+    → drop from d ≡ print (map scalar_token ss ++ end_array ∷ []) ++ drop (end + 1) d
 closes d ss from end so_far bracket =
-    so_far ∙ ap (λ l. items_text ss ++ l) (byte_stands d end 93 bracket (omega arith)).text ∙ sym (append_assoc (items_text ss) (93 ∷ []) (drop (end + 1) d)) ∙ ap (λ l. l ++ drop (end + 1) d) (sym (closed ss))
+    so_far ∙ ap (λ l. items_text ss ++ l) (byte_stands d end 93 bracket (omega arith)).text ∙ sym (append_assoc (items_text ss) (93 ∷ []) (drop (end + 1) d))
+    ∙ ap (λ l. l ++ drop (end + 1) d) (sym (closed ss))
 
-pub item_grown_to_end : (d : List ℕ) (ss : List Scalar) (s : Scalar) (from at end : ℕ) → from ≤ at → drop from d ≡ items_text ss ++ (comma_after ss ++ drop at d) → StandsAt d at (token_text (scalar_token s)) end → get_or d end 0 ≡ 93
+pub item_grown_to_end : (d : List ℕ) (ss : List Scalar) (s : Scalar) (from at end : ℕ) → from ≤ at
+    → drop from d ≡ items_text ss ++ (comma_after ss ++ drop at d) → StandsAt d at (token_text (scalar_token s)) end → get_or d end 0 ≡ 93
     → StandsAt d from (print (map scalar_token (ss ++ s ∷ []) ++ end_array ∷ [])) (end + 1)
 item_grown_to_end d ss s from at end before so_far stands bracket =
     record {
@@ -79,7 +87,12 @@ unfolding print_from
 no_items_stand d from bracket = byte_stands d from 93 bracket (omega arith)
 
 -- a list stands where its opening bracket does
-pub list_stands : (d : List ℕ) (ts : List Token) (at end : ℕ) → get_or d at 0 ≡ 91 → StandsAt d (at + 1) (print ts) end → StandsAt d at (print (begin_array ∷ ts)) end
+pub list_stands : (d : List ℕ) (ts : List Token) (at end : ℕ) → get_or d at 0 ≡ 91 → StandsAt d (at + 1) (print ts) end
+    → StandsAt d at (print (begin_array ∷ ts)) end
 unfolding print_from
 list_stands d ts at end bracket inside =
-    record { text = (byte_stands d at 91 bracket (omega arith)).text ∙ ap (λ l. 91 ∷ l) inside.text; later = omega (arith, inside.later); within = inside.within }
+    record {
+      text = (byte_stands d at 91 bracket (omega arith)).text ∙ ap (λ l. 91 ∷ l) inside.text;
+      later = omega (arith, inside.later);
+      within = inside.within;
+    }

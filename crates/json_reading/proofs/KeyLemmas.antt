@@ -23,7 +23,8 @@ grouped : (a b c : Bool) → (a && (b && c)) ≡ ((a && b) && c)
 grouped true b c = refl
 grouped false b c = refl
 
-put_key_at : (o : Ordering) (test : List ℕ → Bool) (k l : List ℕ) (d e : Data) (ms : Members) → slice_cmp nat_cmp k l ≡ o → all_keys test (put k d ms) ≡ (test k && all_keys test ms)
+put_key_at : (o : Ordering) (test : List ℕ → Bool) (k l : List ℕ) (d e : Data) (ms : Members) → slice_cmp nat_cmp k l ≡ o
+    → all_keys test (put k d ms) ≡ (test k && all_keys test ms)
     → all_keys test (match_ordering o (member k d (member l e ms)) (member l d ms) (member l e (put k d ms))) ≡ (test k && all_keys test (member l e ms))
 put_key_at Less test k l d e ms is later = refl
 put_key_at Equal test k l d e ms is later =
@@ -36,7 +37,8 @@ put_key : (test : List ℕ → Bool) (k : List ℕ) (d : Data) (ms : Members) �
 put_key test k d no_members = refl
 put_key test k d (member l e ms) = put_key_at _ test k l d e ms refl (put_key test k d ms)
 
-keys_from : (test : List ℕ → Bool) (found : Members) (ms : List Member) → all_keys test (members_from found ms) ≡ (list_all (λ m. test m.key.now) ms && all_keys test found)
+keys_from : (test : List ℕ → Bool) (found : Members) (ms : List Member)
+    → all_keys test (members_from found ms) ≡ (list_all (λ m. test m.key.now) ms && all_keys test found)
 keys_from test found [] = refl
 keys_from test found (m ∷ ms) =
     keys_from test (put m.key.now (data_of m.value) found) ms

@@ -16,16 +16,21 @@ object_of (string s) ms e = absurd (cc)
 object_of (array ds) ms e = absurd (cc)
 object_of (object found) ms e = let same : ms ≡ found = cc in ap object (sym same)
 
-pub members_from-push : (found : Members) (ms : List Member) (m : Member) → members_from found (ms ++ m ∷ []) ≡ put m.key.now (data_of m.value) (members_from found ms)
+pub members_from-push : (found : Members) (ms : List Member) (m : Member)
+    → members_from found (ms ++ m ∷ []) ≡ put m.key.now (data_of m.value) (members_from found ms)
 members_from-push found [] m = refl
 members_from-push found (n ∷ ms) m = members_from-push (put n.key.now (data_of n.value) found) ms m
 
-pub found_at_last : (key : List ℕ) (ms : List Member) (m : Member) → bytes_eq m.key.now key ≡ true → get_member key (members_in (ms ++ m ∷ [])) ≡ Some (data_of m.value)
+pub found_at_last : (key : List ℕ) (ms : List Member) (m : Member) → bytes_eq m.key.now key ≡ true
+    → get_member key (members_in (ms ++ m ∷ [])) ≡ Some (data_of m.value)
 found_at_last key ms m same =
     let is : m.key.now ≡ key = (bytes_eq-Decides m.key.now key).0 same in
-    ap (get_member key) (members_from-push no_members ms m) ∙ ap (λ k. get_member key (put k (data_of m.value) (members_in ms))) is ∙ get_member-put key (data_of m.value) (members_in ms)
+    ap (get_member key) (members_from-push no_members ms m) ∙ ap (λ k. get_member key (put k (data_of m.value) (members_in ms))) is
+    ∙ get_member-put key (data_of m.value) (members_in ms)
 
-pub found_before_last : (key : List ℕ) (ms : List Member) (m : Member) → bytes_eq m.key.now key ≡ false → get_member key (members_in (ms ++ m ∷ [])) ≡ get_member key (members_in ms)
+pub found_before_last : (key : List ℕ) (ms : List Member) (m : Member) → bytes_eq m.key.now key ≡ false
+    → get_member key (members_in (ms ++ m ∷ [])) ≡ get_member key (members_in ms)
 found_before_last key ms m other =
     ap (get_member key) (members_from-push no_members ms m)
-    ∙ get_member-put_other key m.key.now (data_of m.value) (members_in ms) (λ (e : key ≡ m.key.now). true≢false (sym ((bytes_eq-Decides m.key.now key).1 (sym e)) ∙ other))
+    ∙ get_member-put_other key m.key.now (data_of m.value) (members_in ms)
+    (λ (e : key ≡ m.key.now). true≢false (sym ((bytes_eq-Decides m.key.now key).1 (sym e)) ∙ other))

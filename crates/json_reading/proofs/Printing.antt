@@ -1,5 +1,6 @@
 -- The text of members, as it grows by one, and that its tokens are those of the members.
-use Rattle.std.proofs.Common.{◌≡◌, ℕ, ◌+◌, Bool, true, false, List, [], ◌∷◌, ◌++◌, map, fold, length, drop, get_or, refl, sym, ap, ◌∙◌, arith, append_assoc, append-nil}
+use Rattle.std.proofs.Common.{◌≡◌, ℕ, ◌+◌, Bool, true, false, List, [], ◌∷◌, ◌++◌, map, fold, length, drop, get_or, refl, sym, ap, ◌∙◌, arith, append_assoc}
+use Rattle.std.proofs.Common.{append-nil}
 use Rattle.std.proofs.lemmas.List.{drop_all}
 use Rattle.std.proofs.lemmas.List.Sums.{fold-append}
 use Rattle.json.specs.Token.{Token, begin_object, end_object, end_array, key}
@@ -27,7 +28,8 @@ opened ms = print_from false (begin_object ∷ member_tokens ms)
 pub member_tokens-push : (ms : List Member) (m : Member) → member_tokens (ms ++ m ∷ []) ≡ member_tokens ms ++ key m.key.now ∷ field_tokens m.value
 member_tokens-push [] m = ap (λ ts. key m.key.now ∷ ts) (append-nil (field_tokens m.value))
 member_tokens-push (n ∷ ms) m =
-    ap (λ ts. key n.key.now ∷ (field_tokens n.value ++ ts)) (member_tokens-push ms m) ∙ ap (λ ts. key n.key.now ∷ ts) (sym (append_assoc (field_tokens n.value) (member_tokens ms) _))
+    ap (λ ts. key n.key.now ∷ (field_tokens n.value ++ ts)) (member_tokens-push ms m)
+    ∙ ap (λ ts. key n.key.now ∷ ts) (sym (append_assoc (field_tokens n.value) (member_tokens ms) _))
 
 pub AreSpelled-push : (ms : List Member) (m : Member) → AreSpelled ms → IsSpelled m.value → AreSpelled (ms ++ m ∷ [])
 AreSpelled-push [] m h k = (k, tt)
@@ -84,21 +86,27 @@ comma_after-push [] m = refl
 comma_after-push (n ∷ ms) m = refl
 
 -- a part more has been passed
-pub grows : (all text comma more left rest grown_text : List ℕ) → all ≡ text ++ (comma ++ left) → left ≡ more ++ rest → grown_text ≡ text ++ (comma ++ more) → all ≡ grown_text ++ rest
+pub grows : (all text comma more left rest grown_text : List ℕ) → all ≡ text ++ (comma ++ left) → left ≡ more ++ rest → grown_text ≡ text ++ (comma ++ more)
+    → all ≡ grown_text ++ rest
 grows all text comma more left rest grown_text so_far passed is =
-    so_far ∙ ap (λ l. text ++ (comma ++ l)) passed ∙ ap (λ l. text ++ l) (sym (append_assoc comma more rest)) ∙ sym (append_assoc text (comma ++ more) rest) ∙ ap (λ l. l ++ rest) (sym is)
+    so_far ∙ ap (λ l. text ++ (comma ++ l)) passed ∙ ap (λ l. text ++ l) (sym (append_assoc comma more rest)) ∙ sym (append_assoc text (comma ++ more) rest)
+    ∙ ap (λ l. l ++ rest) (sym is)
 
 -- a member more has been passed
-grown : (d : List ℕ) (ms : List Member) (m : Member) (at end : ℕ) → d ≡ opened ms ++ (comma_after ms ++ drop at d) → AreSpelled ms → StandsAt d at (member_text m) end → d ≡ opened (ms ++ m ∷ []) ++ drop end d
-grown d ms m at end so_far h stands = grows d (opened ms) (comma_after ms) (member_text m) (drop at d) (drop end d) (opened (ms ++ m ∷ [])) so_far stands.text (opened-push ms m h)
+grown : (d : List ℕ) (ms : List Member) (m : Member) (at end : ℕ) → d ≡ opened ms ++ (comma_after ms ++ drop at d) → AreSpelled ms
+    → StandsAt d at (member_text m) end → d ≡ opened (ms ++ m ∷ []) ++ drop end d
+grown d ms m at end so_far h stands = grows d (opened ms) (comma_after ms) (member_text m) (drop at d) (drop end d) (opened (ms ++ m ∷ [])) so_far stands.text
+    (opened-push ms m h)
 
-pub grown_by_comma : (d : List ℕ) (ms : List Member) (m : Member) (at end : ℕ) → d ≡ opened ms ++ (comma_after ms ++ drop at d) → AreSpelled ms → StandsAt d at (member_text m) end → get_or d end 0 ≡ 44
+pub grown_by_comma : (d : List ℕ) (ms : List Member) (m : Member) (at end : ℕ) → d ≡ opened ms ++ (comma_after ms ++ drop at d) → AreSpelled ms
+    → StandsAt d at (member_text m) end → get_or d end 0 ≡ 44
     → d ≡ opened (ms ++ m ∷ []) ++ (comma_after (ms ++ m ∷ []) ++ drop (end + 1) d)
 grown_by_comma d ms m at end so_far h stands comma =
     grown d ms m at end so_far h stands
     ∙ ap (λ l. opened (ms ++ m ∷ []) ++ l) ((byte_stands d end 44 comma (omega arith)).text ∙ ap (λ l. l ++ drop (end + 1) d) (sym (comma_after-push ms m)))
 
-pub grown_to_end : (d : List ℕ) (ms : List Member) (m : Member) (at end : ℕ) → d ≡ opened ms ++ (comma_after ms ++ drop at d) → AreSpelled ms → StandsAt d at (member_text m) end → get_or d end 0 ≡ 125 → end + 1 ≡ length d
+pub grown_to_end : (d : List ℕ) (ms : List Member) (m : Member) (at end : ℕ) → d ≡ opened ms ++ (comma_after ms ++ drop at d) → AreSpelled ms
+    → StandsAt d at (member_text m) end → get_or d end 0 ≡ 125 → end + 1 ≡ length d
     → d ≡ opened (ms ++ m ∷ []) ++ 125 ∷ []
 grown_to_end d ms m at end so_far h stands brace last =
     grown d ms m at end so_far h stands

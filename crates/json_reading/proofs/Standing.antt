@@ -1,5 +1,6 @@
 -- Where texts stand in a text.
-use Rattle.std.proofs.Common.{◌≡◌, ℕ, suc, ◌+◌, ◌-◌, ◌^◌, ◌<◌, ◌≤◌, Bool, true, false, cond, ◌||◌, ◌==◌, List, [], ◌∷◌, ◌++◌, length, take, drop, get_or, decimal, refl, sym, ap, ◌∙◌, arith, append_assoc, lt_of_not-le}
+use Rattle.std.proofs.Common.{◌≡◌, ℕ, suc, ◌+◌, ◌-◌, ◌^◌, ◌<◌, ◌≤◌, Bool, true, false, cond, ◌||◌, ◌==◌, List, [], ◌∷◌, ◌++◌, length, take, drop, get_or}
+use Rattle.std.proofs.Common.{decimal, refl, sym, ap, ◌∙◌, arith, append_assoc, lt_of_not-le}
 use Rattle.std.proofs.lemmas.Bool.{eqb-false, ltb-false, or_parts, not-true}
 use Rattle.std.proofs.lemmas.List.{drop_more, drop-drop, take-append-drop, length-take-le, get_or_past}
 use Rattle.std.proofs.lemmas.Fmt.{decimal-digits_value}
@@ -22,7 +23,8 @@ byte_stands d i c e some =
 
 -- ---- a text without escapes
 
-plain_byte : (p : Bool) (x n : ℕ) (xs : List ℕ) → p ≡ is_plain x → escape (take n xs) ≡ take n xs → escape (take (cond p (1 + n) 0) (x ∷ xs)) ≡ take (cond p (1 + n) 0) (x ∷ xs)
+plain_byte : (p : Bool) (x n : ℕ) (xs : List ℕ) → p ≡ is_plain x → escape (take n xs) ≡ take n xs
+    → escape (take (cond p (1 + n) 0) (x ∷ xs)) ≡ take (cond p (1 + n) 0) (x ∷ xs)
 plain_byte false x n xs e ih = refl
 plain_byte true x n xs e ih =
     let next : 1 + n ≡ suc n = omega arith in
@@ -45,7 +47,8 @@ plain_stands d i j is =
     ∙ ap (λ l. escape (take (prefix_len is_plain (drop i d)) (drop i d)) ++ l) (drop-drop (prefix_len is_plain (drop i d)) i d ∙ ap (λ k. drop k d) (sym is))
     ∙ ap (λ k. escape (take k (drop i d)) ++ drop j d) n
 
-pub text_stands : (d : List ℕ) (i j : ℕ) → get_or d i 0 ≡ 34 → j ≡ i + 1 + prefix_len is_plain (drop (i + 1) d) → get_or d j 0 ≡ 34 → StandsAt d i (quoted (take (j - (i + 1)) (drop (i + 1) d))) (j + 1)
+pub text_stands : (d : List ℕ) (i j : ℕ) → get_or d i 0 ≡ 34 → j ≡ i + 1 + prefix_len is_plain (drop (i + 1) d) → get_or d j 0 ≡ 34
+    → StandsAt d i (quoted (take (j - (i + 1)) (drop (i + 1) d))) (j + 1)
 text_stands d i j first is last =
     let opening = byte_stands d i 34 first (omega arith) in
     let closing = byte_stands d j 34 last (omega arith) in
@@ -58,9 +61,11 @@ text_stands d i j first is last =
 
 -- ---- a number
 
-pub number_stands : (d : List ℕ) (n end : ℕ) → AllDigits 10 (take end d) → n ≡ digits_value 10 (take end d) → 0 < end → end ≤ length d → n < 2 ^ 64 → (get_or (take end d) 0 0 ≡ 48 → end ≡ 1) → StandsAt d 0 (decimal n) end
+pub number_stands : (d : List ℕ) (n end : ℕ) → AllDigits 10 (take end d) → n ≡ digits_value 10 (take end d) → 0 < end → end ≤ length d → n < 2 ^ 64
+    → (get_or (take end d) 0 0 ≡ 48 → end ≡ 1) → StandsAt d 0 (decimal n) end
 number_stands d n end digits is some within small alone =
     let ds = take end d in
     let long = length-take-le end d within in
-    let same : decimal (digits_value 10 ds) ≡ ds = decimal-digits_value (numerals_by_value (AllDigits 10) tells_digits) ds digits (omega arith) (λ e. long ∙ alone e) (omega arith) in
+    let same : decimal (digits_value 10 ds) ≡ ds = decimal-digits_value (numerals_by_value (AllDigits 10) tells_digits) ds digits (omega arith)
+    (λ e. long ∙ alone e) (omega arith) in
     record { text = sym (take-append-drop end d) ∙ ap (λ l. l ++ drop end d) (sym same ∙ ap decimal (sym is)); later = some; within = within }

@@ -1,5 +1,6 @@
 -- Bytes that are looked at together.
-use Rattle.std.proofs.Common.{◌≡◌, ℕ, suc, ◌+◌, ◌*◌, ◌%◌, ◌^◌, ◌<◌, ◌≤◌, ltb, eqb, ◌||◌, Bool, true, false, not, cond, List, [], ◌∷◌, map, length, drop, refl, sym, ap, ap₂, ◌∙◌, arith}
+use Rattle.std.proofs.Common.{◌≡◌, ℕ, suc, ◌+◌, ◌*◌, ◌%◌, ◌^◌, ◌<◌, ◌≤◌, ltb, eqb, ◌||◌, Bool, true, false, not, cond, List, [], ◌∷◌, map, length, drop, refl}
+use Rattle.std.proofs.Common.{sym, ap, ap₂, ◌∙◌, arith}
 use Rattle.std.proofs.lemmas.Simd.{chunk-drop, length-chunk, mask_l-mod, leading_from_mask_l, trailing_mask_l}
 use Rattle.std.proofs.lemmas.List.{length-drop, length-map}
 use Rattle.std.proofs.lemmas.List.Folds.{prefix_len-append}
@@ -46,11 +47,13 @@ pub marked : (v z : List ℕ) → length v ≤ 64 → z ≡ map lane v → mask_
 marked v z short is = ap (λ l. mask_l l % 2 ^ 64) (ap (map (top 7)) is ∙ tops v) ∙ mask_l-mod (map is_stop v) 64 (omega (arith, length-map v is_stop))
 
 split : (d : List ℕ) (i n : ℕ) → prefix_len is_plain (drop i d)
-    ≡ cond (eqb (prefix_len is_plain (chunk i n d)) (length (chunk i n d))) (length (chunk i n d) + prefix_len is_plain (drop (i + n) d)) (prefix_len is_plain (chunk i n d))
+    ≡ cond (eqb (prefix_len is_plain (chunk i n d)) (length (chunk i n d))) (length (chunk i n d) + prefix_len is_plain (drop (i + n) d))
+    (prefix_len is_plain (chunk i n d))
 split d i n = ap (prefix_len is_plain) (chunk-drop i n d) ∙ prefix_len-append is_plain (chunk i n d) (drop (i + n) d)
 
 -- none of the bytes is a stop
-pub runs_through : (d : List ℕ) (i n : ℕ) → i + n ≤ length d → mask_l (map is_stop (chunk i n d)) ≡ 0 → prefix_len is_plain (drop i d) ≡ n + prefix_len is_plain (drop (i + n) d)
+pub runs_through : (d : List ℕ) (i n : ℕ) → i + n ≤ length d → mask_l (map is_stop (chunk i n d)) ≡ 0
+    → prefix_len is_plain (drop i d) ≡ n + prefix_len is_plain (drop (i + n) d)
 runs_through d i n room none =
     let c = chunk i n d in
     split d i n ∙ ap (λ b. cond b (length c + prefix_len is_plain (drop (i + n) d)) (prefix_len is_plain c)) (eq-eqb _ _ (leading_from_mask_l is_stop c none))
@@ -65,10 +68,12 @@ all_plain [] all = refl
 all_plain (x ∷ xs) all = none_stops (is_stop x) _ (length xs) _ all (all_plain xs)
 
 -- one of them is
-pub stops_within : (d : List ℕ) (i n : ℕ) → i + n ≤ length d → n ≤ 64 → 0 < mask_l (map is_stop (chunk i n d)) → prefix_len is_plain (drop i d) ≡ count_trailing_zeros 64 (mask_l (map is_stop (chunk i n d)))
+pub stops_within : (d : List ℕ) (i n : ℕ) → i + n ≤ length d → n ≤ 64 → 0 < mask_l (map is_stop (chunk i n d))
+    → prefix_len is_plain (drop i d) ≡ count_trailing_zeros 64 (mask_l (map is_stop (chunk i n d)))
 stops_within d i n room few some =
     let c = chunk i n d in
-    split d i n ∙ ap (λ b. cond b (length c + prefix_len is_plain (drop (i + n) d)) (prefix_len is_plain c)) (ne_eqb _ _ (λ (e : prefix_len is_plain c ≡ length c). omega (arith, all_plain c e)))
+    split d i n ∙ ap (λ b. cond b (length c + prefix_len is_plain (drop (i + n) d)) (prefix_len is_plain c))
+    (ne_eqb _ _ (λ (e : prefix_len is_plain c ≡ length c). omega (arith, all_plain c e)))
     ∙ sym (trailing_mask_l is_stop 64 c (omega (arith, length-chunk i n d room)) some)
 
 pub run_within : (d : List ℕ) (i : ℕ) → i ≤ length d → i + prefix_len is_plain (drop i d) ≤ length d

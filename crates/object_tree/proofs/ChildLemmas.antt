@@ -1,5 +1,6 @@
 -- The children of all parents, in one order.
-use Rattle.std.proofs.Common.{◌≡◌, ◌≢◌, ◌⊎◌, ℕ, zero, suc, ◌+◌, ◌-◌, ◌<◌, ◌≤◌, ◌==◌, ◌∙◌, Bool, true, false, not, cond, List, [], ◌∷◌, Option, Some, None, length, map, filter, get_or, set, take, drop, refl, sym, ap, subst, arith, ⊎_elim, inl, inr, nat_le, nat_lt}
+use Rattle.std.proofs.Common.{◌≡◌, ◌≢◌, ◌⊎◌, ℕ, zero, suc, ◌+◌, ◌-◌, ◌<◌, ◌≤◌, ◌==◌, ◌∙◌, Bool, true, false, not, cond, List, [], ◌∷◌, Option, Some, None}
+use Rattle.std.proofs.Common.{length, map, filter, get_or, set, take, drop, refl, sym, ap, subst, arith, ⊎_elim, inl, inr, nat_le, nat_lt}
 use Rattle.std.specs.Cmp.{IsTotalOrder}
 use Rattle.std.specs.Option.{is_some, option_and_then}
 use Rattle.std.specs.List.{All, AllPairs, Any, Contains, slice_range}
@@ -7,20 +8,23 @@ use Rattle.std.specs.List.Sorted.{IsPartitionedBy, IsPermutation}
 use Rattle.std.specs.Ordering.{is_lt, nat_cmp, ordering_reverse, ordering_then}
 use Rattle.std.specs.declared.cmp.Ordering.{Ordering}
 use Rattle.std.specs.declared.cmp.Ordering.TheVariants.{Less, Equal, Greater}
-use Rattle.std.proofs.lemmas.Bool.{cases_Bool, cases_eq, cases_lt, cond-true, cond-false, cond_both, eqb-true, eqb-false, eq-eqb, ne_eqb, leb-true, le-leb, ltb-true, ltb-false, false≢true}
+use Rattle.std.proofs.lemmas.Bool.{cases_Bool, cases_eq, cases_lt, cond-true, cond-false, cond_both, eqb-true, eqb-false, eq-eqb, ne_eqb, leb-true, le-leb}
+use Rattle.std.proofs.lemmas.Bool.{ltb-true, ltb-false, false≢true}
 use Rattle.std.proofs.lemmas.Bool.Decides.{nat_tests}
 use Rattle.std.proofs.lemmas.Cmp.{back_total, nat_cmp_total, on_total, then_total}
 use Rattle.std.proofs.Math.Seq.{drop-cons, map-set_same}
 use Rattle.std.proofs.lemmas.List.{get_or-map, length-map}
 use Rattle.std.proofs.lemmas.List.Elements.{All-cons, All-contains, All-tail, All-weaker}
 use Rattle.std.proofs.lemmas.List.Kept.{AllPairs-cons, AllPairs-filter}
-use Rattle.std.proofs.lemmas.List.Sorted.{All-permutation, Contains-permutation, IsPermutation-cons, IsPermutation-middle, IsPermutation-refl, IsPermutation-sym, IsPermutation-trans}
+use Rattle.std.proofs.lemmas.List.Sorted.{All-permutation, Contains-permutation, IsPermutation-cons, IsPermutation-middle, IsPermutation-refl}
+use Rattle.std.proofs.lemmas.List.Sorted.{IsPermutation-sym, IsPermutation-trans}
 use Rattle.std.proofs.lemmas.Map.Views.{Contains-from_any}
 use Rattle.std.proofs.lemmas.Simd.{map-map}
 use Rattle.shared_rows.specs.Links.{AreLinked, IsInOrder, with_link, without_link}
 use Rattle.shared_rows.specs.Rows as shared
 use Rattle.shared_rows.specs.Rows.{Keyed, with_row}
-use Rattle.shared_rows.proofs.LinkedLemmas.{all_from, any_of, contains_from, contains_kept, contains_map, contains_mapped, linked_filter, linked_map, same_links}
+use Rattle.shared_rows.proofs.LinkedLemmas.{all_from, any_of, contains_from, contains_kept, contains_map, contains_mapped, linked_filter, linked_map}
+use Rattle.shared_rows.proofs.LinkedLemmas.{same_links}
 use Rattle.object_tree.specs.declared.row.Row.{Row}
 use Rattle.object_tree.specs.declared.child.Child.{Child}
 use Rattle.object_tree.specs.Rows.{by_stamp, children, has_number, has_parent, inserted, is_same, is_there, numbers, parent_of, row_of}
@@ -34,7 +38,8 @@ use Rattle.object_tree.proofs.ForestLemmas.{nobody}
 
 -- the order
 pub child_total : IsTotalOrder child_cmp
-child_total = then_total (then_total (on_total (λ (c : Child). c.parent) (back_total nat_cmp_total)) (on_total (λ (c : Child). c.stamp) nat_cmp_total)) (on_total (λ (c : Child). c.number) nat_cmp_total)
+child_total = then_total (then_total (on_total (λ (c : Child). c.parent) (back_total nat_cmp_total)) (on_total (λ (c : Child). c.stamp) nat_cmp_total))
+    (on_total (λ (c : Child). c.number) nat_cmp_total)
 
 less_cmp : (a b : ℕ) → a < b → nat_cmp a b ≡ Less
 less_cmp a b h = grind (arith, nat_tests)
@@ -54,7 +59,11 @@ pub child_same : (x y : Child) → child_cmp x y ≡ Equal → x ≡ y
 child_same x y e =
     let outer = both_equal (ordering_then (nat_cmp y.parent x.parent) (nat_cmp x.stamp y.stamp)) (nat_cmp x.number y.number) e in
     let inner = both_equal (nat_cmp y.parent x.parent) (nat_cmp x.stamp y.stamp) outer.0 in
-    λ i. record { stamp = same-from_cmp x.stamp y.stamp inner.1 i; parent = sym (same-from_cmp y.parent x.parent inner.0) i; number = same-from_cmp x.number y.number outer.1 i }
+    λ i. record {
+      stamp = same-from_cmp x.stamp y.stamp inner.1 i;
+      parent = sym (same-from_cmp y.parent x.parent inner.0) i;
+      number = same-from_cmp x.number y.number outer.1 i;
+    }
 
 younger : (a b : Child) → a.parent ≡ b.parent → a.stamp < b.stamp → child_cmp a b ≡ Less
 younger a b same lt = λ i. ordering_then (ordering_then (equal_cmp b.parent a.parent (sym same) i) (less_cmp a.stamp b.stamp lt i)) (nat_cmp a.number b.number)
@@ -62,21 +71,31 @@ younger a b same lt = λ i. ordering_then (ordering_then (equal_cmp b.parent a.p
 pub not_below : (a b : Child) → is_lt (child_cmp a b) ≡ false → a.parent ≤ b.parent
 not_below a b e = ⊎_elim
     (λ (low : nat_lt b.parent a.parent ≡ true).
-    let less : is_lt (child_cmp a b) ≡ true = λ i. is_lt (ordering_then (ordering_then (less_cmp b.parent a.parent (ltb-true _ _ low) i) (nat_cmp a.stamp b.stamp)) (nat_cmp a.number b.number)) in
+    let less : is_lt (child_cmp a b) ≡ true =
+    λ i. is_lt (ordering_then (ordering_then (less_cmp b.parent a.parent (ltb-true _ _ low) i) (nat_cmp a.stamp b.stamp))
+    (nat_cmp a.number b.number)) in
     absurd (false≢true (sym e ∙ less)))
     (λ (high : nat_lt b.parent a.parent ≡ false). ltb-false _ _ high)
     (cases_Bool (nat_lt b.parent a.parent))
 
 -- the links of rows where one moves, or goes, which is the only one of its number
-module _ {key n : ℕ} {row : Row} {keyed : List (Keyed Row)} {links : List Child} (stands : Stands key n row keyed) (linked : AreLinked child_of (rows_of keyed) links) where
+module _ {key n : ℕ} {row : Row} {keyed : List (Keyed Row)} {links : List Child} (stands : Stands key n row keyed)
+    (linked : AreLinked child_of (rows_of keyed) links) where
   other_link : (r : Row) → (r.number == n) ≡ false → child_of r ≢ child_of row
   other_link r other e = eqb-false r.number n other (ap (λ (c : Child). c.number) e ∙ stands.numbered)
 
-  pub links_put : (f : Row → Row) → AreLinked child_of (rows_of (with_row keyed key (f row))) (with_link child_cmp (without_link child_cmp links (child_of row)) (child_of (f row)))
+  pub links_put : (f : Row → Row) → AreLinked child_of (rows_of (with_row keyed key (f row)))
+      (with_link child_cmp (without_link child_cmp links (child_of row)) (child_of (f row)))
   links_put f = rw (stands.put f)
       (linked_map child_total child_same child_of (change_one f n) (rows_of keyed) links (child_of row) (child_of (f row)) linked
-      (All-weaker (λ (r : Row). (r.number == n) ≡ true → r ≡ row) (λ (r : Row). ((child_of r ≡ child_of row) × (child_of (change_one f n r) ≡ child_of (f row))) ⊎ ((child_of r ≢ child_of row) × (child_of (change_one f n r) ≡ child_of r))) (λ r same. ⊎_elim
-      (λ (here : (r.number == n) ≡ true). inl (ap child_of (same here), ap child_of (cond-true (r.number == n) (f r) r here) ∙ ap (λ q. child_of (f q)) (same here)))
+      (All-weaker (λ (r : Row). (r.number == n) ≡ true → r ≡ row)
+      (λ (r : Row). ((child_of r ≡ child_of row) × (child_of (change_one f n r) ≡ child_of (f row)))
+      ⊎ ((child_of r ≢ child_of row) × (child_of (change_one f n r) ≡ child_of r))) (λ r same. ⊎_elim
+      (λ (here : (r.number == n) ≡ true). inl (
+        ap child_of (same here),
+        ap child_of (cond-true (r.number == n) (f r) r here)
+            ∙ ap (λ q. child_of (f q)) (same here),
+      ))
       (λ (other : (r.number == n) ≡ false). inr (other_link r other, ap child_of (cond-false (r.number == n) (f r) r other)))
       (cases_Bool (r.number == n))) (rows_of keyed) stands.only)
       (any_of (λ (r : Row). child_of r ≡ child_of row) (rows_of keyed) row stands.there refl))
@@ -98,7 +117,8 @@ module _ {key n : ℕ} {row : Row} {keyed : List (Keyed Row)} {links : List Chil
 -- rows by stamp are the same rows
 inserted_same : (row : Row) (rows : List Row) → IsPermutation (inserted row rows) (row ∷ rows)
 inserted_same row [] = IsPermutation-refl (row ∷ [])
-inserted_same row (first ∷ rest) = cond_both (nat_lt row.stamp first.stamp) (row ∷ first ∷ rest) (first ∷ inserted row rest) (λ list. IsPermutation list (row ∷ first ∷ rest))
+inserted_same row (first ∷ rest) = cond_both (nat_lt row.stamp first.stamp) (row ∷ first ∷ rest) (first ∷ inserted row rest)
+    (λ list. IsPermutation list (row ∷ first ∷ rest))
     (λ _. IsPermutation-refl (row ∷ first ∷ rest))
     (λ _. IsPermutation-trans _ _ _ (IsPermutation-cons first _ _ (inserted_same row rest)) (IsPermutation-middle (first ∷ []) row rest))
 
@@ -107,25 +127,35 @@ sorted_same [] = IsPermutation-refl []
 sorted_same (row ∷ rest) = IsPermutation-trans _ _ _ (inserted_same row (by_stamp rest)) (IsPermutation-cons row _ _ (sorted_same rest))
 
 -- and their stamps rise where no two are the same
-inserted_rise : (row : Row) (rows : List Row) → All (λ (r : Row). row.stamp ≢ r.stamp) rows → AllPairs (λ (a b : Row). a.stamp < b.stamp) rows → AllPairs (λ (a b : Row). a.stamp < b.stamp) (inserted row rows)
+inserted_rise : (row : Row) (rows : List Row) → All (λ (r : Row). row.stamp ≢ r.stamp) rows → AllPairs (λ (a b : Row). a.stamp < b.stamp) rows
+    → AllPairs (λ (a b : Row). a.stamp < b.stamp) (inserted row rows)
 inserted_rise row [] differ rise = λ i j d lt within. absurd (omega arith)
-inserted_rise row (first ∷ rest) differ rise = cond_both (nat_lt row.stamp first.stamp) (row ∷ first ∷ rest) (first ∷ inserted row rest) (AllPairs (λ (a b : Row). a.stamp < b.stamp))
-    (λ low. AllPairs-cons (λ (a b : Row). a.stamp < b.stamp) row (first ∷ rest) (All-cons (λ (r : Row). row.stamp < r.stamp) first rest (ltb-true _ _ low) (λ k d within. omega (arith, ltb-true _ _ low, rise 0 (suc k) d (omega arith) (omega arith)))) rise)
+inserted_rise row (first ∷ rest) differ rise = cond_both (nat_lt row.stamp first.stamp) (row ∷ first ∷ rest) (first ∷ inserted row rest)
+    (AllPairs (λ (a b : Row). a.stamp < b.stamp))
+    (λ low. AllPairs-cons (λ (a b : Row). a.stamp < b.stamp) row (first ∷ rest)
+    (All-cons (λ (r : Row). row.stamp < r.stamp) first rest (ltb-true _ _ low)
+    (λ k d within. omega (arith, ltb-true _ _ low, rise 0 (suc k) d (omega arith) (omega arith)))) rise)
     (λ high. AllPairs-cons (λ (a b : Row). a.stamp < b.stamp) first (inserted row rest)
-    (All-permutation (λ (r : Row). first.stamp < r.stamp) (row ∷ rest) (inserted row rest) (IsPermutation-sym _ _ (inserted_same row rest)) (All-cons (λ (r : Row). first.stamp < r.stamp) row rest (omega (arith, ltb-false _ _ high, differ 0 first (omega arith))) (λ k d within. rise 0 (suc k) d (omega arith) (omega arith))))
-    (inserted_rise row rest (All-tail (λ (r : Row). row.stamp ≢ r.stamp) first rest differ) (λ i j d lt within. rise (suc i) (suc j) d (omega arith) (omega arith))))
+    (All-permutation (λ (r : Row). first.stamp < r.stamp) (row ∷ rest) (inserted row rest) (IsPermutation-sym _ _ (inserted_same row rest))
+    (All-cons (λ (r : Row). first.stamp < r.stamp) row rest (omega (arith, ltb-false _ _ high, differ 0 first (omega arith)))
+    (λ k d within. rise 0 (suc k) d (omega arith) (omega arith))))
+    (inserted_rise row rest (All-tail (λ (r : Row). row.stamp ≢ r.stamp) first rest differ)
+    (λ i j d lt within. rise (suc i) (suc j) d (omega arith) (omega arith))))
 
 sorted_rise : (rows : List Row) → AllPairs (λ (a b : Row). a.stamp ≢ b.stamp) rows → AllPairs (λ (a b : Row). a.stamp < b.stamp) (by_stamp rows)
 sorted_rise [] differ = λ i j d lt within. absurd (omega arith)
 sorted_rise (row ∷ rest) differ = inserted_rise row (by_stamp rest)
-    (All-permutation (λ (r : Row). row.stamp ≢ r.stamp) rest (by_stamp rest) (IsPermutation-sym _ _ (sorted_same rest)) (λ k d within. differ 0 (suc k) d (omega arith) (omega arith)))
+    (All-permutation (λ (r : Row). row.stamp ≢ r.stamp) rest (by_stamp rest) (IsPermutation-sym _ _ (sorted_same rest))
+    (λ k d within. differ 0 (suc k) d (omega arith) (omega arith)))
     (sorted_rise rest (λ i j d lt within. differ (suc i) (suc j) d (omega arith) (omega arith)))
 
-in_order : (o : ℕ) (rows : List Row) → All (λ (r : Row). order_of r.parent ≡ o) rows → AllPairs (λ (a b : Row). a.stamp < b.stamp) rows → IsInOrder child_cmp (map child_of rows)
+in_order : (o : ℕ) (rows : List Row) → All (λ (r : Row). order_of r.parent ≡ o) rows → AllPairs (λ (a b : Row). a.stamp < b.stamp) rows
+    → IsInOrder child_cmp (map child_of rows)
 in_order o rows same rise i j d lt within =
     let inside : j < length rows = omega (arith, within, length-map rows child_of) in
     rw (get_or-map child_of rows i nobody d (omega arith), get_or-map child_of rows j nobody d inside)
-    (younger (child_of (get_or rows i nobody)) (child_of (get_or rows j nobody)) (same i nobody (omega arith) ∙ sym (same j nobody inside)) (rise i j nobody lt inside))
+    (younger (child_of (get_or rows i nobody)) (child_of (get_or rows j nobody)) (same i nobody (omega arith) ∙ sym (same j nobody inside))
+    (rise i j nobody lt inside))
 
 -- two parents stand in one place only where they are the same
 same_order : (p q : Option ℕ) → is_same p (Some 0) ≡ false → is_same q (Some 0) ≡ false → (order_of p == order_of q) ≡ is_same p q
@@ -141,7 +171,8 @@ order_same (Some p) None e = absurd (cc)
 order_same (Some p) (Some q) e = eqb-true p q e
 
 -- the children of a parent
-module _ (rows : List Row) (links : List Child) (linked : AreLinked child_of rows links) (begin : All (λ (r : Row). has_parent (Some 0) r ≡ false) rows) (parent : Option ℕ) (above : is_same parent (Some 0) ≡ false) where
+module _ (rows : List Row) (links : List Child) (linked : AreLinked child_of rows links) (begin : All (λ (r : Row). has_parent (Some 0) r ≡ false) rows)
+    (parent : Option ℕ) (above : is_same parent (Some 0) ≡ false) where
   abbrev kids : List Row
   kids = filter (has_parent parent) rows
 
@@ -150,8 +181,12 @@ module _ (rows : List Row) (links : List Child) (linked : AreLinked child_of row
       let kept = contains_from (λ child. child.parent == order_of parent) links x there in
       let any : Any (λ r. child_of r ≡ x) rows = All-contains (λ link. Any (λ r. child_of r ≡ link) rows) links x linked.all kept.0 in
       let stood : Contains rows any.1 = (any.0, any.2, any.3) in
-      let has : has_parent parent any.1 ≡ true = sym (same_order any.1.parent parent (All-contains (λ (r : Row). has_parent (Some 0) r ≡ false) rows any.1 begin stood) above) ∙ (ap (λ (c : Child). c.parent == order_of parent) any.4 ∙ kept.1) in
-      subst (Contains (map child_of (by_stamp kids))) any.4 (contains_map child_of (by_stamp kids) any.1 (Contains-permutation kids (by_stamp kids) any.1 (IsPermutation-sym _ _ (sorted_same kids)) (contains_kept (has_parent parent) rows any.1 stood has)))
+      let has : has_parent parent any.1 ≡ true =
+      sym (same_order any.1.parent parent (All-contains (λ (r : Row). has_parent (Some 0) r ≡ false) rows any.1 begin stood) above)
+      ∙ (ap (λ (c : Child). c.parent == order_of parent) any.4 ∙ kept.1) in
+      subst (Contains (map child_of (by_stamp kids))) any.4
+      (contains_map child_of (by_stamp kids) any.1
+      (Contains-permutation kids (by_stamp kids) any.1 (IsPermutation-sym _ _ (sorted_same kids)) (contains_kept (has_parent parent) rows any.1 stood has)))
 
   from : (x : Child) → Contains (map child_of (by_stamp kids)) x → Contains (filter (λ child. child.parent == order_of parent) links) x
   from x there =
@@ -163,22 +198,29 @@ module _ (rows : List Row) (links : List Child) (linked : AreLinked child_of row
       (eq-eqb (order_of row.0.parent) (order_of parent) (order_same row.0.parent parent kept.1)))
 
   parents_same : All (λ (r : Row). order_of r.parent ≡ order_of parent) (by_stamp kids)
-  parents_same = all_from (λ (r : Row). order_of r.parent ≡ order_of parent) (by_stamp kids) (λ r there. order_same r.parent parent (contains_from (has_parent parent) rows r (Contains-permutation (by_stamp kids) kids r (sorted_same kids) there)).1)
+  parents_same = all_from (λ (r : Row). order_of r.parent ≡ order_of parent) (by_stamp kids)
+      (λ r there. order_same r.parent parent (contains_from (has_parent parent) rows r
+      (Contains-permutation (by_stamp kids) kids r (sorted_same kids) there)).1)
 
-  pub group_is : IsInOrder child_cmp links → AllPairs (λ (a b : Row). a.stamp ≢ b.stamp) rows → map (λ (child : Child). child.number) (filter (λ child. child.parent == order_of parent) links) ≡ children rows parent
+  pub group_is : IsInOrder child_cmp links → AllPairs (λ (a b : Row). a.stamp ≢ b.stamp) rows
+      → map (λ (child : Child). child.number) (filter (λ child. child.parent == order_of parent) links) ≡ children rows parent
   unfolding children
   group_is order differ =
-      ap (map (λ (child : Child). child.number)) (same_links child_total child_same (filter (λ child. child.parent == order_of parent) links) (map child_of (by_stamp kids))
+      ap (map (λ (child : Child). child.number))
+      (same_links child_total child_same (filter (λ child. child.parent == order_of parent) links) (map child_of (by_stamp kids))
       (AllPairs-filter (λ a b. child_cmp a b ≡ Less) (λ child. child.parent == order_of parent) links order)
-      (in_order (order_of parent) (by_stamp kids) parents_same (sorted_rise kids (AllPairs-filter (λ (a b : Row). a.stamp ≢ b.stamp) (has_parent parent) rows differ)))
+      (in_order (order_of parent) (by_stamp kids) parents_same
+      (sorted_rise kids (AllPairs-filter (λ (a b : Row). a.stamp ≢ b.stamp) (has_parent parent) rows differ)))
       to from)
       ∙ map-map (λ (child : Child). child.number) child_of (by_stamp kids)
 
 -- the children of a parent stand together
-parents_fall : (list : List Child) → IsInOrder child_cmp list → (i j : ℕ) (d : Child) → i ≤ j → j < length list → (get_or list j d).parent ≤ (get_or list i d).parent
+parents_fall : (list : List Child) → IsInOrder child_cmp list → (i j : ℕ) (d : Child) → i ≤ j → j < length list
+    → (get_or list j d).parent ≤ (get_or list i d).parent
 parents_fall list order i j d le within = ⊎_elim
     (λ (same : i ≡ j). omega (arith, ap (λ k. (get_or list k d).parent) same))
-    (λ differ. not_below (get_or list j d) (get_or list i d) (ap is_lt (child_total.antisymm (get_or list j d) (get_or list i d) ∙ ap ordering_reverse (order i j d (omega (arith, le, differ)) within))))
+    (λ differ. not_below (get_or list j d) (get_or list i d)
+    (ap is_lt (child_total.antisymm (get_or list j d) (get_or list i d) ∙ ap ordering_reverse (order i j d (omega (arith, le, differ)) within))))
     (cases_eq i j)
 
 pub parted : (list : List Child) → IsInOrder child_cmp list → (parent : ℕ) → IsPartitionedBy (λ (c : Child). nat_le parent c.parent) list
@@ -195,7 +237,8 @@ count_from_ends list order parent count within next last = record {
 }
 
 -- none has a parent where none stands behind those of a later one, or the first that does is of an earlier one
-pub none_of : (list : List Child) → IsInOrder child_cmp list → (parent from : ℕ) → IsCountFrom list (parent + 1) from → (from < length list → (d : Child) → (get_or list from d).parent ≢ parent) → All (λ (child : Child). child.parent ≢ parent) list
+pub none_of : (list : List Child) → IsInOrder child_cmp list → (parent from : ℕ) → IsCountFrom list (parent + 1) from
+    → (from < length list → (d : Child) → (get_or list from d).parent ≢ parent) → All (λ (child : Child). child.parent ≢ parent) list
 none_of list order parent from starts other k d within = λ same. ⊎_elim
     (λ (lt : k < from). absurd (omega (arith, starts.before k d lt, same)))
     (λ (ge : from ≤ k).
@@ -212,22 +255,33 @@ module _ {X : Type 0} where
   take_nil (suc n) = refl
 
   -- a stretch of a list
-  pub stretch : (p : X → Bool) (xs : List X) (from to : ℕ) → from ≤ to → to ≤ length xs → ((k : ℕ) (d : X) → k < from → p (get_or xs k d) ≡ false) → ((k : ℕ) (d : X) → from ≤ k → k < to → p (get_or xs k d) ≡ true) → ((k : ℕ) (d : X) → to ≤ k → k < length xs → p (get_or xs k d) ≡ false) → filter p xs ≡ take (to - from) (drop from xs)
+  pub stretch : (p : X → Bool) (xs : List X) (from to : ℕ) → from ≤ to → to ≤ length xs → ((k : ℕ) (d : X) → k < from → p (get_or xs k d) ≡ false)
+      → ((k : ℕ) (d : X) → from ≤ k → k < to → p (get_or xs k d) ≡ true) → ((k : ℕ) (d : X) → to ≤ k → k < length xs → p (get_or xs k d) ≡ false)
+      → filter p xs ≡ take (to - from) (drop from xs)
   stretch p [] zero to order within before in' behind = sym (take_nil (to - 0))
   stretch p [] (suc from) to order within before in' behind = sym (take_nil (to - suc from))
   stretch p (x ∷ rest) zero zero order within before in' behind =
-      cond-false (p x) _ _ (behind 0 x (omega arith) (omega arith)) ∙ stretch p rest zero zero (omega arith) (omega arith) (λ k d h. absurd (omega arith)) (λ k d ge lt. absurd (omega arith)) (λ k d ge lt. behind (suc k) d (omega arith) (omega arith))
+      cond-false (p x) _ _ (behind 0 x (omega arith) (omega arith))
+      ∙ stretch p rest zero zero (omega arith) (omega arith) (λ k d h. absurd (omega arith)) (λ k d ge lt. absurd (omega arith))
+      (λ k d ge lt. behind (suc k) d (omega arith) (omega arith))
   stretch p (x ∷ rest) zero (suc to) order within before in' behind =
       let short : suc to - 0 ≡ suc (to - 0) = omega arith in
-      cond-true (p x) _ _ (in' 0 x (omega arith) (omega arith)) ∙ (ap (λ l. x ∷ l) (stretch p rest zero to (omega arith) (omega arith) (λ k d h. absurd (omega arith)) (λ k d ge lt. in' (suc k) d (omega arith) (omega arith)) (λ k d ge lt. behind (suc k) d (omega arith) (omega arith))) ∙ sym (ap (λ n. take n (x ∷ rest)) short))
+      cond-true (p x) _ _ (in' 0 x (omega arith) (omega arith))
+      ∙ (ap (λ l. x ∷ l) (stretch p rest zero to (omega arith) (omega arith) (λ k d h. absurd (omega arith))
+      (λ k d ge lt. in' (suc k) d (omega arith) (omega arith)) (λ k d ge lt. behind (suc k) d (omega arith) (omega arith)))
+      ∙ sym (ap (λ n. take n (x ∷ rest)) short))
   stretch p (x ∷ rest) (suc from) zero order within before in' behind = absurd (omega arith)
   stretch p (x ∷ rest) (suc from) (suc to) order within before in' behind =
       let short : suc to - suc from ≡ to - from = omega arith in
-      cond-false (p x) _ _ (before 0 x (omega arith)) ∙ (stretch p rest from to (omega arith) (omega arith) (λ k d h. before (suc k) d (omega arith)) (λ k d ge lt. in' (suc k) d (omega arith) (omega arith)) (λ k d ge lt. behind (suc k) d (omega arith) (omega arith)) ∙ sym (ap (λ n. take n (drop from rest)) short))
+      cond-false (p x) _ _ (before 0 x (omega arith))
+      ∙ (stretch p rest from to (omega arith) (omega arith) (λ k d h. before (suc k) d (omega arith))
+      (λ k d ge lt. in' (suc k) d (omega arith) (omega arith)) (λ k d ge lt. behind (suc k) d (omega arith) (omega arith))
+      ∙ sym (ap (λ n. take n (drop from rest)) short))
 
 module _ (list : List Child) (parent from to : ℕ) (starts : IsCountFrom list (parent + 1) from) (ends : IsCountFrom list parent to) where
   pub group_order : from ≤ to
-  group_order = ⊎_elim (λ lt. absurd (omega (arith, starts.before to no_one lt, ends.behind to no_one (omega arith) (omega (arith, lt, starts.within))))) (λ ge. ge) (cases_lt to from)
+  group_order = ⊎_elim (λ lt. absurd (omega (arith, starts.before to no_one lt, ends.behind to no_one (omega arith) (omega (arith, lt, starts.within)))))
+      (λ ge. ge) (cases_lt to from)
 
   pub group_between : take (to - from) (drop from list) ≡ filter (λ child. child.parent == parent) list
   group_between = sym (stretch (λ (child : Child). child.parent == parent) list from to group_order ends.within
@@ -236,7 +290,8 @@ module _ (list : List Child) (parent from to : ℕ) (starts : IsCountFrom list (
       (λ k d ge lt. ne_eqb (get_or list k d).parent parent (λ same. absurd (omega (arith, ends.behind k d ge lt, same)))))
 
 -- the first of a stretch, and the rest
-pub stretch_next : {X : Type 0} (list : List X) (from to : ℕ) (d : X) → from < to → to ≤ length list → slice_range list from to ≡ get_or list from d ∷ slice_range list (from + 1) to
+pub stretch_next : {X : Type 0} (list : List X) (from to : ℕ) (d : X) → from < to → to ≤ length list
+    → slice_range list from to ≡ get_or list from d ∷ slice_range list (from + 1) to
 stretch_next list from to d less within =
     let one : to - from ≡ suc (to - (from + 1)) = omega (arith, less) in
     let next : suc from ≡ from + 1 = omega arith in
@@ -250,17 +305,20 @@ stretch_ends list from to past =
     let none : to - from ≡ 0 = omega (arith, past) in ap (λ n. take n (drop from list)) none
 
 -- one that passes gives way to one that does not
-fewer : (p : Row → Bool) (rows : List Row) (k : ℕ) (d x : Row) → k < length rows → p (get_or rows k d) ≡ true → p x ≡ false → length (filter p (set rows k x)) < length (filter p rows)
+fewer : (p : Row → Bool) (rows : List Row) (k : ℕ) (d x : Row) → k < length rows → p (get_or rows k d) ≡ true → p x ≡ false
+    → length (filter p (set rows k x)) < length (filter p rows)
 fewer p [] k d x within has lacks = absurd (omega arith)
 fewer p (row ∷ rest) zero d x within has lacks = rw (has, lacks) (omega arith)
 fewer p (row ∷ rest) (suc k) d x within has lacks = by (p row) (fewer p rest k d x (omega arith) has lacks)
   where
-    by : (b : Bool) → length (filter p (set rest k x)) < length (filter p rest) → length (cond b (row ∷ filter p (set rest k x)) (filter p (set rest k x))) < length (cond b (row ∷ filter p rest) (filter p rest))
+    by : (b : Bool) → length (filter p (set rest k x)) < length (filter p rest)
+        → length (cond b (row ∷ filter p (set rest k x)) (filter p (set rest k x))) < length (cond b (row ∷ filter p rest) (filter p rest))
     by true h = omega arith
     by false h = h
 
 -- an object that no row has as its parent
-orphans_none : (o : ℕ) (rows : List Row) → All (λ (r : Row). has_parent (Some o) r ≡ false) rows → (map (orphaned o) rows ≡ rows) × (filter (has_parent (Some o)) rows ≡ [])
+orphans_none : (o : ℕ) (rows : List Row) → All (λ (r : Row). has_parent (Some o) r ≡ false) rows
+    → (map (orphaned o) rows ≡ rows) × (filter (has_parent (Some o)) rows ≡ [])
 orphans_none o [] lacks = (refl, refl)
 orphans_none o (row ∷ rest) lacks =
     let here : has_parent (Some o) row ≡ false = lacks 0 row (omega arith) in
@@ -276,16 +334,19 @@ module _ {rows : List Row} {links : List Child} (linked : AreLinked child_of row
   pub none_there : All (λ (child : Child). child.parent ≢ object) links → map (orphaned object) rows ≡ rows
   none_there none = (orphans_none object rows (all_from (λ (r : Row). has_parent (Some object) r ≡ false) rows (λ r there. ⊎_elim
       (λ (has : has_parent (Some object) r ≡ true).
-      absurd (All-contains (λ (child : Child). child.parent ≢ object) links (child_of r) none (All-contains (λ r. Contains links (child_of r)) rows r linked.each there) (order_same r.parent (Some object) has)))
+      absurd (All-contains (λ (child : Child). child.parent ≢ object) links (child_of r) none
+      (All-contains (λ r. Contains links (child_of r)) rows r linked.each there) (order_same r.parent (Some object) has)))
       (λ (lacks : has_parent (Some object) r ≡ false). lacks)
       (cases_Bool (has_parent (Some object) r))))).0
 
   -- a child that becomes a root is as it is when the object has gone, and there is one child less
   pub one_there : AllPairs (λ a b. number_of a < number_of b) rows → 1 ≤ object → (child : Child) → Contains links child → child.parent ≡ object
       → (map (orphaned object) (changed (λ row. record row { parent = None; stamp = child.stamp }) child.number rows) ≡ map (orphaned object) rows)
-      × (length (filter (has_parent (Some object)) (changed (λ row. record row { parent = None; stamp = child.stamp }) child.number rows)) < length (filter (has_parent (Some object)) rows))
+      × (length (filter (has_parent (Some object)) (changed (λ row. record row { parent = None; stamp = child.stamp }) child.number rows)) < length
+      (filter (has_parent (Some object)) rows))
   one_there rise begins child there same = rw free (
-    map-set_same (orphaned object) rows some.0 (frees (get_or rows some.0 row)) row (ap (λ (r : Row). orphaned object (frees r)) some.3 ∙ (alike ∙ ap (orphaned object) (sym some.3))),
+    map-set_same (orphaned object) rows some.0 (frees (get_or rows some.0 row)) row
+        (ap (λ (r : Row). orphaned object (frees r)) some.3 ∙ (alike ∙ ap (orphaned object) (sym some.3))),
     fewer (has_parent (Some object)) rows some.0 row (frees (get_or rows some.0 row)) some.2 (ap (has_parent (Some object)) some.3 ∙ has) refl,
   )
     where
@@ -309,7 +370,8 @@ module _ {rows : List Row} {links : List Child} (linked : AreLinked child_of row
           by (Some p) e = eq-eqb p object e
 
       alike : orphaned object (frees row) ≡ orphaned object row
-      alike = (λ i. record row { parent = None; stamp = ap (λ (c : Child). c.stamp) (sym some.4) i }) ∙ sym (cond-true (has_parent (Some object) row) (record row { parent = None }) row has)
+      alike = (λ i. record row { parent = None; stamp = ap (λ (c : Child). c.stamp) (sym some.4) i })
+          ∙ sym (cond-true (has_parent (Some object) row) (record row { parent = None }) row has)
 
 -- who is among the children of an object has it as parent
 pub child_parent : (rows : List Row) (n c : ℕ) → Rise rows → among (children rows (Some n)) c ≡ true → (parent_of rows c ≡ Some n) × (is_there rows c ≡ true)
@@ -327,13 +389,16 @@ module _ (forest : Forest) (sound : IsSound forest) where
   childless n absent k d within = ⊎_elim
       (λ (has : has_parent (Some n) (get_or forest.rows k d) ≡ true).
       let row : Row = get_or forest.rows k d in
-      let below : parent_of forest.rows row.number ≡ Some n = ap (option_and_then (λ (r : Row). r.parent)) (at_place (λ r. r) row.number forest.rows k d sound.numbers_rise within refl).0 ∙ same_parent row.parent n has in
+      let below : parent_of forest.rows row.number ≡ Some n =
+      ap (option_and_then (λ (r : Row). r.parent)) (at_place (λ r. r) row.number forest.rows k d sound.numbers_rise within refl).0
+      ∙ same_parent row.parent n has in
       absurd (false≢true (ap is_some (sym absent) ∙ sound.parents row.number n below)))
       (λ (lacks : has_parent (Some n) (get_or forest.rows k d) ≡ false). lacks)
       (cases_Bool (has_parent (Some n) (get_or forest.rows k d)))
 
   pub parents_begin : All (λ (r : Row). has_parent (Some 0) r ≡ false) forest.rows
-  parents_begin = childless 0 (nowhere number_of (λ r. r) 0 forest.rows nobody (λ k within is. absurd (omega (arith, sound.numbers_begin k nobody within, is)))).0
+  parents_begin = childless 0 (nowhere number_of (λ r. r) 0 forest.rows nobody
+      (λ k within is. absurd (omega (arith, sound.numbers_begin k nobody within, is)))).0
 
   pub none_below : (parent : Option ℕ) → is_same parent (Some 0) ≡ true → children forest.rows parent ≡ []
   unfolding children

@@ -1,9 +1,11 @@
 -- Rows and kinships of the same places, seen as forests.
-use Rattle.std.proofs.Common.{◌≡◌, ℕ, zero, suc, ◌<◌, ◌≤◌, ◌+◌, ◌-◌, ◌==◌, ◌∙◌, false, List, [], ◌∷◌, Option, Some, None, Result, Ok, Err, OnErr, length, map, filter, get_or, min, refl, sym, ap, subst, arith, ⊎_elim}
+use Rattle.std.proofs.Common.{◌≡◌, ℕ, zero, suc, ◌<◌, ◌≤◌, ◌+◌, ◌-◌, ◌==◌, ◌∙◌, false, List, [], ◌∷◌, Option, Some, None, Result, Ok, Err, OnErr, length, map}
+use Rattle.std.proofs.Common.{filter, get_or, min, refl, sym, ap, subst, arith, ⊎_elim}
 use Rattle.std.specs.List.{All}
 use Rattle.std.specs.Option.{option_map}
 use Rattle.std.proofs.lemmas.Bool.{cases_eq, cond_both}
-use Rattle.std.proofs.lemmas.List.{length-set, length_push, map_push, get_or-set_same, get_or-set_other, get_or_append_left, get_or_push, get_or-map, length-map}
+use Rattle.std.proofs.lemmas.List.{length-set, length_push, map_push, get_or-set_same, get_or-set_other, get_or_append_left, get_or_push, get_or-map}
+use Rattle.std.proofs.lemmas.List.{length-map}
 use Rattle.shared_rows.specs.Table.{ChangesAt, IsPlace, Table, opened, with_place}
 use Rattle.shared_rows.specs.Paired.{paired_tables}
 use Rattle.shared_rows.proofs.ForCallers.{paired_at, paired_push, paired_set, length-paired, changes_twice, changes_with, default_pushed, with_same, with_there}
@@ -39,15 +41,18 @@ on_err (Ok x) p = tt
 on_err (Err e) p = p
 
 -- what a search by number found
-pub stands_under : {keyed : List (Keyed Row)} {key n : ℕ} {row : Row} → shared.IsSound number_of keyed → row_under keyed key ≡ Some row → option_map number_of (row_under keyed key) ≡ Some n → Stands key n row keyed
-stands_under {keyed} {key} {n} {row} sound under is = stands keyed key n row sound under (let same : Some row.number ≡ Some n = ap (option_map number_of) (sym under) ∙ is in cc)
+pub stands_under : {keyed : List (Keyed Row)} {key n : ℕ} {row : Row} → shared.IsSound number_of keyed → row_under keyed key ≡ Some row
+    → option_map number_of (row_under keyed key) ≡ Some n → Stands key n row keyed
+stands_under {keyed} {key} {n} {row} sound under is = stands keyed key n row sound under
+    (let same : Some row.number ≡ Some n = ap (option_map number_of) (sym under) ∙ is in cc)
 
 -- both tables are kept, and seen with another forest at a place
 pub record IsChanged (table : Table Forest) (place : ℕ) (rows : Shared) (kinships : Table Kinship) (forest : Forest) : Type 0 where
   pub kept : IsKept rows kinships
   pub seen : paired_tables forest_of rows kinships ≡ with_forest table place forest
 
-pub unchanged_seen : {table : Table Forest} {place : ℕ} {rows : Shared} {kinships : Table Kinship} → IsChanged table place rows kinships (forest_at table place) → paired_tables forest_of rows kinships ≡ table
+pub unchanged_seen : {table : Table Forest} {place : ℕ} {rows : Shared} {kinships : Table Kinship} → IsChanged table place rows kinships (forest_at table place)
+    → paired_tables forest_of rows kinships ≡ table
 unchanged_seen {table} {place} changed = changed.seen ∙ with_same empty_forest table place
 
 -- a place that has neither a row nor a link
@@ -57,7 +62,8 @@ empty_kept kinship none number stamp = record {
   sound = rw (number, stamp) sound_empty;
 }
 
-module _ {rows : Shared} {kinships : Table Kinship} {table : Table Forest} (kept : IsKept rows kinships) (view : paired_tables forest_of rows kinships ≡ table) where
+module _ {rows : Shared} {kinships : Table Kinship} {table : Table Forest} (kept : IsKept rows kinships)
+    (view : paired_tables forest_of rows kinships ≡ table) where
   pub as_many : length table.places ≡ length kinships.places
   as_many = ap (λ (t : Table Forest). length t.places) (sym view) ∙ (length-paired forest_of rows.places kinships.places kept.same ∙ kept.same)
 
@@ -69,14 +75,21 @@ module _ {rows : Shared} {kinships : Table Kinship} {table : Table Forest} (kept
     in_rows = omega (arith, in_kinships, kept.same)
 
     -- other rows and another kinship at the place
-    pub becomes : {new_rows : Shared} {new_kinships : Table Kinship} (keyed : List (Keyed Row)) (kinship : Kinship) (forest : Forest) → new_rows ≡ with_place rows place keyed → new_kinships ≡ with_place kinships place kinship
-        → forest_of keyed kinship ≡ forest → AreLinked child_of (rows_of keyed) kinship.children.links → IsSound forest → IsChanged table place new_rows new_kinships forest
+    pub becomes : {new_rows : Shared} {new_kinships : Table Kinship} (keyed : List (Keyed Row)) (kinship : Kinship) (forest : Forest)
+        → new_rows ≡ with_place rows place keyed → new_kinships ≡ with_place kinships place kinship
+        → forest_of keyed kinship ≡ forest → AreLinked child_of (rows_of keyed) kinship.children.links → IsSound forest
+        → IsChanged table place new_rows new_kinships forest
     becomes {new_rows} {new_kinships} keyed kinship forest rows_are kinships_are is linked sound = record {
       kept = rw (rows_are, kinships_are) (record {
         same = length-set rows.places place keyed ∙ (kept.same ∙ sym (length-set kinships.places place kinship));
         each = λ other default within. ⊎_elim
-            (λ (here : other ≡ place). rw (here, get_or-set_same rows.places place keyed [] in_rows, get_or-set_same kinships.places place kinship default in_kinships) (record { linked = linked; sound = rw is sound }))
-            (λ differ. rw (get_or-set_other rows.places place other keyed [] differ, get_or-set_other kinships.places place other kinship default differ) (kept.each other default (omega (arith, within, length-set kinships.places place kinship))))
+            (λ (here : other ≡ place). rw (
+              here,
+              get_or-set_same rows.places place keyed [] in_rows,
+              get_or-set_same kinships.places place kinship default in_kinships,
+            ) (record { linked = linked; sound = rw is sound }))
+            (λ differ. rw (get_or-set_other rows.places place other keyed [] differ, get_or-set_other kinships.places place other kinship default differ)
+            (kept.each other default (omega (arith, within, length-set kinships.places place kinship))))
             (cases_eq other place);
       });
       seen =
@@ -92,8 +105,10 @@ module _ {rows : Shared} {kinships : Table Kinship} {table : Table Forest} (kept
     pub sound_anyhow : IsSound (forest_at table place)
     sound_anyhow = subst IsSound (sym seen_anyhow) (kept.each place nobodys in_kinships).sound
 
-    pub cleared : {new_rows : Shared} (kinship : Kinship) → new_rows ≡ with_place rows place [] → kinship.last_number ≡ 0 → kinship.last_stamp ≡ 0 → kinship.children.links ≡ [] → IsChanged table place new_rows (with_place kinships place kinship) empty_forest
-    cleared kinship rows_are number stamp none = becomes [] kinship empty_forest rows_are refl (λ i. record { rows = []; last_number = number i; last_stamp = stamp i }) (empty_kept kinship none number stamp).linked sound_empty
+    pub cleared : {new_rows : Shared} (kinship : Kinship) → new_rows ≡ with_place rows place [] → kinship.last_number ≡ 0 → kinship.last_stamp ≡ 0
+        → kinship.children.links ≡ [] → IsChanged table place new_rows (with_place kinships place kinship) empty_forest
+    cleared kinship rows_are number stamp none = becomes [] kinship empty_forest rows_are refl
+        (λ i. record { rows = []; last_number = number i; last_stamp = stamp i }) (empty_kept kinship none number stamp).linked sound_empty
 
     -- what stands there
     module _ (now : Kinship) (now_is : (default : Kinship) → now ≡ get_or kinships.places place default) where
@@ -104,57 +119,79 @@ module _ {rows : Shared} {kinships : Table Kinship} {table : Table Forest} (kept
       forest_is = seen_anyhow ∙ ap (forest_of (rows_at rows place)) (sym (now_is nobodys))
 
       -- with other room for links
-      pub same_forest : {new_rows : Shared} (children : Linked Child) → new_rows ≡ rows → children.links ≡ now.children.links → IsChanged table place new_rows (with_place kinships place (record now { children = children })) (forest_at table place)
-      same_forest children same links = becomes (rows_at rows place) (record now { children = children }) (forest_at table place) (same ∙ sym (with_same [] rows place)) refl (sym forest_is) (subst (AreLinked child_of (rows_of (rows_at rows place))) (sym links) here.linked) sound_anyhow
+      pub same_forest : {new_rows : Shared} (children : Linked Child) → new_rows ≡ rows → children.links ≡ now.children.links
+          → IsChanged table place new_rows (with_place kinships place (record now { children = children })) (forest_at table place)
+      same_forest children same links = becomes (rows_at rows place) (record now { children = children }) (forest_at table place)
+          (same ∙ sym (with_same [] rows place)) refl (sym forest_is)
+          (subst (AreLinked child_of (rows_of (rows_at rows place))) (sym links) here.linked) sound_anyhow
 
       -- one more row
       pub one_more : {new_rows : Shared} (key : ℕ) (children : Linked Child) (parent : Option ℕ) (class : ℕ) → add_refusal (forest_at table place) parent ≡ None
-          → new_rows ≡ with_place rows place (added_key (rows_at rows place) key (record { number = now.last_number + 1; class = class; parent = parent; stamp = now.last_stamp + 1; dying = false; blocked = false }))
-          → children.links ≡ with_link child_cmp now.children.links (child_of (record { number = now.last_number + 1; class = class; parent = parent; stamp = now.last_stamp + 1; dying = false; blocked = false }))
-          → IsChanged table place new_rows (with_place kinships place (record { last_number = now.last_number + 1; last_stamp = now.last_stamp + 1; children = children })) (added (forest_at table place) parent class)
+          → new_rows ≡ with_place rows place (added_key (rows_at rows place) key
+          (record { number = now.last_number + 1; class = class; parent = parent; stamp = now.last_stamp + 1; dying = false; blocked = false }))
+          → children.links ≡ with_link child_cmp now.children.links
+          (child_of (record { number = now.last_number + 1; class = class; parent = parent; stamp = now.last_stamp + 1; dying = false; blocked = false }))
+          → IsChanged table place new_rows (with_place kinships place
+          (record { last_number = now.last_number + 1; last_stamp = now.last_stamp + 1; children = children })) (added (forest_at table place) parent class)
       unfolding added
       one_more key children parent class allowed rows_are links =
           let row : Row = record { number = now.last_number + 1; class = class; parent = parent; stamp = now.last_stamp + 1; dying = false; blocked = false } in
           let pushed = map_push (λ (k : Keyed Row). k.row) (rows_at rows place) (record { key = key; row = row }) in
-          becomes (added_key (rows_at rows place) key row) (record { last_number = now.last_number + 1; last_stamp = now.last_stamp + 1; children = children }) (added (forest_at table place) parent class) rows_are refl
-          ((λ i. record { rows = pushed i; last_number = now.last_number + 1; last_stamp = now.last_stamp + 1 }) ∙ ap (λ forest. added forest parent class) (sym forest_is))
+          becomes (added_key (rows_at rows place) key row) (record { last_number = now.last_number + 1; last_stamp = now.last_stamp + 1; children = children })
+          (added (forest_at table place) parent class) rows_are refl
+          ((λ i. record { rows = pushed i; last_number = now.last_number + 1; last_stamp = now.last_stamp + 1 })
+          ∙ ap (λ forest. added forest parent class) (sym forest_is))
           (rw (pushed, links) (linked_push child_total child_same child_of (rows_of (rows_at rows place)) now.children.links row here.linked))
           (sound_by_added (forest_at table place) parent class allowed sound_anyhow)
 
       pub below_next : All (λ (k : Keyed Row). k.row.number < now.last_number + 1) (rows_at rows place)
       below_next k d within =
-          let given : (get_or (rows_of (rows_at rows place)) k d.row).number ≤ now.last_number = here.sound.numbers_given k d.row (omega (arith, within, length-map (rows_at rows place) (λ (k : Keyed Row). k.row))) in
+          let given : (get_or (rows_of (rows_at rows place)) k d.row).number ≤ now.last_number =
+          here.sound.numbers_given k d.row (omega (arith, within, length-map (rows_at rows place) (λ (k : Keyed Row). k.row))) in
           omega (arith, given, ap number_of (get_or-map (λ (k : Keyed Row). k.row) (rows_at rows place) k d d.row within))
 
       -- an object that came to another parent
-      pub moved_to : {new_rows : Shared} (children : Linked Child) (o : ℕ) (parent : Option ℕ) → set_parent_refusal (forest_at table place) o parent ≡ None → keeps_parent (forest_at table place).rows o parent ≡ false
-          → ChangesAt [] place rows new_rows → rows_of (rows_at new_rows place) ≡ changed (λ row. record row { parent = parent; stamp = now.last_stamp + 1 }) o (rows_of (rows_at rows place)) → AreLinked child_of (rows_of (rows_at new_rows place)) children.links
-          → IsChanged table place new_rows (with_place kinships place (record { last_number = now.last_number; last_stamp = now.last_stamp + 1; children = children })) (moved (forest_at table place) o parent)
+      pub moved_to : {new_rows : Shared} (children : Linked Child) (o : ℕ) (parent : Option ℕ) → set_parent_refusal (forest_at table place) o parent ≡ None
+          → keeps_parent (forest_at table place).rows o parent ≡ false
+          → ChangesAt [] place rows new_rows → rows_of (rows_at new_rows place)
+          ≡ changed (λ row. record row { parent = parent; stamp = now.last_stamp + 1 }) o (rows_of (rows_at rows place))
+          → AreLinked child_of (rows_of (rows_at new_rows place)) children.links
+          → IsChanged table place new_rows (with_place kinships place
+          (record { last_number = now.last_number; last_stamp = now.last_stamp + 1; children = children })) (moved (forest_at table place) o parent)
       unfolding moved
       moved_to {new_rows} children o parent allowed other elsewhere rows_are linked =
-          becomes (rows_at new_rows place) (record { last_number = now.last_number; last_stamp = now.last_stamp + 1; children = children }) (moved (forest_at table place) o parent) elsewhere refl
-          ((λ i. record { rows = rows_are i; last_number = now.last_number; last_stamp = now.last_stamp + 1 }) ∙ ap (λ forest. moved forest o parent) (sym forest_is)) linked
+          becomes (rows_at new_rows place) (record { last_number = now.last_number; last_stamp = now.last_stamp + 1; children = children })
+          (moved (forest_at table place) o parent) elsewhere refl
+          ((λ i. record { rows = rows_are i; last_number = now.last_number; last_stamp = now.last_stamp + 1 })
+          ∙ ap (λ forest. moved forest o parent) (sym forest_is)) linked
           (sound_by_moved (forest_at table place) o parent allowed other sound_anyhow)
 
       -- the children of a parent
-      pub kids_now : IsInOrder child_cmp now.children.links → (parent : Option ℕ) → is_same parent (Some 0) ≡ false → map (λ (child : Child). child.number) (filter (λ child. child.parent == order_of parent) now.children.links) ≡ children (forest_at table place).rows parent
+      pub kids_now : IsInOrder child_cmp now.children.links → (parent : Option ℕ) → is_same parent (Some 0) ≡ false
+          → map (λ (child : Child). child.number) (filter (λ child. child.parent == order_of parent) now.children.links)
+          ≡ children (forest_at table place).rows parent
       kids_now order parent above =
           let forest : Forest = forest_of (rows_at rows place) now in
-          group_is forest.rows now.children.links here.linked (parents_begin forest here.sound) parent above order (λ i j d lt within. ((counted_of forest here.sound).apart i j d lt within).stamp)
+          group_is forest.rows now.children.links here.linked (parents_begin forest here.sound) parent above order
+          (λ i j d lt within. ((counted_of forest here.sound).apart i j d lt within).stamp)
           ∙ ap (λ (forest : Forest). children forest.rows parent) (sym forest_is)
 
     -- a row that is not there
     pub absent : (n : ℕ) → None ≡ key_of number_of (rows_at rows place) n → row_of (forest_at table place).rows n ≡ None
     absent n none = ap (λ (forest : Forest). row_of forest.rows n) seen_anyhow ∙ absent_row (rows_at rows place) n none
 
-    pub absent_same : (f : Row → Row) (n : ℕ) → None ≡ key_of number_of (rows_at rows place) n → table ≡ with_forest table place (record (forest_at table place) { rows = changed f n (forest_at table place).rows })
-    absent_same f n none = sym ((λ i. with_forest table place (record (forest_at table place) { rows = (unchanged f n (forest_at table place).rows (absent n none)).0 i })) ∙ with_same empty_forest table place)
+    pub absent_same : (f : Row → Row) (n : ℕ) → None ≡ key_of number_of (rows_at rows place) n
+        → table ≡ with_forest table place (record (forest_at table place) { rows = changed f n (forest_at table place).rows })
+    absent_same f n none = sym ((λ i. with_forest table place
+        (record (forest_at table place) { rows = (unchanged f n (forest_at table place).rows (absent n none)).0 i })) ∙ with_same empty_forest table place)
 
-    pub absent_gone : {new_rows : Shared} (n : ℕ) → new_rows ≡ rows → key_of number_of (rows_at rows place) n ≡ None → paired_tables forest_of new_rows kinships ≡ with_forest table place (removed (forest_at table place) n)
+    pub absent_gone : {new_rows : Shared} (n : ℕ) → new_rows ≡ rows → key_of number_of (rows_at rows place) n ≡ None
+        → paired_tables forest_of new_rows kinships ≡ with_forest table place (removed (forest_at table place) n)
     unfolding removed
     absent_gone n same none =
         ap (λ rows. paired_tables forest_of rows kinships) same
-        ∙ (view ∙ (sym (with_same empty_forest table place) ∙ λ i. with_forest table place (record (forest_at table place) { rows = sym (orphans_absent (forest_at table place) sound_anyhow n (absent n (sym none))) i })))
+        ∙ (view ∙ (sym (with_same empty_forest table place) ∙ λ i. with_forest table place
+        (record (forest_at table place) { rows = sym (orphans_absent (forest_at table place) sound_anyhow n (absent n (sym none))) i })))
 
     -- a row that is there
     module _ {key n : ℕ} {row : Row} (at : Stands key n row (rows_at rows place)) where
@@ -162,52 +199,73 @@ module _ {rows : Shared} {kinships : Table Kinship} {table : Table Forest} (kept
       is_row = ap (λ (forest : Forest). row_of forest.rows n) seen_anyhow ∙ at.is_row
 
       -- it changes as no child does
-      pub edited : {new_rows : Shared} (f : Row → Row) → new_rows ≡ with_place rows place (with_row (rows_at rows place) key (f row)) → ((r : Row) → (f r).number ≡ r.number) → ((r : Row) → (f r).stamp ≡ r.stamp) → ((r : Row) → (f r).parent ≡ r.parent)
+      pub edited : {new_rows : Shared} (f : Row → Row) → new_rows ≡ with_place rows place (with_row (rows_at rows place) key (f row))
+          → ((r : Row) → (f r).number ≡ r.number) → ((r : Row) → (f r).stamp ≡ r.stamp) → ((r : Row) → (f r).parent ≡ r.parent)
           → IsChanged table place new_rows kinships (record (forest_at table place) { rows = changed f n (forest_at table place).rows })
       edited f rows_are number stamp parent =
           let now : Kinship = get_or kinships.places place nobodys in
-          becomes (with_row (rows_at rows place) key (f row)) now (record (forest_at table place) { rows = changed f n (forest_at table place).rows }) rows_are (sym (with_same nobodys kinships place))
-          ((λ i. record (forest_of (rows_at rows place) now) { rows = at.put f i }) ∙ ap (λ (forest : Forest). record forest { rows = changed f n forest.rows }) (sym seen_anyhow))
-          (rw (at.put f) (linked_same child_of (change_one f n) (λ r. cond_both (has_number n r) (f r) r (λ s. child_of s ≡ child_of r) (λ _ i. record { stamp = stamp r i; parent = order_of (parent r i); number = number r i }) (λ _. refl)) (rows_of (rows_at rows place)) now.children.links (kept.each place nobodys in_kinships).linked))
+          becomes (with_row (rows_at rows place) key (f row)) now (record (forest_at table place) { rows = changed f n (forest_at table place).rows }) rows_are
+          (sym (with_same nobodys kinships place))
+          ((λ i. record (forest_of (rows_at rows place) now) { rows = at.put f i })
+          ∙ ap (λ (forest : Forest). record forest { rows = changed f n forest.rows }) (sym seen_anyhow))
+          (rw (at.put f) (linked_same child_of (change_one f n)
+          (λ r. cond_both (has_number n r) (f r) r (λ s. child_of s ≡ child_of r)
+          (λ _ i. record { stamp = stamp r i; parent = order_of (parent r i); number = number r i }) (λ _. refl))
+          (rows_of (rows_at rows place)) now.children.links (kept.each place nobodys in_kinships).linked))
           (sound_changed f n (forest_at table place) number stamp (λ r p is. sym (parent r) ∙ is) sound_anyhow)
 
       -- it goes, and its children become roots
-      module _ {middle : Shared} (now : Kinship) (now_is : (default : Kinship) → now ≡ get_or kinships.places place default) (middle_is : middle ≡ with_place rows place (shared.without (rows_at rows place) key)) where
+      module _ {middle : Shared} (now : Kinship) (now_is : (default : Kinship) → now ≡ get_or kinships.places place default)
+          (middle_is : middle ≡ with_place rows place (shared.without (rows_at rows place) key)) where
         middle_rows : rows_at middle place ≡ shared.without (rows_at rows place) key
         middle_rows = ap (λ t. rows_at t place) middle_is ∙ with_there [] rows place (shared.without (rows_at rows place) key) in_rows
 
         pub middle_place : IsPlace middle place
-        middle_place = omega (arith, in_rows, ap (λ (t : Shared). length t.places) middle_is, length-set rows.places place (shared.without (rows_at rows place) key))
+        middle_place = omega (
+          arith,
+          in_rows,
+          ap (λ (t : Shared). length t.places) middle_is,
+          length-set rows.places place (shared.without (rows_at rows place) key),
+        )
 
-        pub middle_linked : {links : List Child} → links ≡ without_link child_cmp now.children.links (child_of row) → AreLinked child_of (rows_of (rows_at middle place)) links
+        pub middle_linked : {links : List Child} → links ≡ without_link child_cmp now.children.links (child_of row)
+            → AreLinked child_of (rows_of (rows_at middle place)) links
         middle_linked is = rw (middle_rows, is) (links_out at (here now now_is).linked)
 
-        pub gone : {new_rows : Shared} (children : Linked Child) → ChangesAt [] place middle new_rows → rows_of (rows_at new_rows place) ≡ map (orphaned n) (rows_of (rows_at middle place)) → AreLinked child_of (rows_of (rows_at new_rows place)) children.links
+        pub gone : {new_rows : Shared} (children : Linked Child) → ChangesAt [] place middle new_rows
+            → rows_of (rows_at new_rows place) ≡ map (orphaned n) (rows_of (rows_at middle place))
+            → AreLinked child_of (rows_of (rows_at new_rows place)) children.links
             → IsChanged table place new_rows (with_place kinships place (record now { children = children })) (removed (forest_at table place) n)
         unfolding removed
         gone {new_rows} children elsewhere rows_are linked =
             let left : rows_of (rows_at middle place) ≡ without n (rows_of (rows_at rows place)) = ap rows_of middle_rows ∙ at.out in
             becomes (rows_at new_rows place) (record now { children = children }) (removed (forest_at table place) n)
-            (changes_twice [] rows middle new_rows place (changes_with [] rows middle place (shared.without (rows_at rows place) key) in_rows middle_is) elsewhere) refl
-            ((λ i. record { rows = (rows_are ∙ ap (map (orphaned n)) left) i; last_number = now.last_number; last_stamp = now.last_stamp }) ∙ ap (λ forest. removed forest n) (sym (forest_is now now_is))) linked
+            (changes_twice [] rows middle new_rows place (changes_with [] rows middle place (shared.without (rows_at rows place) key) in_rows middle_is)
+            elsewhere) refl
+            ((λ i. record { rows = (rows_are ∙ ap (map (orphaned n)) left) i; last_number = now.last_number; last_stamp = now.last_stamp })
+            ∙ ap (λ forest. removed forest n) (sym (forest_is now now_is))) linked
             (sound_removed n (forest_at table place) sound_anyhow)
 
 -- the same places
-pub ready_kept : {rows new_rows : Shared} {kinships new_kinships : Table Kinship} → IsKept rows kinships → new_rows.places ≡ rows.places → new_kinships.places ≡ kinships.places → IsKept new_rows new_kinships
+pub ready_kept : {rows new_rows : Shared} {kinships new_kinships : Table Kinship} → IsKept rows kinships → new_rows.places ≡ rows.places
+    → new_kinships.places ≡ kinships.places → IsKept new_rows new_kinships
 ready_kept {rows} {new_rows} {kinships} {new_kinships} kept rows_are kinships_are = record {
   same = ap length rows_are ∙ (kept.same ∙ sym (ap length kinships_are));
   each = λ place default within. rw (rows_are, kinships_are) (kept.each place default (omega (arith, within, ap length kinships_are)));
 }
 
 -- one more place
-module _ {rows new_rows : Shared} {kinships new_kinships : Table Kinship} {table : Table Forest} (kept : IsKept rows kinships) (view : paired_tables forest_of rows kinships ≡ table)
-    (kinship : Kinship) (rows_are : new_rows ≡ opened rows []) (kinships_are : new_kinships ≡ opened kinships kinship) (number : kinship.last_number ≡ 0) (stamp : kinship.last_stamp ≡ 0) where
+module _ {rows new_rows : Shared} {kinships new_kinships : Table Kinship} {table : Table Forest} (kept : IsKept rows kinships)
+    (view : paired_tables forest_of rows kinships ≡ table)
+    (kinship : Kinship) (rows_are : new_rows ≡ opened rows []) (kinships_are : new_kinships ≡ opened kinships kinship) (number : kinship.last_number ≡ 0)
+    (stamp : kinship.last_stamp ≡ 0) where
   pub open_kept : kinship.children.links ≡ [] → IsKept new_rows new_kinships
   open_kept none = rw (rows_are, kinships_are) (record {
     same = omega (arith, length_push rows.places [], length_push kinships.places kinship, kept.same);
     each = λ place default within. rw (default_pushed [] rows.places place) (⊎_elim
         (λ (here : place ≡ length kinships.places).
-        rw (here, get_or_push kinships.places kinship default, past rows.places (length kinships.places) (omega (arith, kept.same))) (empty_kept kinship none number stamp))
+        rw (here, get_or_push kinships.places kinship default, past rows.places (length kinships.places) (omega (arith, kept.same)))
+        (empty_kept kinship none number stamp))
         (λ differ.
         let before : place < length kinships.places = omega (arith, within, length_push kinships.places kinship, differ) in
         rw (get_or_append_left kinships.places (kinship ∷ []) default place before) (kept.each place default before))
@@ -223,7 +281,8 @@ module _ {rows new_rows : Shared} {kinships new_kinships : Table Kinship} {table
   open_seen =
       (λ i. paired_tables forest_of (rows_are i) (kinships_are i))
       ∙ ((λ i. record { places = paired_push forest_of rows.places kinships.places [] kinship kept.same i; room = rooms i })
-      ∙ ((λ i. opened (paired_tables forest_of rows kinships) (record { rows = []; last_number = number i; last_stamp = stamp i })) ∙ ap (λ t. opened t empty_forest) view))
+      ∙ ((λ i. opened (paired_tables forest_of rows kinships) (record { rows = []; last_number = number i; last_stamp = stamp i }))
+      ∙ ap (λ t. opened t empty_forest) view))
     where
       rooms : min (rows.room - 1) (kinships.room - 1) ≡ min rows.room kinships.room - 1
       rooms = omega arith

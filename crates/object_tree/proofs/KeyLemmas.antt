@@ -1,5 +1,6 @@
 -- The row under a key is the row of its number.
-use Rattle.std.proofs.Common.{◌≡◌, ℕ, zero, suc, ◌<◌, ◌==◌, ◌∙◌, Bool, true, false, cond, List, [], ◌∷◌, Option, Some, None, length, map, find, get_or, set, refl, sym, ap, arith, ⊎_elim}
+use Rattle.std.proofs.Common.{◌≡◌, ℕ, zero, suc, ◌<◌, ◌==◌, ◌∙◌, Bool, true, false, cond, List, [], ◌∷◌, Option, Some, None, length, map, find, get_or, set}
+use Rattle.std.proofs.Common.{refl, sym, ap, arith, ⊎_elim}
 use Rattle.std.specs.List.{All, AllPairs, Contains, remove}
 use Rattle.std.specs.Option.{option_map}
 use Rattle.std.proofs.lemmas.Bool.{cases_eq, cases_order, eqb-true}
@@ -37,16 +38,19 @@ pub rises : (keyed : List (Keyed Row)) → shared.IsSound number_of keyed → Al
 rises keyed sound i j d lt within =
     let inside : j < length keyed = omega (arith, within, length-map keyed (λ (k : Keyed Row). k.row)) in
     let none : Keyed Row = record { key = 0; row = d } in
-    rw (get_or-map (λ (k : Keyed Row). k.row) keyed i none d (omega arith), get_or-map (λ (k : Keyed Row). k.row) keyed j none d inside) (sound.rising i j none lt inside)
+    rw (get_or-map (λ (k : Keyed Row). k.row) keyed i none d (omega arith), get_or-map (λ (k : Keyed Row). k.row) keyed j none d inside)
+    (sound.rising i j none lt inside)
 
-pub stands : (keyed : List (Keyed Row)) (key n : ℕ) (row : Row) → shared.IsSound number_of keyed → row_under keyed key ≡ Some row → row.number ≡ n → Stands key n row keyed
+pub stands : (keyed : List (Keyed Row)) (key n : ℕ) (row : Row) → shared.IsSound number_of keyed → row_under keyed key ≡ Some row → row.number ≡ n
+    → Stands key n row keyed
 stands keyed key n row sound under numbered = record {
   numbered = numbered;
   is_row = (by_number (λ r. r)).0 ∙ ap Some (is row);
   there = (place.at, within, is row);
   only = λ k d inside same. ⊎_elim
       (λ (here : k ≡ place.at). ap (λ i. get_or (rows_of keyed) i d) here ∙ is d)
-      (λ differ. absurd (apart number_of (rows_of keyed) (rises keyed sound) k place.at d inside within differ (eqb-true _ _ same ∙ sym (ap number_of (is d) ∙ numbered))))
+      (λ differ. absurd (apart number_of (rows_of keyed) (rises keyed sound) k place.at d inside within differ
+      (eqb-true _ _ same ∙ sym (ap number_of (is d) ∙ numbered))))
       (cases_eq k place.at);
   put = λ f.
       ap rows_of (by_key (λ _. record { key = key; row = f row })).1
@@ -67,15 +71,20 @@ stands keyed key n row sound under numbered = record {
     is : (d : Row) → get_or (rows_of keyed) place.at d ≡ row
     is d = get_or-map (λ (k : Keyed Row). k.row) keyed place.at one.0 d place.within ∙ (ap (λ (k : Keyed Row). k.row) (place.is one.0) ∙ one.2)
 
-    by_key : (f : Keyed Row → Keyed Row) → (find (λ (k : Keyed Row). k.key == key) keyed ≡ Some (get_or keyed place.at one.0)) × (map (λ (k : Keyed Row). cond (k.key == key) (f k) k) keyed ≡ set keyed place.at (f (get_or keyed place.at one.0))) × (shared.without keyed key ≡ remove keyed place.at)
+    by_key : (f : Keyed Row → Keyed Row) → (find (λ (k : Keyed Row). k.key == key) keyed ≡ Some (get_or keyed place.at one.0))
+        × (map (λ (k : Keyed Row). cond (k.key == key) (f k) k) keyed ≡ set keyed place.at (f (get_or keyed place.at one.0)))
+        × (shared.without keyed key ≡ remove keyed place.at)
     by_key f =
         let has : (get_or keyed place.at one.0).key ≡ key = ap (λ (k : Keyed Row). k.key) (place.is one.0) ∙ eqb-true one.0.key key place.passes in
         only_at (λ (k : Keyed Row). k.key) f key keyed place.at one.0 place.within has (λ j inside differ same. ⊎_elim
         (λ e. differ e)
-        (λ order. ⊎_elim (λ lt. sound.apart j place.at one.0 lt place.within (same ∙ sym has)) (λ gt. sound.apart place.at j one.0 gt inside (has ∙ sym same)) order)
+        (λ order. ⊎_elim (λ lt. sound.apart j place.at one.0 lt place.within (same ∙ sym has))
+        (λ gt. sound.apart place.at j one.0 gt inside (has ∙ sym same)) order)
         (cases_order j place.at))
 
-    by_number : (f : Row → Row) → (row_of (rows_of keyed) n ≡ Some (get_or (rows_of keyed) place.at row)) × (changed f n (rows_of keyed) ≡ set (rows_of keyed) place.at (f (get_or (rows_of keyed) place.at row))) × (without n (rows_of keyed) ≡ remove (rows_of keyed) place.at)
+    by_number : (f : Row → Row) → (row_of (rows_of keyed) n ≡ Some (get_or (rows_of keyed) place.at row))
+        × (changed f n (rows_of keyed) ≡ set (rows_of keyed) place.at (f (get_or (rows_of keyed) place.at row)))
+        × (without n (rows_of keyed) ≡ remove (rows_of keyed) place.at)
     by_number f = at_rising f n (rows_of keyed) place.at row (rises keyed sound) within (ap number_of (is row) ∙ numbered)
 
 -- where there is no such number
@@ -83,6 +92,7 @@ pub absent_row : (keyed : List (Keyed Row)) (n : ℕ) → None ≡ key_of number
 absent_row [] n e = refl
 absent_row (first ∷ rest) n e = by (first.row.number == n) e (absent_row rest n)
   where
-    by : (b : Bool) → None ≡ option_map (λ (k : Keyed Row). k.key) (cond b (Some first) (find (λ k. k.row.number == n) rest)) → (None ≡ key_of number_of rest n → row_of (rows_of rest) n ≡ None) → cond b (Some first.row) (row_of (rows_of rest) n) ≡ None
+    by : (b : Bool) → None ≡ option_map (λ (k : Keyed Row). k.key) (cond b (Some first) (find (λ k. k.row.number == n) rest))
+        → (None ≡ key_of number_of rest n → row_of (rows_of rest) n ≡ None) → cond b (Some first.row) (row_of (rows_of rest) n) ≡ None
     by true e later = absurd (cc)
     by false e later = later e

@@ -18,13 +18,16 @@ sound_by_added forest parent class allowed sound =
     let can = add_allowed forest parent allowed in
     sound_added forest parent class sound can.number can.stamp can.room can.shallow can.above
 
-pub sound_by_moved : (forest : Forest) (object : ℕ) (parent : Option ℕ) → set_parent_refusal forest object parent ≡ None → keeps_parent forest.rows object parent ≡ false → IsSound forest → IsSound (moved forest object parent)
+pub sound_by_moved : (forest : Forest) (object : ℕ) (parent : Option ℕ) → set_parent_refusal forest object parent ≡ None
+    → keeps_parent forest.rows object parent ≡ false → IsSound forest → IsSound (moved forest object parent)
 sound_by_moved forest object parent allowed other sound =
     let can = move_allowed forest object parent allowed other in
     sound_moved forest object parent sound can.there can.stamp can.above can.shallow
 
-sound_by_reparented : (forest : Forest) (object : ℕ) (parent : Option ℕ) → set_parent_refusal forest object parent ≡ None → IsSound forest → IsSound (reparented forest object parent)
-sound_by_reparented forest object parent allowed sound = cond_both (keeps_parent forest.rows object parent) forest (moved forest object parent) IsSound (λ _. sound) (λ other. sound_by_moved forest object parent allowed other sound)
+sound_by_reparented : (forest : Forest) (object : ℕ) (parent : Option ℕ) → set_parent_refusal forest object parent ≡ None → IsSound forest
+    → IsSound (reparented forest object parent)
+sound_by_reparented forest object parent allowed sound = cond_both (keeps_parent forest.rows object parent) forest (moved forest object parent) IsSound
+    (λ _. sound) (λ other. sound_by_moved forest object parent allowed other sound)
 
 pub keeps_sound : KeepsSound
 keeps_sound = record {
@@ -37,16 +40,21 @@ keeps_sound = record {
 }
 
 -- a change of one row that keeps its number
-numbers_changed : (change : Row → Row) → ((row : Row) → (change row).number ≡ row.number) → (object : ℕ) (rows : List Row) → numbers (changed change object rows) ≡ numbers rows
-numbers_changed change keeps object rows = numbers-mapped (change_one change object) (λ row. cond_both (has_number object row) (change row) row (λ r. r.number ≡ row.number) (λ _. keeps row) (λ _. refl)) rows
+numbers_changed : (change : Row → Row) → ((row : Row) → (change row).number ≡ row.number) → (object : ℕ) (rows : List Row)
+    → numbers (changed change object rows) ≡ numbers rows
+numbers_changed change keeps object rows = numbers-mapped (change_one change object)
+    (λ row. cond_both (has_number object row) (change row) row (λ r. r.number ≡ row.number) (λ _. keeps row) (λ _. refl)) rows
 
-numbers_by_added : (forest : Forest) (parent : Option ℕ) (class : ℕ) → numbers (added forest parent class).rows ≡ numbers forest.rows ++ (forest.last_number + 1) ∷ []
+numbers_by_added : (forest : Forest) (parent : Option ℕ) (class : ℕ)
+    → numbers (added forest parent class).rows ≡ numbers forest.rows ++ (forest.last_number + 1) ∷ []
 unfolding added
-numbers_by_added forest parent class = map_push (λ (row : Row). row.number) forest.rows (record { number = forest.last_number + 1; class = class; parent = parent; stamp = forest.last_stamp + 1; dying = false; blocked = false })
+numbers_by_added forest parent class = map_push (λ (row : Row). row.number) forest.rows
+    (record { number = forest.last_number + 1; class = class; parent = parent; stamp = forest.last_stamp + 1; dying = false; blocked = false })
 
 numbers_by_reparented : (forest : Forest) (object : ℕ) (parent : Option ℕ) → numbers (reparented forest object parent).rows ≡ numbers forest.rows
 unfolding moved
-numbers_by_reparented forest object parent = cond_both (keeps_parent forest.rows object parent) forest (moved forest object parent) (λ new. numbers new.rows ≡ numbers forest.rows)
+numbers_by_reparented forest object parent = cond_both (keeps_parent forest.rows object parent) forest (moved forest object parent)
+    (λ new. numbers new.rows ≡ numbers forest.rows)
     (λ _. refl) (λ _. numbers_changed (λ row. record row { parent = parent; stamp = forest.last_stamp + 1 }) (λ row. refl) object forest.rows)
 
 numbers_by_marked : (forest : Forest) (object : ℕ) → numbers (marked forest object).rows ≡ numbers forest.rows
@@ -59,7 +67,8 @@ numbers_by_blocked forest object on = numbers_changed (λ row. record row { bloc
 
 numbers_by_removed : (forest : Forest) (object : ℕ) → numbers (removed forest object).rows ≡ filter (λ number. not (number == object)) (numbers forest.rows)
 unfolding removed
-numbers_by_removed forest object = numbers-mapped (orphaned object) (orphan_number object) (without object forest.rows) ∙ numbers-filter (λ number. not (number == object)) forest.rows
+numbers_by_removed forest object = numbers-mapped (orphaned object) (orphan_number object) (without object forest.rows)
+    ∙ numbers-filter (λ number. not (number == object)) forest.rows
 
 pub keeps_numbers : KeepsNumbers
 keeps_numbers = record {

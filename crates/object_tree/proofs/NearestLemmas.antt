@@ -1,9 +1,11 @@
 -- The search by levels finds what is nearest.
-use Rattle.std.proofs.Common.{◌||◌, ◌≡◌, ℕ, suc, zero, ◌+◌, ◌-◌, ◌<◌, ◌≤◌, ◌==◌, Bool, true, false, ◌&&◌, cond, List, [], ◌∷◌, ◌++◌, Option, Some, None, length, filter, find, drop, refl, sym, ap, ◌∙◌, arith, subst, ⊎_elim, nat_lt}
+use Rattle.std.proofs.Common.{◌||◌, ◌≡◌, ℕ, suc, zero, ◌+◌, ◌-◌, ◌<◌, ◌≤◌, ◌==◌, Bool, true, false, ◌&&◌, cond, List, [], ◌∷◌, ◌++◌, Option, Some, None, length}
+use Rattle.std.proofs.Common.{filter, find, drop, refl, sym, ap, ◌∙◌, arith, subst, ⊎_elim, nat_lt}
 use Rattle.std.specs.Cmp.{nat_eq_equiv}
 use Rattle.std.specs.List.{flat_map, list_any}
 use Rattle.std.specs.Option.{option_or}
-use Rattle.std.proofs.lemmas.Bool.{cases_Bool, cond-true, cond-false, eqb-true, eq-eqb, ne_eqb, cases_eq, false≢true, or_cases, or_left, or_right, and_parts, false_from_ne_true, ltb-true}
+use Rattle.std.proofs.lemmas.Bool.{cases_Bool, cond-true, cond-false, eqb-true, eq-eqb, ne_eqb, cases_eq, false≢true, or_cases, or_left, or_right, and_parts}
+use Rattle.std.proofs.lemmas.Bool.{false_from_ne_true, ltb-true}
 use Rattle.std.proofs.lemmas.List.{append-nil}
 use Rattle.std.proofs.lemmas.List.Elements.{filter-append}
 use Rattle.std.proofs.lemmas.Grind.{flat_map-append}
@@ -40,7 +42,8 @@ find_both : (p q : ℕ → Bool) (xs : List ℕ) → find (λ m. p m && q m) xs 
 find_both p q [] = refl
 find_both p q (x ∷ xs) = by (p x) (q x) refl (find_both p q xs)
   where
-    by : (a b : Bool) → p x ≡ a → find (λ m. p m && q m) xs ≡ find p (filter q xs) → cond (a && b) (Some x) (find (λ m. p m && q m) xs) ≡ find p (cond b (x ∷ filter q xs) (filter q xs))
+    by : (a b : Bool) → p x ≡ a → find (λ m. p m && q m) xs ≡ find p (filter q xs)
+        → cond (a && b) (Some x) (find (λ m. p m && q m) xs) ≡ find p (cond b (x ∷ filter q xs) (filter q xs))
     by true true is h = sym (cond-true (p x) (Some x) (find p (filter q xs)) is)
     by true false is h = h
     by false true is h = h ∙ sym (cond-false (p x) (Some x) (find p (filter q xs)) is)
@@ -64,13 +67,16 @@ flat_map-one : (xs : List ℕ) → flat_map (λ x. x ∷ []) xs ≡ xs
 flat_map-one [] = refl
 flat_map-one (x ∷ xs) = ap (λ l. x ∷ l) (flat_map-one xs)
 
-filter-flat_map : (q : ℕ → Bool) (g h : ℕ → List ℕ) (xs : List ℕ) → ((c : ℕ) → among xs c ≡ true → filter q (g c) ≡ h c) → filter q (flat_map g xs) ≡ flat_map h xs
+filter-flat_map : (q : ℕ → Bool) (g h : ℕ → List ℕ) (xs : List ℕ) → ((c : ℕ) → among xs c ≡ true → filter q (g c) ≡ h c)
+    → filter q (flat_map g xs) ≡ flat_map h xs
 filter-flat_map q g h [] each = refl
-filter-flat_map q g h (x ∷ xs) each = filter-append q (g x) (flat_map g xs) ∙ λ i. each x (or_left (x == x) _ (eq-eqb x x refl)) i ++ filter-flat_map q g h xs (λ c in'. each c (or_right (c == x) _ in')) i
+filter-flat_map q g h (x ∷ xs) each = filter-append q (g x) (flat_map g xs)
+    ∙ λ i. each x (or_left (x == x) _ (eq-eqb x x refl)) i ++ filter-flat_map q g h xs (λ c in'. each c (or_right (c == x) _ in')) i
 
 filter_none : (q : ℕ → Bool) (xs : List ℕ) → ((m : ℕ) → among xs m ≡ true → q m ≡ false) → filter q xs ≡ []
 filter_none q [] none = refl
-filter_none q (x ∷ xs) none = cond-false (q x) (x ∷ filter q xs) (filter q xs) (none x (or_left (x == x) _ (eq-eqb x x refl))) ∙ filter_none q xs (λ m in'. none m (or_right (m == x) _ in'))
+filter_none q (x ∷ xs) none = cond-false (q x) (x ∷ filter q xs) (filter q xs) (none x (or_left (x == x) _ (eq-eqb x x refl)))
+    ∙ filter_none q xs (λ m in'. none m (or_right (m == x) _ in'))
 
 -- a tree by the children of each, where each child stands one level lower
 module _ (rows : List Row) (dep : ℕ → ℕ) (lower : (n c : ℕ) → among (children rows (Some n)) c ≡ true → dep c ≡ suc (dep n)) where
@@ -108,10 +114,13 @@ module _ (rows : List Row) (dep : ℕ → ℕ) (lower : (n c : ℕ) → among (c
   levels zero k n h = absurd (omega arith)
   levels (suc f) zero n h =
       cond-true (dep n == dep n + 0) _ _ (eq-eqb _ _ (omega arith))
-      ∙ ap (λ l. n ∷ l) (filter_none _ (flat_map (preorder_within f rows) (kids n)) (λ m in'. ne_eqb _ _ (λ same. absurd (omega (arith, below_deeper f n m in')))))
+      ∙ ap (λ l. n ∷ l) (filter_none _ (flat_map (preorder_within f rows) (kids n))
+      (λ m in'. ne_eqb _ _ (λ same. absurd (omega (arith, below_deeper f n m in')))))
   levels (suc f) (suc k) n h =
       cond-false (dep n == dep n + suc k) _ _ (ne_eqb _ _ (λ same. absurd (omega arith)))
-      ∙ (filter-flat_map (λ m. dep m == dep n + suc k) (preorder_within f rows) (level k) (kids n) (λ c in'. (let e : dep n + suc k ≡ dep c + k = omega (arith, lower n c in') in (λ i. filter (λ m. dep m == e i) (preorder_within f rows c)) ∙ levels f k c (omega arith)))
+      ∙ (filter-flat_map (λ m. dep m == dep n + suc k) (preorder_within f rows) (level k) (kids n)
+      (λ c in'. (let e : dep n + suc k ≡ dep c + k = omega (arith, lower n c in') in (λ i. filter (λ m. dep m == e i) (preorder_within f rows c))
+      ∙ levels f k c (omega arith)))
       ∙ sym (level_top k n))
 
   -- where no level has a match
@@ -126,10 +135,18 @@ module _ (rows : List Row) (dep : ℕ → ℕ) (lower : (n c : ℕ) → among (c
   found_on passes zero k n = λ i le lt. absurd (omega arith)
   found_on passes (suc f) k n = by (find passes (level k n)) refl (found_within f rows passes (level (suc k) n)) (found_on passes f (suc k) n)
     where
-      by : (here : Option ℕ) → find passes (level k n) ≡ here → (rest : Option ℕ) → FoundOn passes n (suc k) (suc k + f) rest → FoundOn passes n k (k + suc f) (option_or here rest)
+      by : (here : Option ℕ) → find passes (level k n) ≡ here → (rest : Option ℕ) → FoundOn passes n (suc k) (suc k + f) rest
+          → FoundOn passes n k (k + suc f) (option_or here rest)
       by (Some x) is rest later = (k, omega arith, omega arith, is, λ i le lt. absurd (omega arith))
-      by None is None later = λ i le lt. ⊎_elim (λ same. ap (λ j. find passes (level j n)) same ∙ is) (λ other. later i (omega arith) (omega arith)) (cases_eq i k)
-      by None is (Some x) later = (later.0, omega (arith, later.1), omega (arith, later.2), later.3, λ i le lt. ⊎_elim (λ same. ap (λ j. find passes (level j n)) same ∙ is) (λ other. later.4 i (omega arith) lt) (cases_eq i k))
+      by None is None later = λ i le lt. ⊎_elim (λ same. ap (λ j. find passes (level j n)) same ∙ is) (λ other. later i (omega arith) (omega arith))
+          (cases_eq i k)
+      by None is (Some x) later = (
+        later.0,
+        omega (arith, later.1),
+        omega (arith, later.2),
+        later.3,
+        λ i le lt. ⊎_elim (λ same. ap (λ j. find passes (level j n)) same ∙ is) (λ other. later.4 i (omega arith) lt) (cases_eq i k),
+      )
 
   module _ (passes : ℕ → Bool) (object f : ℕ) (bounded : (m : ℕ) → dep m ≤ suc f) (positive : (m : ℕ) → 1 ≤ dep m) where
     abbrev below : List ℕ
@@ -145,7 +162,8 @@ module _ (rows : List Row) (dep : ℕ → ℕ) (lower : (n c : ℕ) → among (c
         let i = dep m - dep object in
         let at_i : dep m ≡ dep object + i = omega arith in
         let within : i < suc f = omega (arith, bounded m, positive object) in
-        let on : among (level i object) m ≡ true = ap (λ l. among l m) (sym (below_level i (omega arith) within)) ∙ (among-filter (λ m. dep m == dep object + i) below m ∙ (λ j. in' j && eq-eqb _ _ at_i j)) in
+        let on : among (level i object) m ≡ true = ap (λ l. among l m) (sym (below_level i (omega arith) within))
+        ∙ (among-filter (λ m. dep m == dep object + i) below m ∙ (λ j. in' j && eq-eqb _ _ at_i j)) in
         none_at passes (level i object) (none i (omega arith) (omega arith)) m on pass
 
     -- what a search finds
@@ -158,7 +176,8 @@ module _ (rows : List Row) (dep : ℕ → ℕ) (lower : (n c : ℕ) → among (c
         let k = on.0 in
         let at_k : dep x ≡ dep object + k = level_depth k object x (found_in passes (level k object) x on.3) in
         let within : k < suc f = omega (arith, bounded x, positive object) in (
-          find_both passes (λ m. dep m == dep x) below ∙ (ap (λ d. find passes (filter (λ m. dep m == d) below)) at_k ∙ (ap (find passes) (below_level k on.1 within) ∙ on.3)),
+          find_both passes (λ m. dep m == dep x) below
+              ∙ (ap (λ d. find passes (filter (λ m. dep m == d) below)) at_k ∙ (ap (find passes) (below_level k on.1 within) ∙ on.3)),
           false_from_ne_true _ (λ t.
               let h = any_at (λ m. passes m && nat_lt (dep m) (dep x)) below t in
               let both = and_parts (passes h.0) _ h.2 in
@@ -166,7 +185,8 @@ module _ (rows : List Row) (dep : ℕ → ℕ) (lower : (n c : ℕ) → among (c
         )
 
     pub nearest : Nearest (found_within (suc f) rows passes (kids object))
-    nearest = nearest_of _ (subst (λ l. FoundOn passes object 1 (1 + suc f) (found_within (suc f) rows passes l)) (append-nil (kids object)) (found_on passes (suc f) 1 object))
+    nearest = nearest_of _ (subst (λ l. FoundOn passes object 1 (1 + suc f) (found_within (suc f) rows passes l)) (append-nil (kids object))
+        (found_on passes (suc f) 1 object))
 
 module _ (forest : Forest) (sound : IsSound forest) where
   child_lower : (n c : ℕ) → among (children forest.rows (Some n)) c ≡ true → depth forest.rows c ≡ suc (depth forest.rows n)
@@ -183,9 +203,12 @@ module _ (forest : Forest) (sound : IsSound forest) where
   depth_positive f m e = subst (λ n. 1 ≤ length (walk (parent_of forest.rows) n m)) (sym e) (omega arith)
 
   -- in a forest of this many rows
-  finds_within : (object : ℕ) (passes : ℕ → Bool) (n : ℕ) → length forest.rows ≡ n → IsFirstAtLeast (depth forest.rows) (drop 1 (preorder_within n forest.rows object)) passes (found_within n forest.rows passes (children forest.rows (Some object)))
+  finds_within : (object : ℕ) (passes : ℕ → Bool) (n : ℕ) → length forest.rows ≡ n
+      → IsFirstAtLeast (depth forest.rows) (drop 1 (preorder_within n forest.rows object)) passes
+      (found_within n forest.rows passes (children forest.rows (Some object)))
   finds_within object passes zero e = refl
-  finds_within object passes (suc f) e = nearest forest.rows (depth forest.rows) child_lower passes object f (λ m. omega (arith, depth_within m)) (λ m. depth_positive f m e)
+  finds_within object passes (suc f) e = nearest forest.rows (depth forest.rows) child_lower passes object f (λ m. omega (arith, depth_within m))
+      (λ m. depth_positive f m e)
 
   pub finds_nearest : (object : ℕ) (passes : ℕ → Bool) → IsNearest forest.rows object passes (found_below forest.rows object passes)
   unfolding found_below all_below

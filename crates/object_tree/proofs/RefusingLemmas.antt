@@ -8,7 +8,8 @@ use Rattle.object_tree.specs.declared.row.TheConstants.{OBJECTS, DEPTH}
 use Rattle.object_tree.specs.Rows.{is_there, row_of}
 use Rattle.object_tree.specs.Lines.{depth_at, height, is_below}
 use Rattle.object_tree.specs.Forest.{Forest}
-use Rattle.object_tree.specs.Refusing.{add_refusal, cycle_refusal, depth_refusal, keeps_parent, move_refusal, number_refusal, object_refusal, parent_refusal, room_refusal, set_parent_refusal}
+use Rattle.object_tree.specs.Refusing.{add_refusal, cycle_refusal, depth_refusal, keeps_parent, move_refusal, number_refusal, object_refusal, parent_refusal}
+use Rattle.object_tree.specs.Refusing.{room_refusal, set_parent_refusal}
 
 or_none : {A : Type 0} (a b : Option A) → option_or a b ≡ None → (a ≡ None) × (b ≡ None)
 or_none None b e = (refl, e)
@@ -57,7 +58,8 @@ pub record CanMove (forest : Forest) (object : ℕ) (parent : Option ℕ) : Type
   pub above : (p : ℕ) → parent ≡ Some p → (is_there forest.rows p ≡ true) × (is_below forest.rows object p ≡ false)
   pub shallow : depth_at forest.rows parent + height forest.rows object ≤ DEPTH
 
-pub move_allowed : (forest : Forest) (object : ℕ) (parent : Option ℕ) → set_parent_refusal forest object parent ≡ None → keeps_parent forest.rows object parent ≡ false → CanMove forest object parent
+pub move_allowed : (forest : Forest) (object : ℕ) (parent : Option ℕ) → set_parent_refusal forest object parent ≡ None
+    → keeps_parent forest.rows object parent ≡ false → CanMove forest object parent
 unfolding set_parent_refusal move_refusal
 move_allowed forest object parent e another =
     let first = or_none (object_refusal forest.rows object) _ e in

@@ -1,5 +1,6 @@
 -- Trees: each object has a rank above that of its parent, and so its line ends.
-use Rattle.std.proofs.Common.{◌≡◌, ℕ, suc, zero, ◌+◌, ◌<◌, ◌≤◌, ◌==◌, Bool, true, false, cond, List, [], ◌∷◌, Option, Some, None, length, refl, ap, ◌∙◌, arith, nat_lt}
+use Rattle.std.proofs.Common.{◌≡◌, ℕ, suc, zero, ◌+◌, ◌<◌, ◌≤◌, ◌==◌, Bool, true, false, cond, List, [], ◌∷◌, Option, Some, None, length, refl, ap, ◌∙◌, arith}
+use Rattle.std.proofs.Common.{nat_lt}
 use Rattle.std.specs.Option.{option_map_or, is_some}
 use Rattle.std.proofs.lemmas.Bool.{eqb-true}
 use Rattle.std.proofs.lemmas.Bool.Decides.{nat_tests}
@@ -55,7 +56,8 @@ lower_there : (rank : ℕ → ℕ) (rows : List Row) (p bound : ℕ) → is_ther
 lower_there rank [] p bound there less = absurd (cc)
 lower_there rank (row ∷ rest) p bound there less = by (row.number == p) refl there (λ later. lower_there rank rest p bound later less)
   where
-    by : (b : Bool) → (row.number == p) ≡ b → is_some (cond b (Some row) (row_of rest p)) ≡ true → (is_there rest p ≡ true → lower rank rest (rank p) < lower rank rest bound) → lower rank (row ∷ rest) (rank p) < lower rank (row ∷ rest) bound
+    by : (b : Bool) → (row.number == p) ≡ b → is_some (cond b (Some row) (row_of rest p)) ≡ true
+        → (is_there rest p ≡ true → lower rank rest (rank p) < lower rank rest bound) → lower rank (row ∷ rest) (rank p) < lower rank (row ∷ rest) bound
     by true is there later = grind (arith, nat_tests, ap rank (eqb-true row.number p is), lower_more rank rest (rank p) bound (omega arith))
     by false is there later = grind (arith, nat_tests, later there, lower_more rank rest (rank p) bound (omega arith))
 
@@ -65,7 +67,8 @@ module _ (rows : List Row) (rank : ℕ → ℕ) (ranked : AreRanked rows rank) w
   settled zero n few = absurd (omega arith)
   settled (suc f) n few = by (λ p. settled f p) (parent_of rows n) refl
     where
-      by : ((p : ℕ) → lower rank rows (rank p) < f → walk (parent_of rows) f p ≡ walk (parent_of rows) (suc f) p) → (o : Option ℕ) → parent_of rows n ≡ o → n ∷ option_map_or (walk (parent_of rows) f) o [] ≡ n ∷ option_map_or (walk (parent_of rows) (suc f)) o []
+      by : ((p : ℕ) → lower rank rows (rank p) < f → walk (parent_of rows) f p ≡ walk (parent_of rows) (suc f) p) → (o : Option ℕ) → parent_of rows n ≡ o
+          → n ∷ option_map_or (walk (parent_of rows) f) o [] ≡ n ∷ option_map_or (walk (parent_of rows) (suc f)) o []
       by rest None is = refl
       by rest (Some p) is =
           let up = ranked.parents n p is in
@@ -75,7 +78,8 @@ module _ (rows : List Row) (rank : ℕ → ℕ) (ranked : AreRanked rows rank) w
   short zero n = omega arith
   short (suc f) n = by (λ p. short f p) (parent_of rows n) refl
     where
-      by : ((p : ℕ) → length (walk (parent_of rows) f p) ≤ suc (rank p)) → (o : Option ℕ) → parent_of rows n ≡ o → length (n ∷ option_map_or (walk (parent_of rows) f) o []) ≤ suc (rank n)
+      by : ((p : ℕ) → length (walk (parent_of rows) f p) ≤ suc (rank p)) → (o : Option ℕ) → parent_of rows n ≡ o
+          → length (n ∷ option_map_or (walk (parent_of rows) f) o []) ≤ suc (rank n)
       by rest None is = omega arith
       by rest (Some p) is = omega (arith, rest p, (ranked.parents n p is).1)
 

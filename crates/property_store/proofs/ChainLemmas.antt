@@ -26,7 +26,8 @@ next_end None = refl
 next_end (Some at) = refl
 
 -- what stands in the chain is linked
-chain_linked : (at : Property → Option Link) (first : Option Property) (list : List Property) → IsChain at first list → (q : Property) → among q list ≡ true → is_linked (at q) ≡ true
+chain_linked : (at : Property → Option Link) (first : Option Property) (list : List Property) → IsChain at first list → (q : Property) → among q list ≡ true
+    → is_linked (at q) ≡ true
 chain_linked at first [] chain q stands = absurd (both_ways false refl stands)
 chain_linked at first (property ∷ rest) chain q stands = ⊎_elim
     (λ here. ap (λ p. is_linked (at p)) (same_property q property here) ∙ chain.1)
@@ -34,7 +35,8 @@ chain_linked at first (property ∷ rest) chain q stands = ⊎_elim
     (or_cases (is_property q property) (among q rest) stands)
 
 -- a chain is that of each function that gives its properties these links
-chain_kept : (at after : Property → Option Link) (first : Option Property) (list : List Property) → ((q : Property) → among q list ≡ true → after q ≡ at q) → IsChain at first list → IsChain after first list
+chain_kept : (at after : Property → Option Link) (first : Option Property) (list : List Property) → ((q : Property) → among q list ≡ true → after q ≡ at q)
+    → IsChain at first list → IsChain after first list
 chain_kept at after first [] same chain = chain
 chain_kept at after first (property ∷ rest) same chain =
     let here = same property (or_left (is_property property property) (among property rest) (itself property)) in (
@@ -63,8 +65,11 @@ pub linked_more : (at after : Property → Option Link) (first : Option Property
     → is_linked (at p) ≡ false → after p ≡ Some (link_to first) → ((q : Property) → is_property p q ≡ false → after q ≡ at q)
     → AreLinked at first → AreLinked after (Some p)
 linked_more at after first p off here others linked =
-    let apart : among p linked.list ≡ false = false_from_ne_true (among p linked.list) (λ stands. both_ways (is_linked (at p)) off (chain_linked at first linked.list linked.chain p stands)) in
-    let differ : (q : Property) → among q linked.list ≡ true → is_property p q ≡ false = λ q stands. false_from_ne_true (is_property p q) (λ same. both_ways (among p linked.list) apart (ap (λ r. among r linked.list) (same_property p q same) ∙ stands)) in
+    let apart : among p linked.list ≡ false = false_from_ne_true (among p linked.list)
+    (λ stands. both_ways (is_linked (at p)) off (chain_linked at first linked.list linked.chain p stands)) in
+    let differ : (q : Property) → among q linked.list ≡ true → is_property p q ≡ false =
+    λ q stands. false_from_ne_true (is_property p q)
+    (λ same. both_ways (among p linked.list) apart (ap (λ r. among r linked.list) (same_property p q same) ∙ stands)) in
     record {
       list = p ∷ linked.list;
       chain = (
@@ -94,7 +99,8 @@ linked_less at after p gone others linked = by linked.list linked.chain linked.a
         record {
           list = rest;
           chain = chain_kept at after (next_of (at p)) rest
-              (λ q stands. others q (false_from_ne_true (is_property p q) (λ is. both_ways (among p rest) apart (ap (λ r. among r rest) (same_property p q is) ∙ stands))))
+              (λ q stands. others q (false_from_ne_true (is_property p q)
+              (λ is. both_ways (among p rest) apart (ap (λ r. among r rest) (same_property p q is) ∙ stands))))
               (subst (λ r. IsChain at (next_of (at r)) rest) (sym same) chain.3);
           all = λ q is. ⊎_elim
               (λ here. absurd (both_ways (is_linked (after p)) gone (ap (λ r. is_linked (after r)) (same_property p q here) ∙ is)))

@@ -14,12 +14,15 @@ unmarked : (marks : Marks) → has_marks marks ≡ false → (q : Property) → 
 unmarked marks none q = grind (arith, common_steps)
 
 -- those that are left are not the one that was taken
-left_over : (at q : Property) (list : List Property) → among at list ≡ true → (is_property at q || among q (filter (λ p. not (is_property at p)) list)) ≡ among q list
+left_over : (at q : Property) (list : List Property) → among at list ≡ true
+    → (is_property at q || among q (filter (λ p. not (is_property at p)) list)) ≡ among q list
 left_over at q list stands =
-    let left = any-filter_same (is_property q) (λ p. not (is_property at p)) (not (is_property at q)) (λ p same. ap (λ r. not (is_property at r)) (sym (same_property q p same))) list in
+    let left = any-filter_same (is_property q) (λ p. not (is_property at p)) (not (is_property at q))
+    (λ p same. ap (λ r. not (is_property at r)) (sym (same_property q p same))) list in
     ⊎_elim
     (λ (here : is_property at q ≡ true). or_left (is_property at q) _ here ∙ sym (ap (λ r. among r list) (sym (same_property at q here)) ∙ stands))
-    (λ (other : is_property at q ≡ false). ap (λ b. b || among q (filter (λ p. not (is_property at p)) list)) other ∙ (left ∙ ap (λ b. not b && among q list) other))
+    (λ (other : is_property at q ≡ false). ap (λ b. b || among q (filter (λ p. not (is_property at p)) list)) other
+    ∙ (left ∙ ap (λ b. not b && among q list) other))
     (cases_Bool (is_property at q))
 
 pub drain_law : DrainLaw

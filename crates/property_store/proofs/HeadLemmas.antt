@@ -1,5 +1,6 @@
 -- The heads of places, and the rows that they lead over.
-use Rattle.std.proofs.Common.{◌≡◌, ◌≢◌, ◌∙◌, ℕ, zero, suc, ◌==◌, ◌||◌, Bool, true, false, cond, List, [], ◌∷◌, Option, Some, None, length, get_or, refl, sym, ap, arith, ⊎_elim, rules}
+use Rattle.std.proofs.Common.{◌≡◌, ◌≢◌, ◌∙◌, ℕ, zero, suc, ◌==◌, ◌||◌, Bool, true, false, cond, List, [], ◌∷◌, Option, Some, None, length, get_or, refl, sym}
+use Rattle.std.proofs.Common.{ap, arith, ⊎_elim, rules}
 use Rattle.std.proofs.lemmas.Grind.{common_steps}
 use Rattle.std.proofs.lemmas.Bool.Decides.{nat_tests}
 use Rattle.std.specs.List.{All}
@@ -30,7 +31,8 @@ use Rattle.property_store.proofs.KindLemmas.{as_many}
 use Rattle.property_store.proofs.PlaceLemmas.{IsChanged, marks_seen, shelves_seen, under_all}
 use Rattle.property_store.proofs.StoreLemmas.{IsRowOf, number}
 
-joined_marks : (rows : List (List (Keyed Row))) (heads : List Head) → length heads ≡ length rows → (place : ℕ) → get_or (paired marks_of rows heads) place no_marks ≡ marks_of (get_or rows place []) (get_or heads place head.None)
+joined_marks : (rows : List (List (Keyed Row))) (heads : List Head) → length heads ≡ length rows → (place : ℕ)
+    → get_or (paired marks_of rows heads) place no_marks ≡ marks_of (get_or rows place []) (get_or heads place head.None)
 joined_marks [] [] same place = refl
 joined_marks [] (first ∷ heads) same place = absurd (omega arith)
 joined_marks (row ∷ rows) [] same place = absurd (omega arith)
@@ -38,15 +40,18 @@ joined_marks (row ∷ rows) (first ∷ heads) same zero = refl
 joined_marks (row ∷ rows) (first ∷ heads) same (suc place) = joined_marks rows heads (omega arith) place
 
 -- rows and heads, as they stand and after a change of one place
-pub record AreMoved (rows : Table (List (Keyed Row))) (heads : Table Head) (rows' : Table (List (Keyed Row))) (heads' : Table Head) (place : ℕ) (list : List (Keyed Row)) (first : Head) : Type 0 where
+pub record AreMoved (rows : Table (List (Keyed Row))) (heads : Table Head) (rows' : Table (List (Keyed Row))) (heads' : Table Head) (place : ℕ)
+    (list : List (Keyed Row)) (first : Head) : Type 0 where
   pub rows_are : rows' ≡ with_place rows place list
   pub heads_are : heads' ≡ with_place heads place first
 
-module _ {layouts : List (List Field)} {rows : Table (List (Keyed Row))} {heads : Table Head} (kept : IsKept layouts rows heads) {seen : StoresView} (view_is : stock_of layouts rows heads ≡ seen) (place : ℕ) where
+module _ {layouts : List (List Field)} {rows : Table (List (Keyed Row))} {heads : Table Head} (kept : IsKept layouts rows heads) {seen : StoresView}
+    (view_is : stock_of layouts rows heads ≡ seen) (place : ℕ) where
   pub marks_there : marks_at seen.marks place ≡ marks_of (rows_at rows place) (head_at heads place)
   marks_there = search (rules, marks_seen, joined_marks)
 
-  module _ {rows' : Table (List (Keyed Row))} {heads' : Table Head} {list : List (Keyed Row)} {first : Head} (is_place : IsPlace rows place) (moved : AreMoved rows heads rows' heads' place list first) where
+  module _ {rows' : Table (List (Keyed Row))} {heads' : Table Head} {list : List (Keyed Row)} {first : Head} (is_place : IsPlace rows place)
+      (moved : AreMoved rows heads rows' heads' place list first) where
     pub limited_moved : limited rows' heads'.room ≡ with_place (limited rows heads.room) place list
     limited_moved = (λ i. limited (moved.rows_are i) (moved.heads_are i).room)
 
@@ -71,7 +76,9 @@ module _ {layouts : List (List Field)} {rows : Table (List (Keyed Row))} {heads 
     pub beside_moved : (other : ℕ) → other ≢ place → marks_at (paired marks_of rows'.places heads'.places) other ≡ marks_at seen.marks other
     beside_moved other differ = search (rules, joined_marks, rows_beside, head_beside, marks_seen)
 
-    pub marked_moved : (these : Property → Bool) → ((q : Property) → is_marked (marks_of list first) q ≡ (these q || is_marked (marks_of (rows_at rows place) (head_at heads place)) q)) → AreMarked place these seen.marks (paired marks_of rows'.places heads'.places)
+    pub marked_moved : (these : Property → Bool)
+        → ((q : Property) → is_marked (marks_of list first) q ≡ (these q || is_marked (marks_of (rows_at rows place) (head_at heads place)) q))
+        → AreMarked place these seen.marks (paired marks_of rows'.places heads'.places)
     marked_moved these are = record {
       here = λ q. ap (λ marks. is_marked marks q) here_moved ∙ (are q ∙ ap (λ marks. these q || is_marked marks q) (sym marks_there));
       others = beside_moved;
@@ -81,12 +88,25 @@ module _ {layouts : List (List Field)} {rows : Table (List (Keyed Row))} {heads 
     has_moved marks are = record { here = here_moved ∙ are; others = beside_moved }
 
     pub marks_kept : marks_of list first ≡ marks_of (rows_at rows place) (head_at heads place) → paired marks_of rows'.places heads'.places ≡ seen.marks
-    marks_kept are = grind (arith, nat_tests, paired_set marks_of rows.places heads.places place list first (sym kept.same), joined_marks rows.places heads.places kept.same place, set-get_or (paired marks_of rows.places heads.places) place no_marks, marks_seen view_is)
+    marks_kept are = grind (
+      arith,
+      nat_tests,
+      paired_set marks_of rows.places heads.places place list first (sym kept.same),
+      joined_marks rows.places heads.places kept.same place,
+      set-get_or (paired marks_of rows.places heads.places) place no_marks,
+      marks_seen view_is,
+    )
 
 -- the row of an object is another
-module _ (rows : List (Keyed Row)) (key n : ℕ) (old row : Row) (is : IsRowOf rows key n old) (numbered : row.object ≡ n) (first : Head) (chained : AreChained rows first) where
+module _ (rows : List (Keyed Row)) (key n : ℕ) (old row : Row) (is : IsRowOf rows key n old) (numbered : row.object ≡ n) (first : Head)
+    (chained : AreChained rows first) where
   many_changed : length row.links ≡ length row.values → All (λ keyed. length keyed.row.links ≡ length keyed.row.values) (with_row rows key row)
-  many_changed many = grind (arith, nat_tests, All-map (λ (keyed : Keyed Row). length keyed.row.links ≡ length keyed.row.values) (λ (keyed : Keyed Row). cond (keyed.key == key) (record { key = key; row = row }) keyed) rows)
+  many_changed many = grind (
+    arith,
+    nat_tests,
+    All-map (λ (keyed : Keyed Row). length keyed.row.links ≡ length keyed.row.values)
+        (λ (keyed : Keyed Row). cond (keyed.key == key) (record { key = key; row = row }) keyed) rows,
+  )
 
   pub properties_changed : length row.links ≡ length old.links → properties_in (with_row rows key row) ≡ properties_in rows
   properties_changed many = search (rules, same_properties)
@@ -97,15 +117,29 @@ module _ (rows : List (Keyed Row)) (key n : ℕ) (old row : Row) (is : IsRowOf r
     chained_same many = search (rules, many_changed, linked_same, links_same)
 
     pub marks_same : marks_of (with_row rows key row) first ≡ marks_of rows first
-    marks_same = ap {B = Marks} (λ list. record { all = is_all first; each = list }) (each_same rows (with_row rows key row) first (properties_changed (ap length same)) (links_same rows key n old row is numbered same))
+    marks_same = ap {B = Marks} (λ list. record { all = is_all first; each = list })
+        (each_same rows (with_row rows key row) first (properties_changed (ap length same)) (links_same rows key n old row is numbered same))
 
   -- one property is marked
-  pub chained_marked : (at : ℕ) (linked : Bool) → IsMarking first at old.links row.links linked → length row.links ≡ length row.values → AreChained (with_row rows key row) (cond linked (head.First (record { object = n; number = at })) first)
-  chained_marked at true marking many = grind (arith, nat_tests, number, link_within old.links, many_changed many, linked_more (link_at rows) (link_at (with_row rows key row)) (first_of first) (record { object = n; number = at }), link_of_old rows key n old row is numbered, marking.0, link_here rows key n old row is numbered, link_elsewhere rows key n old row is numbered)
+  pub chained_marked : (at : ℕ) (linked : Bool) → IsMarking first at old.links row.links linked → length row.links ≡ length row.values
+      → AreChained (with_row rows key row) (cond linked (head.First (record { object = n; number = at })) first)
+  chained_marked at true marking many = grind (
+    arith,
+    nat_tests,
+    number,
+    link_within old.links,
+    many_changed many,
+    linked_more (link_at rows) (link_at (with_row rows key row)) (first_of first) (record { object = n; number = at }),
+    link_of_old rows key n old row is numbered,
+    marking.0,
+    link_here rows key n old row is numbered,
+    link_elsewhere rows key n old row is numbered,
+  )
   chained_marked at false marking many = chained_same marking.0 many
 
   pub marked_marked : (at : ℕ) (linked : Bool) → IsMarking first at old.links row.links linked → (q : Property)
-      → is_marked (marks_of (with_row rows key row) (cond linked (head.First (record { object = n; number = at })) first)) q ≡ (is_property (record { object = n; number = at }) q || is_marked (marks_of rows first) q)
+      → is_marked (marks_of (with_row rows key row) (cond linked (head.First (record { object = n; number = at })) first)) q
+      ≡ (is_property (record { object = n; number = at }) q || is_marked (marks_of rows first) q)
   marked_marked at true marking q =
       let within = link_within old.links at _ marking.0 in
       let to = link_to (first_of first) in
@@ -113,7 +147,8 @@ module _ (rows : List (Keyed Row)) (key n : ℕ) (old row : Row) (is : IsRowOf r
       ∙ ⊎_elim
       (λ (here : is_property (record { object = n; number = at }) q ≡ true).
       ap (λ r. is_linked (link_at (with_row rows key row) r)) (sym (same_property (record { object = n; number = at }) q here))
-      ∙ (ap is_linked (link_here rows key n old row is numbered at to within marking.2) ∙ (ends (first_of first) ∙ sym (or_left _ (is_marked (marks_of rows first) q) here))))
+      ∙ (ap is_linked (link_here rows key n old row is numbered at to within marking.2)
+      ∙ (ends (first_of first) ∙ sym (or_left _ (is_marked (marks_of rows first) q) here))))
       (λ (other : is_property (record { object = n; number = at }) q ≡ false).
       ap is_linked (link_elsewhere rows key n old row is numbered at to within marking.2 q other)
       ∙ sym (ap (λ b. b || is_marked (marks_of rows first) q) other ∙ (marked_linked rows first q ∙ ap (λ b. b || is_linked (link_at rows q)) marking.1)))
@@ -140,7 +175,8 @@ module _ (rows : List (Keyed Row)) (key n : ℕ) (old row : Row) (is : IsRowOf r
           (cases_Bool (is_all first))
 
 -- the row of a number is lent to a call, which changes it where it stands, and the head is another
-pub record IsRowChanged (layouts : List (List Field)) (rows : Table (List (Keyed Row))) (heads : Table Head) (rows' : Table (List (Keyed Row))) (heads' : Table Head) (seen : StoresView) (place key n : ℕ) (old row : Row) (first : Head) : Type 0 where
+pub record IsRowChanged (layouts : List (List Field)) (rows : Table (List (Keyed Row))) (heads : Table Head) (rows' : Table (List (Keyed Row)))
+    (heads' : Table Head) (seen : StoresView) (place key n : ℕ) (old row : Row) (first : Head) : Type 0 where
   pub kept : IsKept layouts rows heads
   pub view_is : stock_of layouts rows heads ≡ seen
   pub is_place : IsPlace seen.shelves.table place
@@ -154,7 +190,9 @@ pub record IsRowChanged (layouts : List (List Field)) (rows : Table (List (Keyed
   pub rows_are : rows' ≡ with_place rows place (with_row (rows_at rows place) key left)
   pub heads_are : heads' ≡ with_place heads place first
 
-module _ {layouts : List (List Field)} {rows : Table (List (Keyed Row))} {heads : Table Head} {rows' : Table (List (Keyed Row))} {heads' : Table Head} {seen : StoresView} {place key n : ℕ} {old row : Row} {first : Head} (it : IsRowChanged layouts rows heads rows' heads' seen place key n old row first) where
+module _ {layouts : List (List Field)} {rows : Table (List (Keyed Row))} {heads : Table Head} {rows' : Table (List (Keyed Row))} {heads' : Table Head}
+    {seen : StoresView} {place key n : ℕ} {old row : Row} {first : Head}
+    (it : IsRowChanged layouts rows heads rows' heads' seen place key n old row first) where
   pub in_rows : IsPlace rows place
   in_rows = grind (arith, common_steps)
 
@@ -177,10 +215,13 @@ module _ {layouts : List (List Field)} {rows : Table (List (Keyed Row))} {heads 
   }
 
 -- a value and a link stand for each declared property of a row
-pub each_many : {layouts : List (List Field)} {rows : Table (List (Keyed Row))} {heads : Table Head} (kept : IsKept layouts rows heads) (place : ℕ) → IsPlace rows place → All (λ keyed. AreAsMany (fields_in layouts keyed.row.class) keyed.row) (rows_at rows place)
+pub each_many : {layouts : List (List Field)} {rows : Table (List (Keyed Row))} {heads : Table Head} (kept : IsKept layouts rows heads) (place : ℕ)
+    → IsPlace rows place → All (λ keyed. AreAsMany (fields_in layouts keyed.row.class) keyed.row) (rows_at rows place)
 each_many kept place is_place k d within =
     let values = as_many _ (kept.sound place [] is_place k d within) in
     record { values = values; links = (kept.chained place).as_many k d within ∙ values }
 
-pub under_many : {layouts : List (List Field)} {rows : Table (List (Keyed Row))} {heads : Table Head} (kept : IsKept layouts rows heads) (place : ℕ) → IsPlace rows place → (key : ℕ) (row : Row) → row_under (rows_at rows place) key ≡ Some row → AreAsMany (fields_in layouts row.class) row
-under_many {layouts} {rows} kept place is_place = under_all (λ row. AreAsMany (fields_in layouts row.class) row) (rows_at rows place) (each_many kept place is_place)
+pub under_many : {layouts : List (List Field)} {rows : Table (List (Keyed Row))} {heads : Table Head} (kept : IsKept layouts rows heads) (place : ℕ)
+    → IsPlace rows place → (key : ℕ) (row : Row) → row_under (rows_at rows place) key ≡ Some row → AreAsMany (fields_in layouts row.class) row
+under_many {layouts} {rows} kept place is_place = under_all (λ row. AreAsMany (fields_in layouts row.class) row) (rows_at rows place)
+    (each_many kept place is_place)

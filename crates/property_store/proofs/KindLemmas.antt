@@ -1,5 +1,6 @@
 -- Values of the kinds of their properties.
-use Rattle.std.proofs.Common.{◌≡◌, ◌∙◌, ℕ, Bor, Bool, true, false, cond, ℤ, unsigned_abs, IfSome, List, Option, Some, None, Ok, Err, length, map, get_or, set, refl, sym, ap, subst, arith, rules}
+use Rattle.std.proofs.Common.{◌≡◌, ◌∙◌, ℕ, Bor, Bool, true, false, cond, ℤ, unsigned_abs, IfSome, List, Option, Some, None, Ok, Err, length, map, get_or, set}
+use Rattle.std.proofs.Common.{refl, sym, ap, subst, arith, rules}
 use Rattle.std.proofs.lemmas.Grind.{common_steps}
 use Rattle.std.proofs.lemmas.Bool.Decides.{nat_tests}
 use Rattle.std.specs.List.{slice_get}
@@ -35,23 +36,35 @@ default_short k.Ulonglong = tt
 default_short k.Text = omega arith
 
 pub fresh_sound : (object : ℕ) (fields : List Field) → AreSound (fresh object fields)
-fresh_sound object fields = grind (arith, nat_tests, map_over_map kind_of (λ (field : Field). default_of field.kind) fields, map_at (λ (field : Field). kind_of (default_of field.kind)) (λ field. Some field.kind) fields (λ k d within. default_kind (get_or fields k d).kind), default_kind, All-map IsShort (λ (field : Field). default_of field.kind) fields (λ k d within. default_short (get_or fields k d).kind), default_short)
+fresh_sound object fields = grind (
+  arith,
+  nat_tests,
+  map_over_map kind_of (λ (field : Field). default_of field.kind) fields,
+  map_at (λ (field : Field). kind_of (default_of field.kind)) (λ field. Some field.kind) fields (λ k d within. default_kind (get_or fields k d).kind),
+  default_kind,
+  All-map IsShort (λ (field : Field). default_of field.kind) fields (λ k d within. default_short (get_or fields k d).kind),
+  default_short,
+)
 
 module _ (of : Properties) (sound : AreSound of) (number : ℕ) where
   same_kind : option_map kind_of (slice_get of.values number) ≡ option_map (λ (field : Field). Some field.kind) (slice_get of.fields number)
   same_kind = grind (arith, nat_tests, slice_get-map kind_of of.values number, slice_get-map (λ (field : Field). Some field.kind) of.fields number)
 
-  pub kind_there : (value : Value) (field : Field) → slice_get of.values number ≡ Some value → slice_get of.fields number ≡ Some field → IsOfKind field.kind value
+  pub kind_there : (value : Value) (field : Field) → slice_get of.values number ≡ Some value → slice_get of.fields number ≡ Some field
+      → IsOfKind field.kind value
   kind_there value field value_is field_is = search (rules, same_kind, get_or_from_slice_get, slice_get_within)
 
-  pub value_kind : (result : Option (Bor Value)) → option_map (λ value. value.now) result ≡ slice_get of.values number → (field : Option Field) → slice_get of.fields number ≡ field → IfSome result (λ value. IfSome field (λ f. IsOfKind f.kind value.now))
+  pub value_kind : (result : Option (Bor Value)) → option_map (λ value. value.now) result ≡ slice_get of.values number → (field : Option Field)
+      → slice_get of.fields number ≡ field → IfSome result (λ value. IfSome field (λ f. IsOfKind f.kind value.now))
   value_kind None value_is field field_is = tt
   value_kind (Some value) value_is None field_is = tt
   value_kind (Some value) value_is (Some field) field_is = kind_there value.now field (sym value_is) field_is
 
-  pub with_value_sound : (value : Value) (field : Field) → slice_get of.fields number ≡ Some field → kind_of value ≡ Some field.kind → IsShort value → AreSound (with_value number value of)
+  pub with_value_sound : (value : Value) (field : Field) → slice_get of.fields number ≡ Some field → kind_of value ≡ Some field.kind → IsShort value
+      → AreSound (with_value number value of)
   with_value_sound value field field_is kind short = record {
-    kinds = map-set kind_of of.values number value ∙ (ap (λ kinds. set kinds number (kind_of value)) sound.kinds ∙ (ap (set (map (λ (f : Field). Some f.kind) of.fields) number) kind ∙ set_there));
+    kinds = map-set kind_of of.values number value
+        ∙ (ap (λ kinds. set kinds number (kind_of value)) sound.kinds ∙ (ap (set (map (λ (f : Field). Some f.kind) of.fields) number) kind ∙ set_there));
     short = All-set IsShort of.values number value short sound.short;
     few = sound.few;
     distinct = sound.distinct;
@@ -60,7 +73,9 @@ module _ (of : Properties) (sound : AreSound of) (number : ℕ) where
     where
       set_there : set (map (λ (f : Field). Some f.kind) of.fields) number (Some field.kind) ≡ map (λ (f : Field). Some f.kind) of.fields
       set_there =
-          ap (set (map (λ (f : Field). Some f.kind) of.fields) number) (sym (get_or_from_slice_get (map (λ (f : Field). Some f.kind) of.fields) number (Some field.kind) None (slice_get-map (λ (f : Field). Some f.kind) of.fields number ∙ ap (option_map (λ (f : Field). Some f.kind)) field_is)))
+          ap (set (map (λ (f : Field). Some f.kind) of.fields) number)
+          (sym (get_or_from_slice_get (map (λ (f : Field). Some f.kind) of.fields) number (Some field.kind) None
+          (slice_get-map (λ (f : Field). Some f.kind) of.fields number ∙ ap (option_map (λ (f : Field). Some f.kind)) field_is)))
           ∙ set-get_or (map (λ (f : Field). Some f.kind) of.fields) number None
 
 -- what is converted is of the kind
@@ -103,10 +118,12 @@ pub as_many : (of : Properties) → AreSound of → length of.values ≡ length 
 as_many of sound = search (rules, length-map)
 
 -- what is stored leaves the properties sound
-pub stored_sound : (of : Properties) (number : ℕ) (value : Value) → AreSound of → IsShort value → AreSound (record of { values = with_fit (fit_in of.fields number value) number of.values })
+pub stored_sound : (of : Properties) (number : ℕ) (value : Value) → AreSound of → IsShort value
+    → AreSound (record of { values = with_fit (fit_in of.fields number value) number of.values })
 stored_sound of number value sound short = by (slice_get of.fields number) refl
   where
-    by : (field : Option Field) → slice_get of.fields number ≡ field → AreSound (record of { values = with_fit (option_and_then (λ (f : Field). converted f.kind value) field) number of.values })
+    by : (field : Option Field) → slice_get of.fields number ≡ field
+        → AreSound (record of { values = with_fit (option_and_then (λ (f : Field). converted f.kind value) field) number of.values })
     by None is = sound
     by (Some field) is = fits (converted field.kind value) refl
       where

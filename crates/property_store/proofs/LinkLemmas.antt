@@ -1,5 +1,6 @@
 -- What link each property has where rows change.
-use Rattle.std.proofs.Common.{◌≡◌, ◌≢◌, ◌∙◌, ℕ, zero, suc, ◌+◌, ◌<◌, ◌≤◌, ◌==◌, nat_lt, not, Bool, true, false, cond, List, [], ◌∷◌, ◌++◌, Option, Some, None, filter, find, map, length, set, refl, sym, ap, subst, arith, ⊎_elim, rules}
+use Rattle.std.proofs.Common.{◌≡◌, ◌≢◌, ◌∙◌, ℕ, zero, suc, ◌+◌, ◌<◌, ◌≤◌, ◌==◌, nat_lt, not, Bool, true, false, cond, List, [], ◌∷◌, ◌++◌, Option, Some, None}
+use Rattle.std.proofs.Common.{filter, find, map, length, set, refl, sym, ap, subst, arith, ⊎_elim, rules}
 use Rattle.std.proofs.lemmas.Grind.{common_steps}
 use Rattle.std.proofs.lemmas.Bool.Decides.{nat_tests}
 use Rattle.std.specs.List.{All, slice_get}
@@ -54,11 +55,13 @@ link_back (y ∷ links) zero x is = let same : y ≡ x = cc in ap (λ z. z ∷ l
 link_back (y ∷ links) (suc n) x is = ap (λ zs. y ∷ zs) (link_back links n x is)
 
 -- what is done to a link is done to it in a list
-pub marking : (first : Head) (links : List Link) (n : ℕ) (old new : Link) (linked : Bool) → slice_get links n ≡ Some old → IsLinking first old new linked → IsMarking first n links (set links n new) linked
+pub marking : (first : Head) (links : List Link) (n : ℕ) (old new : Link) (linked : Bool) → slice_get links n ≡ Some old → IsLinking first old new linked
+    → IsMarking first n links (set links n new) linked
 marking first links n old new true is linking = (is ∙ ap Some linking.0, linking.1, ap (set links n) linking.2)
 marking first links n old new false is linking = search (rules, link_back)
 
-pub marking_as : (first : Head) (n : ℕ) {old old' new new' : List Link} {linked linked' : Bool} → old ≡ old' → new' ≡ new → linked' ≡ linked → IsMarking first n old new linked → IsMarking first n old' new' linked'
+pub marking_as : (first : Head) (n : ℕ) {old old' new new' : List Link} {linked linked' : Bool} → old ≡ old' → new' ≡ new → linked' ≡ linked
+    → IsMarking first n old new linked → IsMarking first n old' new' linked'
 marking_as first n {old} {old'} {new} {new'} {linked} {linked'} old_is new_is linked_is is = grind (arith, common_steps)
 
 -- the link that a row has for a property
@@ -70,7 +73,8 @@ module _ (rows : List (Keyed Row)) (key n : ℕ) (old row : Row) (is : IsRowOf r
   pub row_put : row_of (with_row rows key row) n ≡ Some row
   row_put = by rows is.alone is.found
     where
-      by : (rows : List (Keyed Row)) → All (λ keyed. ((keyed.key == key) ≡ (keyed.row.object == n)) × ((keyed.key == key) ≡ true → keyed.row ≡ old)) rows → row_of rows n ≡ Some old → row_of (with_row rows key row) n ≡ Some row
+      by : (rows : List (Keyed Row)) → All (λ keyed. ((keyed.key == key) ≡ (keyed.row.object == n)) × ((keyed.key == key) ≡ true → keyed.row ≡ old)) rows
+          → row_of rows n ≡ Some old → row_of (with_row rows key row) n ≡ Some row
       by [] alone found = absurd (cc)
       by (first ∷ rest) alone found =
           let here = (alone 0 first (omega arith)).0 in
@@ -85,7 +89,8 @@ module _ (rows : List (Keyed Row)) (key n : ℕ) (old row : Row) (is : IsRowOf r
   pub row_beside : (m : ℕ) → (m ≡ n → ⊥) → row_of (with_row rows key row) m ≡ row_of rows m
   row_beside m differ = by rows is.alone
     where
-      by : (rows : List (Keyed Row)) → All (λ keyed. ((keyed.key == key) ≡ (keyed.row.object == n)) × ((keyed.key == key) ≡ true → keyed.row ≡ old)) rows → row_of (with_row rows key row) m ≡ row_of rows m
+      by : (rows : List (Keyed Row)) → All (λ keyed. ((keyed.key == key) ≡ (keyed.row.object == n)) × ((keyed.key == key) ≡ true → keyed.row ≡ old)) rows
+          → row_of (with_row rows key row) m ≡ row_of rows m
       by [] alone = refl
       by (first ∷ rest) alone =
           let here = (alone 0 first (omega arith)).0 in
@@ -100,8 +105,10 @@ module _ (rows : List (Keyed Row)) (key n : ℕ) (old row : Row) (is : IsRowOf r
           rw other (by_number (first.row.object == m) later))
           (cases_Bool (first.key == key))
         where
-          by_number : (b : Bool) → option_map (λ (keyed : Keyed Row). keyed.row) (find (λ keyed. keyed.row.object == m) (with_row rest key row)) ≡ option_map (λ (keyed : Keyed Row). keyed.row) (find (λ keyed. keyed.row.object == m) rest)
-              → option_map (λ (keyed : Keyed Row). keyed.row) (cond b (Some first) (find (λ keyed. keyed.row.object == m) (with_row rest key row))) ≡ option_map (λ (keyed : Keyed Row). keyed.row) (cond b (Some first) (find (λ keyed. keyed.row.object == m) rest))
+          by_number : (b : Bool) → option_map (λ (keyed : Keyed Row). keyed.row) (find (λ keyed. keyed.row.object == m) (with_row rest key row))
+              ≡ option_map (λ (keyed : Keyed Row). keyed.row) (find (λ keyed. keyed.row.object == m) rest)
+              → option_map (λ (keyed : Keyed Row). keyed.row) (cond b (Some first) (find (λ keyed. keyed.row.object == m) (with_row rest key row)))
+              ≡ option_map (λ (keyed : Keyed Row). keyed.row) (cond b (Some first) (find (λ keyed. keyed.row.object == m) rest))
           by_number true later = refl
           by_number false later = later
 
@@ -124,9 +131,12 @@ module _ (rows : List (Keyed Row)) (key n : ℕ) (old row : Row) (is : IsRowOf r
     link_elsewhere q differ = search (rules, link_of_row, link_other, both_ways, number, and_from, eq-eqb, link_of_old, of_row, row_beside)
 
 -- the properties themselves, where rows keep their numbers and how many links they have
-pub same_properties : (change : Keyed Row → Keyed Row) (rows : List (Keyed Row)) → All (λ keyed. ((change keyed).row.object ≡ keyed.row.object) × (length (change keyed).row.links ≡ length keyed.row.links)) rows → properties_in (map change rows) ≡ properties_in rows
+pub same_properties : (change : Keyed Row → Keyed Row) (rows : List (Keyed Row))
+    → All (λ keyed. ((change keyed).row.object ≡ keyed.row.object) × (length (change keyed).row.links ≡ length keyed.row.links)) rows
+    → properties_in (map change rows) ≡ properties_in rows
 same_properties change [] same = refl
-same_properties change (first ∷ rest) same = search (rules, same 0 first (omega arith), same_properties change rest (λ k d within. same (suc k) d (omega (arith, within))))
+same_properties change (first ∷ rest) same =
+    search (rules, same 0 first (omega arith), same_properties change rest (λ k d within. same (suc k) d (omega (arith, within))))
 
 -- searches past a filter, and past another list
 module _ {X : Type 0} (p : X → Bool) where
@@ -164,7 +174,8 @@ module _ (rows : List (Keyed Row)) (key : ℕ) (row : Row) where
   found_old m differ = search (rules, is_of, ne_eqb, find_before, above, find_stopped, le-ltb, eqb-true, find_passing, lt-ltb, find_behind)
 
   pub link_new : (q : Property) → q.object ≡ row.object → link_at (inserted number rows key row) q ≡ slice_get row.links q.number
-  link_new q same = ap (λ m. of_row q (row_of (inserted number rows key row) m)) same ∙ ap (λ found. of_row q (option_map (λ (keyed : Keyed Row). keyed.row) found)) found_new
+  link_new q same = ap (λ m. of_row q (row_of (inserted number rows key row) m)) same
+      ∙ ap (λ found. of_row q (option_map (λ (keyed : Keyed Row). keyed.row) found)) found_new
 
   pub link_before : (q : Property) → (q.object ≡ row.object → ⊥) → link_at (inserted number rows key row) q ≡ link_at rows q
   link_before q differ = search (rules, of_row, found_old)
@@ -174,17 +185,26 @@ pub link_absent : (rows : List (Keyed Row)) (n : ℕ) → key_of number rows n �
 link_absent rows n none q same = grind (arith, common_steps)
 
 -- an object goes, where nothing is linked
-pub unlinked_without : (rows : List (Keyed Row)) (key n : ℕ) (row : Row) → IsRowOf rows key n row → ((q : Property) → is_linked (link_at rows q) ≡ false) → (q : Property) → is_linked (link_at (without rows key) q) ≡ false
+pub unlinked_without : (rows : List (Keyed Row)) (key n : ℕ) (row : Row) → IsRowOf rows key n row → ((q : Property) → is_linked (link_at rows q) ≡ false)
+    → (q : Property) → is_linked (link_at (without rows key) q) ≡ false
 unlinked_without rows key n row is none q =
-    let same_rows : without rows key ≡ filter (λ keyed. not (keyed.row.object == n)) rows = filter_at (λ (keyed : Keyed Row). not (keyed.key == key)) (λ keyed. not (keyed.row.object == n)) rows (λ k d within. ap not (is.alone k d within).0) in
+    let same_rows : without rows key ≡ filter (λ keyed. not (keyed.row.object == n)) rows =
+    filter_at (λ (keyed : Keyed Row). not (keyed.key == key)) (λ keyed. not (keyed.row.object == n)) rows
+    (λ k d within. ap not (is.alone k d within).0) in
     let found : List (Keyed Row) → Bool = λ list. is_linked (link_at list q) in
     ap found same_rows ∙ ⊎_elim
-    (λ here. ap (λ found. is_linked (of_row q (option_map (λ (keyed : Keyed Row). keyed.row) found))) (find_stopped (λ (keyed : Keyed Row). keyed.row.object == q.object) (λ keyed. not (keyed.row.object == n)) (λ keyed passes. ap not (eq-eqb _ _ (eqb-true keyed.row.object q.object passes ∙ here))) rows))
-    (λ other. ap (λ found. is_linked (of_row q (option_map (λ (keyed : Keyed Row). keyed.row) found))) (find_passing (λ (keyed : Keyed Row). keyed.row.object == q.object) (λ keyed. not (keyed.row.object == n)) (λ keyed passes. ap not (ne_eqb _ _ (λ same. other (sym (eqb-true keyed.row.object q.object passes) ∙ same)))) rows) ∙ none q)
+    (λ here. ap (λ found. is_linked (of_row q (option_map (λ (keyed : Keyed Row). keyed.row) found)))
+    (find_stopped (λ (keyed : Keyed Row). keyed.row.object == q.object) (λ keyed. not (keyed.row.object == n))
+    (λ keyed passes. ap not (eq-eqb _ _ (eqb-true keyed.row.object q.object passes ∙ here))) rows))
+    (λ other. ap (λ found. is_linked (of_row q (option_map (λ (keyed : Keyed Row). keyed.row) found)))
+    (find_passing (λ (keyed : Keyed Row). keyed.row.object == q.object) (λ keyed. not (keyed.row.object == n))
+    (λ keyed passes. ap not (ne_eqb _ _ (λ same. other (sym (eqb-true keyed.row.object q.object passes) ∙ same)))) rows) ∙ none q)
     (cases_eq q.object n)
 
 -- the properties of a new object are linked one by one, from the last on
-module _ (before after : Property → Option Link) (n count : ℕ) (first : Head) (links : List Link) (new : AreNew n count first links) (here : (q : Property) → q.object ≡ n → after q ≡ slice_get links q.number) (beside : (q : Property) → (q.object ≡ n → ⊥) → after q ≡ before q) (absent : (q : Property) → q.object ≡ n → before q ≡ None) where
+module _ (before after : Property → Option Link) (n count : ℕ) (first : Head) (links : List Link) (new : AreNew n count first links)
+    (here : (q : Property) → q.object ≡ n → after q ≡ slice_get links q.number) (beside : (q : Property) → (q.object ≡ n → ⊥) → after q ≡ before q)
+    (absent : (q : Property) → q.object ≡ n → before q ≡ None) where
   abbrev stage : ℕ → Property → Option Link
   stage k q = cond (q.object == n) (cond (nat_lt q.number k) (Some link.Unmarked) (slice_get links q.number)) (before q)
 
@@ -252,7 +272,8 @@ module _ (before after : Property → Option Link) (n count : ℕ) (first : Head
         others q differ = ⊎_elim
             (λ same.
             let at : (q.object == n) ≡ true = eq-eqb _ _ same in
-            let apart : k ≢ q.number = λ level. both_ways (is_property (record { object = n; number = k }) q) differ (and_from (n == q.object) (k == q.number) (eq-eqb n q.object (sym same)) (eq-eqb k q.number level)) in
+            let apart : k ≢ q.number = λ level. both_ways (is_property (record { object = n; number = k }) q) differ
+            (and_from (n == q.object) (k == q.number) (eq-eqb n q.object (sym same)) (eq-eqb k q.number level)) in
             let step : nat_lt q.number k ≡ nat_lt q.number (k + 1) = ⊎_elim
             (λ (less : q.number < k). lt-ltb _ _ less ∙ sym (lt-ltb _ _ (omega (arith, less))))
             (λ (more : k ≤ q.number). le-ltb _ _ more ∙ sym (le-ltb _ _ (omega (arith, more, apart))))
@@ -264,7 +285,8 @@ module _ (before after : Property → Option Link) (n count : ℕ) (first : Head
     pub new_linked : AreLinked before (first_of first) → AreLinked after (first_at 0)
     new_linked linked = linked_same (stage 0) after (first_at 0)
         (λ q. ⊎_elim
-        (λ same. let at : (q.object == n) ≡ true = eq-eqb _ _ same in here q same ∙ (let zero_past : nat_lt q.number 0 ≡ false = le-ltb _ _ (omega arith) in rw at (rw zero_past refl)))
+        (λ same. let at : (q.object == n) ≡ true = eq-eqb _ _ same in here q same
+        ∙ (let zero_past : nat_lt q.number 0 ≡ false = le-ltb _ _ (omega arith) in rw at (rw zero_past refl)))
         (λ other. let differs : (q.object == n) ≡ false = ne_eqb _ _ other in beside q other ∙ rw differs refl)
         (cases_eq q.object n))
         (staged linked count 0 (omega arith))
@@ -302,7 +324,9 @@ module _ (at : Property) where
       by (Some row) there = ⊎_elim
           (λ (here : (row.object == at.object) ≡ true).
           let numbered : row.object ≡ q.object = row_numbered rows q.object row there in
-          let apart : q.number ≡ at.number → ⊥ = λ same. both_ways (is_property at q) differ (and_from (at.object == q.object) (at.number == q.number) (eq-eqb _ _ (sym (eqb-true row.object at.object here) ∙ numbered)) (eq-eqb _ _ (sym same))) in
+          let apart : q.number ≡ at.number → ⊥ = λ same. both_ways (is_property at q) differ
+          (and_from (at.object == q.object) (at.number == q.number) (eq-eqb _ _ (sym (eqb-true row.object at.object here) ∙ numbered))
+          (eq-eqb _ _ (sym same))) in
           rw here (link_other row.links at.number q.number link.Unmarked apart))
           (λ (other : (row.object == at.object) ≡ false). rw other refl)
           (cases_Bool (row.object == at.object))
@@ -311,5 +335,6 @@ module _ (at : Property) where
   properties_freed rows = search (rules, same_properties)
 
   -- which is what the row of its object is changed to
-  pub unlinked_row : (rows : List (Keyed Row)) (key : ℕ) (old : Row) → IsRowOf rows key at.object old → with_row rows key (unlinked at old) ≡ without_link at rows
+  pub unlinked_row : (rows : List (Keyed Row)) (key : ℕ) (old : Row) → IsRowOf rows key at.object old
+      → with_row rows key (unlinked at old) ≡ without_link at rows
   unlinked_row rows key old is = search (rules, map_at)

@@ -1,5 +1,6 @@
 -- Lists, searched and changed.
-use Rattle.std.proofs.Common.{◌≡◌, ◌∙◌, ℕ, zero, suc, ◌+◌, ◌<◌, nat_lt, not, Bool, true, false, List, [], ◌∷◌, Option, Some, None, filter, find, map, length, get_or, refl, sym, ap, arith, ⊎_elim, rules}
+use Rattle.std.proofs.Common.{◌≡◌, ◌∙◌, ℕ, zero, suc, ◌+◌, ◌<◌, nat_lt, not, Bool, true, false, List, [], ◌∷◌, Option, Some, None, filter, find, map, length}
+use Rattle.std.proofs.Common.{get_or, refl, sym, ap, arith, ⊎_elim, rules}
 use Rattle.std.proofs.lemmas.Grind.{common_steps}
 use Rattle.std.specs.List.{All, AllPairs, position, position_or_len, remove, slice_get}
 use Rattle.std.specs.Option.{option_map}
@@ -97,11 +98,13 @@ module _ {X : Type 0} (p : X → Bool) (xs : List X) where
   found_at k d e = search (rules, position_some, find_at, slice_get-get_or)
 
 -- where one element at most passes, the others are left when it is taken out
-pub filter_one : {X : Type 0} (p : X → Bool) (xs : List X) → AllPairs (λ x y. p x ≡ true → p y ≡ false) xs → (k : ℕ) → position_or_len p xs ≡ k → k < length xs → filter (λ x. not (p x)) xs ≡ remove xs k
+pub filter_one : {X : Type 0} (p : X → Bool) (xs : List X) → AllPairs (λ x y. p x ≡ true → p y ≡ false) xs → (k : ℕ) → position_or_len p xs ≡ k → k < length xs
+    → filter (λ x. not (p x)) xs ≡ remove xs k
 filter_one p [] one k is within = absurd (omega (arith, within))
 filter_one p (x ∷ xs) one zero is within = ⊎_elim
     (λ (here : p x ≡ true).
-    rw here (filter_all (λ x. not (p x)) xs (λ k d inside. let other : p (get_or xs k d) ≡ false = one 0 (suc k) d (omega arith) (omega arith) here in rw other refl)))
+    rw here (filter_all (λ x. not (p x)) xs (λ k d inside. let other : p (get_or xs k d) ≡ false = one 0 (suc k) d (omega arith) (omega arith) here in rw other
+    refl)))
     (λ (other : p x ≡ false). let never : 1 + position_or_len p xs ≡ 0 = rw other at is in absurd (omega (arith, never)))
     (cases_Bool (p x))
 filter_one p (x ∷ xs) one (suc k) is within = search (rules, p x, filter_one p xs (λ i j d lt within. one (suc i) (suc j) d (omega arith) (omega arith)) k)

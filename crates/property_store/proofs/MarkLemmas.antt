@@ -1,5 +1,6 @@
 -- The marks of a place.
-use Rattle.std.proofs.Common.{◌≡◌, ◌∙◌, ℕ, ◌<◌, ◌≤◌, ◌==◌, ◌&&◌, ◌||◌, nat_lt, not, Bool, true, false, cond, List, [], ◌∷◌, Option, Some, None, filter, length, refl, sym, ap, arith, ⊎_elim, rules}
+use Rattle.std.proofs.Common.{◌≡◌, ◌∙◌, ℕ, ◌<◌, ◌≤◌, ◌==◌, ◌&&◌, ◌||◌, nat_lt, not, Bool, true, false, cond, List, [], ◌∷◌, Option, Some, None, filter, length}
+use Rattle.std.proofs.Common.{refl, sym, ap, arith, ⊎_elim, rules}
 use Rattle.std.proofs.lemmas.Grind.{common_steps}
 use Rattle.std.proofs.lemmas.Bool.Decides.{nat_tests}
 use Rattle.std.specs.List.{slice_get}
@@ -23,7 +24,19 @@ use Rattle.property_store.proofs.LinkLemmas.{link_within}
 
 -- a property that has a link is one of the properties
 number_stands : (object count : ℕ) (q : Property) → q.object ≡ object → q.number < count → among q (numbers_of object count) ≡ true
-number_stands object count q same within = grind (arith, nat_tests, list_any_at (is_property q) (numbers_of object count) q.number q, length-map-range_with_len, get_or-map-range_with_len, and_from (q.object == object) (q.number == q.number) (eq-eqb _ _ same) (eq-eqb q.number q.number refl), q.object, q.number, eq-eqb _ _ same, eq-eqb q.number q.number refl)
+number_stands object count q same within =
+    grind (
+      arith,
+      nat_tests,
+      list_any_at (is_property q) (numbers_of object count) q.number q,
+      length-map-range_with_len,
+      get_or-map-range_with_len,
+      and_from (q.object == object) (q.number == q.number) (eq-eqb _ _ same) (eq-eqb q.number q.number refl),
+      q.object,
+      q.number,
+      eq-eqb _ _ same,
+      eq-eqb q.number q.number refl,
+    )
 
 property_stands : (rows : List (Keyed Row)) (q : Property) → is_linked (link_at rows q) ≡ true → among q (properties_in rows) ≡ true
 property_stands [] q is = absurd (both_ways false refl is)
@@ -32,7 +45,8 @@ property_stands (first ∷ rest) q is =
     split ∙ ⊎_elim
     (λ (here : (first.row.object == q.object) ≡ true).
     let linked : is_linked (slice_get first.row.links q.number) ≡ true = rw here at is in
-    or_left _ (among q (properties_in rest)) (number_stands first.row.object (length first.row.links) q (sym (eqb-true _ _ here)) (has first.row.links q.number linked)))
+    or_left _ (among q (properties_in rest))
+    (number_stands first.row.object (length first.row.links) q (sym (eqb-true _ _ here)) (has first.row.links q.number linked)))
     (λ (other : (first.row.object == q.object) ≡ false).
     let later : is_linked (link_at rest q) ≡ true = rw other at is in
     or_right (among q (numbers_of first.row.object (length first.row.links))) _ (property_stands rest q later))
@@ -47,7 +61,14 @@ property_stands (first ∷ rest) q is =
 
 -- a property is marked where it is linked
 pub among_linked : (rows : List (Keyed Row)) (first : Head) (q : Property) → among q (marks_of rows first).each ≡ is_linked (link_at rows q)
-among_linked rows first q = grind (arith, nat_tests, any-filter_same (is_property q) (λ p. is_linked (link_at rows p)) (is_linked (link_at rows q)) (λ p same. ap (λ r. is_linked (link_at rows r)) (sym (same_property q p same))) (properties_in rows), same_property q, property_stands rows q)
+among_linked rows first q = grind (
+  arith,
+  nat_tests,
+  any-filter_same (is_property q) (λ p. is_linked (link_at rows p)) (is_linked (link_at rows q))
+      (λ p same. ap (λ r. is_linked (link_at rows r)) (sym (same_property q p same))) (properties_in rows),
+  same_property q,
+  property_stands rows q,
+)
 
 pub marked_linked : (rows : List (Keyed Row)) (first : Head) (q : Property) → is_marked (marks_of rows first) q ≡ (is_all first || is_linked (link_at rows q))
 marked_linked rows first q = ap (λ b. is_all first || b) (among_linked rows first q)
@@ -57,12 +78,20 @@ filter_twice : {X : Type 0} (f g : X → Bool) (xs : List X) → filter (λ x. g
 filter_twice f g [] = refl
 filter_twice f g (x ∷ xs) = search (rules, f x, g x, filter_twice f g xs)
 
-pub each_same : (rows after : List (Keyed Row)) (first : Head) → properties_in after ≡ properties_in rows → ((q : Property) → link_at after q ≡ link_at rows q) → (marks_of after first).each ≡ (marks_of rows first).each
+pub each_same : (rows after : List (Keyed Row)) (first : Head) → properties_in after ≡ properties_in rows → ((q : Property) → link_at after q ≡ link_at rows q)
+    → (marks_of after first).each ≡ (marks_of rows first).each
 each_same rows after first same links = grind (arith, common_steps)
 
-pub each_less : (rows after : List (Keyed Row)) (first then : Head) (p : Property) → properties_in after ≡ properties_in rows → is_linked (link_at after p) ≡ false → ((q : Property) → is_property p q ≡ false → link_at after q ≡ link_at rows q)
+pub each_less : (rows after : List (Keyed Row)) (first then : Head) (p : Property) → properties_in after ≡ properties_in rows
+    → is_linked (link_at after p) ≡ false → ((q : Property) → is_property p q ≡ false → link_at after q ≡ link_at rows q)
     → (marks_of after then).each ≡ filter (λ q. not (is_property p q)) (marks_of rows first).each
-each_less rows after first then p same gone others = grind (arith, nat_tests, filter_agree (λ q. is_linked (link_at after q)) (λ q. not (is_property p q) && is_linked (link_at rows q)), filter_twice (λ q. is_linked (link_at rows q)) (λ q. not (is_property p q)) (properties_in rows))
+each_less rows after first then p same gone others =
+    grind (
+      arith,
+      nat_tests,
+      filter_agree (λ q. is_linked (link_at after q)) (λ q. not (is_property p q) && is_linked (link_at rows q)),
+      filter_twice (λ q. is_linked (link_at rows q)) (λ q. not (is_property p q)) (properties_in rows),
+    )
 
 pub each_none : (rows : List (Keyed Row)) (first : Head) → ((q : Property) → is_linked (link_at rows q) ≡ false) → (marks_of rows first).each ≡ []
 each_none rows first none = by (properties_in rows)
@@ -107,6 +136,7 @@ fewer p (q ∷ list) stands = ⊎_elim
     no_more [] = omega arith
     no_more (q ∷ list) = by (not (is_property p q)) (no_more list)
       where
-        by : (b : Bool) → length (filter (λ q. not (is_property p q)) list) ≤ length list → length (cond b (q ∷ filter (λ q. not (is_property p q)) list) (filter (λ q. not (is_property p q)) list)) ≤ length (q ∷ list)
+        by : (b : Bool) → length (filter (λ q. not (is_property p q)) list) ≤ length list
+            → length (cond b (q ∷ filter (λ q. not (is_property p q)) list) (filter (λ q. not (is_property p q)) list)) ≤ length (q ∷ list)
         by true less = omega (arith, less)
         by false less = omega (arith, less)

@@ -14,7 +14,8 @@ pub record IsSearched (rows : List (Keyed Row)) (last low high : ℕ) : Type 0 w
   pub below : AllWithin (λ keyed. keyed.row.object ≤ last) rows 0 low
   pub above : AllWithin (λ keyed. last < keyed.row.object) rows high (length rows)
 
-module _ (rows : List (Keyed Row)) (sound : IsSound number rows) (last low high middle key : ℕ) (row : Row) (is : IsSearched rows last low high) (from : low ≤ middle) (to : middle < high) (at : IsAtPosition rows middle key row) where
+module _ (rows : List (Keyed Row)) (sound : IsSound number rows) (last low high middle key : ℕ) (row : Row) (is : IsSearched rows last low high)
+    (from : low ≤ middle) (to : middle < high) (at : IsAtPosition rows middle key row) where
   object_at : (d : Keyed Row) → (get_or rows middle d).row.object ≡ row.object
   object_at d = ap (λ (keyed : Keyed Row). keyed.row.object) (at d)
 
@@ -24,13 +25,15 @@ module _ (rows : List (Keyed Row)) (sound : IsSound number rows) (last low high 
     within = is.within;
     below = λ k d from_0 inside. ⊎_elim
         (λ (before : k < middle). let rise = sound.rising k middle d before (omega (arith, to, is.within)) in omega (arith, rise, object_at d, level))
-        (λ (behind : middle ≤ k). let same : k ≡ middle = omega (arith, behind, inside) in let here : (get_or rows k d).row.object ≡ row.object = ap (λ n. (get_or rows n d).row.object) same ∙ object_at d in omega (arith, here, level))
+        (λ (behind : middle ≤ k). let same : k ≡ middle = omega (arith, behind, inside) in
+        let here : (get_or rows k d).row.object ≡ row.object = ap (λ n. (get_or rows n d).row.object) same ∙ object_at d in omega (arith, here, level))
         (cases_lt k middle);
     above = is.above;
   }
 
 -- what stands behind them is the next
-pub next_there : (rows : List (Keyed Row)) (last count : ℕ) → IsCountUpTo rows last count → count < length rows → (d : Keyed Row) → next_number rows last ≡ Some (get_or rows count d).row.object
+pub next_there : (rows : List (Keyed Row)) (last count : ℕ) → IsCountUpTo rows last count → count < length rows → (d : Keyed Row)
+    → next_number rows last ≡ Some (get_or rows count d).row.object
 next_there [] last count is within d = absurd (omega (arith, within))
 next_there (first ∷ rows) last zero is within d =
     let passes : nat_lt last first.row.object ≡ true = lt-ltb _ _ (is.above 0 first (omega arith) (omega arith)) in

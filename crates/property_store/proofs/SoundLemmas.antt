@@ -1,6 +1,7 @@
 -- What each change leaves of a store: the numbers of its objects, the properties of each, and that it is
 -- sound.
-use Rattle.std.proofs.Common.{◌≡◌, ◌∙◌, ℕ, zero, suc, ◌<◌, ◌==◌, nat_lt, not, Bool, true, false, cond, List, [], ◌∷◌, ◌++◌, Option, Some, None, filter, find, map, length, get_or, refl, ap, arith, rules}
+use Rattle.std.proofs.Common.{◌≡◌, ◌∙◌, ℕ, zero, suc, ◌<◌, ◌==◌, nat_lt, not, Bool, true, false, cond, List, [], ◌∷◌, ◌++◌, Option, Some, None, filter, find}
+use Rattle.std.proofs.Common.{map, length, get_or, refl, ap, arith, rules}
 use Rattle.std.proofs.lemmas.Grind.{common_steps}
 use Rattle.std.specs.List.{All, AllByRecursion, AllPairs}
 use Rattle.std.specs.Option.{option_map, option_or}
@@ -22,7 +23,8 @@ abbrev pub objects : Store → List ℕ
 objects store = map (λ of. of.object) store
 
 -- what is found where some are left out
-find_kept : (test kept : Properties → Bool) → ((of : Properties) → test of ≡ true → kept of ≡ true) → (store : Store) → find test (filter kept store) ≡ find test store
+find_kept : (test kept : Properties → Bool) → ((of : Properties) → test of ≡ true → kept of ≡ true) → (store : Store)
+    → find test (filter kept store) ≡ find test store
 find_kept test kept so [] = refl
 find_kept test kept so (of ∷ rest) = search (rules, kept of, find_kept test kept so rest)
 
@@ -43,16 +45,20 @@ module _ (store : Store) (object : ℕ) (fields : List Field) where
   pub added_others : (other : ℕ) → (object == other) ≡ false → properties_of (added store object fields) other ≡ properties_of store other
   added_others other apart =
       find-append (is_of other) (filter (λ of. nat_lt of.object object) store) (fresh object fields ∷ filter (λ of. nat_lt object of.object) store)
-      ∙ (ap (λ same. option_or (find (is_of other) (filter (λ of. nat_lt of.object object) store)) (cond same (Some (fresh object fields)) (find (is_of other) (filter (λ of. nat_lt object of.object) store)))) apart
+      ∙ (ap (λ same. option_or (find (is_of other) (filter (λ of. nat_lt of.object object) store))
+      (cond same (Some (fresh object fields)) (find (is_of other) (filter (λ of. nat_lt object of.object) store)))) apart
       ∙ by (nat_lt other object) refl)
     where
-      by : (less : Bool) → nat_lt other object ≡ less → option_or (find (is_of other) (filter (λ of. nat_lt of.object object) store)) (find (is_of other) (filter (λ of. nat_lt object of.object) store)) ≡ properties_of store other
+      by : (less : Bool) → nat_lt other object ≡ less → option_or (find (is_of other) (filter (λ of. nat_lt of.object object) store))
+          (find (is_of other) (filter (λ of. nat_lt object of.object) store)) ≡ properties_of store other
       by true less =
-          ap (option_or (find (is_of other) (filter (λ of. nat_lt of.object object) store))) (find_none (is_of other) (λ of. nat_lt object of.object) (λ of more. grind (arith, nat_tests, less, more)) store)
+          ap (option_or (find (is_of other) (filter (λ of. nat_lt of.object object) store)))
+          (find_none (is_of other) (λ of. nat_lt object of.object) (λ of more. grind (arith, nat_tests, less, more)) store)
           ∙ (or_nothing (find (is_of other) (filter (λ of. nat_lt of.object object) store))
           ∙ find_kept (is_of other) (λ of. nat_lt of.object object) (λ of same. grind (arith, nat_tests, less, same)) store)
       by false more =
-          ap (λ found. option_or found (find (is_of other) (filter (λ of. nat_lt object of.object) store))) (find_none (is_of other) (λ of. nat_lt of.object object) (λ of less. grind (arith, nat_tests, less, more)) store)
+          ap (λ found. option_or found (find (is_of other) (filter (λ of. nat_lt object of.object) store)))
+          (find_none (is_of other) (λ of. nat_lt of.object object) (λ of less. grind (arith, nat_tests, less, more)) store)
           ∙ find_kept (is_of other) (λ of. nat_lt object of.object) (λ of same. grind (arith, nat_tests, apart, more, same)) store
 
 -- the others are found as before where one is taken out
@@ -60,8 +66,10 @@ pub without_others : (store : Store) (object other : ℕ) → (other == object) 
 without_others store object other apart = search (rules, find_kept, is_of, eqb-true)
 
 -- an object of a number that is above all others stands behind them
-pub objects_added : (store : Store) (object : ℕ) (fields : List Field) → AllByRecursion (λ number. number < object) (objects store) → objects (added store object fields) ≡ objects store ++ object ∷ []
-objects_added store object fields less = ap objects (λ i. all store less i ++ fresh object fields ∷ none store less i) ∙ map_push (λ (of : Properties). of.object) store (fresh object fields)
+pub objects_added : (store : Store) (object : ℕ) (fields : List Field) → AllByRecursion (λ number. number < object) (objects store)
+    → objects (added store object fields) ≡ objects store ++ object ∷ []
+objects_added store object fields less = ap objects (λ i. all store less i ++ fresh object fields ∷ none store less i)
+    ∙ map_push (λ (of : Properties). of.object) store (fresh object fields)
   where
     all : (store : Store) → AllByRecursion (λ number. number < object) (objects store) → filter (λ of. nat_lt of.object object) store ≡ store
     all [] less = refl
@@ -92,7 +100,8 @@ module _ (change : Properties → Properties) (object : ℕ) (same : (of : Prope
   changed_found (of ∷ rest) other = search (rules, changed_found rest other, one, same_one)
 
   -- and its declared properties
-  pub changed_fields : ((of : Properties) → (change of).fields ≡ of.fields) → (store : Store) (other : ℕ) → option_map (λ of. of.fields) (properties_of (changed change object store) other) ≡ option_map (λ of. of.fields) (properties_of store other)
+  pub changed_fields : ((of : Properties) → (change of).fields ≡ of.fields) → (store : Store) (other : ℕ)
+      → option_map (λ of. of.fields) (properties_of (changed change object store) other) ≡ option_map (λ of. of.fields) (properties_of store other)
   changed_fields fields store other = search (rules, changed_found)
 
 -- pairs of what is listed, of what it is mapped to, and of two lists behind each other
@@ -125,7 +134,8 @@ pub sound_added : (store : Store) (object : ℕ) (fields : List Field) → IsSou
 sound_added store object fields sound = record {
   rising = pairs_append IsBefore low (fresh object fields ∷ high) (AllPairs-filter IsBefore (λ of. nat_lt of.object object) store sound.rising)
       (AllPairs-cons IsBefore (fresh object fields) high above (AllPairs-filter IsBefore (λ of. nat_lt object of.object) store sound.rising))
-      (All-weaker (λ of. of.object < object) (λ of. All (IsBefore of) (fresh object fields ∷ high)) (λ of less. All-cons (IsBefore of) (fresh object fields) high less
+      (All-weaker (λ of. of.object < object) (λ of. All (IsBefore of) (fresh object fields ∷ high))
+      (λ of less. All-cons (IsBefore of) (fresh object fields) high less
       (All-weaker (λ later. object < later.object) (IsBefore of) (λ later more. omega (arith, less, more)) high above)) low below);
   each = All-append AreSound low (fresh object fields ∷ high) (All-filter (λ of. nat_lt of.object object) AreSound store sound.each)
       (All-cons AreSound (fresh object fields) high (fresh_sound object fields) (All-filter (λ of. nat_lt object of.object) AreSound store sound.each));
@@ -138,28 +148,44 @@ sound_added store object fields sound = record {
     high = filter (λ of. nat_lt object of.object) store
 
     below : All (λ of. of.object < object) low
-    below = All-weaker (λ of. nat_lt of.object object ≡ true) (λ of. of.object < object) (λ of less. grind (arith, nat_tests, less)) low (filter_passes (λ of. nat_lt of.object object) store)
+    below = All-weaker (λ of. nat_lt of.object object ≡ true) (λ of. of.object < object) (λ of less. grind (arith, nat_tests, less)) low
+        (filter_passes (λ of. nat_lt of.object object) store)
 
     above : All (λ of. object < of.object) high
-    above = All-weaker (λ of. nat_lt object of.object ≡ true) (λ of. object < of.object) (λ of more. grind (arith, nat_tests, more)) high (filter_passes (λ of. nat_lt object of.object) store)
+    above = All-weaker (λ of. nat_lt object of.object ≡ true) (λ of. object < of.object) (λ of more. grind (arith, nat_tests, more)) high
+        (filter_passes (λ of. nat_lt object of.object) store)
 
 pub sound_without : (store : Store) (object : ℕ) → IsSound store → IsSound (without object store)
 sound_without store object sound = search (rules, AllPairs-filter, is_of, All-filter)
 
 -- an object stands once
-found_once : (store : Store) (object index : ℕ) (default : Properties) → AllPairs IsBefore store → index < length store → is_of object (get_or store index default) ≡ true → properties_of store object ≡ Some (get_or store index default)
+found_once : (store : Store) (object index : ℕ) (default : Properties) → AllPairs IsBefore store → index < length store
+    → is_of object (get_or store index default) ≡ true → properties_of store object ≡ Some (get_or store index default)
 found_once [] object index default rising within is = absurd (omega arith)
 found_once (of ∷ rest) object zero default rising within is = ap (λ same. cond same (Some of) (properties_of rest object)) is
-found_once (of ∷ rest) object (suc index) default rising within is = grind (arith, nat_tests, of.object, pairs_head IsBefore of rest rising index default (omega arith), eqb-true (get_or rest index default).object object is, found_once rest object index default (pairs_tail IsBefore of rest rising) (omega arith) is, pairs_tail IsBefore of rest rising)
+found_once (of ∷ rest) object (suc index) default rising within is =
+    grind (
+      arith,
+      nat_tests,
+      of.object,
+      pairs_head IsBefore of rest rising index default (omega arith),
+      eqb-true (get_or rest index default).object object is,
+      found_once rest object index default (pairs_tail IsBefore of rest rising) (omega arith) is,
+      pairs_tail IsBefore of rest rising,
+    )
 
 pub sound_changed : (change : Properties → Properties) (object : ℕ) → ((of : Properties) → (change of).object ≡ of.object)
-    → (store : Store) → ((of : Properties) → properties_of store object ≡ Some of → AreSound of → AreSound (change of)) → IsSound store → IsSound (changed change object store)
+    → (store : Store) → ((of : Properties) → properties_of store object ≡ Some of → AreSound of → AreSound (change of)) → IsSound store
+    → IsSound (changed change object store)
 sound_changed change object same store keeps sound = record {
-  rising = pairs_map IsBefore (one change object same) (λ earlier later before. omega (arith, before, same_one change object same earlier, same_one change object same later)) store sound.rising;
+  rising = pairs_map IsBefore (one change object same)
+      (λ earlier later before. omega (arith, before, same_one change object same earlier, same_one change object same later)) store sound.rising;
   each = All-map AreSound (one change object same) store (λ index default within.
-      by (get_or store index default) (is_of object (get_or store index default)) (found_once store object index default sound.rising within) refl (sound.each index default within));
+      by (get_or store index default) (is_of object (get_or store index default)) (found_once store object index default sound.rising within) refl
+      (sound.each index default within));
 }
   where
-    by : (of : Properties) (is : Bool) → (is_of object of ≡ true → properties_of store object ≡ Some of) → is_of object of ≡ is → AreSound of → AreSound (cond is (change of) of)
+    by : (of : Properties) (is : Bool) → (is_of object of ≡ true → properties_of store object ≡ Some of) → is_of object of ≡ is → AreSound of
+        → AreSound (cond is (change of) of)
     by of true found is whole = keeps of (found is) whole
     by of false found is whole = whole

@@ -1,5 +1,6 @@
 -- Stores in rows.
-use Rattle.std.proofs.Common.{◌≡◌, ◌≢◌, ◌∙◌, ℕ, ◌<◌, ◌≤◌, ◌==◌, nat_lt, true, false, List, ◌∷◌, ◌++◌, Some, None, filter, find, length, get_or, sym, ap, arith, ⊎_elim, rules}
+use Rattle.std.proofs.Common.{◌≡◌, ◌≢◌, ◌∙◌, ℕ, ◌<◌, ◌≤◌, ◌==◌, nat_lt, true, false, List, ◌∷◌, ◌++◌, Some, None, filter, find, length, get_or, sym, ap, arith}
+use Rattle.std.proofs.Common.{⊎_elim, rules}
 use Rattle.std.specs.List.{All}
 use Rattle.std.specs.Option.{option_map}
 use Rattle.std.proofs.lemmas.Bool.{cases_eq, cases_lt, eq-eqb, ne_eqb, eqb-true}
@@ -11,7 +12,8 @@ use Rattle.property_store.specs.declared.row.Row.{Row}
 use Rattle.property_store.specs.Inside.{next_number, row_of, shown, store_of}
 use Rattle.property_store.specs.Store.{Properties, changed, next_object, properties_of}
 use Rattle.property_store.specs.Store as store
-use Rattle.property_store.proofs.ListLemmas.{filter_all, filter_at, filter_over_map, find_over_map, found, map_at, map_over_map, map_same, mapped, none_passes, unmapped}
+use Rattle.property_store.proofs.ListLemmas.{filter_all, filter_at, filter_over_map, find_over_map, found, map_at, map_over_map, map_same, mapped, none_passes}
+use Rattle.property_store.proofs.ListLemmas.{unmapped}
 
 abbrev pub number : Row → ℕ
 number row = row.object
@@ -24,7 +26,8 @@ pub record IsRowOf (rows : List (Keyed Row)) (key n : ℕ) (row : Row) : Type 0 
   pub alone : All (λ keyed. ((keyed.key == key) ≡ (keyed.row.object == n)) × ((keyed.key == key) ≡ true → keyed.row ≡ row)) rows
 
 module _ (rows : List (Keyed Row)) (sound : IsSound number rows) where
-  apart : (i j : ℕ) (d : Keyed Row) → i < length rows → j < length rows → i ≢ j → ((get_or rows i d).row.object ≢ (get_or rows j d).row.object) × ((get_or rows i d).key ≢ (get_or rows j d).key)
+  apart : (i j : ℕ) (d : Keyed Row) → i < length rows → j < length rows → i ≢ j
+      → ((get_or rows i d).row.object ≢ (get_or rows j d).row.object) × ((get_or rows i d).key ≢ (get_or rows j d).key)
   apart i j d within_i within_j differ = ⊎_elim
       (λ (before : i < j). (λ same. absurd (omega (arith, sound.rising i j d before within_j, same)), sound.apart i j d before within_j))
       (λ (behind : j ≤ i).
@@ -42,7 +45,9 @@ module _ (rows : List (Keyed Row)) (sound : IsSound number rows) where
       let other_key : other.x.key ≡ key = eqb-true _ _ there.passes in
       let same_place : here.at ≡ there.at = ⊎_elim
       (λ (same : here.at ≡ there.at). same)
-      (λ (differ : here.at ≢ there.at). absurd ((apart here.at there.at d here.within there.within differ).1 (ap (λ (keyed : Keyed Row). keyed.key) (here.is d) ∙ (one.gives ∙ (sym other_key ∙ ap (λ (keyed : Keyed Row). keyed.key) (sym (there.is d)))))))
+      (λ (differ : here.at ≢ there.at). absurd
+      ((apart here.at there.at d here.within there.within differ).1
+      (ap (λ (keyed : Keyed Row). keyed.key) (here.is d) ∙ (one.gives ∙ (sym other_key ∙ ap (λ (keyed : Keyed Row). keyed.key) (sym (there.is d)))))))
       (cases_eq here.at there.at) in
       let same : one.x ≡ other.x = sym (here.is d) ∙ (ap (λ at. get_or rows at d) same_place ∙ there.is d) in
       let numbered : one.x.row.object ≡ n = eqb-true _ _ here.passes in
@@ -57,7 +62,8 @@ module _ (rows : List (Keyed Row)) (sound : IsSound number rows) where
             (λ (differ : k ≢ here.at).
             let differs = apart k here.at d' within here.within differ in
             let not_key : (get_or rows k d').key ≢ key = λ e. differs.1 (e ∙ (sym one.gives ∙ ap (λ (keyed : Keyed Row). keyed.key) (sym (here.is d')))) in
-            let not_number : (get_or rows k d').row.object ≢ n = λ e. differs.0 (e ∙ (sym numbered ∙ ap (λ (keyed : Keyed Row). keyed.row.object) (sym (here.is d')))) in
+            let not_number : (get_or rows k d').row.object ≢ n =
+            λ e. differs.0 (e ∙ (sym numbered ∙ ap (λ (keyed : Keyed Row). keyed.row.object) (sym (here.is d')))) in
             let key_test : ((get_or rows k d').key == key) ≡ false = ne_eqb _ _ not_key in
             (key_test ∙ sym (ne_eqb _ _ not_number), λ passes. absurd (cc (key_test, passes))))
             (cases_eq k here.at);
@@ -76,13 +82,16 @@ module _ (layouts : List (List Field)) (rows : List (Keyed Row)) where
   next_shown after = search (rules, find_over_map)
 
   pub added_shown : (key : ℕ) (row : Row) → store_of layouts (inserted number rows key row)
-      ≡ filter (λ of. nat_lt of.object row.object) (store_of layouts rows) ++ shown layouts row ∷ filter (λ of. nat_lt row.object of.object) (store_of layouts rows)
+      ≡ filter (λ of. nat_lt of.object row.object) (store_of layouts rows) ++ shown layouts row
+      ∷ filter (λ of. nat_lt row.object of.object) (store_of layouts rows)
   added_shown key row = search (rules, map-append, filter_over_map)
 
   -- where an object is not there nothing changes
   module _ (n : ℕ) (none : key_of number rows n ≡ None) where
     absent : All (λ of. (of.object == n) ≡ false) (store_of layouts rows)
-    absent = All-map (λ (of : Properties). (of.object == n) ≡ false) (λ (keyed : Keyed Row). shown layouts keyed.row) rows (none_passes (λ (keyed : Keyed Row). keyed.row.object == n) rows (unmapped (λ (keyed : Keyed Row). keyed.key) (find (λ keyed. keyed.row.object == n) rows) none))
+    absent = All-map (λ (of : Properties). (of.object == n) ≡ false) (λ (keyed : Keyed Row). shown layouts keyed.row) rows
+        (none_passes (λ (keyed : Keyed Row). keyed.row.object == n) rows
+        (unmapped (λ (keyed : Keyed Row). keyed.key) (find (λ keyed. keyed.row.object == n) rows) none))
 
     pub absent_none : properties_of (store_of layouts rows) n ≡ None
     absent_none = search (rules, properties_shown, unmapped)
@@ -100,5 +109,6 @@ module _ (layouts : List (List Field)) (rows : List (Keyed Row)) where
     pub removed_shown : store_of layouts (without rows key) ≡ store.without n (store_of layouts rows)
     removed_shown = search (rules, filter_at, filter_over_map)
 
-    pub changed_shown : (row' : Row) (change : Properties → Properties) → shown layouts row' ≡ change (shown layouts row) → store_of layouts (with_row rows key row') ≡ changed change n (store_of layouts rows)
+    pub changed_shown : (row' : Row) (change : Properties → Properties) → shown layouts row' ≡ change (shown layouts row)
+        → store_of layouts (with_row rows key row') ≡ changed change n (store_of layouts rows)
     changed_shown row' change e = search (rules, map_over_map, map_at)

@@ -22,19 +22,23 @@ module _ (fields : List Field) (number : ℕ) (value : Value) where
 
   module _ (first : Head) (old : Row) (values : List Value) (new : values ≡ with_fit (fit_in fields number value) number old.values) where
     -- the value is refused
-    pub stored_refused : (code : Code) → Some code ≡ refusal_in fields number value → IsStored fields number value first old (record old { values = values }) (Err code)
+    pub stored_refused : (code : Code) → Some code ≡ refusal_in fields number value
+        → IsStored fields number value first old (record old { values = values }) (Err code)
     stored_refused code refused = search (rules, unfit)
 
     -- it is stored
-    pub stored_marked : number < length fields → (change linked : Bool) (links : List Link) → None ≡ refusal_in fields number value → change ≡ is_other (fit_in fields number value) number old.values → IsMarking first number old.links links linked
+    pub stored_marked : number < length fields → (change linked : Bool) (links : List Link) → None ≡ refusal_in fields number value
+        → change ≡ is_other (fit_in fields number value) number old.values → IsMarking first number old.links links linked
         → IsStored fields number value first old (record old { values = values; links = links }) (Ok (record { is_change = change; is_linked = linked }))
-    stored_marked within change linked links refused answer marking = grind (arith, nat_tests, by (fit_in fields number value) (fits within refused), fits within refused)
+    stored_marked within change linked links refused answer marking =
+        grind (arith, nat_tests, by (fit_in fields number value) (fits within refused), fits within refused)
       where
         by : (fit : Option Value) → is_some fit ≡ true → IsMarkedWith fit first number old.links links linked
         by None some = absurd (cc)
         by (Some fit) some = marking
 
     -- there is no such property
-    pub stored_nowhere : length fields ≤ number → (change linked : Bool) → linked ≡ false → None ≡ refusal_in fields number value → change ≡ is_other (fit_in fields number value) number old.values
+    pub stored_nowhere : length fields ≤ number → (change linked : Bool) → linked ≡ false → None ≡ refusal_in fields number value
+        → change ≡ is_other (fit_in fields number value) number old.values
         → IsStored fields number value first old (record old { values = values }) (Ok (record { is_change = change; is_linked = linked }))
     stored_nowhere past change linked off refused answer = search (rules, link_past)

@@ -1,5 +1,6 @@
 -- Places in their order.
-use Rattle.std.proofs.Common.{◌≡◌, ◌∙◌, ℕ, suc, ◌<◌, ◌≤◌, ◌==◌, ◌&&◌, ◌||◌, Bool, true, false, not, List, [], ◌∷◌, Option, Some, None, filter, get_or, refl, sym, ap, subst, arith, ⊎_elim}
+use Rattle.std.proofs.Common.{◌≡◌, ◌∙◌, ℕ, suc, ◌<◌, ◌≤◌, ◌==◌, ◌&&◌, ◌||◌, Bool, true, false, not, List, [], ◌∷◌, Option, Some, None, filter, get_or, refl}
+use Rattle.std.proofs.Common.{sym, ap, subst, arith, ⊎_elim}
 use Rattle.std.specs.Ordering.{is_eq, is_lt, nat_cmp}
 use Rattle.std.specs.declared.cmp.Ordering.TheVariants.{Less, Equal, Greater}
 use Rattle.std.proofs.lemmas.Bool.{cases_eq, cases_lt, cases_order, eqb-true, ne_eqb, eq-eqb, lt-ltb, le-ltb}
@@ -36,7 +37,8 @@ among_with places place at =
     ∙ (λ i. filtered (λ other. is_lt (nat_cmp other place)) places at i || (place == at || filtered (λ other. is_lt (nat_cmp place other)) places at i))
     ∙ by
   where
-    by : ((is_lt (nat_cmp at place) && is_among places at) || (place == at || (is_lt (nat_cmp place at) && is_among places at))) ≡ (is_among places at || place == at)
+    by : ((is_lt (nat_cmp at place) && is_among places at) || (place == at || (is_lt (nat_cmp place at) && is_among places at)))
+        ≡ (is_among places at || place == at)
     by = ⊎_elim
         (λ (same : at ≡ place). grind (arith, eq-eqb place at (sym same)))
         (λ apart. ⊎_elim
@@ -62,12 +64,14 @@ among_without places place at =
 pub first_among : (places : List ℕ) (least : ℕ) → IsInOrder nat_cmp places → IsFirstOf (is_among places) least (first_from nat_cmp places least)
 first_among [] least order = λ other from. refl
 first_among (place ∷ places) least order = ⊎_elim
-    (λ (low : place < least). rw (less place least low) (further (first_from nat_cmp places least) (λ other from. ne_eqb place other (λ (e : place ≡ other). omega (arith, low, from, e)))
+    (λ (low : place < least). rw (less place least low)
+    (further (first_from nat_cmp places least) (λ other from. ne_eqb place other (λ (e : place ≡ other). omega (arith, low, from, e)))
     (first_among places least (λ i j d before within. order (suc i) (suc j) d (omega arith) (omega arith)))))
     (λ (high : least ≤ place). rw (at_least high) (high, eq-or place, λ other from before. none other before))
     (cases_lt place least)
   where
-    further : (result : Option ℕ) → ((other : ℕ) → least ≤ other → place == other ≡ false) → IsFirstOf (is_among places) least result → IsFirstOf (is_among (place ∷ places)) least result
+    further : (result : Option ℕ) → ((other : ℕ) → least ≤ other → place == other ≡ false) → IsFirstOf (is_among places) least result
+        → IsFirstOf (is_among (place ∷ places)) least result
     further None apart first = λ other from. rw (apart other from) (first other from)
     further (Some found) apart first = (first.0, rw (apart found first.0) first.1, λ other from before. rw (apart other from) (first.2 other from before))
 
@@ -83,4 +87,10 @@ first_among (place ∷ places) least order = ⊎_elim
     none : (other : ℕ) → other < place → (place == other || is_among places other) ≡ false
     none other before =
         rw (ne_eqb place other (λ (e : place ≡ other). omega (arith, before, e)))
-        (list_any_none (λ p. p == other) places (λ k d within. ne_eqb (get_or places k d) other (λ (e : get_or places k d ≡ other). omega (arith, before, e, below_from place (get_or places k d) (order 0 (suc k) d (omega arith) (omega arith))))))
+        (list_any_none (λ p. p == other) places (λ k d within. ne_eqb (get_or places k d) other
+        (λ (e : get_or places k d ≡ other). omega (
+          arith,
+          before,
+          e,
+          below_from place (get_or places k d) (order 0 (suc k) d (omega arith) (omega arith)),
+        ))))

@@ -19,7 +19,8 @@ sound_filtered desk kept sound = record {
 }
 
 -- rows that were made stay sound without some of their publications
-pub sound_without : (made : Option (Box Rows Global)) (rows : Box Rows Global) (old new : Rows) (kept : Publication → Bool) → IsSound (desk_of made) → made ≡ Some rows → old ≡ rows.value
+pub sound_without : (made : Option (Box Rows Global)) (rows : Box Rows Global) (old new : Rows) (kept : Publication → Bool) → IsSound (desk_of made)
+    → made ≡ Some rows → old ≡ rows.value
     → desk_in new ≡ record (desk_in old) { publications = filter kept (desk_in old).publications } → IsSound (desk_in new)
 sound_without made rows old new kept sound some is after =
     subst IsSound (sym after) (sound_filtered (desk_in old) kept (subst IsSound (ap desk_of some ∙ ap desk_in (sym is)) sound))

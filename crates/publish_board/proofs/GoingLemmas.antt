@@ -1,5 +1,6 @@
 -- Joins that are taken out one after another, from the last to the first.
-use Rattle.std.proofs.Common.{◌≡◌, ◌∙◌, ℕ, zero, suc, ◌<◌, ◌≤◌, Bool, true, false, not, List, [], ◌∷◌, drop, filter, remove, length, get_or, refl, sym, ap, subst, arith}
+use Rattle.std.proofs.Common.{◌≡◌, ◌∙◌, ℕ, zero, suc, ◌<◌, ◌≤◌, Bool, true, false, not, List, [], ◌∷◌, drop, filter, remove, length, get_or, refl, sym, ap}
+use Rattle.std.proofs.Common.{subst, arith}
 use Rattle.std.specs.List.{list_any}
 use Rattle.std.proofs.lemmas.Bool.{or_parts}
 use Rattle.std.proofs.lemmas.List.Edits.{length-remove}
@@ -26,17 +27,20 @@ module _ (p : Join → Bool) where
       rw parts.0 (ap (λ rest. join ∷ rest) (filter_none joins parts.1))
 
   -- one that passes need not stand there
-  filter_removed : (joins : List Join) (position : ℕ) (d : Join) → position < length joins → p (get_or joins position d) ≡ true → filter (λ join. not (p join)) (remove joins position) ≡ filter (λ join. not (p join)) joins
+  filter_removed : (joins : List Join) (position : ℕ) (d : Join) → position < length joins → p (get_or joins position d) ≡ true
+      → filter (λ join. not (p join)) (remove joins position) ≡ filter (λ join. not (p join)) joins
   filter_removed [] position d within passes = absurd (omega arith)
   filter_removed (join ∷ joins) zero d within passes = rw passes refl
   filter_removed (join ∷ joins) (suc position) d within passes = by (p join) refl (filter_removed joins position d (omega arith) passes)
     where
-      by : (b : Bool) → p join ≡ b → filter (λ j. not (p j)) (remove joins position) ≡ filter (λ j. not (p j)) joins → filter (λ j. not (p j)) (join ∷ remove joins position) ≡ filter (λ j. not (p j)) (join ∷ joins)
+      by : (b : Bool) → p join ≡ b → filter (λ j. not (p j)) (remove joins position) ≡ filter (λ j. not (p j)) joins
+          → filter (λ j. not (p j)) (join ∷ remove joins position) ≡ filter (λ j. not (p j)) (join ∷ joins)
       by true e rest = rw e rest
       by false e rest = rw e (ap (λ l. join ∷ l) rest)
 
   -- none behind a position, with the one at the position that does not pass
-  any_behind : (joins : List Join) (position : ℕ) (d : Join) → position < length joins → p (get_or joins position d) ≡ false → list_any p (drop (suc position) joins) ≡ false → list_any p (drop position joins) ≡ false
+  any_behind : (joins : List Join) (position : ℕ) (d : Join) → position < length joins → p (get_or joins position d) ≡ false
+      → list_any p (drop (suc position) joins) ≡ false → list_any p (drop position joins) ≡ false
   any_behind [] position d within fails none = absurd (omega arith)
   any_behind (join ∷ joins) zero d within fails none = rw fails none
   any_behind (join ∷ joins) (suc position) d within fails none = any_behind joins position d (omega arith) fails none
@@ -74,14 +78,18 @@ module _ (old : Table Desk) (place : ℕ) (going : Going) (is_place : IsPlace ol
 
     pub ends : position ≤ 0 → now ≡ with_desk old place (gone going (desk_at old place))
     ends over =
-        let all : list_any (goes going) (drop 0 (desk_at now place).joins) ≡ false = subst (λ n. list_any (goes going) (drop n (desk_at now place).joins) ≡ false) (zero_is position over) under.behind in
-        let stays : gone going (desk_at now place) ≡ desk_at now place = ap (λ (joins : List Join). let desk : Desk = record (desk_at now place) { joins = joins } in desk) (filter_none (goes going) (desk_at now place).joins all) in
+        let all : list_any (goes going) (drop 0 (desk_at now place).joins) ≡ false =
+        subst (λ n. list_any (goes going) (drop n (desk_at now place).joins) ≡ false) (zero_is position over) under.behind in
+        let stays : gone going (desk_at now place) ≡ desk_at now place =
+        ap (λ (joins : List Join). let desk : Desk = record (desk_at now place) { joins = joins } in desk)
+        (filter_none (goes going) (desk_at now place).joins all) in
         under.only ∙ ap (with_desk old place) (sym stays ∙ under.rest)
       where
         zero_is : (n : ℕ) → n ≤ 0 → n ≡ 0
         zero_is n low = omega (arith, low)
 
-  module _ (now : Table Desk) (position : ℕ) (under : IsUnderWay old now place going (suc position)) (join : Join) (is : join ≡ get_or (desk_at now place).joins position join) where
+  module _ (now : Table Desk) (position : ℕ) (under : IsUnderWay old now place going (suc position)) (join : Join)
+      (is : join ≡ get_or (desk_at now place).joins position join) where
     pub passes : goes going join ≡ false → IsUnderWay old now place going position
     passes stays = record {
       only = under.only;
@@ -90,11 +98,14 @@ module _ (old : Table Desk) (place : ℕ) (going : Going) (is_place : IsPlace ol
       within = omega (arith, under.within);
     }
 
-    pub takes : goes going join ≡ true → (new : Table Desk) → new ≡ with_desk now place (without_join position (desk_at now place)) → IsUnderWay old new place going position
+    pub takes : goes going join ≡ true → (new : Table Desk) → new ≡ with_desk now place (without_join position (desk_at now place))
+        → IsUnderWay old new place going position
     takes goes_out new e = record {
       only = changes_twice no_desk old now new place under.only (changes_with no_desk now new place (without_join position (desk_at now place)) is_open e);
-      rest = ap (gone going) seen ∙ (ap (λ (joins : List Join). let desk : Desk = record (desk_at now place) { joins = joins } in desk) (filter_removed (goes going) (desk_at now place).joins position join inside (ap (goes going) (sym is) ∙ goes_out)) ∙ under.rest);
-      behind = ap (λ (desk : Desk). list_any (goes going) (drop position desk.joins)) seen ∙ (ap (list_any (goes going)) (drop_removed (desk_at now place).joins position inside) ∙ under.behind);
+      rest = ap (gone going) seen ∙ (ap (λ (joins : List Join). let desk : Desk = record (desk_at now place) { joins = joins } in desk)
+          (filter_removed (goes going) (desk_at now place).joins position join inside (ap (goes going) (sym is) ∙ goes_out)) ∙ under.rest);
+      behind = ap (λ (desk : Desk). list_any (goes going) (drop position desk.joins)) seen
+          ∙ (ap (list_any (goes going)) (drop_removed (desk_at now place).joins position inside) ∙ under.behind);
       within = omega (arith, length-remove (desk_at now place).joins position inside, ap (λ (desk : Desk). length desk.joins) seen, under.within);
     }
       where
@@ -112,10 +123,15 @@ all_gone [] = refl
 all_gone (join ∷ joins) = all_gone joins
 
 -- once all joins are out, an empty desk is put at the place
-module _ (joiners : Joiners) (old now : Table Desk) (place : ℕ) (is_place : IsPlace old place) (out : now ≡ with_desk old place (gone All (desk_at old place))) where
+module _ (joiners : Joiners) (old now : Table Desk) (place : ℕ) (is_place : IsPlace old place)
+    (out : now ≡ with_desk old place (gone All (desk_at old place))) where
   pub cleared : AreListed joiners now → AreListed joiners (with_desk now place no_desk)
-  cleared listed = with_other joiners now listed place (changes_open no_desk old now place (changes_with no_desk old now place (gone All (desk_at old place)) is_place out) is_place) joiners no_desk (λ name at differ. refl) (λ name.
-      listed name place ∙ ap (names_session name) (ap (λ (t : Table Desk). desk_at t place) out ∙ with_there no_desk old place (gone All (desk_at old place)) is_place) ∙ ap (list_any (is_from name)) (all_gone (desk_at old place).joins))
+  cleared listed = with_other joiners now listed place
+      (changes_open no_desk old now place (changes_with no_desk old now place (gone All (desk_at old place)) is_place out) is_place) joiners no_desk
+      (λ name at differ. refl) (λ name.
+      listed name place ∙ ap (names_session name)
+      (ap (λ (t : Table Desk). desk_at t place) out ∙ with_there no_desk old place (gone All (desk_at old place)) is_place)
+      ∙ ap (list_any (is_from name)) (all_gone (desk_at old place).joins))
 
 -- another desk is put at the place then
 pub put_after : (old now : Table Desk) (place : ℕ) (first last : Desk) → now ≡ with_desk old place first → with_desk now place last ≡ with_desk old place last
@@ -123,7 +139,9 @@ put_after old now place first last e = ap (λ (t : Table Desk). with_desk t plac
 
 -- and what its object publishes is taken out of it
 pub dropped : (old now : Table Desk) (place object : ℕ) → IsPlace old place → now ≡ with_desk old place (gone (Object object) (desk_at old place))
-    → (desk last : Desk) → desk ≡ desk_at now place → last ≡ without_publications object desk → with_desk now place last ≡ with_desk old place (without_object object (desk_at old place))
+    → (desk last : Desk) → desk ≡ desk_at now place → last ≡ without_publications object desk
+    → with_desk now place last ≡ with_desk old place (without_object object (desk_at old place))
 dropped old now place object is_place out desk last stood e =
     put_after old now place (gone (Object object) (desk_at old place)) last out
-    ∙ ap (with_desk old place) (e ∙ ap (without_publications object) (stood ∙ (ap (λ (t : Table Desk). desk_at t place) out ∙ with_there no_desk old place (gone (Object object) (desk_at old place)) is_place)))
+    ∙ ap (with_desk old place) (e ∙ ap (without_publications object)
+    (stood ∙ (ap (λ (t : Table Desk). desk_at t place) out ∙ with_there no_desk old place (gone (Object object) (desk_at old place)) is_place)))

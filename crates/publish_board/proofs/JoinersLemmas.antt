@@ -22,29 +22,36 @@ pub and_true : (x : Bool) → (x && not false) ≡ x
 and_true true = refl
 and_true false = refl
 
-pub first_listed : (found : Option (Linked ℕ)) (list : Linked ℕ) (least : ℕ) (result : Option ℕ) → Some list ≡ found → IsInOrder nat_cmp list.links → result ≡ first_from nat_cmp list.links least → IsFirstOf (λ place. in_list place found) least result
+pub first_listed : (found : Option (Linked ℕ)) (list : Linked ℕ) (least : ℕ) (result : Option ℕ) → Some list ≡ found → IsInOrder nat_cmp list.links
+    → result ≡ first_from nat_cmp list.links least → IsFirstOf (λ place. in_list place found) least result
 first_listed found list least result is order e =
-    subst (λ f. IsFirstOf (λ place. in_list place f) least result) is (subst (IsFirstOf (is_among list.links) least) (sym e) (first_among list.links least order))
+    subst (λ f. IsFirstOf (λ place. in_list place f) least result) is
+    (subst (IsFirstOf (is_among list.links) least) (sym e) (first_among list.links least order))
 
-module _ {S : Type 0} (old new : IndexMap (List ℕ) (Linked ℕ) S) (name : List ℕ) (place : ℕ) (list : Linked ℕ) (stood : Some list ≡ get bytes_eq old name) (now : Option (Linked ℕ))
+module _ {S : Type 0} (old new : IndexMap (List ℕ) (Linked ℕ) S) (name : List ℕ) (place : ℕ) (list : Linked ℕ) (stood : Some list ≡ get bytes_eq old name)
+    (now : Option (Linked ℕ))
     (updates : (other : List ℕ) → get bytes_eq new other ≡ cond (bytes_eq name other) now (get bytes_eq old other)) where
   changed : (f : Bool → Bool → Bool) → ((x : Bool) → f x false ≡ x) → ((at : ℕ) → in_list at now ≡ f (is_among list.links at) (place == at))
       → (other : List ℕ) (at : ℕ) → in_list at (get bytes_eq new other) ≡ f (in_list at (get bytes_eq old other)) (is_pair name place other at)
   changed f neutral here other at = by (bytes_eq name other) refl
     where
-      by : (same : Bool) → bytes_eq name other ≡ same → in_list at (get bytes_eq new other) ≡ f (in_list at (get bytes_eq old other)) (is_pair name place other at)
+      by : (same : Bool) → bytes_eq name other ≡ same → in_list at (get bytes_eq new other)
+          ≡ f (in_list at (get bytes_eq old other)) (is_pair name place other at)
       by true e =
           let P : List ℕ → Type 0 = λ n. Some list ≡ get bytes_eq old n in
           let same : name ≡ other = (bytes_eq-Decides name other).0 e in
           let there : Some list ≡ get bytes_eq old other = subst P same stood in
-          ap (in_list at) (updates other ∙ cond-true (bytes_eq name other) now (get bytes_eq old other) e) ∙ (here at ∙ (λ i. f (in_list at (there i)) (sym e i && place == at)))
+          ap (in_list at) (updates other ∙ cond-true (bytes_eq name other) now (get bytes_eq old other) e)
+          ∙ (here at ∙ (λ i. f (in_list at (there i)) (sym e i && place == at)))
       by false e =
-          ap (in_list at) (updates other ∙ cond-false (bytes_eq name other) now (get bytes_eq old other) e) ∙ (sym (neutral (in_list at (get bytes_eq old other))) ∙ (λ i. f (in_list at (get bytes_eq old other)) (sym e i && place == at)))
+          ap (in_list at) (updates other ∙ cond-false (bytes_eq name other) now (get bytes_eq old other) e)
+          ∙ (sym (neutral (in_list at (get bytes_eq old other))) ∙ (λ i. f (in_list at (get bytes_eq old other)) (sym e i && place == at)))
 
   -- one place more in the list of a name
   pub one_more : (changed_list : Linked ℕ) → now ≡ Some changed_list → changed_list.links ≡ with_link nat_cmp list.links place
       → (other : List ℕ) (at : ℕ) → in_list at (get bytes_eq new other) ≡ (in_list at (get bytes_eq old other) || is_pair name place other at)
-  one_more changed_list is links = changed (λ x y. x || y) or_false (λ at. ap (in_list at) is ∙ (ap (λ places. is_among places at) links ∙ among_with list.links place at))
+  one_more changed_list is links = changed (λ x y. x || y) or_false
+      (λ at. ap (in_list at) is ∙ (ap (λ places. is_among places at) links ∙ among_with list.links place at))
 
   -- one place fewer, or none left
   pub one_fewer : (places : List ℕ) → ((at : ℕ) → in_list at now ≡ is_among places at) → places ≡ without_link nat_cmp list.links place
@@ -57,9 +64,11 @@ on_ok (Err error) holds then = tt
 
 -- of two changes under one name the last counts
 pub over : {S : Type 0} (old middle new : IndexMap (List ℕ) (Linked ℕ) S) (name : List ℕ) (first last : Option (Linked ℕ))
-    → ((other : List ℕ) → get bytes_eq middle other ≡ cond (bytes_eq name other) first (get bytes_eq old other)) → ((other : List ℕ) → get bytes_eq new other ≡ cond (bytes_eq name other) last (get bytes_eq middle other))
+    → ((other : List ℕ) → get bytes_eq middle other ≡ cond (bytes_eq name other) first (get bytes_eq old other))
+    → ((other : List ℕ) → get bytes_eq new other ≡ cond (bytes_eq name other) last (get bytes_eq middle other))
     → (other : List ℕ) → get bytes_eq new other ≡ cond (bytes_eq name other) last (get bytes_eq old other)
-over old middle new name first last before after other = after other ∙ (ap (cond (bytes_eq name other) last) (before other) ∙ twice (bytes_eq name other) (get bytes_eq old other))
+over old middle new name first last before after other = after other
+    ∙ (ap (cond (bytes_eq name other) last) (before other) ∙ twice (bytes_eq name other) (get bytes_eq old other))
   where
     twice : (same : Bool) (found : Option (Linked ℕ)) → cond same last (cond same first found) ≡ cond same last found
     twice true found = refl

@@ -1,5 +1,6 @@
 -- Commands one after another, and what each session sees of the whole run.
-use Rattle.std.proofs.Common.{◌≡◌, ◌⊎◌, inl, inr, ℕ, ◌+◌, ◌<◌, ◌≤◌, Bool, true, not, List, [], ◌∷◌, ◌++◌, Option, Some, None, OnSome, IsTrue, IsFalse, length, map, take, get_or, add-one, refl, sym, ap, ap₂, subst, ◌∙◌, ⊎_elim, arith}
+use Rattle.std.proofs.Common.{◌≡◌, ◌⊎◌, inl, inr, ℕ, ◌+◌, ◌<◌, ◌≤◌, Bool, true, not, List, [], ◌∷◌, ◌++◌, Option, Some, None, OnSome, IsTrue, IsFalse, length}
+use Rattle.std.proofs.Common.{map, take, get_or, add-one, refl, sym, ap, ap₂, subst, ◌∙◌, ⊎_elim, arith}
 use Rattle.std.specs.Prelude.{bytes_eq}
 use Rattle.std.specs.List.{list_any}
 use Rattle.std.proofs.Math.Seq.{take-suc}
@@ -19,7 +20,8 @@ use Rattle.session_model.proofs.ForCallers.{lawful}
 use Rattle.server_world.specs.declared.report.Entry.{Entry}
 use Rattle.server_world.specs.declared.report.Entry.TheVariants.{Lines, OutOfMemory}
 use Rattle.server_world.specs.Names.{with_name, with_names}
-use Rattle.server_world.specs.Runs.{AnotherFailed, AreSteps, IsApart, IsAsAlone, IsAsWith, IsEntry, IsIsolated, IsShort, IsWorldRun, entry_lines, is_out_of_memory, resets, tags}
+use Rattle.server_world.specs.Runs.{AnotherFailed, AreSteps, IsApart, IsAsAlone, IsAsWith, IsEntry, IsIsolated, IsShort, IsWorldRun, entry_lines}
+use Rattle.server_world.specs.Runs.{is_out_of_memory, resets, tags}
 use Rattle.server_world.specs.Server.{Server, KnowsAtMost, failed, names, settings, states, was_refused}
 use Rattle.server_world.proofs.ServerLemmas.{failed_kept, failed_there, knows_all, named_by, named_itself, named_more}
 
@@ -28,19 +30,23 @@ pub found_before : (was now : Bool) → (IsTrue was → IsTrue now) → IsFalse 
 found_before was now keeps found = ⊎_elim (λ refused. absurd (both_ways _ found (keeps refused))) (λ fine. fine) (cases_Bool was)
 
 -- the commands so far, with the next
-pub tags_more : (list : List Given) (i : ℕ) (given : Given) → i < length list → given ≡ get_or list i given → tags (take (i + 1) list) ≡ tags (take i list) ++ tag given ∷ []
+pub tags_more : (list : List Given) (i : ℕ) (given : Given) → i < length list → given ≡ get_or list i given
+    → tags (take (i + 1) list) ≡ tags (take i list) ++ tag given ∷ []
 tags_more list i given within is =
-    ap (λ n. tags (take n list)) (add-one i) ∙ ap tags (take-suc list i given within) ∙ map-append tag (take i list) _ ∙ ap (λ g. tags (take i list) ++ tag g ∷ []) (sym is)
+    ap (λ n. tags (take n list)) (add-one i) ∙ ap tags (take-suc list i given within) ∙ map-append tag (take i list) _
+    ∙ ap (λ g. tags (take i list) ++ tag g ∷ []) (sym is)
 
 -- one more command behind others
-pub steps_more : (old now next : Server) (ts : List (Tagged (List ℕ) Asked)) (entries : List Entry) (t : Tagged (List ℕ) Asked) (entry : Entry) → AreSteps old ts entries now → IsEntry now next t entry → AreSteps old (ts ++ t ∷ []) (entries ++ entry ∷ []) next
+pub steps_more : (old now next : Server) (ts : List (Tagged (List ℕ) Asked)) (entries : List Entry) (t : Tagged (List ℕ) Asked) (entry : Entry)
+    → AreSteps old ts entries now → IsEntry now next t entry → AreSteps old (ts ++ t ∷ []) (entries ++ entry ∷ []) next
 steps_more old now next [] [] t entry same is = (next, subst (λ server. IsEntry server next t entry) same is, refl)
 steps_more old now next [] (one ∷ entries) t entry steps is = absurd steps
 steps_more old now next (first ∷ ts) [] t entry steps is = absurd steps
 steps_more old now next (first ∷ ts) (one ∷ entries) t entry steps is = (steps.0, steps.1, steps_more steps.0 now next ts entries t entry steps.2 is)
 
 -- all commands, where the list is at its end
-pub steps_all : (old new : Server) (list : List Given) (i : ℕ) (entries all : List Entry) → length list ≤ i → all ≡ entries → AreSteps old (tags (take i list)) entries new → AreSteps old (tags list) all new
+pub steps_all : (old new : Server) (list : List Given) (i : ℕ) (entries all : List Entry) → length list ≤ i → all ≡ entries
+    → AreSteps old (tags (take i list)) entries new → AreSteps old (tags list) all new
 steps_all old new list i entries all within same steps =
     subst (λ entries. AreSteps old (tags list) entries new) (sym same) (subst (λ list. AreSteps old (tags list) entries new) (take_all i list within) steps)
 
@@ -51,7 +57,8 @@ steps_settings old new [] (entry ∷ entries) steps = absurd steps
 steps_settings old new (t ∷ ts) [] steps = absurd steps
 steps_settings old new (t ∷ ts) (entry ∷ entries) steps = steps_settings steps.0 new ts entries steps.2 ∙ steps.1.step.settings
 
-pub steps_kept : (old new : Server) (ts : List (Tagged (List ℕ) Asked)) (entries : List Entry) → AreSteps old ts entries new → IsTrue (was_refused old) → IsTrue (was_refused new)
+pub steps_kept : (old new : Server) (ts : List (Tagged (List ℕ) Asked)) (entries : List Entry) → AreSteps old ts entries new → IsTrue (was_refused old)
+    → IsTrue (was_refused new)
 steps_kept old new [] [] same was = ap was_refused same ∙ was
 steps_kept old new [] (entry ∷ entries) steps was = absurd steps
 steps_kept old new (t ∷ ts) [] steps was = absurd steps
@@ -67,7 +74,8 @@ told_some (Some y) x e h = h
 told_some None x e h = absurd (cc)
 
 -- where memory was found, steps are a run of the world
-pub steps_world : (old new : Server) (ts : List (Tagged (List ℕ) Asked)) (entries : List Entry) → AreSteps old ts entries new → IsFalse (was_refused new) → IsWorldRun old new ts entries
+pub steps_world : (old new : Server) (ts : List (Tagged (List ℕ) Asked)) (entries : List Entry) → AreSteps old ts entries new → IsFalse (was_refused new)
+    → IsWorldRun old new ts entries
 steps_world old new [] [] same found = record { lines = refl; states = ap states same; names = ap names same }
 steps_world old new [] (entry ∷ entries) steps found = absurd steps
 steps_world old new (t ∷ ts) [] steps found = absurd steps
@@ -84,12 +92,14 @@ steps_world old new (t ∷ ts) (entry ∷ entries) steps found =
     }
 
 -- who is known stays so with further commands
-known_kept : (names : List (List ℕ)) (ts : List (Tagged (List ℕ) Asked)) (name : List ℕ) → list_any (bytes_eq name) names ≡ true → list_any (bytes_eq name) (with_names names ts) ≡ true
+known_kept : (names : List (List ℕ)) (ts : List (Tagged (List ℕ) Asked)) (name : List ℕ) → list_any (bytes_eq name) names ≡ true
+    → list_any (bytes_eq name) (with_names names ts) ≡ true
 known_kept names [] name there = there
 known_kept names (t ∷ ts) name there = known_kept (with_name names t.session) ts name (named_more (bytes_eq name) names t.session there)
 
 -- and more are known where more were
-known_more : (names more : List (List ℕ)) (ts : List (Tagged (List ℕ) Asked)) → ((name : List ℕ) → list_any (bytes_eq name) names ≡ true → list_any (bytes_eq name) more ≡ true)
+known_more : (names more : List (List ℕ)) (ts : List (Tagged (List ℕ) Asked))
+    → ((name : List ℕ) → list_any (bytes_eq name) names ≡ true → list_any (bytes_eq name) more ≡ true)
     → (name : List ℕ) → list_any (bytes_eq name) (with_names names ts) ≡ true → list_any (bytes_eq name) (with_names more ts) ≡ true
 known_more names more [] within = within
 known_more names more (t ∷ ts) within = known_more (with_name names t.session) (with_name more t.session) ts
@@ -99,12 +109,14 @@ known_more names more (t ∷ ts) within = known_more (with_name names t.session)
     (named_by names t.session name there))
 
 -- who is known after a command was there before, or gave it
-known_after : (old new : Server) (session : List ℕ) → KnowsAtMost old new session → (name : List ℕ) → list_any (bytes_eq name) (names new) ≡ true → list_any (bytes_eq name) (with_name (names old) session) ≡ true
+known_after : (old new : Server) (session : List ℕ) → KnowsAtMost old new session → (name : List ℕ) → list_any (bytes_eq name) (names new) ≡ true
+    → list_any (bytes_eq name) (with_name (names old) session) ≡ true
 known_after old new session (inl same) name there = named_more (bytes_eq name) (names old) session (sym (ap (list_any (bytes_eq name)) same) ∙ there)
 known_after old new session (inr more) name there = sym (ap (list_any (bytes_eq name)) more) ∙ there
 
 -- what has failed has failed still, or has begun anew
-failed_later : (old new : Server) (ts : List (Tagged (List ℕ) Asked)) (entries : List Entry) → AreSteps old ts entries new → (name : List ℕ) → IsTrue (failed old name) → IsTrue (failed new name) ⊎ IsTrue (list_any (resets name) ts)
+failed_later : (old new : Server) (ts : List (Tagged (List ℕ) Asked)) (entries : List Entry) → AreSteps old ts entries new → (name : List ℕ)
+    → IsTrue (failed old name) → IsTrue (failed new name) ⊎ IsTrue (list_any (resets name) ts)
 failed_later old new [] [] same name was = inl (ap (λ server. failed server name) same ∙ was)
 failed_later old new [] (entry ∷ entries) steps name was = absurd steps
 failed_later old new (t ∷ ts) [] steps name was = absurd steps
@@ -120,7 +132,8 @@ is_short (Lines lines) e = absurd (cc)
 is_short OutOfMemory e = refl
 
 -- who is to blame, if memory was refused first
-pub steps_blame : (old new : Server) (ts : List (Tagged (List ℕ) Asked)) (entries : List Entry) → AreSteps old ts entries new → IsFalse (was_refused old) → IsTrue (was_refused new) → IsShort entries ⊎ AnotherFailed old new ts
+pub steps_blame : (old new : Server) (ts : List (Tagged (List ℕ) Asked)) (entries : List Entry) → AreSteps old ts entries new → IsFalse (was_refused old)
+    → IsTrue (was_refused new) → IsShort entries ⊎ AnotherFailed old new ts
 steps_blame old new [] [] same was refused = absurd (both_ways _ was (sym (ap was_refused same) ∙ refused))
 steps_blame old new [] (entry ∷ entries) steps was refused = absurd steps
 steps_blame old new (t ∷ ts) [] steps was refused = absurd steps
@@ -131,7 +144,8 @@ steps_blame old new (t ∷ ts) (entry ∷ entries) steps was refused =
     (λ nothing. inl (or_left _ _ (is_short entry nothing)))
     (λ another. inr (record {
       name = another.0;
-      there = known_kept (with_name (names old) t.session) ts another.0 (known_after old between t.session one.known another.0 (failed_there between.engine another.0 another.3));
+      there = known_kept (with_name (names old) t.session) ts another.0
+          (known_after old between t.session one.known another.0 (failed_there between.engine another.0 another.3));
       another = or_left _ _ (ap not another.1);
       fails = ⊎_elim (λ still. inl still) (λ anew. inr (or_right (resets another.0 t) _ anew)) (failed_later between new ts entries others another.0 another.3);
     }))
@@ -148,7 +162,8 @@ steps_blame old new (t ∷ ts) (entry ∷ entries) steps was refused =
     (cases_Bool (was_refused between))
 
 -- the entries of a session, each made of one
-pub entries_of-map : {Name Command A B : Type 0} (f : A → B) (keep : Name → Bool) (ts : List (Tagged Name Command)) (xs : List A) → entries_of keep ts (map f xs) ≡ map f (entries_of keep ts xs)
+pub entries_of-map : {Name Command A B : Type 0} (f : A → B) (keep : Name → Bool) (ts : List (Tagged Name Command)) (xs : List A)
+    → entries_of keep ts (map f xs) ≡ map f (entries_of keep ts xs)
 entries_of-map f keep [] xs = refl
 entries_of-map f keep (t ∷ ts) [] = refl
 entries_of-map f keep (t ∷ ts) (x ∷ xs) =
@@ -156,14 +171,16 @@ entries_of-map f keep (t ∷ ts) (x ∷ xs) =
     ⊎_elim (λ e. grind (arith, e, rest)) (λ e. grind (arith, e, rest)) (cases_Bool (keep t.session))
 
 module _ (old : Server) (ts : List (Tagged (List ℕ) Asked)) (entries : List Entry) (s : List ℕ) (Ends : State → Type 0)
-    (told : at_session (machine (settings old)) s ts entries ≡ map Lines (at_session (machine (settings old)) s ts (world_lines (machine (settings old)) (states old) ts)))
+    (told : at_session (machine (settings old)) s ts entries ≡ map Lines
+    (at_session (machine (settings old)) s ts (world_lines (machine (settings old)) (states old) ts)))
     (ends : Ends (world_after (machine (settings old)) (states old) ts s)) where
   as_alone : IsAsAlone (settings old) (states old) ts entries s Ends
   as_alone =
       let alone = first_half (machine (settings old)) (lawful (settings old)) s (states old) ts in
       record { lines = told ∙ ap (map Lines) alone.lines; state = subst Ends alone.state ends }
 
-  as_with : (others : List (Tagged (List ℕ) Asked)) → SameFor (machine (settings old)) s (states old) ts (states old) others → IsAsWith (settings old) (states old) ts entries s others Ends
+  as_with : (others : List (Tagged (List ℕ) Asked)) → SameFor (machine (settings old)) s (states old) ts (states old) others
+      → IsAsWith (settings old) (states old) ts entries s others Ends
   as_with others same = record { lines = told ∙ ap (map Lines) (sym same.lines); state = subst Ends (sym same.state) ends }
 
   -- lists that have the same commands of a closed set tell its members the same
@@ -191,7 +208,8 @@ module _ (old : Server) (ts : List (Tagged (List ℕ) Asked)) (entries : List En
       }
 
 -- so with a run in which memory was found
-pub isolated : (old new : Server) (ts : List (Tagged (List ℕ) Asked)) (entries : List Entry) → IsWorldRun old new ts entries → (s : List ℕ) → IsIsolated old new ts entries s
+pub isolated : (old new : Server) (ts : List (Tagged (List ℕ) Asked)) (entries : List Entry) → IsWorldRun old new ts entries → (s : List ℕ)
+    → IsIsolated old new ts entries s
 isolated old new ts entries run s =
     apart old ts entries s (λ state. states new s ≡ state)
     (ap (at_session (machine (settings old)) s ts) run.lines ∙ entries_of-map Lines (bytes_eq s) ts (world_lines (machine (settings old)) (states old) ts))

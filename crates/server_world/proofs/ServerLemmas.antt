@@ -1,5 +1,6 @@
 -- A server over its engine: when it has found memory refused, which names it knows, and what a command makes of it.
-use Rattle.std.proofs.Common.{◌≡◌, ◌⊎◌, ◌&&◌, inl, inr, ℕ, Bool, true, false, true≢false, not, cond, List, [], ◌∷◌, ◌++◌, Option, Some, None, Result, Ok, Err, IfNone, IsErr, IsTrue, IsFalse, refl, sym, ap, subst, ◌∙◌, ⊎_elim}
+use Rattle.std.proofs.Common.{◌≡◌, ◌⊎◌, ◌&&◌, inl, inr, ℕ, Bool, true, false, true≢false, not, cond, List, [], ◌∷◌, ◌++◌, Option, Some, None, Result, Ok, Err}
+use Rattle.std.proofs.Common.{IfNone, IsErr, IsTrue, IsFalse, refl, sym, ap, subst, ◌∙◌, ⊎_elim}
 use Rattle.std.specs.Prelude.{bytes_eq}
 use Rattle.std.specs.List.{list_any}
 use Rattle.std.specs.Option.{option_map_or}
@@ -53,7 +54,8 @@ module _ (old new : Server) (same : new.memory_refused ≡ old.memory_refused) w
   refused_first was now = ⊎_elim (λ inside. inside) (λ outside. absurd (both_ways _ (found_elsewhere old was) (sym same ∙ outside))) (or_cases _ _ now)
 
   -- so a step of the engine is one of the server
-  pub step_of_engine : (name : List ℕ) (asked : Asked) (told : Option (List Line)) → IsStep (engine.seen_by_name old.engine) (engine.seen_by_name new.engine) name asked told → IsStep (seen_by_name old) (seen_by_name new) name asked told
+  pub step_of_engine : (name : List ℕ) (asked : Asked) (told : Option (List Line))
+      → IsStep (engine.seen_by_name old.engine) (engine.seen_by_name new.engine) name asked told → IsStep (seen_by_name old) (seen_by_name new) name asked told
   step_of_engine name asked told step = record {
     lines = λ found. step.lines (found_in_engine new found);
     states = λ found. step.states (found_in_engine new found);
@@ -74,7 +76,8 @@ module _ (old new : Server) (same : new.memory_refused ≡ old.memory_refused) w
   }
 
 -- nothing is done for a name that could not be entered
-pub step_out : (old new : Server) (name : List ℕ) (asked : Asked) → StaysOut old.engine new.engine name → AreWell (engine.seen_by_name old.engine) → AreSound (engine.seen_by_name old.engine) → IsStep (seen_by_name old) (seen_by_name new) name asked None
+pub step_out : (old new : Server) (name : List ℕ) (asked : Asked) → StaysOut old.engine new.engine name → AreWell (engine.seen_by_name old.engine)
+    → AreSound (engine.seen_by_name old.engine) → IsStep (seen_by_name old) (seen_by_name new) name asked None
 step_out old new name asked out well sound =
     let refused : IsTrue (was_refused new) = refused_in_engine new out.refused in
     record {
@@ -86,15 +89,19 @@ step_out old new name asked out well sound =
       posts = [];
       posted = tt;
       front = λ none. (_, refl);
-      others = λ other elsewhere. inl (ap (λ sessions. sessions other) out.sessions ∙ sym (after_posts-none (engine.settings old.engine).classes name (engine.sessions old.engine other)));
+      others = λ other elsewhere. inl (ap (λ sessions. sessions other) out.sessions
+          ∙ sym (after_posts-none (engine.settings old.engine).classes name (engine.sessions old.engine other)));
       settings = out.settings;
       kept = λ was. refused;
       memory = λ none. refused;
       blame = λ was now. inl refl;
       well = λ found. well (found_in_engine old found);
       sound = λ other.
-          let same : AreSound (record { settings = engine.settings old.engine; session = engine.sessions new.engine; memory_refused = false }) = subst (λ (sessions : List ℕ → Session). AreSound (record { settings = engine.settings old.engine; session = sessions; memory_refused = false })) (sym out.sessions) sound in
-          subst (λ (settings : Settings). AreSound (record { settings = settings; session = engine.sessions new.engine; memory_refused = false })) (sym out.settings) same other;
+          let same : AreSound (record { settings = engine.settings old.engine; session = engine.sessions new.engine; memory_refused = false }) =
+          subst (λ (sessions : List ℕ → Session). AreSound
+          (record { settings = engine.settings old.engine; session = sessions; memory_refused = false })) (sym out.sessions) sound in
+          subst (λ (settings : Settings). AreSound (record { settings = settings; session = engine.sessions new.engine; memory_refused = false }))
+          (sym out.settings) same other;
       named = λ is all. subst (λ (sessions : List ℕ → Session). (other : List ℕ) → AreNamed (sessions other).state) (sym out.sessions) all;
     }
 
@@ -103,10 +110,12 @@ none_of_err (Ok value) h = absurd (cc)
 none_of_err (Err error) h = refl
 
 -- with a name that has a place the names stay, and one that has none goes last
-pub with_name-there : (sessions : EngineState) (name : List ℕ) (at : ℕ) → place sessions name ≡ Some at → engine.names sessions ≡ with_name (engine.names sessions) name
+pub with_name-there : (sessions : EngineState) (name : List ℕ) (at : ℕ) → place sessions name ≡ Some at
+    → engine.names sessions ≡ with_name (engine.names sessions) name
 with_name-there sessions name at there = sym (cond-true (list_any (bytes_eq name) sessions.names) _ _ (position-any (bytes_eq name) sessions.names at there))
 
-pub with_name-new : (sessions : EngineState) (name : List ℕ) → place sessions name ≡ None → engine.names sessions ++ name ∷ [] ≡ with_name (engine.names sessions) name
+pub with_name-new : (sessions : EngineState) (name : List ℕ) → place sessions name ≡ None
+    → engine.names sessions ++ name ∷ [] ≡ with_name (engine.names sessions) name
 with_name-new sessions name absent = sym (cond-false (list_any (bytes_eq name) sessions.names) _ _ (position-None (bytes_eq name) sessions.names absent))
 
 -- a session that has had no command joins none
@@ -120,7 +129,8 @@ knows_all settings sessions name t joins = by (place sessions name) refl
   where
     by : (found : Option ℕ) → place sessions name ≡ found → list_any (bytes_eq name) sessions.names ≡ true
     by (Some at) there = position-any (bytes_eq name) sessions.names at there
-    by None absent = absurd (both_ways _ (empty_joins_none t) (sym (ap (λ found. joins_name (option_map_or (session_at sessions.tables) found fresh).state t) absent) ∙ joins))
+    by None absent = absurd (both_ways _ (empty_joins_none t)
+        (sym (ap (λ found. joins_name (option_map_or (session_at sessions.tables) found fresh).state t) absent) ∙ joins))
 
 -- a session that has failed is there
 pub failed_there : (sessions : EngineState) (name : List ℕ) → IsTrue (engine.failed sessions name) → list_any (bytes_eq name) (engine.names sessions) ≡ true
@@ -131,7 +141,8 @@ failed_there sessions name was = by (place sessions name) refl
     by None absent = absurd (true≢false (sym was ∙ ap (λ found. (option_map_or (session_at sessions.tables) found fresh).failed) absent))
 
 -- a session that has failed stays so, unless it begins anew
-pub failed_kept : (old new : Server) (name : List ℕ) (asked : Asked) (told : Option (List Line)) → IsStep (seen_by_name old) (seen_by_name new) name asked told → IfNone told (IsLost old new name) → (other : List ℕ) → IsTrue (failed old other)
+pub failed_kept : (old new : Server) (name : List ℕ) (asked : Asked) (told : Option (List Line)) → IsStep (seen_by_name old) (seen_by_name new) name asked told
+    → IfNone told (IsLost old new name) → (other : List ℕ) → IsTrue (failed old other)
     → IsTrue (failed new other) ⊎ IsTrue (bytes_eq other name && is_reset asked)
 failed_kept old new name asked told step lost other was = ⊎_elim
     (λ here. ⊎_elim
@@ -143,7 +154,8 @@ failed_kept old new name asked told step lost other was = ⊎_elim
     (λ elsewhere. inl (stays_failed (settings old).classes name step.posts (sessions old other) (sessions new other) (step.others other elsewhere) was))
     (cases_Bool (bytes_eq other name))
   where
-    own : (told : Option (List Line)) → IsStep (seen_by_name old) (seen_by_name new) name asked told → IfNone told (IsLost old new name) → is_reset asked ≡ false → IsTrue (failed old name) → IsTrue (failed new name)
+    own : (told : Option (List Line)) → IsStep (seen_by_name old) (seen_by_name new) name asked told → IfNone told (IsLost old new name)
+        → is_reset asked ≡ false → IsTrue (failed old name) → IsTrue (failed new name)
     own (Some lines) step lost plain was = ap (λ session. session.failed) step.leaves ∙ ap (λ failed. failed && not (is_reset asked)) was ∙ ap not plain
     own None step lost plain was = ⊎_elim
         (λ failed_session. ap (λ session. session.failed) failed_session)
@@ -164,10 +176,12 @@ named_itself names name = by (list_any (bytes_eq name) names) refl
   where
     by : (there : Bool) → list_any (bytes_eq name) names ≡ there → list_any (bytes_eq name) (cond there names (names ++ name ∷ [])) ≡ true
     by true e = e
-    by false e = list_any-append (bytes_eq name) names (name ∷ []) ∙ or_right (list_any (bytes_eq name) names) _ (or_left (bytes_eq name name) false ((bytes_eq-Decides name name).1 refl))
+    by false e = list_any-append (bytes_eq name) names (name ∷ [])
+        ∙ or_right (list_any (bytes_eq name) names) _ (or_left (bytes_eq name name) false ((bytes_eq-Decides name name).1 refl))
 
 -- no further name is
-pub named_by : (names : List (List ℕ)) (name other : List ℕ) → list_any (bytes_eq other) (with_name names name) ≡ true → (list_any (bytes_eq other) names ≡ true) ⊎ (other ≡ name)
+pub named_by : (names : List (List ℕ)) (name other : List ℕ) → list_any (bytes_eq other) (with_name names name) ≡ true
+    → (list_any (bytes_eq other) names ≡ true) ⊎ (other ≡ name)
 named_by names name other known = by (list_any (bytes_eq name) names) known
   where
     by : (there : Bool) → list_any (bytes_eq other) (cond there names (names ++ name ∷ [])) ≡ true → (list_any (bytes_eq other) names ≡ true) ⊎ (other ≡ name)
@@ -178,7 +192,8 @@ named_by names name other known = by (list_any (bytes_eq name) names) known
         (or_cases (list_any (bytes_eq other) names) _ (sym (list_any-append (bytes_eq other) names (name ∷ [])) ∙ e))
 
 -- a session that is not there is where it would be put
-pub anew_absent : (server : Server) (name : List ℕ) → place server.engine name ≡ None → AreSound (engine.seen_by_name server.engine) → BeginsAnew (seen_by_name server) (seen_by_name server) name
+pub anew_absent : (server : Server) (name : List ℕ) → place server.engine name ≡ None → AreSound (engine.seen_by_name server.engine)
+    → BeginsAnew (seen_by_name server) (seen_by_name server) name
 anew_absent server name absent sound = record {
   fresh = ap (λ found. option_map_or (session_at server.engine.tables) found fresh) absent;
   others = λ other elsewhere. refl;

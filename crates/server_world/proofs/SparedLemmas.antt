@@ -1,5 +1,6 @@
 -- Sessions that were spared, in runs in which others ran out of memory.
-use Rattle.std.proofs.Common.{◌≡◌, ◌⊎◌, inl, inr, ℕ, Bool, true, false, List, [], ◌∷◌, Option, Some, None, OnSome, IfSome, length, map, refl, sym, ap, ap₂, subst, ◌∙◌, ⊎_elim, arith}
+use Rattle.std.proofs.Common.{◌≡◌, ◌⊎◌, inl, inr, ℕ, Bool, true, false, List, [], ◌∷◌, Option, Some, None, OnSome, IfSome, length, map, refl, sym, ap, ap₂}
+use Rattle.std.proofs.Common.{subst, ◌∙◌, ⊎_elim, arith}
 use Rattle.std.specs.Prelude.{if◌then◌else◌}
 use Rattle.std.proofs.lemmas.Bool.{cases_Bool, false_from_ne_true}
 use Rattle.isolation.specs.Machine.{Tagged}
@@ -42,7 +43,8 @@ abbrev mortal_of : Session → Mortal State
 mortal_of session = record { state = session.state; failed = session.failed }
 
 after_posts_is : (settings : Settings) (from : List ℕ) (posts : List Post) (state : State) (failed : Bool)
-    → mortal_of (after_posts settings.classes from posts (record { state = state; failed = failed })) ≡ theory.heard (machine settings) is_reset from posts (record { state = state; failed = failed })
+    → mortal_of (after_posts settings.classes from posts (record { state = state; failed = failed }))
+    ≡ theory.heard (machine settings) is_reset from posts (record { state = state; failed = failed })
 after_posts_is settings from posts state true = refl
 after_posts_is settings from posts state false = ap (λ state. record { state = state; failed = false }) (sym (arrive_all-is settings state from posts))
 
@@ -62,31 +64,40 @@ on_some : {T P : Type 0} (value : Option T) (x : T) → value ≡ Some x → OnS
 on_some (Some y) x e h = h
 on_some None x e h = absurd (cc e)
 
-does_ajar : (settings : Settings) (name : List ℕ) (session : Session) (asked : Asked) → is_shut session asked ≡ false → session_does settings name session asked ≡ does settings name session.state asked
+does_ajar : (settings : Settings) (name : List ℕ) (session : Session) (asked : Asked) → is_shut session asked ≡ false
+    → session_does settings name session asked ≡ does settings name session.state asked
 unfolding does
 does_ajar settings name session asked ajar =
-    ap (λ b. unless (if b then Some SessionFailed else refusal settings name session.state asked) session.state (performs settings name session.state asked)) ajar
+    ap (λ b. unless (if b then Some SessionFailed else refusal settings name session.state asked) session.state (performs settings name session.state asked))
+    ajar
 
-does_shut : (settings : Settings) (name : List ℕ) (session : Session) (asked : Asked) → is_shut session asked ≡ true → (session_does settings name session asked).lines ≡ Error SessionFailed ∷ []
+does_shut : (settings : Settings) (name : List ℕ) (session : Session) (asked : Asked) → is_shut session asked ≡ true
+    → (session_does settings name session asked).lines ≡ Error SessionFailed ∷ []
 does_shut settings name session asked shut =
-    ap (λ b. (unless (if b then Some SessionFailed else refusal settings name session.state asked) session.state (performs settings name session.state asked)).lines) shut
+    ap (λ b. (unless (if b then Some SessionFailed else refusal settings name session.state asked) session.state
+    (performs settings name session.state asked)).lines) shut
 
 -- what is told of a command
 abbrev pub told_of : Server → Tagged (List ℕ) Asked → Entry → Told Line
 told_of server t entry = record { lines = entry_lines entry; shut = is_shut (sessions server t.session) t.command }
 
 -- a command with its entry is such a step
-pub is_lossy : (old new : Server) (t : Tagged (List ℕ) Asked) (entry : Entry) → IsEntry old new t entry → IsLossy (machine (settings old)) is_reset (mortal old) (mortal new) t (told_of old t entry)
+pub is_lossy : (old new : Server) (t : Tagged (List ℕ) Asked) (entry : Entry) → IsEntry old new t entry
+    → IsLossy (machine (settings old)) is_reset (mortal old) (mortal new) t (told_of old t entry)
 is_lossy old new t entry is =
     let step = is.step in
     record {
       shut = refl;
-      tells = λ lines some ajar. if_some (entry_lines entry) _ lines some step.tells ∙ ap (λ effect. effect.lines) (does_ajar (settings old) t.session (sessions old t.session) t.command ajar);
+      tells = λ lines some ajar. if_some (entry_lines entry) _ lines some step.tells
+          ∙ ap (λ effect. effect.lines) (does_ajar (settings old) t.session (sessions old t.session) t.command ajar);
       leaves = λ lines some ajar. ap mortal_of (on_some (entry_lines entry) lines some step.leaves)
-          ∙ ap₂ (λ (state : State) (failed : Bool). record { state = state; failed = failed }) (ap (λ effect. effect.state) (does_ajar (settings old) t.session (sessions old t.session) t.command ajar)) ajar;
+          ∙ ap₂ (λ (state : State) (failed : Bool). record { state = state; failed = failed })
+          (ap (λ effect. effect.state) (does_ajar (settings old) t.session (sessions old t.session) t.command ajar)) ajar;
       posts = step.posts;
-      posted = λ lines some ajar. on_some (entry_lines entry) lines some step.posted ∙ ap (λ effect. effect.posts) (does_ajar (settings old) t.session (sessions old t.session) t.command ajar);
-      others = λ other elsewhere. after_posts_mortal (settings old) t.session step.posts (sessions old other) (sessions new other) (step.others other elsewhere);
+      posted = λ lines some ajar. on_some (entry_lines entry) lines some step.posted
+          ∙ ap (λ effect. effect.posts) (does_ajar (settings old) t.session (sessions old t.session) t.command ajar);
+      others = λ other elsewhere. after_posts_mortal (settings old) t.session step.posts (sessions old other) (sessions new other)
+          (step.others other elsewhere);
     }
 
 -- what is told along a run
@@ -95,7 +106,8 @@ tolds old new [] entries steps = []
 tolds old new (t ∷ ts) [] steps = []
 tolds old new (t ∷ ts) (entry ∷ entries) steps = told_of old t entry ∷ tolds steps.0 new ts entries steps.2
 
-are_lossy : (s : Settings) (old new : Server) (ts : List (Tagged (List ℕ) Asked)) (entries : List Entry) (steps : AreSteps old ts entries new) → settings old ≡ s
+are_lossy : (s : Settings) (old new : Server) (ts : List (Tagged (List ℕ) Asked)) (entries : List Entry) (steps : AreSteps old ts entries new)
+    → settings old ≡ s
     → AreLossy (machine s) is_reset (mortal old) ts (tolds old new ts entries steps) (mortal new)
 are_lossy s old new [] [] steps same = ap mortal steps
 are_lossy s old new [] (entry ∷ entries) steps same = absurd steps
@@ -116,7 +128,8 @@ told_lines keep old new (t ∷ ts) (entry ∷ entries) steps =
   where
     by : (passes : Bool) → keep t.session ≡ passes
         → map (λ (one : Told Line). one.lines) (entries_of keep ts (tolds steps.0 new ts entries steps.2)) ≡ map entry_lines (entries_of keep ts entries)
-        → map (λ (one : Told Line). one.lines) (entries_of keep (t ∷ ts) (told_of old t entry ∷ tolds steps.0 new ts entries steps.2)) ≡ map entry_lines (entries_of keep (t ∷ ts) (entry ∷ entries))
+        → map (λ (one : Told Line). one.lines) (entries_of keep (t ∷ ts) (told_of old t entry ∷ tolds steps.0 new ts entries steps.2))
+        ≡ map entry_lines (entries_of keep (t ∷ ts) (entry ∷ entries))
     by true e rest = rw e (ap (λ xs. entry_lines entry ∷ xs) rest)
     by false e rest = rw e rest
 
@@ -163,7 +176,8 @@ length_steps old new (t ∷ ts) [] steps = absurd steps
 length_steps old new (t ∷ ts) (entry ∷ entries) steps = let rest = length_steps steps.0 new ts entries steps.2 in omega arith
 
 -- a session that was spared with all that influence it
-pub spared : (old new : Server) (ts : List (Tagged (List ℕ) Asked)) (entries : List Entry) → AreSteps old ts entries new → (s : List ℕ) → IsSpared old ts entries s → IsApart old ts entries s (EndsIn new s)
+pub spared : (old new : Server) (ts : List (Tagged (List ℕ) Asked)) (entries : List Entry) → AreSteps old ts entries new → (s : List ℕ)
+    → IsSpared old ts entries s → IsApart old ts entries s (EndsIn new s)
 spared old new ts entries steps s fine =
     let m = machine (settings old) in
     let law = lawful (settings old) in
@@ -184,7 +198,8 @@ spared old new ts entries steps s fine =
     apart old ts entries s (EndsIn new s) told (ends_in new s (world_after m (states old) ts s) (run.states s itself))
 
 -- where the report had no room, nobody is told anything, and no session has changed
-pub spared_none : (old new : Server) (ts : List (Tagged (List ℕ) Asked)) (entries : List Entry) → entries ≡ [] → OnlyRefused old new → (s : List ℕ) → IsSpared old ts entries s → IsApart old ts entries s (EndsIn new s)
+pub spared_none : (old new : Server) (ts : List (Tagged (List ℕ) Asked)) (entries : List Entry) → entries ≡ [] → OnlyRefused old new → (s : List ℕ)
+    → IsSpared old ts entries s → IsApart old ts entries s (EndsIn new s)
 spared_none old new [] [] none only s fine =
     apart old [] [] s (EndsIn new s) refl (⊎_elim
     (λ was. inl was)

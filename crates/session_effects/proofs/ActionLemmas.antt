@@ -10,7 +10,8 @@ use Rattle.session_tables.proofs.ForCallers.{changes_same, changes_twice, change
 use Rattle.session_effects.specs.Actions.{KeepsOthers}
 
 -- where another state was put, the session is in it
-pub put_at : (old new : Tables) (place : ℕ) (state : State) (doing : Execution) → IsPlaced old place → new ≡ with_state old place state → puts [] (in_state doing state) ≡ puts [] (in_state doing (state_at new place))
+pub put_at : (old new : Tables) (place : ℕ) (state : State) (doing : Execution) → IsPlaced old place → new ≡ with_state old place state
+    → puts [] (in_state doing state) ≡ puts [] (in_state doing (state_at new place))
 put_at old new place state doing placed e = ap (λ (state : State). puts [] (in_state doing state)) (sym (state_with old new place state placed e))
 
 -- what is not absent is there
@@ -25,12 +26,15 @@ pub keeps_with : (old new : Tables) (place : ℕ) (state : State) → IsPlaced o
 keeps_with old new place state placed e = record { only = changes_with old new place state placed e; failed = ap (λ tables. tables.failed) e }
 
 pub keeps_twice : (old middle new : Tables) (place : ℕ) → KeepsOthers place old middle → KeepsOthers place middle new → KeepsOthers place old new
-keeps_twice old middle new place first second = record { only = changes_twice old middle new place first.only second.only; failed = second.failed ∙ first.failed }
+keeps_twice old middle new place first second =
+    record { only = changes_twice old middle new place first.only second.only; failed = second.failed ∙ first.failed }
 
 pub placed_kept : (old new : Tables) (place : ℕ) → KeepsOthers place old new → IsPlaced old place → IsPlaced new place
 placed_kept old new place keeps placed = placed_after old new place keeps.only placed
 
 -- what is evaluated where a reader stands
-pub read_as : {A : Type 0} (f : State → ℕ → ℕ → A) {t t' : Tables} {p p' o o' s s' : ℕ} → t ≡ t' → p ≡ p' → o ≡ o' → s ≡ s' → f (state_at t p) o s ≡ f (state_at t' p') o' s'
+pub read_as : {A : Type 0} (f : State → ℕ → ℕ → A) {t t' : Tables} {p p' o o' s s' : ℕ} → t ≡ t' → p ≡ p' → o ≡ o' → s ≡ s'
+    → f (state_at t p) o s ≡ f (state_at t' p') o' s'
 read_as f {t} {t'} {p} {p'} {o} {o'} {s} {s'} tables place object sender =
-    ap (λ t. f (state_at t p) o s) tables ∙ ap (λ p. f (state_at t' p) o s) place ∙ ap (λ o. f (state_at t' p') o s) object ∙ ap (λ s. f (state_at t' p') o' s) sender
+    ap (λ t. f (state_at t p) o s) tables ∙ ap (λ p. f (state_at t' p) o s) place ∙ ap (λ o. f (state_at t' p') o s) object
+    ∙ ap (λ s. f (state_at t' p') o' s) sender

@@ -1,5 +1,6 @@
 -- Lists of what is found, one after another.
-use Rattle.std.proofs.Common.{◌≡◌, ◌+◌, ◌<◌, ◌≤◌, ℕ, Bor, Option, Some, None, get_or, Bool, true, false, List, [], ◌∷◌, ◌++◌, Result, Ok, Err, IsErrAnd, subst, if◌then◌else◌, drop, length, refl, sym, ap, ◌∙◌, append_assoc, arith}
+use Rattle.std.proofs.Common.{◌≡◌, ◌+◌, ◌<◌, ◌≤◌, ℕ, Bor, Option, Some, None, get_or, Bool, true, false, List, [], ◌∷◌, ◌++◌, Result, Ok, Err, IsErrAnd, subst}
+use Rattle.std.proofs.Common.{if◌then◌else◌, drop, length, refl, sym, ap, ◌∙◌, append_assoc, arith}
 use Rattle.std.proofs.lemmas.List.{append-nil, drop_all, drop_more}
 use Rattle.std.specs.List.{HoldsAt}
 use Rattle.std.specs.Option.{MatchOption, ok_or, option_copied, option_map_or}
@@ -47,7 +48,8 @@ IsKindAt kinds at found = MatchOption found (length kinds ≤ at) (λ kind. (at 
 module _ (done : List Value) (kinds : List Kind) (at : ℕ) (value : Value) (values : List Value) where
   -- the next value is converted, and then those behind it
   converted_next : (found : Option (Bor Kind)) → IsKindAt kinds at found
-      → behind done (all_converted (drop at kinds) (value ∷ values)) ≡ behind done (value_as found value >>= λ first. all_converted (drop (at + 1) kinds) values >>= λ rest. Ok (first ∷ rest))
+      → behind done (all_converted (drop at kinds) (value ∷ values))
+      ≡ behind done (value_as found value >>= λ first. all_converted (drop (at + 1) kinds) values >>= λ rest. Ok (first ∷ rest))
   converted_next None past = ap (λ kinds. behind done (all_converted kinds (value ∷ values))) (drop_all at kinds past)
   converted_next (Some kind) met = ap (λ kinds. behind done (all_converted kinds (value ∷ values))) (item_at kinds at kind.now met.0 (met.1 kind.now))
 
@@ -64,29 +66,37 @@ module _ (done : List Value) (kinds : List Kind) (at : ℕ) (value : Value) (val
       → behind done (all_converted (drop at kinds) (value ∷ values)) ≡ Err code
   converted_refused found met code refused =
       converted_next found met
-      ∙ ap (λ (first : Found Value). behind done (first >>= λ value. all_converted (drop (at + 1) kinds) values >>= λ values. Ok (value ∷ values))) (sym refused)
+      ∙ ap (λ (first : Found Value). behind done (first >>= λ value. all_converted (drop (at + 1) kinds) values >>= λ values. Ok (value ∷ values)))
+      (sym refused)
 
 -- a kind that a value was found for stands before the end
-pub kind_within : (kinds : List Kind) (at : ℕ) (value new : Value) (found : Option (Bor Kind)) → IsKindAt kinds at found → Ok new ≡ value_as found value → at + 1 ≤ length kinds
+pub kind_within : (kinds : List Kind) (at : ℕ) (value new : Value) (found : Option (Bor Kind)) → IsKindAt kinds at found → Ok new ≡ value_as found value
+    → at + 1 ≤ length kinds
 kind_within kinds at value new None past made = absurd (cc)
 kind_within kinds at value new (Some kind) met made = omega (arith, met.0)
 
 -- fewer values than kinds
-pub converted_short : (done : List Value) (kind : Kind) (kinds kinds' : List Kind) (values : List Value) → kinds ≡ kind ∷ kinds' → values ≡ [] → behind done (all_converted kinds values) ≡ Err BadValue
-converted_short done kind kinds kinds' values here none = ap (λ kinds. behind done (all_converted kinds values)) here ∙ ap (λ values. behind done (all_converted (kind ∷ kinds') values)) none
+pub converted_short : (done : List Value) (kind : Kind) (kinds kinds' : List Kind) (values : List Value) → kinds ≡ kind ∷ kinds' → values ≡ []
+    → behind done (all_converted kinds values) ≡ Err BadValue
+converted_short done kind kinds kinds' values here none = ap (λ kinds. behind done (all_converted kinds values)) here
+    ∙ ap (λ values. behind done (all_converted (kind ∷ kinds') values)) none
 
 -- a refusal of what was asked
-pub answers_refused : {T : Type 0} (wanted : Found T) (code : Code) (result : Result T Fault) → IsErrAnd result (λ fault. fault ≡ Refused code) → wanted ≡ Err code → Answers result wanted
+pub answers_refused : {T : Type 0} (wanted : Found T) (code : Code) (result : Result T Fault) → IsErrAnd result (λ fault. fault ≡ Refused code)
+    → wanted ≡ Err code → Answers result wanted
 answers_refused wanted code (Ok value) h is = absurd h
 answers_refused wanted code (Err fault) h is = subst (λ fault. Answers (Err fault) wanted) (sym h) is
 
 -- a signal that does not fit
-pub unfitting : (settings : Settings) (state : State) (sender : ℕ) (signal : Found ℕ) (receiver : ℕ) (method : Found ℕ) (mode : ConnectionType) (single : Bool) (s m : ℕ) (code : Code) → signal ≡ Ok s → method ≡ Ok m
-    → Some code ≡ (if fits_at settings state sender s receiver m then None else Some DoesNotFit) → new_connection settings state sender signal receiver method mode single ≡ Err code
+pub unfitting : (settings : Settings) (state : State) (sender : ℕ) (signal : Found ℕ) (receiver : ℕ) (method : Found ℕ) (mode : ConnectionType) (single : Bool)
+    (s m : ℕ) (code : Code) → signal ≡ Ok s → method ≡ Ok m
+    → Some code ≡ (if fits_at settings state sender s receiver m then None else Some DoesNotFit)
+    → new_connection settings state sender signal receiver method mode single ≡ Err code
 unfitting settings state sender signal receiver method mode single s m code found found' refused =
     ap (λ signal. new_connection settings state sender signal receiver method mode single) found
     ∙ ap (λ method. new_connection settings state sender (Ok s) receiver method mode single) found'
-    ∙ by (record { sender = sender; signal = s; receiver = receiver; callee = Method m; mode = mode; single = single }) (fits_at settings state sender s receiver m) refused
+    ∙ by (record { sender = sender; signal = s; receiver = receiver; callee = Method m; mode = mode; single = single })
+    (fits_at settings state sender s receiver m) refused
   where
     by : (new : NewConnection) (fit : Bool) → Some code ≡ (if fit then None else Some DoesNotFit) → (if fit then Ok new else Err DoesNotFit) ≡ Err code
     by new true refused = absurd (cc)

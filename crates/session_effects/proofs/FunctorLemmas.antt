@@ -12,6 +12,7 @@ pub none_left : (kinds : List Kind) (values : List Value) (at index : ℕ) → l
     → (AreArguments (drop at kinds) (drop index values) ↔ AreArguments kinds values) → IsTrue (nat_eq at (length kinds)) ↔ AreArguments kinds values
 none_left kinds values at index past within both = by (drop at kinds) (length-drop at kinds) (rw (drop_all index values past) at both)
   where
-    by : (rest : List Kind) → length rest ≡ length kinds - at → (AreArguments rest [] ↔ AreArguments kinds values) → IsTrue (nat_eq at (length kinds)) ↔ AreArguments kinds values
+    by : (rest : List Kind) → length rest ≡ length kinds - at → (AreArguments rest [] ↔ AreArguments kinds values)
+        → IsTrue (nat_eq at (length kinds)) ↔ AreArguments kinds values
     by [] none both = ((λ is. both.0 tt), (λ are. grind (arith, nat_tests, none, within)))
     by (kind ∷ rest) some both = ((λ is. absurd (grind (arith, nat_tests, some, is))), (λ are. absurd (both.1 are)))

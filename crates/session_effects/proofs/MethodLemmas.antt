@@ -11,9 +11,11 @@ use Rattle.session_model.specs.State.{State}
 use Rattle.session_tables.specs.Classes.{HasClass}
 
 -- the methods of an object are those of its class
-pub methods_by_class : (settings : Settings) (state : State) (object class : ℕ) → HasClass state object class → methods_of settings state object ≡ methods settings.classes class
+pub methods_by_class : (settings : Settings) (state : State) (object class : ℕ) → HasClass state object class
+    → methods_of settings state object ≡ methods settings.classes class
 methods_by_class settings state object class has = by (row_of state.forest.rows object) has
   where
-    by : (row : Option Row) → option_map (λ row. row.class) row ≡ Some class → option_map_or (λ row. methods settings.classes row.class) row [] ≡ methods settings.classes class
+    by : (row : Option Row) → option_map (λ row. row.class) row ≡ Some class
+        → option_map_or (λ row. methods settings.classes row.class) row [] ≡ methods settings.classes class
     by None e = absurd (cc)
     by (Some row) e = let same : row.class ≡ class = cc in ap (methods settings.classes) same

@@ -32,7 +32,8 @@ use Rattle.session_model.specs.Settings.{Settings}
 use Rattle.session_model.specs.Showing.{changes, property_at, told_value}
 use Rattle.session_model.specs.State.{State, shown}
 use Rattle.session_model.specs.Targets.{evaluated, object_of}
-use Rattle.session_model.specs.Writing.{Declared, Dynamic, DeclaredField, Removed, Writing, acted_writing, declared, dynamic_writing, short, with_writing, written}
+use Rattle.session_model.specs.Writing.{Declared, Dynamic, DeclaredField, Removed, Writing, acted_writing, declared, dynamic_writing, short, with_writing}
+use Rattle.session_model.specs.Writing.{written}
 use Rattle.session_model.proofs.ForCallers.{set_done, set_faulty, dynamic_removed, dynamic_set}
 use Rattle.session_tables.specs.declared.tables.Tables.{Tables}
 use Rattle.session_tables.specs.Classes.{HasClass}
@@ -59,25 +60,32 @@ abbrev pub signal_in : Settings → ℕ → ℕ → Option ℕ
 signal_in settings class number = option_and_then (λ property. property.notify) (slice_get (properties settings.classes class) number)
 
 -- an object has the signals that its class declares
-pub signal_by_class : (settings : Settings) (state : State) (object class number : ℕ) → HasClass state object class → signal_of settings state object number ≡ signal_in settings class number
+pub signal_by_class : (settings : Settings) (state : State) (object class number : ℕ) → HasClass state object class
+    → signal_of settings state object number ≡ signal_in settings class number
 signal_by_class settings state object class number has = ap (option_and_then (λ property. property.notify)) (by (row_of state.forest.rows object) has)
   where
-    by : (found : Option Row) → option_map (λ row. row.class) found ≡ Some class → option_and_then (λ row. slice_get (properties settings.classes row.class) number) found ≡ slice_get (properties settings.classes class) number
+    by : (found : Option Row) → option_map (λ row. row.class) found ≡ Some class
+        → option_and_then (λ row. slice_get (properties settings.classes row.class) number) found ≡ slice_get (properties settings.classes class) number
     by None e = absurd (cc)
     by (Some row) e = let same : row.class ≡ class = cc in ap (λ class. slice_get (properties settings.classes class) number) same
 
 -- where a class names a signal for a property, its value is told by that
 pub told_one : (settings : Settings) (state : State) (object class number : ℕ) → HasClass state object class → (depth : ℕ) (notice : NotifySignal)
     → Some notice ≡ option_map (λ signal. record { object = object; property = number; signal = signal }) (signal_in settings class number)
-    → items_of settings state depth (One notice) ≡ told_items settings state depth (changes_in (record { object = object; number = number }) (shown state object number).0 Written)
-told_one settings state object class number has depth notice e = by (signal_in settings class number) e ∙ ap sent (sym (signal_by_class settings state object class number has))
+    → items_of settings state depth (One notice) ≡ told_items settings state depth
+    (changes_in (record { object = object; number = number }) (shown state object number).0 Written)
+told_one settings state object class number has depth notice e = by (signal_in settings class number) e
+    ∙ ap sent (sym (signal_by_class settings state object class number has))
   where
     sent : Option ℕ → List Item
-    sent signal = cons_option (option_map (λ signal. Emit object signal (told_value settings state object (shown state object number).0 signal) depth) signal) []
+    sent signal = cons_option (option_map (λ signal. Emit object signal (told_value settings state object (shown state object number).0 signal) depth) signal)
+        []
 
-    by : (signal : Option ℕ) → Some notice ≡ option_map (λ signal. record { object = object; property = number; signal = signal }) signal → items_of settings state depth (One notice) ≡ sent signal
+    by : (signal : Option ℕ) → Some notice ≡ option_map (λ signal. record { object = object; property = number; signal = signal }) signal
+        → items_of settings state depth (One notice) ≡ sent signal
     by None e = absurd (cc)
-    by (Some signal) e = let same : notice ≡ record { object = object; property = number; signal = signal } = cc in ap (λ notice. items_of settings state depth (One notice)) same
+    by (Some signal) e = let same : notice ≡ record { object = object; property = number; signal = signal } = cc in ap
+        (λ notice. items_of settings state depth (One notice)) same
 
 -- what is told of changes, as news that say the same at every depth
 abbrev pub IsNews : Settings → State → List Change → PendingAnnouncements → Type 0
@@ -88,15 +96,20 @@ module _ (caller : SessionContext) (object : ℕ) (old new : Tables) (placed : I
   before = state_at old caller.place
 
   -- a writing that tells nothing
-  pub writes_silently : (writing : Writing) → ((depth : ℕ) (doing : Execution) → written (settings_of caller.setup.now) (in_state doing before) object depth writing ≡ puts [] (in_state doing (with_writing before object writing)))
+  pub writes_silently : (writing : Writing)
+      → ((depth : ℕ) (doing : Execution) → written (settings_of caller.setup.now) (in_state doing before) object depth writing
+      ≡ puts [] (in_state doing (with_writing before object writing)))
       → new ≡ with_state old caller.place (with_writing before object writing) → Writes caller object writing old Nothing new
   writes_silently writing silent e = λ depth doing. silent depth doing ∙ put_at old new caller.place (with_writing before object writing) doing placed e
 
-  pub writes_removed : (name : List ℕ) → new ≡ with_state old caller.place (with_writing before object (Removed name)) → Writes caller object (Removed name) old Nothing new
+  pub writes_removed : (name : List ℕ) → new ≡ with_state old caller.place (with_writing before object (Removed name))
+      → Writes caller object (Removed name) old Nothing new
   writes_removed name = writes_silently (Removed name) (λ depth doing. dynamic_removed (settings_of caller.setup.now) (in_state doing before) object depth name)
 
-  pub writes_set : (name : List ℕ) (value : Value) → new ≡ with_state old caller.place (with_writing before object (Dynamic name value)) → Writes caller object (Dynamic name value) old Nothing new
-  writes_set name value = writes_silently (Dynamic name value) (λ depth doing. dynamic_set (settings_of caller.setup.now) (in_state doing before) object depth name value)
+  pub writes_set : (name : List ℕ) (value : Value) → new ≡ with_state old caller.place (with_writing before object (Dynamic name value))
+      → Writes caller object (Dynamic name value) old Nothing new
+  writes_set name value = writes_silently (Dynamic name value)
+      (λ depth doing. dynamic_set (settings_of caller.setup.now) (in_state doing before) object depth name value)
 
   module _ (number : ℕ) (value : Value) (e : new ≡ with_state old caller.place (with_writing before object (Declared number value))) where
     abbrev after : State
@@ -124,7 +137,8 @@ module _ (caller : SessionContext) (object : ℕ) (old new : Tables) (placed : I
         ∙ ap (λ items. puts items (in_state doing now)) (sym (is depth))
 
 -- a value that is not invalid is given to a dynamic property
-pub dynamic_valid : (state : State) (object : ℕ) (name : List ℕ) (value : Value) → (value ≡ v.Invalid → ⊥) → dynamic_writing state object name value ≡ option_map_or Err (dynamic_refusal state.store object name) (Ok (Dynamic name value))
+pub dynamic_valid : (state : State) (object : ℕ) (name : List ℕ) (value : Value) → (value ≡ v.Invalid → ⊥)
+    → dynamic_writing state object name value ≡ option_map_or Err (dynamic_refusal state.store object name) (Ok (Dynamic name value))
 dynamic_valid state object name v.Invalid other = absurd (other refl)
 dynamic_valid state object name (v.Bool b) other = refl
 dynamic_valid state object name (v.Int z) other = refl
@@ -134,7 +148,8 @@ dynamic_valid state object name (v.Ulonglong n) other = refl
 dynamic_valid state object name (v.Text text) other = refl
 
 -- a dynamic property was set, or is refused
-pub writes_dynamic : (caller : SessionContext) (object : ℕ) (name : List ℕ) (value : Value) (old new : Tables) (result : Result (Unit {0}) Fault) → IsPlaced old caller.place → (value ≡ v.Invalid → ⊥)
+pub writes_dynamic : (caller : SessionContext) (object : ℕ) (name : List ℕ) (value : Value) (old new : Tables) (result : Result (Unit {0}) Fault)
+    → IsPlaced old caller.place → (value ≡ v.Invalid → ⊥)
     → RefusedBy (dynamic_refusal (state_at old caller.place).store object name) result
     → OnOk result (new ≡ with_state old caller.place (with_writing (state_at old caller.place) object (Dynamic name value)))
     → TriesToWrite caller object (dynamic_writing (state_at old caller.place) object name value) old (λ done. Nothing) new result
@@ -169,62 +184,82 @@ module _ (state : State) (object : ℕ) (name : List ℕ) (given : Value) (is_sh
   by_place place found = found >>= short >>= λ value. Ok (Declared place.number value)
 
   acted_at : (found : Option DeclaredField) → declared state object name ≡ found
-      → acted_writing state object name given ≡ option_map_or (λ place. ok_or (converted place.kind given) BadValue >>= short >>= λ value. Ok (Declared place.number value)) found (short given >>= dynamic_writing state object name)
-  acted_at found e = ap (λ (found : Option DeclaredField). option_map_or (λ place. ok_or (converted place.kind given) BadValue >>= short >>= λ value. Ok (Declared place.number value)) found (short given >>= dynamic_writing state object name)) e
+      → acted_writing state object name given ≡ option_map_or
+      (λ place. ok_or (converted place.kind given) BadValue >>= short >>= λ value. Ok (Declared place.number value)) found
+      (short given >>= dynamic_writing state object name)
+  acted_at found e = ap (λ (found : Option DeclaredField). option_map_or
+      (λ place. ok_or (converted place.kind given) BadValue >>= short >>= λ value. Ok (Declared place.number value)) found
+      (short given >>= dynamic_writing state object name)) e
 
-  pub acted_declared : (place : DeclaredField) (fit : Value) → declared state object name ≡ Some place → converted place.kind given ≡ Some fit → acted_writing state object name given ≡ Ok (Declared place.number fit)
+  pub acted_declared : (place : DeclaredField) (fit : Value) → declared state object name ≡ Some place → converted place.kind given ≡ Some fit
+      → acted_writing state object name given ≡ Ok (Declared place.number fit)
   acted_declared place fit there fits =
       acted_at (Some place) there
       ∙ ap (λ (found : Option Value). ok_or found BadValue >>= short >>= λ value. Ok (Declared place.number value)) fits
       ∙ ap (λ (found : Found Value). found >>= λ value. Ok (Declared place.number value)) (short_kept fit (converted_fits place.kind given fit is_short fits).1)
 
   -- a value that does not fit is refused
-  pub acted_unfit : (place : DeclaredField) → declared state object name ≡ Some place → converted place.kind given ≡ None → acted_writing state object name given ≡ Err BadValue
-  acted_unfit place there misfit = acted_at (Some place) there ∙ ap (λ (found : Option Value). ok_or found BadValue >>= short >>= λ value. Ok (Declared place.number value)) misfit
+  pub acted_unfit : (place : DeclaredField) → declared state object name ≡ Some place → converted place.kind given ≡ None
+      → acted_writing state object name given ≡ Err BadValue
+  acted_unfit place there misfit = acted_at (Some place) there
+      ∙ ap (λ (found : Option Value). ok_or found BadValue >>= short >>= λ value. Ok (Declared place.number value)) misfit
 
   -- and one of a name that is not declared is a dynamic property's
   pub acted_dynamic : declared state object name ≡ None → acted_writing state object name given ≡ dynamic_writing state object name given
   acted_dynamic none = acted_at None none ∙ ap (λ (found : Found Value). found >>= dynamic_writing state object name) (short_kept given is_short)
 
-module _ (caller : SessionContext) (object : ℕ) (name : List ℕ) (value : Value) (old middle : Tables) (placed : IsPlaced old caller.place) (is_short : IsShort value) where
+module _ (caller : SessionContext) (object : ℕ) (name : List ℕ) (value : Value) (old middle : Tables) (placed : IsPlaced old caller.place)
+    (is_short : IsShort value) where
   -- a declared property of the name was written, and there is news of what has changed
-  pub named_declared : (number : ℕ) (changed : WriteChanges) → WritesDeclared caller.place object name value old number changed middle → (class : ℕ) → HasClass (state_at old caller.place) object class → (news : PendingAnnouncements)
-      → ((state : State) → HasClass state object class → IsNews (settings_of caller.setup.now) state (changes_in (record { object = object; number = number }) (shown state object number).0 changed) news)
+  pub named_declared : (number : ℕ) (changed : WriteChanges) → WritesDeclared caller.place object name value old number changed middle → (class : ℕ)
+      → HasClass (state_at old caller.place) object class → (news : PendingAnnouncements)
+      → ((state : State) → HasClass state object class → IsNews (settings_of caller.setup.now) state
+      (changes_in (record { object = object; number = number }) (shown state object number).0 changed) news)
       → TriesToWrite caller object (acted_writing (state_at old caller.place) object name value) old (λ told. told) middle (Ok news)
   named_declared number changed done class has news told = (
     Declared done.of.number done.written,
     acted_declared (state_at old caller.place) object name value is_short done.of done.written done.named done.fits,
     writes_declared caller object old middle placed done.of.number done.written done.new changed news done.told
-        (subst (λ number. (state : State) → HasClass state object class → IsNews (settings_of caller.setup.now) state (changes_in (record { object = object; number = number }) (shown state object number).0 changed) news) done.number told
+        (subst (λ number. (state : State) → HasClass state object class
+        → IsNews (settings_of caller.setup.now) state (changes_in (record { object = object; number = number }) (shown state object number).0 changed) news)
+        done.number told
         (state_at middle caller.place) (class_kept caller object old middle placed done.of.number done.written done.new class has)),
   )
 
   -- there is none of the name: a dynamic property was written
-  pub named_undeclared : (handed : Value) → (handed ≡ value) × (declared (state_at old caller.place) object name ≡ None) × (middle ≡ old) → (new : Tables) (result : Result (Unit {0}) Fault)
+  pub named_undeclared : (handed : Value) → (handed ≡ value) × (declared (state_at old caller.place) object name ≡ None) × (middle ≡ old)
+      → (new : Tables) (result : Result (Unit {0}) Fault)
       → TriesToWrite caller object (dynamic_writing (state_at middle caller.place) object name handed) middle (λ done. Nothing) new result
       → TriesToWrite caller object (acted_writing (state_at old caller.place) object name value) old (λ done. Nothing) new result
   named_undeclared handed none new result tried =
-      subst (λ (wanted : Found Writing). TriesToWrite caller object wanted old (λ done. Nothing) new result) (sym (acted_dynamic (state_at old caller.place) object name value is_short none.1))
-      (subst (λ (value : Value). TriesToWrite caller object (dynamic_writing (state_at old caller.place) object name value) old (λ done. Nothing) new result) none.0
-      (subst (λ (tables : Tables). TriesToWrite caller object (dynamic_writing (state_at tables caller.place) object name handed) tables (λ done. Nothing) new result) none.2 tried))
+      subst (λ (wanted : Found Writing). TriesToWrite caller object wanted old (λ done. Nothing) new result)
+      (sym (acted_dynamic (state_at old caller.place) object name value is_short none.1))
+      (subst (λ (value : Value). TriesToWrite caller object (dynamic_writing (state_at old caller.place) object name value) old (λ done. Nothing) new result)
+      none.0
+      (subst (λ (tables : Tables). TriesToWrite caller object (dynamic_writing (state_at tables caller.place) object name handed) tables
+      (λ done. Nothing) new result) none.2 tried))
 
 -- a call that has put another state, or failed, changes no other session
-pub set_keeps : {T E : Type 0} (place : ℕ) (old new : Tables) (state : State) (result : Result T E) → IsPlaced old place → OnOk result (new ≡ with_state old place state) → OnErr result (new ≡ old) → KeepsOthers place old new
+pub set_keeps : {T E : Type 0} (place : ℕ) (old new : Tables) (state : State) (result : Result T E) → IsPlaced old place
+    → OnOk result (new ≡ with_state old place state) → OnErr result (new ≡ old) → KeepsOthers place old new
 set_keeps place old new state (Ok value) placed ok err = keeps_with old new place state placed ok
 set_keeps place old new state (Err error) placed ok err = keeps_same old new place err
 
 -- an action that writes comes to what is written
-pub sets_property : (caller : SessionContext) (slot : Slot) (of : Target) (property : List ℕ) (term : Term) (old new : Tables) (result : Result PendingAnnouncements Fault) (object : ℕ) (value : Value)
+pub sets_property : (caller : SessionContext) (slot : Slot) (of : Target) (property : List ℕ) (term : Term) (old new : Tables)
+    (result : Result PendingAnnouncements Fault) (object : ℕ) (value : Value)
     → object ≡ object_of (state_at old caller.place) slot.object slot.sender of
     → is_there (state_at old caller.place).forest.rows object ≡ true
     → evaluated (state_at old caller.place) slot.object slot.sender slot.args.now term ≡ Ok value
     → TriesToWrite caller object (acted_writing (state_at old caller.place) object property value) old (λ told. told) new result
     → Tries caller slot (e.Set of property term) old (items_of (settings_of caller.setup.now) (state_at new caller.place) slot.depth) new result
 sets_property caller slot of property term old new (Ok told) object value is there found tried = λ doing.
-    set_done (settings_of caller.setup.now) slot.object slot.sender slot.args.now slot.depth (in_state doing (state_at old caller.place)) of property term object is there tried.0
+    set_done (settings_of caller.setup.now) slot.object slot.sender slot.args.now slot.depth
+    (in_state doing (state_at old caller.place)) of property term object is there tried.0
     (ap (λ (found : Found Value). found >>= acted_writing (state_at old caller.place) object property) found ∙ tried.1)
     ∙ tried.2 slot.depth doing
 sets_property caller slot of property term old new (Err (Refused code)) object value is there found tried = λ doing.
-    set_faulty (settings_of caller.setup.now) slot.object slot.sender slot.args.now slot.depth (in_state doing (state_at old caller.place)) of property term object is there code
+    set_faulty (settings_of caller.setup.now) slot.object slot.sender slot.args.now slot.depth
+    (in_state doing (state_at old caller.place)) of property term object is there code
     (ap (λ (found : Found Value). found >>= acted_writing (state_at old caller.place) object property) found ∙ tried)
 sets_property caller slot of property term old new (Err Memory) object value is there found tried = tt

@@ -1,5 +1,6 @@
 -- An engine in which the session at one place has changed, and no other one.
-use Rattle.std.proofs.Common.{◌≡◌, ℕ, Bool, true, false, true≢false, List, [], ◌∷◌, Option, Some, None, Result, Ok, Err, OnOk, OnErr, IsTrue, IsFalse, eqb, refl, sym, ap, subst, ◌∙◌, ⊎_elim, arith}
+use Rattle.std.proofs.Common.{◌≡◌, ℕ, Bool, true, false, true≢false, List, [], ◌∷◌, Option, Some, None, Result, Ok, Err, OnOk, OnErr, IsTrue, IsFalse, eqb}
+use Rattle.std.proofs.Common.{refl, sym, ap, subst, ◌∙◌, ⊎_elim, arith}
 use Rattle.std.specs.Prelude.{bytes_eq}
 use Rattle.std.specs.Option.{option_map_or}
 use Rattle.std.specs.Result.{is_err, result_ok}
@@ -25,7 +26,8 @@ use Rattle.session_engine.proofs.SessionLemmas.{after_posts_state, kept_fresh, k
 abbrev pub changed : EngineState → Tables → Bool → EngineState
 changed engine new refused = record { settings = engine.settings; names = engine.names; tables = new; memory_refused = refused }
 
-module _ (engine : EngineState) (new : Tables) (refused : Bool) (at : ℕ) (name : List ℕ) (whole : IsWhole engine) (there : place engine name ≡ Some at) (changes : ChangesOnly at engine.tables new) where
+module _ (engine : EngineState) (new : Tables) (refused : Bool) (at : ℕ) (name : List ℕ) (whole : IsWhole engine) (there : place engine name ≡ Some at)
+    (changes : ChangesOnly at engine.tables new) where
   -- the session of this name is the one at the place
   own_changed : sessions (changed engine new refused) name ≡ session_at new at
   own_changed = sessions-place (changed engine new refused) name at there
@@ -37,10 +39,12 @@ module _ (engine : EngineState) (new : Tables) (refused : Bool) (at : ℕ) (name
       by None e = ap (λ found. option_map_or (session_at new) found fresh) e ∙ sym (ap (λ found. option_map_or (session_at engine.tables) found fresh) e)
       by (Some other') e =
           let apart : eqb other' at ≡ false = ⊎_elim
-          (λ same. let is : other' ≡ at = grind (arith, nat_tests, same) in absurd (both_ways _ differ ((bytes_eq-Decides other name).1 (sym (one_name engine name other at there (e ∙ ap Some is))))))
+          (λ same. let is : other' ≡ at = grind (arith, nat_tests, same) in absurd
+          (both_ways _ differ ((bytes_eq-Decides other name).1 (sym (one_name engine name other at there (e ∙ ap Some is))))))
           (λ apart. apart)
           (cases_Bool (eqb other' at)) in
-          sessions-place (changed engine new refused) other other' e ∙ session_unchanged engine.tables new at other' changes apart ∙ sym (sessions-place engine other other' e)
+          sessions-place (changed engine new refused) other other' e ∙ session_unchanged engine.tables new at other' changes apart
+          ∙ sym (sessions-place engine other other' e)
 
   module _ (less : IsFalse refused → IsFalse engine.memory_refused) (own : IsKept engine.settings refused (session_at new at)) where
     pub whole_changed : IsWhole (changed engine new refused)
@@ -61,8 +65,10 @@ module _ (engine : EngineState) (new : Tables) (refused : Bool) (at : ℕ) (name
             (record { well = λ found. (whole.kept other).well (less found); sound = (whole.kept other).sound })
 
 -- a post has come to the session at a place
-module _ {T E : Type 0} (engine : EngineState) (new : Tables) (refused : Bool) (at : ℕ) (name from : List ℕ) (post : Post) (result : Result T E) (whole : IsWhole engine) (right : IsRightPost post) (there : place engine name ≡ Some at) (changes : ChangesOnly at engine.tables new)
-    (ok : OnOk result (session_at new at ≡ after_posts engine.settings.classes from (post ∷ []) (session_at engine.tables at))) (err : OnErr result (FailsBy from (post ∷ []) (session_at engine.tables at) (session_at new at)))
+module _ {T E : Type 0} (engine : EngineState) (new : Tables) (refused : Bool) (at : ℕ) (name from : List ℕ) (post : Post) (result : Result T E)
+    (whole : IsWhole engine) (right : IsRightPost post) (there : place engine name ≡ Some at) (changes : ChangesOnly at engine.tables new)
+    (ok : OnOk result (session_at new at ≡ after_posts engine.settings.classes from (post ∷ []) (session_at engine.tables at)))
+    (err : OnErr result (FailsBy from (post ∷ []) (session_at engine.tables at) (session_at new at)))
     (found : OnOk result (refused ≡ engine.memory_refused)) (memory : OnErr result (IsTrue refused)) where
   found_before : IsFalse refused → IsFalse engine.memory_refused
   found_before fine = by result found memory
@@ -74,10 +80,14 @@ module _ {T E : Type 0} (engine : EngineState) (new : Tables) (refused : Bool) (
   kept_arrived : IsKept engine.settings refused (session_at new at)
   kept_arrived = by result ok err memory
     where
-      by : (result : Result T E) → OnOk result (session_at new at ≡ after_posts engine.settings.classes from (post ∷ []) (session_at engine.tables at)) → OnErr result (FailsBy from (post ∷ []) (session_at engine.tables at) (session_at new at)) → OnErr result (IsTrue refused)
+      by : (result : Result T E) → OnOk result (session_at new at ≡ after_posts engine.settings.classes from (post ∷ []) (session_at engine.tables at))
+          → OnErr result (FailsBy from (post ∷ []) (session_at engine.tables at) (session_at new at)) → OnErr result (IsTrue refused)
           → IsKept engine.settings refused (session_at new at)
-      by (Ok done) ok err memory = subst (IsKept engine.settings refused) (sym ok) (kept_after_posts engine.settings engine.memory_refused refused from (post ∷ []) (session_at engine.tables at) found_before (All-cons IsRightPost post [] right (All-nil IsRightPost)) (whole.kept at))
-      by (Err error) ok err memory = subst (λ mark. IsKept engine.settings mark (session_at new at)) (sym memory) (subst (IsKept engine.settings true) (sym err.2) (kept_gone engine.settings))
+      by (Ok done) ok err memory = subst (IsKept engine.settings refused) (sym ok)
+          (kept_after_posts engine.settings engine.memory_refused refused from (post ∷ []) (session_at engine.tables at) found_before
+          (All-cons IsRightPost post [] right (All-nil IsRightPost)) (whole.kept at))
+      by (Err error) ok err memory = subst (λ mark. IsKept engine.settings mark (session_at new at)) (sym memory)
+          (subst (IsKept engine.settings true) (sym err.2) (kept_gone engine.settings))
 
   pub whole_arrived : IsWhole (changed engine new refused)
   whole_arrived = whole_changed engine new refused at name whole there changes found_before kept_arrived
@@ -91,13 +101,16 @@ module _ {T E : Type 0} (engine : EngineState) (new : Tables) (refused : Bool) (
       now : sessions (changed engine new refused) name ≡ session_at new at
       now = own_changed engine new refused at name whole there changes
 
-      by : (result : Result T E) → OnOk result (session_at new at ≡ after_posts engine.settings.classes from (post ∷ []) (session_at engine.tables at)) → OnErr result (FailsBy from (post ∷ []) (session_at engine.tables at) (session_at new at)) → OnOk result (refused ≡ engine.memory_refused)
+      by : (result : Result T E) → OnOk result (session_at new at ≡ after_posts engine.settings.classes from (post ∷ []) (session_at engine.tables at))
+          → OnErr result (FailsBy from (post ∷ []) (session_at engine.tables at) (session_at new at)) → OnOk result (refused ≡ engine.memory_refused)
           → OnErr result (IsTrue refused) → HasArrived (seen_by_name engine) (seen_by_name (changed engine new refused)) name from post (result_ok result)
       by (Ok done) ok err found memory =
-          let after_posts_it : sessions (changed engine new refused) name ≡ after_posts engine.settings.classes from (post ∷ []) (sessions engine name) = now ∙ ok ∙ ap (after_posts engine.settings.classes from (post ∷ [])) (sym own) in
+          let after_posts_it : sessions (changed engine new refused) name ≡ after_posts engine.settings.classes from (post ∷ []) (sessions engine name) = now
+          ∙ ok ∙ ap (after_posts engine.settings.classes from (post ∷ [])) (sym own) in
           record {
             state = λ fine. ap (λ (session : Session). session.state) after_posts_it
-                ∙ after_posts_state engine.settings from (post ∷ []) (sessions engine name) (ap (λ (session : Session). session.failed) own ∙ (whole.kept at).well (found_before fine));
+                ∙ after_posts_state engine.settings from (post ∷ []) (sessions engine name)
+                (ap (λ (session : Session). session.failed) own ∙ (whole.kept at).well (found_before fine));
             hears = after_posts_it;
             fails = tt;
             others = others_changed engine new refused at name whole there changes;
@@ -109,7 +122,12 @@ module _ {T E : Type 0} (engine : EngineState) (new : Tables) (refused : Bool) (
       by (Err error) ok err found memory = record {
         state = λ fine. absurd (both_ways _ fine memory);
         hears = tt;
-        fails = (ap (λ (session : Session). session.failed) own ∙ err.0, subst (λ session. IsTrue (takes_some from (post ∷ []) session)) (sym own) err.1, now ∙ err.2);
+        fails = (
+          ap (λ (session : Session). session.failed) own ∙ err.0,
+          subst (λ session. IsTrue (takes_some from (post ∷ []) session)) (sym own) err.1,
+          now
+              ∙ err.2,
+        );
         others = others_changed engine new refused at name whole there changes;
         settings = refl;
         found = tt;
@@ -118,15 +136,18 @@ module _ {T E : Type 0} (engine : EngineState) (new : Tables) (refused : Bool) (
       }
 
 -- another session is put at a place
-module _ (engine : EngineState) (new : Tables) (at : ℕ) (name : List ℕ) (session : Session) (whole : IsWhole engine) (there : place engine name ≡ Some at) (is : new ≡ with_session engine.tables at session) where
+module _ (engine : EngineState) (new : Tables) (at : ℕ) (name : List ℕ) (session : Session) (whole : IsWhole engine) (there : place engine name ≡ Some at)
+    (is : new ≡ with_session engine.tables at session) where
   put_changes : ChangesOnly at engine.tables new
   put_changes = changes_session engine.tables new at session (placed engine name at whole there) is
 
   put_there : session_at new at ≡ session
   put_there = ap (λ tables. session_at tables at) is ∙ session_there engine.tables at session (placed engine name at whole there)
 
-  whole_put : (refused : Bool) → (IsFalse refused → IsFalse engine.memory_refused) → IsKept engine.settings refused session → IsWhole (changed engine new refused)
-  whole_put refused less kept = whole_changed engine new refused at name whole there put_changes less (subst (IsKept engine.settings refused) (sym put_there) kept)
+  whole_put : (refused : Bool) → (IsFalse refused → IsFalse engine.memory_refused) → IsKept engine.settings refused session
+      → IsWhole (changed engine new refused)
+  whole_put refused less kept = whole_changed engine new refused at name whole there put_changes less
+      (subst (IsKept engine.settings refused) (sym put_there) kept)
 
   own_put : (refused : Bool) → sessions (changed engine new refused) name ≡ session
   own_put refused = own_changed engine new refused at name whole there put_changes ∙ put_there
@@ -135,7 +156,8 @@ module _ (engine : EngineState) (new : Tables) (at : ℕ) (name : List ℕ) (ses
   others_put refused = others_changed engine new refused at name whole there put_changes
 
 -- the session at a place begins anew
-module _ (engine : EngineState) (new : Tables) (at : ℕ) (name : List ℕ) (whole : IsWhole engine) (there : place engine name ≡ Some at) (is : new ≡ with_session engine.tables at fresh) where
+module _ (engine : EngineState) (new : Tables) (at : ℕ) (name : List ℕ) (whole : IsWhole engine) (there : place engine name ≡ Some at)
+    (is : new ≡ with_session engine.tables at fresh) where
   pub whole_anew : IsWhole (changed engine new engine.memory_refused)
   whole_anew = whole_put engine new at name fresh whole there is engine.memory_refused (λ found. found) (kept_fresh engine.settings engine.memory_refused)
 
@@ -149,7 +171,8 @@ module _ (engine : EngineState) (new : Tables) (at : ℕ) (name : List ℕ) (who
   }
 
 -- the session at a place has failed for memory that was refused
-module _ (engine : EngineState) (new : Tables) (at : ℕ) (name : List ℕ) (whole : IsWhole engine) (there : place engine name ≡ Some at) (is : new ≡ with_session engine.tables at failed_session) where
+module _ (engine : EngineState) (new : Tables) (at : ℕ) (name : List ℕ) (whole : IsWhole engine) (there : place engine name ≡ Some at)
+    (is : new ≡ with_session engine.tables at failed_session) where
   pub whole_failed : IsWhole (changed engine new true)
   whole_failed = whole_put engine new at name failed_session whole there is true (λ found. absurd (true≢false found)) (kept_gone engine.settings)
 

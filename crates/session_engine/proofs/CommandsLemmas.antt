@@ -1,5 +1,6 @@
 -- What a command makes of the session at its place, by the ways that it goes.
-use Rattle.std.proofs.Common.{◌≡◌, ◌∷◌, ℕ, Bool, true, false, true≢false, List, Option, Some, None, Result, Ok, Err, IfOk, not, IsErrAnd, OnErr, OnOk, slice_get, refl, sym, ap, subst, ◌∙◌, ◌&&◌, inl, inr, ◌||◌, eqb, IsFalse, IsSome, OnSome, []}
+use Rattle.std.proofs.Common.{◌≡◌, ◌∷◌, ℕ, Bool, true, false, true≢false, List, Option, Some, None, Result, Ok, Err, IfOk, not, IsErrAnd, OnErr, OnOk}
+use Rattle.std.proofs.Common.{slice_get, refl, sym, ap, subst, ◌∙◌, ◌&&◌, inl, inr, ◌||◌, eqb, IsFalse, IsSome, OnSome, []}
 use Rattle.std.specs.Option.{option_or}
 use Rattle.class_table.specs.declared.class.Class.{Class}
 use Rattle.isolation.specs.Machine.{Effect}
@@ -37,7 +38,8 @@ use Rattle.session_tables.specs.Refused.{OnRefused}
 use Rattle.session_tables.specs.Session.{Session, fresh, failed_session}
 use Rattle.session_tables.specs.Tables.{ChangesOnly, IsPlaced, failed_at, session_at, state_at, with_session, with_state}
 use Rattle.session_tables.specs.Reaching.{ReceivesPosts, Reaches, after_posts}
-use Rattle.session_tables.proofs.ForCallers.{changes_same, changes_twice, changes_with, session_there, state_with, changes_session, after_posts-none, placed_shaped, session_unchanged, shaped_changed, shaped_twice}
+use Rattle.session_tables.proofs.ForCallers.{changes_same, changes_twice, changes_with, session_there, state_with, changes_session, after_posts-none}
+use Rattle.session_tables.proofs.ForCallers.{placed_shaped, session_unchanged, shaped_changed, shaped_twice}
 use Rattle.session_effects.specs.declared.session_context.SessionContext.{SessionContext}
 use Rattle.dispatch.specs.declared.command_output.CommandOutput.{CommandOutput}
 use Rattle.session_engine.specs.Commands.{Obeys, OthersHear, Performs, Reads, its_effect, its_refusal, reply_after, reply_lines}
@@ -53,23 +55,34 @@ use Rattle.session_engine.proofs.SessionLemmas.{does_fine, not_shut, refused_aft
 use Rattle.session_engine.proofs.StepLemmas.{Ended, GaveUp, Loud, Marks, Own, Quiet, Told, some_none_of, step_of, whole_after}
 
 -- what changes one session alone is not heard by the others
-pub others_changed : (classes : List Class) (from : List ℕ) (old new : Tables) (place : ℕ) → ChangesOnly place old new → OthersHear classes from place [] old new false
+pub others_changed : (classes : List Class) (from : List ℕ) (old new : Tables) (place : ℕ) → ChangesOnly place old new
+    → OthersHear classes from place [] old new false
 others_changed classes from old new place changes =
     let unchanged : (at : ℕ) → IsFalse (eqb at place) → IsPlaced old at → session_at new at ≡ after_posts classes from [] (session_at old at) =
     λ at apart placed. session_unchanged old new place at changes apart ∙ sym (after_posts-none classes from (session_at old at)) in
-    record { shape = shaped_changed old new place changes; hear = λ at apart placed. inl (unchanged at apart placed); all = λ none. unchanged; one = λ some. absurd (true≢false (sym some)) }
+    record {
+      shape = shaped_changed old new place changes;
+      hear = λ at apart placed. inl (unchanged at apart placed);
+      all = λ none. unchanged;
+      one = λ some. absurd (true≢false (sym some));
+    }
 
 -- what they have heard of nested calls
-others_reached : (classes : List Class) (from : List ℕ) (old new : Tables) (place : ℕ) (posts : List Post) (failing : Bool) → Reaches classes from place posts old new false failing → OthersHear classes from place posts old new failing
-others_reached classes from old new place posts failing reaches = record { shape = reaches.shape; hear = reaches.others; all = λ none. (reaches.all none).1; one = λ some. reaches.one refl some }
+others_reached : (classes : List Class) (from : List ℕ) (old new : Tables) (place : ℕ) (posts : List Post) (failing : Bool)
+    → Reaches classes from place posts old new false failing → OthersHear classes from place posts old new failing
+others_reached classes from old new place posts failing reaches =
+    record { shape = reaches.shape; hear = reaches.others; all = λ none. (reaches.all none).1; one = λ some. reaches.one refl some }
 
 -- also where the session fails then
-others_then : (classes : List Class) (from : List ℕ) (old middle new : Tables) (place : ℕ) (posts : List Post) (failing : Bool) → OthersHear classes from place posts old middle failing → ChangesOnly place middle new → OthersHear classes from place posts old new failing
+others_then : (classes : List Class) (from : List ℕ) (old middle new : Tables) (place : ℕ) (posts : List Post) (failing : Bool)
+    → OthersHear classes from place posts old middle failing → ChangesOnly place middle new → OthersHear classes from place posts old new failing
 others_then classes from old middle new place posts failing others changes = record {
   shape = shaped_twice old middle new others.shape (shaped_changed middle new place changes);
-  hear = λ at apart placed. subst (ReceivesPosts classes from posts (session_at old at)) (sym (session_unchanged middle new place at changes apart)) (others.hear at apart placed);
+  hear = λ at apart placed. subst (ReceivesPosts classes from posts (session_at old at)) (sym (session_unchanged middle new place at changes apart))
+      (others.hear at apart placed);
   all = λ none at apart placed. session_unchanged middle new place at changes apart ∙ others.all none at apart placed;
-  one = λ some. let it = others.one some in (it.0, it.1, it.2, it.3, ap (λ (session : Session). session.failed) (session_unchanged middle new place it.0 changes it.1) ∙ it.4);
+  one = λ some. let it = others.one some in
+      (it.0, it.1, it.2, it.3, ap (λ (session : Session). session.failed) (session_unchanged middle new place it.0 changes it.1) ∙ it.4);
 }
 
 -- the first of two refusals, or the second where there is no first
@@ -81,26 +94,49 @@ or_second a b e = sym (ap (λ a. option_or a b) e)
 
 module _ (caller : SessionContext) (asked : Asked) (old new : Tables) where
   -- a command that is refused has changed nothing
-  pub stopped : {T : Type 0} (lines : T → List Line) (code : Code) (result : Result T Fault) → IsErrAnd result (λ fault. fault ≡ Refused code) → its_refusal caller asked old ≡ Some code → new ≡ old → Performs caller asked old new false lines result
+  pub stopped : {T : Type 0} (lines : T → List Line) (code : Code) (result : Result T Fault) → IsErrAnd result (λ fault. fault ≡ Refused code)
+      → its_refusal caller asked old ≡ Some code → new ≡ old → Performs caller asked old new false lines result
   stopped lines code (Ok value) h refused same = absurd h
   stopped lines code (Err fault) h refused same =
       subst (λ fault. Performs caller asked old new false lines (Err fault)) (sym h)
-      (record { returns = refused; posts = []; front = tt; posted = tt; done = tt; refused = same; others = others_changed caller.setup.now.classes caller.name.now old new caller.place (changes_same old new caller.place same) })
+      (record {
+        returns = refused;
+        posts = [];
+        front = tt;
+        posted = tt;
+        done = tt;
+        refused = same;
+        others = others_changed caller.setup.now.classes caller.name.now old new caller.place (changes_same old new caller.place same);
+      })
 
   -- where memory was wanted only its own session may have changed
-  pub starved : {T : Type 0} (lines : T → List Line) (result : Result T Fault) → IsErrAnd result (λ fault. fault ≡ Memory) → ChangesOnly caller.place old new → Performs caller asked old new false lines result
+  pub starved : {T : Type 0} (lines : T → List Line) (result : Result T Fault) → IsErrAnd result (λ fault. fault ≡ Memory) → ChangesOnly caller.place old new
+      → Performs caller asked old new false lines result
   starved lines (Ok value) h only = absurd h
   starved lines (Err fault) h only =
-      subst (λ fault. Performs caller asked old new false lines (Err fault)) (sym h) (record { returns = tt; posts = []; front = front_none _; posted = tt; done = tt; refused = tt; others = others_changed caller.setup.now.classes caller.name.now old new caller.place only })
+      subst (λ fault. Performs caller asked old new false lines (Err fault)) (sym h)
+      (record {
+        returns = tt;
+        posts = [];
+        front = front_none _;
+        posted = tt;
+        done = tt;
+        refused = tt;
+        others = others_changed caller.setup.now.classes caller.name.now old new caller.place only;
+      })
 
   -- a command that is not refused does what it performs
-  passed_does : its_refusal caller asked old ≡ None → thread.does (settings_of caller.setup.now) caller.name.now (state_at old caller.place) asked ≡ its_effect caller asked old
+  passed_does : its_refusal caller asked old ≡ None → thread.does (settings_of caller.setup.now) caller.name.now (state_at old caller.place) asked
+      ≡ its_effect caller asked old
   unfolding thread.does
   passed_does passed = ap (λ refusal. unless refusal (state_at old caller.place) (its_effect caller asked old)) passed
 
   -- where memory was wanted in what it sets off, other sessions have heard the first of its posts
-  pub starved_last : {T : Type 0} (output : CommandOutput) (posts : List Post) (done : doing.Execution) (last : Line) (lines : T → List Line) (result : Result T Fault) → IsErrAnd result (λ fault. fault ≡ Memory) → its_refusal caller asked old ≡ None
-      → its_effect caller asked old ≡ ended (doing.line_told done last) → IsPrefix posts done.posts → Reaches caller.setup.now.classes caller.name.now caller.place posts old new false output.failing → Performs caller asked old new output.failing lines result
+  pub starved_last : {T : Type 0} (output : CommandOutput) (posts : List Post) (done : doing.Execution) (last : Line) (lines : T → List Line)
+      (result : Result T Fault) → IsErrAnd result (λ fault. fault ≡ Memory) → its_refusal caller asked old ≡ None
+      → its_effect caller asked old ≡ ended (doing.line_told done last) → IsPrefix posts done.posts
+      → Reaches caller.setup.now.classes caller.name.now caller.place posts old new false output.failing
+      → Performs caller asked old new output.failing lines result
   unfolding doing.line_told
   starved_last output posts done last lines (Ok value) h passed effect front reaches = absurd h
   starved_last output posts done last lines (Err fault) h passed effect front reaches =
@@ -116,18 +152,25 @@ module _ (caller : SessionContext) (asked : Asked) (old new : Tables) where
       })
 
   -- a fault of a call that is refused by the rest of its refusal
-  pub made_fault : {T : Type 0} (lines : T → List Line) (rest : Option Code) (fault : Fault) (result : Result T Fault) → IsErrAnd result (λ other. other ≡ fault) → its_refusal caller asked old ≡ rest
-      → RefusedBy {T = ℕ} rest (Err fault) → OnRefused {T = ℕ} (Err fault) (new ≡ old) → ChangesOnly caller.place old new → Performs caller asked old new false lines result
+  pub made_fault : {T : Type 0} (lines : T → List Line) (rest : Option Code) (fault : Fault) (result : Result T Fault)
+      → IsErrAnd result (λ other. other ≡ fault) → its_refusal caller asked old ≡ rest
+      → RefusedBy {T = ℕ} rest (Err fault) → OnRefused {T = ℕ} (Err fault) (new ≡ old) → ChangesOnly caller.place old new
+      → Performs caller asked old new false lines result
   made_fault lines rest (Refused code) result h is refused same only = stopped lines code result h (is ∙ refused) same
   made_fault lines rest Memory result h is refused same only = starved lines result h only
 
   -- the session is left so, and its mark stays
-  left_as : (state : State) → (its_effect caller asked old).state ≡ state → state_at new caller.place ≡ state → failed_at new caller.place ≡ failed_at old caller.place → session_at new caller.place ≡ record { state = (its_effect caller asked old).state; failed = failed_at old caller.place }
+  left_as : (state : State) → (its_effect caller asked old).state ≡ state → state_at new caller.place ≡ state
+      → failed_at new caller.place ≡ failed_at old caller.place
+      → session_at new caller.place ≡ record { state = (its_effect caller asked old).state; failed = failed_at old caller.place }
   left_as state effect is mark =
-      ap (λ state. record { state = state; failed = failed_at new caller.place }) (is ∙ sym effect) ∙ ap (λ failed. record { state = (its_effect caller asked old).state; failed = failed }) mark
+      ap (λ state. record { state = state; failed = failed_at new caller.place }) (is ∙ sym effect)
+      ∙ ap (λ failed. record { state = (its_effect caller asked old).state; failed = failed }) mark
 
   -- and else it replies
-  pub replied : (state : State) (answer : Answer) → IsPlaced old caller.place → its_refusal caller asked old ≡ None → its_effect caller asked old ≡ replies state answer → new ≡ with_state old caller.place state → Performs caller asked old new false reply_lines (Ok answer)
+  pub replied : (state : State) (answer : Answer) → IsPlaced old caller.place → its_refusal caller asked old ≡ None
+      → its_effect caller asked old ≡ replies state answer → new ≡ with_state old caller.place state
+      → Performs caller asked old new false reply_lines (Ok answer)
   replied state answer placed passed effect e = record {
     returns = (passed, ap (λ effect. effect.lines) effect);
     posts = [];
@@ -139,7 +182,9 @@ module _ (caller : SessionContext) (asked : Asked) (old new : Tables) where
   }
 
   -- so it does behind what was told by what it set off
-  pub replied_last : (output : CommandOutput) (answer : Answer) (posts : List Post) → its_refusal caller asked old ≡ None → its_effect caller asked old ≡ ended (doing.line_told (doing_at caller.place new output posts) (Reply answer)) → Reaches caller.setup.now.classes caller.name.now caller.place posts old new false output.failing
+  pub replied_last : (output : CommandOutput) (answer : Answer) (posts : List Post) → its_refusal caller asked old ≡ None
+      → its_effect caller asked old ≡ ended (doing.line_told (doing_at caller.place new output posts) (Reply answer))
+      → Reaches caller.setup.now.classes caller.name.now caller.place posts old new false output.failing
       → Performs caller asked old new output.failing (reply_after output.lines) (Ok answer)
   unfolding doing.line_told
   replied_last output answer posts passed effect reaches = record {
@@ -153,15 +198,21 @@ module _ (caller : SessionContext) (asked : Asked) (old new : Tables) where
   }
 
 -- where a command begins no session has failed by its posts
-pub at_first_reaches : (caller : SessionContext) (old new : Tables) (before after : CommandOutput) (posts : List Post) → before ≡ fresh_output caller.setup.now.turns → Reaches caller.setup.now.classes caller.name.now caller.place posts old new before.failing after.failing
+pub at_first_reaches : (caller : SessionContext) (old new : Tables) (before after : CommandOutput) (posts : List Post)
+    → before ≡ fresh_output caller.setup.now.turns → Reaches caller.setup.now.classes caller.name.now caller.place posts old new before.failing after.failing
     → Reaches caller.setup.now.classes caller.name.now caller.place posts old new false after.failing
-at_first_reaches caller old new before after posts fresh reaches = subst (λ (output : CommandOutput). Reaches caller.setup.now.classes caller.name.now caller.place posts old new output.failing after.failing) fresh reaches
+at_first_reaches caller old new before after posts fresh reaches =
+    subst (λ (output : CommandOutput). Reaches caller.setup.now.classes caller.name.now caller.place posts old new output.failing after.failing) fresh reaches
 
 -- where what is looked for is not found
-pub found_fault : {T A : Type 0} (caller : SessionContext) (asked : Asked) (tables : Tables) (lines : T → List Line) (rest : Found A → Option Code) (found : Found A) (fault : Fault) (result : Result T Fault) → IsErrAnd result (λ other. other ≡ fault)
-    → its_refusal caller asked tables ≡ rest found → ((code : Code) → rest (Err code) ≡ Some code) → Answers {T = A} (Err fault) found → Performs caller asked tables tables false lines result
-found_fault caller asked tables lines rest found (Refused code) result h is law why = stopped caller asked tables tables lines code result h (is ∙ ap rest why ∙ law code) refl
-found_fault caller asked tables lines rest found Memory result h is law why = starved caller asked tables tables lines result h (changes_same tables tables caller.place refl)
+pub found_fault : {T A : Type 0} (caller : SessionContext) (asked : Asked) (tables : Tables) (lines : T → List Line) (rest : Found A → Option Code)
+    (found : Found A) (fault : Fault) (result : Result T Fault) → IsErrAnd result (λ other. other ≡ fault)
+    → its_refusal caller asked tables ≡ rest found → ((code : Code) → rest (Err code) ≡ Some code) → Answers {T = A} (Err fault) found
+    → Performs caller asked tables tables false lines result
+found_fault caller asked tables lines rest found (Refused code) result h is law why =
+    stopped caller asked tables tables lines code result h (is ∙ ap rest why ∙ law code) refl
+found_fault caller asked tables lines rest found Memory result h is law why =
+    starved caller asked tables tables lines result h (changes_same tables tables caller.place refl)
 
 -- a fact of every fault holds of a refusal
 pub on_refused : {P : Type 0} (fault : Fault) → P → OnRefused {T = ℕ} (Err fault) P
@@ -169,13 +220,15 @@ on_refused (Refused code) h = h
 on_refused Memory h = tt
 
 -- a query that is refused
-pub refused_reading : (caller : SessionContext) (query : Query) (tables : Tables) (code : Code) (result : Result Answer Fault) → IsErrAnd result (λ fault. fault ≡ Refused code)
+pub refused_reading : (caller : SessionContext) (query : Query) (tables : Tables) (code : Code) (result : Result Answer Fault)
+    → IsErrAnd result (λ fault. fault ≡ Refused code)
     → query_answer caller.setup.now.classes (state_at tables caller.place) query ≡ Err code → Reads caller query tables result
 refused_reading caller query tables code (Ok answer) h refused = absurd h
 refused_reading caller query tables code (Err fault) h refused = subst (λ fault. Reads caller query tables (Err fault)) (sym h) (record { returns = refused })
 
 -- and one for which memory was wanted
-pub starved_reading : (caller : SessionContext) (query : Query) (tables : Tables) (result : Result Answer Fault) → IsErrAnd result (λ fault. fault ≡ Memory) → Reads caller query tables result
+pub starved_reading : (caller : SessionContext) (query : Query) (tables : Tables) (result : Result Answer Fault) → IsErrAnd result (λ fault. fault ≡ Memory)
+    → Reads caller query tables result
 starved_reading caller query tables (Ok answer) h = absurd h
 starved_reading caller query tables (Err fault) h = subst (λ fault. Reads caller query tables (Err fault)) (sym h) (record { returns = tt })
 
@@ -187,12 +240,17 @@ pub behind_second : {A : Type 0} (a : Option Code) (found : Found A) → None �
 behind_second a found e = sym (ap (λ a. behind a found) e)
 
 -- a command does the operation that was found
-pub operation_performed : (caller : SessionContext) (asked : Asked) (found : Found Operation) (operation : Operation) (old new : Tables) (result : Result Answer Fault) → IsPlaced old caller.place
-    → its_refusal caller asked old ≡ found_refusal (state_at old caller.place) found → its_effect caller asked old ≡ does_found (state_at old caller.place) found → found ≡ Ok operation
-    → RefusedBy (operation_refusal (state_at old caller.place) operation) result → IfOk result (λ answer. answer ≡ operation_answer (state_at old caller.place) operation)
-    → OnOk result (new ≡ with_state old caller.place (with_operation (state_at old caller.place) operation)) → OnErr result (new ≡ old) → Performs caller asked old new false reply_lines result
+pub operation_performed : (caller : SessionContext) (asked : Asked) (found : Found Operation) (operation : Operation) (old new : Tables)
+    (result : Result Answer Fault) → IsPlaced old caller.place
+    → its_refusal caller asked old ≡ found_refusal (state_at old caller.place) found
+    → its_effect caller asked old ≡ does_found (state_at old caller.place) found → found ≡ Ok operation
+    → RefusedBy (operation_refusal (state_at old caller.place) operation) result
+    → IfOk result (λ answer. answer ≡ operation_answer (state_at old caller.place) operation)
+    → OnOk result (new ≡ with_state old caller.place (with_operation (state_at old caller.place) operation)) → OnErr result (new ≡ old)
+    → Performs caller asked old new false reply_lines result
 operation_performed caller asked found operation old new (Ok answer) placed refusal effect is passed answers done same =
-    replied caller asked old new (with_operation (state_at old caller.place) operation) answer placed (refusal ∙ ap (found_refusal (state_at old caller.place)) is ∙ passed)
+    replied caller asked old new (with_operation (state_at old caller.place) operation) answer placed
+    (refusal ∙ ap (found_refusal (state_at old caller.place)) is ∙ passed)
     (effect ∙ ap (does_found (state_at old caller.place)) is ∙ ap (replies (with_operation (state_at old caller.place) operation)) (sym answers)) done
 operation_performed caller asked found operation old new (Err (Refused code)) placed refusal effect is refused answers done same =
     stopped caller asked old new reply_lines code (Err (Refused code)) refl (refusal ∙ ap (found_refusal (state_at old caller.place)) is ∙ refused) same
@@ -200,16 +258,22 @@ operation_performed caller asked found operation old new (Err Memory) placed ref
     starved caller asked old new reply_lines (Err Memory) refl (changes_same old new caller.place same)
 
 -- a command that tells nothing before its reply
-pub silently : (caller : SessionContext) (asked : Asked) (old new : Tables) (output : CommandOutput) (result : Result Answer Fault) → output ≡ fresh_output caller.setup.now.turns
+pub silently : (caller : SessionContext) (asked : Asked) (old new : Tables) (output : CommandOutput) (result : Result Answer Fault)
+    → output ≡ fresh_output caller.setup.now.turns
     → Performs caller asked old new false reply_lines result → Performs caller asked old new output.failing (reply_after output.lines) result
-silently caller asked old new output result fresh performed = subst (λ (output : CommandOutput). Performs caller asked old new output.failing (reply_after output.lines) result) (sym fresh) performed
+silently caller asked old new output result fresh performed =
+    subst (λ (output : CommandOutput). Performs caller asked old new output.failing (reply_after output.lines) result) (sym fresh) performed
 
 -- nor does a command that leaves its session as it is, and replies
-pub replies_alone : (caller : SessionContext) (asked : Asked) (tables : Tables) (output : CommandOutput) (result : Result Answer Fault) → output ≡ fresh_output caller.setup.now.turns
-    → Returns (its_refusal caller asked tables) (λ answer. its_effect caller asked tables ≡ replies (state_at tables caller.place) answer) result → Performs caller asked tables tables output.failing (reply_after output.lines) result
+pub replies_alone : (caller : SessionContext) (asked : Asked) (tables : Tables) (output : CommandOutput) (result : Result Answer Fault)
+    → output ≡ fresh_output caller.setup.now.turns
+    → Returns (its_refusal caller asked tables) (λ answer. its_effect caller asked tables ≡ replies (state_at tables caller.place) answer) result
+    → Performs caller asked tables tables output.failing (reply_after output.lines) result
 replies_alone caller asked tables output result fresh returns = silently caller asked tables tables output result fresh (by result returns)
   where
-    by : (result : Result Answer Fault) → Returns (its_refusal caller asked tables) (λ answer. its_effect caller asked tables ≡ replies (state_at tables caller.place) answer) result → Performs caller asked tables tables false reply_lines result
+    by : (result : Result Answer Fault) → Returns (its_refusal caller asked tables)
+        (λ answer. its_effect caller asked tables ≡ replies (state_at tables caller.place) answer) result
+        → Performs caller asked tables tables false reply_lines result
     by (Ok answer) (passed, effect) = record {
       returns = (passed, ap (λ effect. effect.lines) effect);
       posts = [];
@@ -223,7 +287,8 @@ replies_alone caller asked tables output result fresh returns = silently caller 
     by (Err Memory) none = starved caller asked tables tables reply_lines (Err Memory) refl (changes_same tables tables caller.place refl)
 
 -- so does a query
-pub reads : (caller : SessionContext) (query : Query) (tables : Tables) (output : CommandOutput) (result : Result Answer Fault) → output ≡ fresh_output caller.setup.now.turns → Reads caller query tables result
+pub reads : (caller : SessionContext) (query : Query) (tables : Tables) (output : CommandOutput) (result : Result Answer Fault)
+    → output ≡ fresh_output caller.setup.now.turns → Reads caller query tables result
     → Performs caller (Ask query) tables tables output.failing (reply_after output.lines) result
 reads caller query tables output result fresh read = replies_alone caller (Ask query) tables output result fresh (by result read.returns)
   where
@@ -233,15 +298,18 @@ reads caller query tables output result fresh read = replies_alone caller (Ask q
     state : State
     state = state_at tables caller.place
 
-    by : (result : Result Answer Fault) → Answers result (query_answer settings.classes state query) → Returns (its_refusal caller (Ask query) tables) (λ answer. its_effect caller (Ask query) tables ≡ replies state answer) result
+    by : (result : Result Answer Fault) → Answers result (query_answer settings.classes state query)
+        → Returns (its_refusal caller (Ask query) tables) (λ answer. its_effect caller (Ask query) tables ≡ replies state answer) result
     by (Ok answer) read = (query_passed settings caller.name.now state query answer read, query_replies settings caller.name.now state query answer read)
     by (Err (Refused code)) read = query_refused settings caller.name.now state query code read
     by (Err Memory) read = tt
 
 -- one that is refused before it posts anything
-pub quietly : (caller : SessionContext) (asked : Asked) (old new : Tables) (output : CommandOutput) (lines : Answer → List Line) (result : Result Answer Fault) → output ≡ fresh_output caller.setup.now.turns
+pub quietly : (caller : SessionContext) (asked : Asked) (old new : Tables) (output : CommandOutput) (lines : Answer → List Line) (result : Result Answer Fault)
+    → output ≡ fresh_output caller.setup.now.turns
     → Performs caller asked old new false lines result → Performs caller asked old new output.failing lines result
-quietly caller asked old new output lines result fresh performed = subst (λ (output : CommandOutput). Performs caller asked old new output.failing lines result) (sym fresh) performed
+quietly caller asked old new output lines result fresh performed =
+    subst (λ (output : CommandOutput). Performs caller asked old new output.failing lines result) (sym fresh) performed
 
 -- every other command is no beginning anew
 pub not_reset : (command : Command) → (command ≡ c.Reset → ⊥) → is_reset (asked command) ≡ false
@@ -284,17 +352,24 @@ module _ (caller : SessionContext) (old : Tables) (placed : IsPlaced old caller.
 
   anew_does : session_does (settings_of caller.setup.now) caller.name.now (session_at old caller.place) Reset ≡ replies empty (Truth true)
   anew_does =
-      ap (λ refusal. unless refusal (state_at old caller.place) (performs (settings_of caller.setup.now) caller.name.now (state_at old caller.place) Reset)) anew_passed
+      ap (λ refusal. unless refusal (state_at old caller.place) (performs (settings_of caller.setup.now) caller.name.now (state_at old caller.place) Reset))
+      anew_passed
       ∙ performs_reset (settings_of caller.setup.now) caller.name.now (state_at old caller.place)
 
-  pub obeys_anew : (new : Tables) (was : Bool) (lines : List Line) → new ≡ with_session old caller.place fresh → lines ≡ Reply (Truth true) ∷ [] → Obeys caller Reset old new was was (Ok lines)
+  pub obeys_anew : (new : Tables) (was : Bool) (lines : List Line) → new ≡ with_session old caller.place fresh → lines ≡ Reply (Truth true) ∷ []
+      → Obeys caller Reset old new was was (Ok lines)
   obeys_anew new was lines e told = record {
-    returns = (anew_passed, told ∙ sym (ap (λ effect. effect.lines) (performs_reset (settings_of caller.setup.now) caller.name.now (state_at old caller.place))));
+    returns = (
+      anew_passed,
+      told ∙ sym (ap (λ effect. effect.lines)
+          (performs_reset (settings_of caller.setup.now) caller.name.now (state_at old caller.place))),
+    );
     posts = [];
     front = tt;
     done = (
       ap (λ tables. session_at tables caller.place) e ∙ session_there old caller.place fresh placed
-          ∙ sym (ap (λ effect. record { state = effect.state; failed = is_shut (session_at old caller.place) Reset }) anew_does ∙ ap (λ failed. record { state = empty; failed = failed }) open_to_reset),
+          ∙ sym (ap (λ effect. record { state = effect.state; failed = is_shut (session_at old caller.place) Reset }) anew_does
+          ∙ ap (λ failed. record { state = empty; failed = failed }) open_to_reset),
       sym (ap (λ effect. effect.posts) anew_does),
     );
     refused = tt;
@@ -305,7 +380,8 @@ module _ (caller : SessionContext) (old : Tables) (placed : IsPlaced old caller.
   }
 
   -- it fails where its reply finds no memory
-  pub obeys_anew_wanting : (middle new : Tables) (was : Bool) → middle ≡ with_session old caller.place fresh → new ≡ with_session middle caller.place failed_session → Obeys caller Reset old new was true (Err Memory)
+  pub obeys_anew_wanting : (middle new : Tables) (was : Bool) → middle ≡ with_session old caller.place fresh
+      → new ≡ with_session middle caller.place failed_session → Obeys caller Reset old new was true (Err Memory)
   obeys_anew_wanting middle new was e f =
       let first = changes_session old middle caller.place fresh placed e in
       let still = placed_shaped old middle caller.place (shaped_changed old middle caller.place first) placed in
@@ -317,12 +393,14 @@ module _ (caller : SessionContext) (old : Tables) (placed : IsPlaced old caller.
         refused = tt;
         fails = (ap (λ tables. session_at tables caller.place) f ∙ session_there middle caller.place failed_session still, open_to_reset);
         failing = false;
-        others = others_changed caller.setup.now.classes caller.name.now old new caller.place (changes_twice old middle new caller.place first (changes_session middle new caller.place failed_session still f));
+        others = others_changed caller.setup.now.classes caller.name.now old new caller.place
+            (changes_twice old middle new caller.place first (changes_session middle new caller.place failed_session still f));
         mark = refl;
       }
 
 -- the mark that memory was refused, by what was noted
-marks_of : (was now failing : Bool) (result : Result (List Line) Fault) → now ≡ (wants_memory result || failing || was) → Marks was now failing (answer_lines result)
+marks_of : (was now failing : Bool) (result : Result (List Line) Fault) → now ≡ (wants_memory result || failing || was)
+    → Marks was now failing (answer_lines result)
 marks_of was now true (Ok lines) mark = Loud (inr refl) mark
 marks_of was now false (Ok lines) mark = Quiet refl refl mark
 marks_of was now true (Err (Refused code)) mark = Loud (inr refl) mark
@@ -347,7 +425,8 @@ module _ (caller : SessionContext) (asked : Asked) (old new : Tables) where
   unposted code refused = ap (λ refusal. (unless refusal (state_at old caller.place) (its_effect caller asked old)).posts) refused
 
   stays : (code : Code) → own_refusal ≡ Some code → new ≡ old → session_at new caller.place ≡ its_end
-  stays code refused same = ap (λ tables. session_at tables caller.place) same ∙ sym (refused_after (settings_of caller.setup.now) caller.name.now session asked code refused)
+  stays code refused same = ap (λ tables. session_at tables caller.place) same
+      ∙ sym (refused_after (settings_of caller.setup.now) caller.name.now session asked code refused)
 
   obeys_refused : (was : Bool) (code : Code) → own_refusal ≡ Some code → new ≡ old → Obeys caller asked old new was was (Err (Refused code))
   obeys_refused was code refused same = record {
@@ -363,9 +442,11 @@ module _ (caller : SessionContext) (asked : Asked) (old new : Tables) where
   }
 
   -- a session that has failed refuses, unless it begins anew
-  pub obeys_failed : (was : Bool) → failed_at old caller.place ≡ true → is_reset asked ≡ false → new ≡ old → Obeys caller asked old new was was (Err (Refused SessionFailed))
+  pub obeys_failed : (was : Bool) → failed_at old caller.place ≡ true → is_reset asked ≡ false → new ≡ old
+      → Obeys caller asked old new was was (Err (Refused SessionFailed))
   obeys_failed was failed other same =
-      let refused : own_refusal ≡ Some SessionFailed = ap (λ b. if b then Some SessionFailed else its_refusal caller asked old) (ap (λ failed. failed && not (is_reset asked)) failed ∙ ap not other) in
+      let refused : own_refusal ≡ Some SessionFailed = ap (λ b. if b then Some SessionFailed else its_refusal caller asked old)
+      (ap (λ failed. failed && not (is_reset asked)) failed ∙ ap not other) in
       obeys_refused was SessionFailed refused same
 
   module _ {T : Type 0} (fine : failed_at old caller.place ≡ false) (failing was : Bool) (lines : T → List Line) where
@@ -379,7 +460,8 @@ module _ (caller : SessionContext) (asked : Asked) (old new : Tables) where
     does_passed passed = ap (λ refusal. unless refusal (state_at old caller.place) (its_effect caller asked old)) passed
 
     -- another one is told what the command tells,
-    pub obeys_replied : (value : T) (told : List Line) → Performs caller asked old new failing lines (Ok value) → told ≡ lines value → Obeys caller asked old new was (failing || was) (Ok told)
+    pub obeys_replied : (value : T) (told : List Line) → Performs caller asked old new failing lines (Ok value) → told ≡ lines value
+        → Obeys caller asked old new was (failing || was) (Ok told)
     obeys_replied value told performed is =
         let passed : own_refusal ≡ None = by_command ∙ performed.returns.0 in
         let does = does_passed passed in
@@ -388,7 +470,8 @@ module _ (caller : SessionContext) (asked : Asked) (old new : Tables) where
           posts = performed.posts;
           front = tt;
           done = (
-            performed.done ∙ ap (λ effect. record { state = effect.state; failed = failed_at old caller.place }) (sym does) ∙ ap (λ failed. record { state = own_effect.state; failed = failed }) (fine ∙ sym unshut),
+            performed.done ∙ ap (λ effect. record { state = effect.state; failed = failed_at old caller.place }) (sym does)
+                ∙ ap (λ failed. record { state = own_effect.state; failed = failed }) (fine ∙ sym unshut),
             performed.posted ∙ ap (λ effect. effect.posts) (sym does),
           );
           refused = tt;
@@ -399,11 +482,13 @@ module _ (caller : SessionContext) (asked : Asked) (old new : Tables) where
         }
 
     -- or why it is refused,
-    pub obeys_refusing : (code : Code) → Performs caller asked old new failing lines (Err (Refused code)) → Obeys caller asked old new was was (Err (Refused code))
+    pub obeys_refusing : (code : Code) → Performs caller asked old new failing lines (Err (Refused code))
+        → Obeys caller asked old new was was (Err (Refused code))
     obeys_refusing code performed = obeys_refused was code (by_command ∙ performed.returns) performed.refused
 
     -- and where memory was wanted, for the command or for its reply, it has failed
-    pub obeys_wanting : (result : Result T Fault) (end : Tables) → IsPlaced old caller.place → Performs caller asked old new failing lines result → OnRefused result ⊥ → end ≡ with_session new caller.place failed_session → Obeys caller asked old end was true (Err Memory)
+    pub obeys_wanting : (result : Result T Fault) (end : Tables) → IsPlaced old caller.place → Performs caller asked old new failing lines result
+        → OnRefused result ⊥ → end ≡ with_session new caller.place failed_session → Obeys caller asked old end was true (Err Memory)
     obeys_wanting result end placed performed unrefused e =
         let still = placed_shaped old new caller.place performed.others.shape placed in
         record {
@@ -414,18 +499,24 @@ module _ (caller : SessionContext) (asked : Asked) (old new : Tables) where
           refused = tt;
           fails = (ap (λ tables. session_at tables caller.place) e ∙ session_there new caller.place failed_session still, unshut);
           failing = failing;
-          others = others_then caller.setup.now.classes caller.name.now old new end caller.place performed.posts failing performed.others (changes_session new end caller.place failed_session still e);
+          others = others_then caller.setup.now.classes caller.name.now old new end caller.place performed.posts failing performed.others
+              (changes_session new end caller.place failed_session still e);
           mark = refl;
         }
       where
-        posted : (result : Result T Fault) → (performed : Performs caller asked old new failing lines result) → OnRefused result ⊥ → IsPrefix performed.posts own_effect.posts
-        posted (Ok value) performed unrefused = subst (IsPrefix performed.posts) (performed.posted ∙ sym (ap (λ effect. effect.posts) (does_passed (by_command ∙ performed.returns.0)))) (front_same performed.posts)
+        posted : (result : Result T Fault) → (performed : Performs caller asked old new failing lines result) → OnRefused result ⊥
+            → IsPrefix performed.posts own_effect.posts
+        posted (Ok value) performed unrefused = subst (IsPrefix performed.posts)
+            (performed.posted ∙ sym (ap (λ effect. effect.posts) (does_passed (by_command ∙ performed.returns.0)))) (front_same performed.posts)
         posted (Err (Refused code)) performed refused = absurd refused
-        posted (Err Memory) performed unrefused = subst (λ (effect : Effect State Line Post). IsPrefix performed.posts effect.posts) (sym (does_fine (settings_of caller.setup.now) caller.name.now session asked fine)) performed.front
+        posted (Err Memory) performed unrefused = subst (λ (effect : Effect State Line Post). IsPrefix performed.posts effect.posts)
+            (sym (does_fine (settings_of caller.setup.now) caller.name.now session asked fine)) performed.front
 
   -- so it ends as a command does
   module _ (names : List (List ℕ)) (was now : Bool) where
-    pub ends : (result : Result (List Line) Fault) → (obeyed : Obeys caller asked old new was now result) → Ended (engine_state caller.setup.now names old was) (engine_state caller.setup.now names new now) caller.place caller.name.now asked (answer_lines result) obeyed.failing
+    pub ends : (result : Result (List Line) Fault) → (obeyed : Obeys caller asked old new was now result)
+        → Ended (engine_state caller.setup.now names old was) (engine_state caller.setup.now names new now) caller.place caller.name.now asked
+        (answer_lines result) obeyed.failing
     ends result obeyed = record {
       settings = refl;
       names = refl;
@@ -436,10 +527,15 @@ module _ (caller : SessionContext) (asked : Asked) (old new : Tables) where
       stays = stay result obeyed;
     }
       where
-        own : (result : Result (List Line) Fault) → (obeyed : Obeys caller asked old new was now result) → Own (settings_of caller.setup.now) caller.name.now asked (answer_lines result) obeyed.posts session (session_at new caller.place)
+        own : (result : Result (List Line) Fault) → (obeyed : Obeys caller asked old new was now result)
+            → Own (settings_of caller.setup.now) caller.name.now asked (answer_lines result) obeyed.posts session (session_at new caller.place)
         own (Ok lines) obeyed =
-            Told (ap Some (obeyed.returns.1 ∙ sym (ap (λ refusal. (unless refusal session.state (performs (settings_of caller.setup.now) caller.name.now session.state asked)).lines) obeyed.returns.0))) obeyed.done.0 obeyed.done.1
-        own (Err (Refused code)) obeyed = Told (ap (λ refusal. Some (unless refusal session.state (performs (settings_of caller.setup.now) caller.name.now session.state asked)).lines) (sym obeyed.returns)) obeyed.done.0 obeyed.done.1
+            Told (ap Some (obeyed.returns.1 ∙ sym (ap
+            (λ refusal. (unless refusal session.state (performs (settings_of caller.setup.now) caller.name.now session.state asked)).lines)
+            obeyed.returns.0))) obeyed.done.0 obeyed.done.1
+        own (Err (Refused code)) obeyed = Told (ap
+            (λ refusal. Some (unless refusal session.state (performs (settings_of caller.setup.now) caller.name.now session.state asked)).lines)
+            (sym obeyed.returns)) obeyed.done.0 obeyed.done.1
         own (Err Memory) obeyed = GaveUp refl obeyed.fails.0 obeyed.front
 
         stay : (result : Result (List Line) Fault) → Obeys caller asked old new was now result → IsSome own_refusal → OnSome (answer_lines result) (new ≡ old)
@@ -448,8 +544,11 @@ module _ (caller : SessionContext) (asked : Asked) (old new : Tables) where
         stay (Err Memory) obeyed refused = tt
 
 -- an engine whose session at a place did a command
-module _ (caller : SessionContext) (asked : Asked) (old new : Tables) (was now : Bool) (result : Result (List Line) Fault) (obeyed : Obeys caller asked old new was now result)
-    (names : List (List ℕ)) (engine : EngineState) (whole : IsWhole (engine_state caller.setup.now names old was)) (fits : (state : State) → IsFittingAsked (settings_of caller.setup.now) state asked) (is : engine_state caller.setup.now names old was ≡ engine) (given : Some caller.name.now ≡ slice_get names caller.place) where
+module _ (caller : SessionContext) (asked : Asked) (old new : Tables) (was now : Bool) (result : Result (List Line) Fault)
+    (obeyed : Obeys caller asked old new was now result)
+    (names : List (List ℕ)) (engine : EngineState) (whole : IsWhole (engine_state caller.setup.now names old was))
+    (fits : (state : State) → IsFittingAsked (settings_of caller.setup.now) state asked) (is : engine_state caller.setup.now names old was ≡ engine)
+    (given : Some caller.name.now ≡ slice_get names caller.place) where
   module _ (name : List ℕ) (there : place engine name ≡ Some caller.place) where
     same : name ≡ caller.name.now
     same = named_at (engine_state caller.setup.now names old was) name caller.place caller.name.now (ap (λ engine. place engine name) is ∙ there) given
@@ -457,15 +556,18 @@ module _ (caller : SessionContext) (asked : Asked) (old new : Tables) (was now :
     here : place (engine_state caller.setup.now names old was) caller.name.now ≡ Some caller.place
     here = subst (λ name. place (engine_state caller.setup.now names old was) name ≡ Some caller.place) same (ap (λ engine. place engine name) is ∙ there)
 
-    its_ending : Ended (engine_state caller.setup.now names old was) (engine_state caller.setup.now names new now) caller.place caller.name.now asked (answer_lines result) obeyed.failing
+    its_ending : Ended (engine_state caller.setup.now names old was) (engine_state caller.setup.now names new now) caller.place caller.name.now asked
+        (answer_lines result) obeyed.failing
     its_ending = ends caller asked old new names was now result obeyed
 
     pub done_whole : IsWhole (engine_state caller.setup.now names new now)
     done_whole = whole_after _ _ caller.place caller.name.now asked (answer_lines result) obeyed.failing whole fits here its_ending
 
     pub done_step : IsStep (seen_by_name engine) (seen_by_name (engine_state caller.setup.now names new now)) name asked (answer_lines result)
-    done_step = subst (λ (engine : EngineState). IsStep (seen_by_name engine) (seen_by_name (engine_state caller.setup.now names new now)) name asked (answer_lines result)) is
-        (subst (λ name. IsStep (seen_by_name (engine_state caller.setup.now names old was)) (seen_by_name (engine_state caller.setup.now names new now)) name asked (answer_lines result)) (sym same)
+    done_step = subst (λ (engine : EngineState). IsStep (seen_by_name engine) (seen_by_name (engine_state caller.setup.now names new now)) name asked
+        (answer_lines result)) is
+        (subst (λ name. IsStep (seen_by_name (engine_state caller.setup.now names old was))
+        (seen_by_name (engine_state caller.setup.now names new now)) name asked (answer_lines result)) (sym same)
         (step_of _ _ caller.place caller.name.now asked (answer_lines result) obeyed.failing whole fits here its_ending))
 
     now_there : place (engine_state caller.setup.now names new now) name ≡ Some caller.place
@@ -476,9 +578,11 @@ module _ (caller : SessionContext) (asked : Asked) (old new : Tables) (was now :
 
     -- what the call returns, by the name of its session
     ReturnsIn : EngineState → List ℕ → Session → Type 0
-    ReturnsIn engine name session = Returns (session_refusal engine.settings name session asked) (λ lines. lines ≡ (performs engine.settings name session.state asked).lines) result
+    ReturnsIn engine name session = Returns (session_refusal engine.settings name session asked)
+        (λ lines. lines ≡ (performs engine.settings name session.state asked).lines) result
 
-    returns_named : Returns (session_refusal engine.settings name (sessions engine name) asked) (λ lines. lines ≡ (performs engine.settings name (states engine name) asked).lines) result
+    returns_named : Returns (session_refusal engine.settings name (sessions engine name) asked)
+        (λ lines. lines ≡ (performs engine.settings name (states engine name) asked).lines) result
     unfolding ReturnsIn
     returns_named =
         subst (ReturnsIn engine name) own
@@ -486,15 +590,26 @@ module _ (caller : SessionContext) (asked : Asked) (old new : Tables) (was now :
         (subst (λ name. ReturnsIn (engine_state caller.setup.now names old was) name (session_at old caller.place)) (sym same) obeyed.returns))
 
     pub done_answered : IsAnswered engine (engine_state caller.setup.now names new now) name asked result
-    done_answered = record { returns = returns_named; refused = stays result obeyed.refused; fails = (ends_so result obeyed.fails).0; fine = (ends_so result obeyed.fails).1 }
+    done_answered = record {
+      returns = returns_named;
+      refused = stays result obeyed.refused;
+      fails = (ends_so result obeyed.fails).0;
+      fine = (ends_so result obeyed.fails).1;
+    }
       where
-        stays : (result : Result (List Line) Fault) → OnRefused result (new ≡ old) → OnRefused result (sessions (engine_state caller.setup.now names new now) ≡ sessions engine)
+        stays : (result : Result (List Line) Fault) → OnRefused result (new ≡ old)
+            → OnRefused result (sessions (engine_state caller.setup.now names new now) ≡ sessions engine)
         stays (Ok lines) kept = tt
         stays (Err (Refused code)) kept = ap (λ tables. sessions (engine_state caller.setup.now names tables now)) kept ∙ ap sessions is
         stays (Err Memory) kept = tt
 
-        ends_so : (result : Result (List Line) Fault) → OnMemory result ((session_at new caller.place ≡ failed_session) × IsFalse (is_shut (session_at old caller.place) asked))
-            → OnMemory result (sessions (engine_state caller.setup.now names new now) name ≡ failed_session) × OnMemory result (IsFalse (is_shut (sessions engine name) asked))
+        ends_so : (result : Result (List Line) Fault) → OnMemory result
+            ((session_at new caller.place ≡ failed_session) × IsFalse (is_shut (session_at old caller.place) asked))
+            → OnMemory result (sessions (engine_state caller.setup.now names new now) name ≡ failed_session)
+            × OnMemory result (IsFalse (is_shut (sessions engine name) asked))
         ends_so (Ok lines) fails = (tt, tt)
         ends_so (Err (Refused code)) fails = (tt, tt)
-        ends_so (Err Memory) fails = (sessions-place (engine_state caller.setup.now names new now) name caller.place now_there ∙ fails.0, subst (λ (session : Session). IsFalse (is_shut session asked)) own fails.1)
+        ends_so (Err Memory) fails = (
+          sessions-place (engine_state caller.setup.now names new now) name caller.place now_there ∙ fails.0,
+          subst (λ (session : Session). IsFalse (is_shut session asked)) own fails.1,
+        )

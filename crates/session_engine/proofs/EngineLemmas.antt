@@ -1,5 +1,6 @@
 -- What changes of an engine by places change of its sessions by names.
-use Rattle.std.proofs.Common.{◌≡◌, ℕ, ◌+◌, ◌<◌, ◌≤◌, Bool, true, false, true≢false, not, cond, List, [], ◌∷◌, ◌++◌, Some, None, length, position, get_or, slice_get, eqb, ltb, refl, sym, ap, ap₂, subst, ◌∙◌, ⊎_elim, arith}
+use Rattle.std.proofs.Common.{◌≡◌, ℕ, ◌+◌, ◌<◌, ◌≤◌, Bool, true, false, true≢false, not, cond, List, [], ◌∷◌, ◌++◌, Some, None, length, position, get_or}
+use Rattle.std.proofs.Common.{slice_get, eqb, ltb, refl, sym, ap, ap₂, subst, ◌∙◌, ⊎_elim, arith}
 use Rattle.std.specs.Prelude.{bytes_eq}
 use Rattle.std.specs.List.{list_any, position_or_len}
 use Rattle.std.specs.Option.{option_map_or}
@@ -48,7 +49,8 @@ pub position-any : {X : Type 0} (p : X → Bool) (xs : List X) (i : ℕ) → pos
 position-any p xs i e = some_passes p xs (grind (arith, common_steps))
 
 -- a name that has no place goes last
-pub insert_key-new : (names : List (List ℕ)) (name copy : List ℕ) → copy ≡ name → position (bytes_eq name) names ≡ None → insert_key bytes_eq names copy ≡ names ++ name ∷ []
+pub insert_key-new : (names : List (List ℕ)) (name copy : List ℕ) → copy ≡ name → position (bytes_eq name) names ≡ None
+    → insert_key bytes_eq names copy ≡ names ++ name ∷ []
 insert_key-new names name copy equal absent =
     ap (insert_key bytes_eq names) equal ∙ cond-false (list_any (bytes_eq name) names) _ _ (position-None (bytes_eq name) names absent)
 
@@ -56,7 +58,8 @@ insert_key-new names name copy equal absent =
 first : EngineState → List ℕ → ℕ
 first engine name = position_or_len (bytes_eq name) engine.names
 
-at_first : {X : Type 0} (f : ℕ → X) (found : Bool) (i : ℕ) (default : X) → (found ≡ false → default ≡ f i) → option_map_or f (cond found (Some i) None) default ≡ f i
+at_first : {X : Type 0} (f : ℕ → X) (found : Bool) (i : ℕ) (default : X) → (found ≡ false → default ≡ f i)
+    → option_map_or f (cond found (Some i) None) default ≡ f i
 at_first f true i default past = refl
 at_first f false i default past = past refl
 
@@ -84,7 +87,8 @@ one_name engine name other at there there' =
     (bytes_eq-Decides name _).0 found.1 ∙ sym ((bytes_eq-Decides other _).0 found'.1)
 
 -- so the name at its place is this one
-pub named_at : (engine : EngineState) (name : List ℕ) (at : ℕ) (given : List ℕ) → place engine name ≡ Some at → Some given ≡ slice_get engine.names at → name ≡ given
+pub named_at : (engine : EngineState) (name : List ℕ) (at : ℕ) (given : List ℕ) → place engine name ≡ Some at → Some given ≡ slice_get engine.names at
+    → name ≡ given
 named_at engine name at given there is =
     let found = position-Some (bytes_eq name) engine.names at [] there in
     let same : Some given ≡ Some (get_or engine.names at []) = is ∙ slice_get-get_or engine.names at [] found.0 in
@@ -100,7 +104,8 @@ pub sound_by_name : (engine : EngineState) → IsWhole engine → AreSound (seen
 sound_by_name engine whole = λ name. (kept_by_name engine name whole).sound
 
 -- and they stay so where none of them changes
-pub sound_still : (old new : EngineState) → sessions new ≡ sessions old → new.settings ≡ old.settings → AreSound (seen_by_name old) → AreSound (seen_by_name new)
+pub sound_still : (old new : EngineState) → sessions new ≡ sessions old → new.settings ≡ old.settings → AreSound (seen_by_name old)
+    → AreSound (seen_by_name new)
 sound_still old new same fixed sound = λ name.
     subst (λ (settings : Settings). IsSoundSession settings (sessions new name)) (sym fixed)
     (subst (λ (sessions : List ℕ → Session). IsSoundSession old.settings (sessions name)) (sym same) (sound name))
@@ -109,12 +114,14 @@ sound_still old new same fixed sound = λ name.
 first_at : (p : List ℕ → Bool) (names : List (List ℕ)) (at : ℕ) → position p names ≡ Some at → (position_or_len p names ≡ at) × (at < length names)
 first_at p names at found = by (ltb (position_or_len p names) (length names)) refl found
   where
-    by : (within : Bool) → ltb (position_or_len p names) (length names) ≡ within → cond within (Some (position_or_len p names)) None ≡ Some at → (position_or_len p names ≡ at) × (at < length names)
+    by : (within : Bool) → ltb (position_or_len p names) (length names) ≡ within → cond within (Some (position_or_len p names)) None ≡ Some at
+        → (position_or_len p names ≡ at) × (at < length names)
     by true e f = let is : position_or_len p names ≡ at = cc in (is, grind (arith, nat_tests, e, is))
     by false e f = absurd (cc)
 
 -- a new name that goes last leaves every name at its place
-named_opened : (names : List (List ℕ)) (name : List ℕ) → position (bytes_eq name) names ≡ None → ((at : ℕ) → at < length names → position (bytes_eq (get_or names at [])) names ≡ Some at)
+named_opened : (names : List (List ℕ)) (name : List ℕ) → position (bytes_eq name) names ≡ None
+    → ((at : ℕ) → at < length names → position (bytes_eq (get_or names at [])) names ≡ Some at)
     → (at : ℕ) → at < length (names ++ name ∷ []) → position (bytes_eq (get_or (names ++ name ∷ []) at [])) (names ++ name ∷ []) ≡ Some at
 named_opened names name absent named at within = by (ltb at (length names)) refl
   where
@@ -122,7 +129,8 @@ named_opened names name absent named at within = by (ltb at (length names)) refl
     longer = length-append names (name ∷ [])
 
     found_at : (p : List ℕ → Bool) → position_or_len p (names ++ name ∷ []) ≡ at → position p (names ++ name ∷ []) ≡ Some at
-    found_at p is = let less : ltb (position_or_len p (names ++ name ∷ [])) (length (names ++ name ∷ [])) ≡ true = grind (arith, nat_tests, is, within) in cond-true _ _ _ less ∙ ap Some is
+    found_at p is = let less : ltb (position_or_len p (names ++ name ∷ [])) (length (names ++ name ∷ [])) ≡ true = grind (arith, nat_tests, is, within) in
+        cond-true _ _ _ less ∙ ap Some is
 
     by : (old : Bool) → ltb at (length names) ≡ old → position (bytes_eq (get_or (names ++ name ∷ []) at [])) (names ++ name ∷ []) ≡ Some at
     by true e =
@@ -131,7 +139,8 @@ named_opened names name absent named at within = by (ltb at (length names)) refl
         let was = first_at (bytes_eq it) names at (named at less) in
         let apart : eqb (position_or_len (bytes_eq it) names) (length names) ≡ false = grind (arith, nat_tests, was.0, less) in
         ap (λ (it : List ℕ). position (bytes_eq it) (names ++ name ∷ [])) (get_or_append_left names (name ∷ []) [] at less)
-        ∙ found_at (bytes_eq it) (position_or_len_push (bytes_eq it) names name ∙ cond-false (eqb (position_or_len (bytes_eq it) names) (length names)) _ _ apart ∙ was.0)
+        ∙ found_at (bytes_eq it) (position_or_len_push (bytes_eq it) names name
+        ∙ cond-false (eqb (position_or_len (bytes_eq it) names) (length names)) _ _ apart ∙ was.0)
     by false e =
         let last : at ≡ length names = grind (arith, nat_tests, e, longer, within) in
         let bound = prefix_len-le-length (λ other. not (bytes_eq name other)) names in
@@ -143,7 +152,12 @@ named_opened names name absent named at within = by (ltb at (length names)) refl
 
 -- with one more session
 abbrev opened : EngineState → List ℕ → EngineState
-opened engine name = record { settings = engine.settings; names = engine.names ++ name ∷ []; tables = tables.opened engine.tables; memory_refused = engine.memory_refused }
+opened engine name = record {
+  settings = engine.settings;
+  names = engine.names ++ name ∷ [];
+  tables = tables.opened engine.tables;
+  memory_refused = engine.memory_refused;
+}
 
 module _ (engine : EngineState) (whole : IsWhole engine) where
   -- a new place changes no session: the new one is fresh, and was so before
@@ -162,10 +176,12 @@ module _ (engine : EngineState) (whole : IsWhole engine) where
   sessions-opened name other absent =
       let old = first engine other in
       let new = first (opened engine name) other in
-      let more : new ≡ cond (eqb old (length engine.names)) (length engine.names + cond (bytes_eq other name) 0 1) old = position_or_len_push (bytes_eq other) engine.names name in
+      let more : new ≡ cond (eqb old (length engine.names)) (length engine.names + cond (bytes_eq other name) 0 1) old =
+      position_or_len_push (bytes_eq other) engine.names name in
       let same : session_at engine.tables new ≡ session_at engine.tables old =
       ⊎_elim
-      (λ last. session_past engine.tables new whole.even (grind (arith, more, last, whole.paired)) ∙ sym (session_past engine.tables old whole.even (grind (arith, last, whole.paired))))
+      (λ last. session_past engine.tables new whole.even (grind (arith, more, last, whole.paired))
+      ∙ sym (session_past engine.tables old whole.even (grind (arith, last, whole.paired))))
       (λ inner. ap (session_at engine.tables) (more ∙ cond-false (eqb old (length engine.names)) _ _ inner))
       (cases_Bool (eqb old (length engine.names)))
       in
@@ -205,10 +221,21 @@ sessions-same engine ready same =
     ap (λ (session : ℕ → Session). λ name. option_map_or session (place engine name) fresh) (fun_ext (λ at. session_same engine.tables ready at same))
 
 -- with no place there is none to speak of
-pub whole_new : (settings : Settings) → AreSettings settings → (names : List (List ℕ)) (layouts : List (List Field)) (tables : Tables) → names ≡ [] → tables.forests.places ≡ [] → tables.stores.shelves.table.places ≡ [] → tables.stores.graphs.places ≡ [] → tables.connections.places ≡ [] → tables.queues.places ≡ [] → tables.desks.places ≡ [] → tables.failed.places ≡ []
-    → tables.stores.shelves.layouts ≡ layouts → ((class : ℕ) → fields_in layouts class ≡ fields_of settings.classes class) → IsWhole (record { settings = settings; names = names; tables = tables; memory_refused = false })
+pub whole_new : (settings : Settings) → AreSettings settings → (names : List (List ℕ)) (layouts : List (List Field)) (tables : Tables) → names ≡ []
+    → tables.forests.places ≡ [] → tables.stores.shelves.table.places ≡ [] → tables.stores.graphs.places ≡ [] → tables.connections.places ≡ []
+    → tables.queues.places ≡ [] → tables.desks.places ≡ [] → tables.failed.places ≡ []
+    → tables.stores.shelves.layouts ≡ layouts → ((class : ℕ) → fields_in layouts class ≡ fields_of settings.classes class)
+    → IsWhole (record { settings = settings; names = names; tables = tables; memory_refused = false })
 whole_new settings are names layouts tables no_names forests stores graphs connections queues desks failed same laid =
-    let even : AreEven tables = record { forests = ap length forests ∙ sym (ap length failed); stores = ap length stores ∙ sym (ap length failed); graphs = ap length graphs ∙ sym (ap length failed); connections = ap length connections ∙ sym (ap length failed); queues = ap length queues ∙ sym (ap length failed); desks = ap length desks ∙ sym (ap length failed) } in
+    let even : AreEven tables = record {
+      forests = ap length forests ∙ sym (ap length failed);
+      stores = ap length stores ∙ sym (ap length failed);
+      graphs = ap length graphs ∙ sym (ap length failed);
+      connections = ap length connections ∙ sym (ap length failed);
+      queues = ap length queues
+          ∙ sym (ap length failed);
+      desks = ap length desks ∙ sym (ap length failed);
+    } in
     let none : length tables.failed.places ≡ 0 = ap length failed in
     record {
       settings = are;
@@ -232,13 +259,15 @@ place-opened engine name absent =
     cond-true _ _ _ within ∙ ap Some found
 
 -- a new name has gone behind the others, and its session behind theirs, over tables with room
-module _ (engine : EngineState) (ready after : Tables) (name copy : List ℕ) (keys : List (List ℕ)) (same : AreSame engine.tables ready) (whole : IsWhole engine) (absent : place engine name ≡ None)
+module _ (engine : EngineState) (ready after : Tables) (name copy : List ℕ) (keys : List (List ℕ)) (same : AreSame engine.tables ready) (whole : IsWhole engine)
+    (absent : place engine name ≡ None)
     (equal : copy ≡ name) (inserted : keys ≡ insert_key bytes_eq engine.names copy) (one_more : after ≡ tables.opened ready) where
   abbrev entered : EngineState
   entered = record { settings = engine.settings; names = keys; tables = after; memory_refused = engine.memory_refused }
 
   is : entered ≡ opened (with_tables engine ready) name
-  is = ap₂ (λ keys tables. record { settings = engine.settings; names = keys; tables = tables; memory_refused = engine.memory_refused }) (inserted ∙ insert_key-new engine.names name copy equal absent) one_more
+  is = ap₂ (λ keys tables. record { settings = engine.settings; names = keys; tables = tables; memory_refused = engine.memory_refused })
+      (inserted ∙ insert_key-new engine.names name copy equal absent) one_more
 
   before : IsWhole (with_tables engine ready)
   before = whole_same engine ready same whole

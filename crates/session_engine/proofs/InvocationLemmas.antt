@@ -1,5 +1,6 @@
 -- The command that calls a slot or sends a signal.
-use Rattle.std.proofs.Common.{◌≡◌, ◌<◌, ◌-◌, ◌==◌, ◌&&◌, ℕ, Bool, true, false, cond, List, [], ◌∷◌, Option, Some, None, Ok, Err, slice_get, sym, ap, refl, if◌then◌else◌, ◌∙◌, arith}
+use Rattle.std.proofs.Common.{◌≡◌, ◌<◌, ◌-◌, ◌==◌, ◌&&◌, ℕ, Bool, true, false, cond, List, [], ◌∷◌, Option, Some, None, Ok, Err, slice_get, sym, ap, refl}
+use Rattle.std.proofs.Common.{if◌then◌else◌, ◌∙◌, arith}
 use Rattle.std.proofs.lemmas.Bool.{cond-true, cond-false, cond_both}
 use Rattle.std.proofs.lemmas.Bool.Decides.{nat_tests}
 use Rattle.std.proofs.lemmas.List.Quantifiers.{position-Some}
@@ -58,10 +59,13 @@ pub record IsAsked (settings : Settings) (state : State) (target : ℕ) (text : 
   pub found : method_number signature (methods_of settings state target) ≡ number
   pub asked : asked_method settings state target text ≡ number
 
-pub named_in : (settings : Settings) (state : State) (target class : ℕ) (text : List ℕ) (number : Option ℕ) → HasClass state target class → number_named (methods settings.classes class) text ≡ Ok number → IsAsked settings state target text number
+pub named_in : (settings : Settings) (state : State) (target class : ℕ) (text : List ℕ) (number : Option ℕ) → HasClass state target class
+    → number_named (methods settings.classes class) text ≡ Ok number → IsAsked settings state target text number
 named_in settings state target class text number has named = by (signature_of text) refl (rw (methods_by_class settings state target class has) named)
   where
-    by : (read : Option Signature) → signature_of text ≡ read → (ok_or read BadSignature >>= λ signature. Ok (method_number signature (methods_of settings state target))) ≡ Ok number → IsAsked settings state target text number
+    by : (read : Option Signature) → signature_of text ≡ read
+        → (ok_or read BadSignature >>= λ signature. Ok (method_number signature (methods_of settings state target))) ≡ Ok number
+        → IsAsked settings state target text number
     by None e named = absurd (cc)
     by (Some signature) e named =
         let found : method_number signature (methods_of settings state target) ≡ number = cc in
@@ -73,27 +77,34 @@ named_in settings state target class text number has named = by (signature_of te
         }
 
 -- where the signature is at fault, so is what it names
-pub unread : (methods : List Method) (text : List ℕ) (fault : Fault) → Answers {T = Option ℕ} (Err fault) (number_named methods text) → Answers {T = Signature} (Err fault) (signature_in text)
+pub unread : (methods : List Method) (text : List ℕ) (fault : Fault) → Answers {T = Option ℕ} (Err fault) (number_named methods text)
+    → Answers {T = Signature} (Err fault) (signature_in text)
 unread methods text Memory why = tt
 unread methods text (Refused code) why = by (signature_of text) why
   where
-    by : (read : Option Signature) → (ok_or read BadSignature >>= λ signature. Ok (method_number signature methods)) ≡ Err code → ok_or read BadSignature ≡ Err code
+    by : (read : Option Signature) → (ok_or read BadSignature >>= λ signature. Ok (method_number signature methods)) ≡ Err code
+        → ok_or read BadSignature ≡ Err code
     by None e = cc
     by (Some signature) e = absurd (cc)
 
 -- a method of the object's class is one of the object
-pub method_is : (settings : Settings) (state : State) (target class index : ℕ) (method : Method) → HasClass state target class → Some method ≡ slice_get (methods settings.classes class) index → Some method ≡ method_at settings state target index
-method_is settings state target class index method has found = found ∙ ap (λ methods. slice_get methods index) (sym (methods_by_class settings state target class has))
+pub method_is : (settings : Settings) (state : State) (target class index : ℕ) (method : Method) → HasClass state target class
+    → Some method ≡ slice_get (methods settings.classes class) index → Some method ≡ method_at settings state target index
+method_is settings state target class index method has found = found
+    ∙ ap (λ methods. slice_get methods index) (sym (methods_by_class settings state target class has))
 
-pub kinds_are : (settings : Settings) (state : State) (target index : ℕ) (method : Method) → Some method ≡ method_at settings state target index → method.signature.kinds ≡ kinds_at (methods_of settings state target) index
+pub kinds_are : (settings : Settings) (state : State) (target index : ℕ) (method : Method) → Some method ≡ method_at settings state target index
+    → method.signature.kinds ≡ kinds_at (methods_of settings state target) index
 kinds_are settings state target index method has = ap (λ (found : Option Method). option_map_or (λ method. method.signature.kinds) found []) has
 
 -- a method that is called at once: a slot takes a turn for that
 abbrev pub called_now : Bool → List Item → Execution → Next
 called_now signal items doing = if signal then puts items doing else with_turn doing (puts items)
 
-pub invoked_is : (settings : Settings) (place : ℕ) (tables : Tables) (output : CommandOutput) (object index : ℕ) (values : List Value) (method : Method) → output ≡ fresh_output settings.turns → Some method ≡ method_at settings (state_at tables place) object index
-    → called_now method.is_signal (method_items object index 0 values 0 0 method) (doing_at place tables output []) ≡ invoked settings (state_at tables place) object index values
+pub invoked_is : (settings : Settings) (place : ℕ) (tables : Tables) (output : CommandOutput) (object index : ℕ) (values : List Value) (method : Method)
+    → output ≡ fresh_output settings.turns → Some method ≡ method_at settings (state_at tables place) object index
+    → called_now method.is_signal (method_items object index 0 values 0 0 method) (doing_at place tables output [])
+    ≡ invoked settings (state_at tables place) object index values
 invoked_is settings place tables output object index values method fresh has =
     by method.is_signal (doing_at place tables output [])
     ∙ ap (λ (found : Option Method). now (option_map_or (λ method. method.is_signal) found false) (doing_at place tables output [])) has
@@ -102,7 +113,8 @@ invoked_is settings place tables output object index values method fresh has =
     now : Bool → Execution → Next
     now signal doing = if signal then puts (Emit object index values 0 ∷ []) doing else with_turn doing (puts (Run object index 0 values 0 ∷ []))
 
-    by : (signal : Bool) (doing : Execution) → called_now signal (if signal then Emit object index values 0 ∷ [] else Run object index 0 values 0 ∷ []) doing ≡ now signal doing
+    by : (signal : Bool) (doing : Execution) → called_now signal (if signal then Emit object index values 0 ∷ [] else Run object index 0 values 0 ∷ []) doing
+        ≡ now signal doing
     by true doing = refl
     by false doing = refl
 
@@ -113,7 +125,8 @@ module _ (settings : Settings) (items : List Item) (doing : Execution) where
 
   used_front : IsPrefix doing.posts (used_up doing).posts
   unfolding used_up
-  used_front = cond_both doing.spent doing _ (λ (new : Execution). IsPrefix doing.posts new.posts) (λ spent. front_same doing.posts) (λ fresh. front_same doing.posts)
+  used_front = cond_both doing.spent doing _ (λ (new : Execution). IsPrefix doing.posts new.posts) (λ spent. front_same doing.posts)
+      (λ fresh. front_same doing.posts)
 
   pub now_front : (signal : Bool) → IsPrefix doing.posts (called_now signal items doing).doing.posts
   unfolding turn_taken
@@ -129,7 +142,8 @@ module _ (settings : Settings) (items : List Item) (doing : Execution) where
       let is : (doing.turns == 0) ≡ true = grind (arith, nat_tests, none) in
       ap runs slot ∙ ap (λ (next : Next). run settings next.items next.doing) (cond-true (doing.turns == 0) _ _ is) ∙ at_end settings (used_up doing)
 
-  pub now_run : (signal : Bool) → signal ≡ false → 0 < doing.turns → (done : Execution) → run settings items (record doing { turns = doing.turns - 1 }) ≡ done → runs signal ≡ done
+  pub now_run : (signal : Bool) → signal ≡ false → 0 < doing.turns → (done : Execution) → run settings items (record doing { turns = doing.turns - 1 }) ≡ done
+      → runs signal ≡ done
   unfolding turn_taken
   now_run signal slot some done does =
       let is : (doing.turns == 0) ≡ false = grind (arith, nat_tests, some) in
@@ -139,7 +153,8 @@ module _ (settings : Settings) (items : List Item) (doing : Execution) where
   now_sent signal sent done does = ap runs sent ∙ does
 
 -- why a method is not invoked, where the object is there and the signature spelled
-module _ (caller : SessionContext) (object : ℕ) (text : List ℕ) (args : List Data) (mode : ConnectionType) (priority : Priority) (old new : Tables) (signature : Signature)
+module _ (caller : SessionContext) (object : ℕ) (text : List ℕ) (args : List Data) (mode : ConnectionType) (priority : Priority) (old new : Tables)
+    (signature : Signature)
     (there : None ≡ absence (state_at old caller.place) object) (spelled : ok_or (signature_of text) BadSignature ≡ Ok signature) where
   abbrev the_settings : Settings
   the_settings = settings_of caller.setup.now
@@ -151,10 +166,13 @@ module _ (caller : SessionContext) (object : ℕ) (text : List ℕ) (args : List
   the_refusal = its_refusal caller (Invoke object text args mode priority) old
 
   -- then it goes by the method that is found
-  pub refusal_found : (found : Option ℕ) → asked_method the_settings the_state object text ≡ found → the_refusal ≡ option_or (values_refusal the_settings the_state object args found) (later_refusal the_state mode found)
+  pub refusal_found : (found : Option ℕ) → asked_method the_settings the_state object text ≡ found
+      → the_refusal ≡ option_or (values_refusal the_settings the_state object args found) (later_refusal the_state mode found)
   refusal_found found asked =
       refusal_invoke the_settings caller.name.now the_state object text args mode priority ∙ or_second _ _ there
-      ∙ ap (λ (signature : Found Signature). option_or (result_err signature) (option_or (values_refusal the_settings the_state object args (asked_method the_settings the_state object text)) (later_refusal the_state mode (asked_method the_settings the_state object text)))) spelled
+      ∙ ap (λ (signature : Found Signature). option_or (result_err signature)
+      (option_or (values_refusal the_settings the_state object args (asked_method the_settings the_state object text))
+      (later_refusal the_state mode (asked_method the_settings the_state object text)))) spelled
       ∙ ap (λ (found : Option ℕ). option_or (values_refusal the_settings the_state object args found) (later_refusal the_state mode found)) asked
 
   -- where there is none it is not refused
@@ -165,9 +183,11 @@ module _ (caller : SessionContext) (object : ℕ) (text : List ℕ) (args : List
       by true = refl
       by false = refl
 
-  module _ (index : ℕ) (values : List Value) (asked : asked_method the_settings the_state object text ≡ Some index) (given : asked_values the_settings the_state object index args ≡ Ok values) where
+  module _ (index : ℕ) (values : List Value) (asked : asked_method the_settings the_state object text ≡ Some index)
+      (given : asked_values the_settings the_state object index args ≡ Ok values) where
     refusal_given : the_refusal ≡ later_refusal the_state mode (Some index)
-    refusal_given = refusal_found (Some index) asked ∙ ap (λ (given : Found (List Value)). option_or (result_err given) (later_refusal the_state mode (Some index))) given
+    refusal_given = refusal_found (Some index) asked
+        ∙ ap (λ (given : Found (List Value)). option_or (result_err given) (later_refusal the_state mode (Some index))) given
 
     -- a call that is made at once is not refused any more
     pub refusal_now : is_queued mode ≡ false → the_refusal ≡ None
@@ -178,12 +198,14 @@ module _ (caller : SessionContext) (object : ℕ) (text : List ℕ) (args : List
     refusal_later later = refusal_given ∙ ap (λ (b : Bool). cond (b && true) (enqueue_refusal the_state.queue) None) later
 
 -- what is invoked at once tells its reply last
-pub invoke_runs : (caller : SessionContext) (object : ℕ) (text : List ℕ) (args : List Data) (mode : ConnectionType) (priority : Priority) (old : Tables) (before : CommandOutput) (index : ℕ) (values : List Value) (method : Method) → before ≡ fresh_output caller.setup.now.turns
+pub invoke_runs : (caller : SessionContext) (object : ℕ) (text : List ℕ) (args : List Data) (mode : ConnectionType) (priority : Priority) (old : Tables)
+    (before : CommandOutput) (index : ℕ) (values : List Value) (method : Method) → before ≡ fresh_output caller.setup.now.turns
     → Some method ≡ method_at (settings_of caller.setup.now) (state_at old caller.place) object index
     → is_queued mode ≡ false → asked_method (settings_of caller.setup.now) (state_at old caller.place) object text ≡ Some index
     → asked_values (settings_of caller.setup.now) (state_at old caller.place) object index args ≡ Ok values
     → let next = called_now method.is_signal (method_items object index 0 values 0 0 method) (doing_at caller.place old before []) in
-    its_effect caller (Invoke object text args mode priority) old ≡ ended (line_told (run (settings_of caller.setup.now) next.items next.doing) (line.Reply (a.Truth true)))
+    its_effect caller (Invoke object text args mode priority) old
+    ≡ ended (line_told (run (settings_of caller.setup.now) next.items next.doing) (line.Reply (a.Truth true)))
 invoke_runs caller object text args mode priority old before index values method fresh has at_once found given =
     let settings = settings_of caller.setup.now in
     let state = state_at old caller.place in
@@ -192,15 +214,19 @@ invoke_runs caller object text args mode priority old before index values method
     ∙ cond-false (is_queued mode) _ _ at_once
     ∙ ap (λ (given : Found (List Value)). does_next settings (invoked settings state object index (result_unwrap_or given [])) (a.Truth true)) given
     ∙ replies_last settings (invoked settings state object index values) (a.Truth true)
-    ∙ ap (λ (next : Next). ended (line_told (run settings next.items next.doing) (line.Reply (a.Truth true)))) (sym (invoked_is settings caller.place old before object index values method fresh has))
+    ∙ ap (λ (next : Next). ended (line_told (run settings next.items next.doing) (line.Reply (a.Truth true))))
+    (sym (invoked_is settings caller.place old before object index values method fresh has))
 
 -- so it is performed
-pub performs_invoked : {T E : Type 0} (caller : SessionContext) (object : ℕ) (text : List ℕ) (args : List Data) (mode : ConnectionType) (priority : Priority) (old new : Tables) (before after : CommandOutput) (value : T) (index : ℕ) (values : List Value) (method : Method) → before ≡ fresh_output caller.setup.now.turns
+pub performs_invoked : {T E : Type 0} (caller : SessionContext) (object : ℕ) (text : List ℕ) (args : List Data) (mode : ConnectionType) (priority : Priority)
+    (old new : Tables) (before after : CommandOutput) (value : T) (index : ℕ) (values : List Value) (method : Method)
+    → before ≡ fresh_output caller.setup.now.turns
     → Some method ≡ method_at (settings_of caller.setup.now) (state_at old caller.place) object index
     → is_queued mode ≡ false → its_refusal caller (Invoke object text args mode priority) old ≡ None
     → asked_method (settings_of caller.setup.now) (state_at old caller.place) object text ≡ Some index
     → asked_values (settings_of caller.setup.now) (state_at old caller.place) object index args ≡ Ok values
-    → RunsNext {E = E} caller (λ earlier. called_now method.is_signal (method_items object index 0 values 0 0 method) (doing_at caller.place old before earlier)) old new before after (Ok value)
+    → RunsNext {E = E} caller (λ earlier. called_now method.is_signal (method_items object index 0 values 0 0 method)
+    (doing_at caller.place old before earlier)) old new before after (Ok value)
     → Performs caller (Invoke object text args mode priority) old new after.failing (reply_after after.lines) (Ok (a.Truth true))
 performs_invoked caller object text args mode priority old new before after value index values method fresh has at_once passed found given does =
     replied_last caller (Invoke object text args mode priority) old new after (a.Truth true) does.posts passed
@@ -209,8 +235,10 @@ performs_invoked caller object text args mode priority old new before after valu
     (at_first_reaches caller old new before after does.posts fresh does.reaches)
 
 -- what is invoked later is posted, and replied at once
-pub posts_invoked : (caller : SessionContext) (object : ℕ) (text : List ℕ) (args : List Data) (mode : ConnectionType) (priority : Priority) (state : State) (index : ℕ) (values : List Value)
-    → is_queued mode ≡ true → asked_method (settings_of caller.setup.now) state object text ≡ Some index → asked_values (settings_of caller.setup.now) state object index args ≡ Ok values
+pub posts_invoked : (caller : SessionContext) (object : ℕ) (text : List ℕ) (args : List Data) (mode : ConnectionType) (priority : Priority) (state : State)
+    (index : ℕ) (values : List Value)
+    → is_queued mode ≡ true → asked_method (settings_of caller.setup.now) state object text ≡ Some index
+    → asked_values (settings_of caller.setup.now) state object index args ≡ Ok values
     → performs (settings_of caller.setup.now) caller.name.now state (Invoke object text args mode priority) ≡ invoked_later state object index values priority
 posts_invoked caller object text args mode priority state index values later found given =
     let settings = settings_of caller.setup.now in
@@ -220,12 +248,14 @@ posts_invoked caller object text args mode priority state index values later fou
     ∙ ap (λ (given : Found (List Value)). invoked_later state object index (result_unwrap_or given []) priority) given
 
 -- a method that has a number is there
-pub method_there : (settings : Settings) (state : State) (target class : ℕ) (signature : Signature) (index : ℕ) → HasClass state target class → method_number signature (methods_of settings state target) ≡ Some index → None ≡ slice_get (methods settings.classes class) index → ⊥
+pub method_there : (settings : Settings) (state : State) (target class : ℕ) (signature : Signature) (index : ℕ) → HasClass state target class
+    → method_number signature (methods_of settings state target) ≡ Some index → None ≡ slice_get (methods settings.classes class) index → ⊥
 method_there settings state target class signature index has found none =
     by (methods settings.classes class) (ap (method_number signature) (sym (methods_by_class settings state target class has)) ∙ found) none
   where
     by : (methods : List Method) → method_number signature methods ≡ Some index → ◌≡◌ {A = Option Method} None (slice_get methods index) → ⊥
     by [] found none = absurd (cc)
     by (first ∷ rest) found none =
-        let there = slice_get-get_or (first ∷ rest) index first (position-Some (λ (method : Method). is_same method.signature signature) (first ∷ rest) index first found).0 in
+        let there = slice_get-get_or (first ∷ rest) index first
+        (position-Some (λ (method : Method). is_same method.signature signature) (first ∷ rest) index first found).0 in
         absurd (cc)

@@ -1,5 +1,6 @@
 -- What items make of a session and of all others, one after another.
-use Rattle.std.proofs.Common.{◌≡◌, ◌⊎◌, inl, inr, ℕ, suc, ◌+◌, ◌<◌, Bool, true, false, List, [], ◌∷◌, ◌++◌, append-nil, append_assoc, length, map, take, drop, get_or, add-one, Option, Some, None, IfSome, Result, Ok, Err, OnOk, IsErr, IsTrue, IsFalse, refl, sym, ap, subst, ◌∙◌, ⊎_elim}
+use Rattle.std.proofs.Common.{◌≡◌, ◌⊎◌, inl, inr, ℕ, suc, ◌+◌, ◌<◌, Bool, true, false, List, [], ◌∷◌, ◌++◌, append-nil, append_assoc, length, map, take, drop}
+use Rattle.std.proofs.Common.{get_or, add-one, Option, Some, None, IfSome, Result, Ok, Err, OnOk, IsErr, IsTrue, IsFalse, refl, sym, ap, subst, ◌∙◌, ⊎_elim}
 use Rattle.std.specs.Prelude.{bytes_eq}
 use Rattle.std.specs.Option.{option_map}
 use Rattle.std.specs.Result.{result_ok}
@@ -36,7 +37,8 @@ all_lines-append (x ∷ xs) ys = ap (λ lines. x ++ lines) (all_lines-append xs 
 
 -- a session that has failed hears nothing
 deaf : (classes : List Class) (from : List ℕ) (posts : List Post) (old new : Session) → IsTrue old.failed → ReceivesPosts classes from posts old new → new ≡ old
-deaf classes from posts old new failed (inl after_posts) = after_posts ∙ cond-true old.failed old (record { state = arrive_all classes old.state from posts; failed = false }) failed
+deaf classes from posts old new failed (inl after_posts) = after_posts
+    ∙ cond-true old.failed old (record { state = arrive_all classes old.state from posts; failed = false }) failed
 deaf classes from posts old new failed (inr (fine, taken, failed_session)) = absurd (both_ways _ fine failed)
 
 -- what follows of items that have come, whatever they are: where memory was never refused, what a session alone
@@ -44,7 +46,8 @@ deaf classes from posts old new failed (inr (fine, taken, failed_session)) = abs
 record Follows (old new : Sessions) (name : List ℕ) (items : List Coming) (told : Option (List Line)) : Type 0 where
   lines : IsFalse new.memory_refused → told ≡ Some (all_lines (alone_lines (machine old.settings) name (states_of old name) items))
   own : IsFalse new.memory_refused → states_of new name ≡ alone_after (machine old.settings) name (states_of old name) items
-  others : IsFalse new.memory_refused → (other : List ℕ) → IsFalse (bytes_eq other name) → states_of new other ≡ all_arrive (machine old.settings) (states_of old other) name (alone_posts (machine old.settings) name (states_of old name) items)
+  others : IsFalse new.memory_refused → (other : List ℕ) → IsFalse (bytes_eq other name)
+      → states_of new other ≡ all_arrive (machine old.settings) (states_of old other) name (alone_posts (machine old.settings) name (states_of old name) items)
   settings : new.settings ≡ old.settings
   stay : (other : List ℕ) → IsFalse (bytes_eq other name) → IsTrue (old.session other).failed → new.session other ≡ old.session other
   kept : IsTrue old.memory_refused → IsTrue new.memory_refused
@@ -87,7 +90,8 @@ module _ (old new : Sessions) (name : List ℕ) where
       }
 
   -- a post of another session, or one for which memory was wanted
-  follows_arrival : (from : List ℕ) (post : Post) (told : Option (List Line)) → HasArrived old new name from post told → IfSome told (λ lines. lines ≡ []) → Follows old new name (theory.Arrival from post ∷ []) told
+  follows_arrival : (from : List ℕ) (post : Post) (told : Option (List Line)) → HasArrived old new name from post told → IfSome told (λ lines. lines ≡ [])
+      → Follows old new name (theory.Arrival from post ∷ []) told
   follows_arrival from post (Some lines) has none = record {
     lines = λ found. ap Some none;
     own = has.state;
@@ -133,7 +137,8 @@ follows_stop old new name some all runs =
     }
 
 -- items after other items
-module _ (old middle new : Sessions) (name : List ℕ) (xs ys : List Coming) (before : List Line) (told : Option (List Line)) (first : Follows old middle name xs (Some before)) (second : Follows middle new name ys told) where
+module _ (old middle new : Sessions) (name : List ℕ) (xs ys : List Coming) (before : List Line) (told : Option (List Line))
+    (first : Follows old middle name xs (Some before)) (second : Follows middle new name ys told) where
   found_middle : IsFalse new.memory_refused → IsFalse middle.memory_refused
   found_middle found = found_before middle.memory_refused new.memory_refused second.kept found
 
@@ -156,9 +161,11 @@ module _ (old middle new : Sessions) (name : List ℕ) (xs ys : List Coming) (be
             ∙ sym (alone_after-append m name start xs ys);
         others = λ found other elsewhere.
             second.others found other elsewhere
-            ∙ ap (λ (settings : Settings). all_arrive (machine settings) (states_of middle other) name (alone_posts (machine settings) name (states_of middle name) ys)) first.settings
+            ∙ ap (λ (settings : Settings). all_arrive (machine settings) (states_of middle other) name
+            (alone_posts (machine settings) name (states_of middle name) ys)) first.settings
             ∙ ap (λ (state : State). all_arrive m (states_of middle other) name (alone_posts m name state ys)) (first.own (found_middle found))
-            ∙ ap (λ (state : State). all_arrive m state name (alone_posts m name (alone_after m name start xs) ys)) (first.others (found_middle found) other elsewhere)
+            ∙ ap (λ (state : State). all_arrive m state name (alone_posts m name (alone_after m name start xs) ys))
+            (first.others (found_middle found) other elsewhere)
             ∙ sym (all_arrive-append m (states_of old other) name (alone_posts m name start xs) (alone_posts m name (alone_after m name start xs) ys))
             ∙ ap (all_arrive m (states_of old other) name) (sym (alone_posts-append m name start xs ys));
         settings = second.settings ∙ first.settings;
@@ -169,7 +176,8 @@ module _ (old middle new : Sessions) (name : List ℕ) (xs ys : List Coming) (be
         memory = λ nothing. second.memory (none_of told nothing);
         blame = λ was now. ⊎_elim
             (λ refused. ⊎_elim (λ nothing. absurd (some_none nothing)) (λ another. inr (failed_still another)) (first.blame was refused))
-            (λ fine. ⊎_elim (λ nothing. inl (ap (option_map (λ lines. before ++ lines)) nothing)) (λ another. inr (failed_first another)) (second.blame fine now))
+            (λ fine. ⊎_elim (λ nothing. inl (ap (option_map (λ lines. before ++ lines)) nothing)) (λ another. inr (failed_first another))
+            (second.blame fine now))
             (cases_Bool middle.memory_refused);
       }
     where
@@ -187,51 +195,104 @@ module _ (old middle new : Sessions) (name : List ℕ) (xs ys : List Coming) (be
       failed_still (other, elsewhere, was, now) = (other, elsewhere, was, ap (λ (session : Session). session.failed) (second.stay other elsewhere now) ∙ now)
 
       failed_first : AnotherFails middle new name → AnotherFails old new name
-      failed_first (other, elsewhere, was, now) = (other, elsewhere, ⊎_elim (λ failed. absurd (both_ways _ was (ap (λ (session : Session). session.failed) (first.stay other elsewhere failed) ∙ failed))) (λ fine. fine) (cases_Bool (old.session other).failed), now)
+      failed_first (other, elsewhere, was, now) = (
+        other,
+        elsewhere,
+        ⊎_elim (λ failed. absurd
+            (both_ways _ was (ap (λ (session : Session). session.failed) (first.stay other elsewhere failed) ∙ failed))) (λ fine. fine)
+            (cases_Bool (old.session other).failed),
+        now,
+      )
 
 -- so of all that have come, one after another
-follows : (old new : Sessions) (name : List ℕ) (items : List Coming) (told : Option (List Line)) → HaveCome old new name items told → Follows old new name items told
+follows : (old new : Sessions) (name : List ℕ) (items : List Coming) (told : Option (List Line)) → HaveCome old new name items told
+    → Follows old new name items told
 follows old new name [] told (same, none) =
     subst (λ (end : Sessions). Follows old end name [] told) (sym same) (subst (Follows old old name []) (sym none) (follows_nothing old name))
 follows old new name (item ∷ items) told (inl (came, none)) =
     subst (Follows old new name (item ∷ items)) (sym none) (follows_stop old new name (item ∷ []) (item ∷ items) (follows_one old new name item None came))
 follows old new name (item ∷ items) told (inr (between, lines, rest, came, others, is)) =
     subst (Follows old new name (item ∷ items)) (sym is)
-    (follows_then old between new name (item ∷ []) items lines rest (follows_one old between name item (Some lines) came) (follows between new name items rest others))
+    (follows_then old between new name (item ∷ []) items lines rest (follows_one old between name item (Some lines) came)
+    (follows between new name items rest others))
 
-come_sound : (old new : Sessions) (name : List ℕ) (items : List Coming) (told : Option (List Line)) → HaveCome old new name items told → AreSound old → AreSound new
+come_sound : (old new : Sessions) (name : List ℕ) (items : List Coming) (told : Option (List Line)) → HaveCome old new name items told → AreSound old
+    → AreSound new
 come_sound old new name [] told (same, none) sound = subst AreSound (sym same) sound
 come_sound old new name (item ∷ items) told (inl (came, none)) sound = one_sound old new name item None came
 come_sound old new name (item ∷ items) told (inr (between, lines, rest, came, others, is)) sound =
     come_sound between new name items rest others (one_sound old between name item (Some lines) came)
 
-pub runs_alone : (old new : Sessions) (name : List ℕ) (items : List Coming) (told : Option (List Line)) → AreSound old → HaveCome old new name items told → RunsAlone old new name items told
+pub runs_alone : (old new : Sessions) (name : List ℕ) (items : List Coming) (told : Option (List Line)) → AreSound old → HaveCome old new name items told
+    → RunsAlone old new name items told
 runs_alone old new name items told sound come =
     let it = follows old new name items told come in
-    record { come = come; lines = it.lines; own = it.own; others = it.others; spared = λ well. some_spared told well come; blame = it.blame; sound = come_sound old new name items told come sound }
+    record {
+      come = come;
+      lines = it.lines;
+      own = it.own;
+      others = it.others;
+      spared = λ well. some_spared told well come;
+      blame = it.blame;
+      sound = come_sound old new name items told come sound;
+    }
   where
-    some_spared : (told : Option (List Line)) → IsFalse (old.session name).failed → HaveCome old new name items told → IfSome told (SparesItsSession old new name items)
+    some_spared : (told : Option (List Line)) → IsFalse (old.session name).failed → HaveCome old new name items told
+        → IfSome told (SparesItsSession old new name items)
     some_spared (Some lines) well come = spared_items old new name items (Some lines) lines well refl come
     some_spared None well come = tt
 
 -- a post has come as an item, of which nothing is told
-pub arrival_comes : {T E : Type 0} (old new : Sessions) (name from : List ℕ) (post : Post) (before : List Line) (result : Result T E) → HasArrived old new name from post (result_ok result) → OnOk result (HasAdded old new name (theory.Arrival from post) before before)
-arrival_comes old new name from post before (Ok done) has = ([], (record { state = has.state; hears = has.hears; fails = tt; others = has.others; settings = has.settings; found = has.found; memory = tt; sound = has.sound }, refl), sym (append-nil before))
+pub arrival_comes : {T E : Type 0} (old new : Sessions) (name from : List ℕ) (post : Post) (before : List Line) (result : Result T E)
+    → HasArrived old new name from post (result_ok result) → OnOk result (HasAdded old new name (theory.Arrival from post) before before)
+arrival_comes old new name from post before (Ok done) has = (
+  [],
+  (
+    record {
+      state = has.state;
+      hears = has.hears;
+      fails = tt;
+      others = has.others;
+      settings = has.settings;
+      found = has.found;
+      memory = tt;
+      sound = has.sound;
+    },
+    refl,
+  ),
+  sym (append-nil before),
+)
 arrival_comes old new name from post before (Err error) has = tt
 
 -- one more item behind those that have come
-pub come_more : (old now next : Sessions) (name : List ℕ) (items : List Coming) (item : Coming) (before lines : List Line) → HaveCome old now name items (Some before) → HasCome now next name item (Some lines) → HaveCome old next name (items ++ item ∷ []) (Some (before ++ lines))
+pub come_more : (old now next : Sessions) (name : List ℕ) (items : List Coming) (item : Coming) (before lines : List Line)
+    → HaveCome old now name items (Some before) → HasCome now next name item (Some lines) → HaveCome old next name (items ++ item ∷ []) (Some (before ++ lines))
 come_more old now next name [] item before lines (same, none) came =
     let start : before ≡ [] = cc in
-    inr (next, lines, Some [], subst (λ (begin : Sessions). HasCome begin next name item (Some lines)) same came, (refl, refl), ap (λ before. Some (before ++ lines)) start ∙ ap Some (sym (append-nil lines)))
+    inr (
+      next,
+      lines,
+      Some [],
+      subst (λ (begin : Sessions). HasCome begin next name item (Some lines)) same came,
+      (refl, refl),
+      ap (λ before. Some (before ++ lines)) start ∙ ap Some (sym (append-nil lines)),
+    )
 come_more old now next name (first ∷ items) item before lines (inl (came_first, none)) came = absurd (cc)
 come_more old now next name (first ∷ items) item before lines (inr (between, its, None, came_first, others, is)) came = absurd (cc)
 come_more old now next name (first ∷ items) item before lines (inr (between, its, Some more, came_first, others, is)) came =
     let all : before ≡ its ++ more = cc in
-    inr (between, its, Some (more ++ lines), came_first, come_more between now next name items item more lines others came, ap (λ before. Some (before ++ lines)) all ∙ ap Some (append_assoc its more lines))
+    inr (
+      between,
+      its,
+      Some (more ++ lines),
+      came_first,
+      come_more between now next name items item more lines others came,
+      ap (λ before. Some (before ++ lines)) all ∙ ap Some (append_assoc its more lines),
+    )
 
 -- or one for which memory was wanted, and the rest does not come any more
-pub come_last : (old now new : Sessions) (name : List ℕ) (items : List Coming) (item : Coming) (rest : List Coming) (before : List Line) → HaveCome old now name items (Some before) → HasCome now new name item None → HaveCome old new name (items ++ item ∷ rest) None
+pub come_last : (old now new : Sessions) (name : List ℕ) (items : List Coming) (item : Coming) (rest : List Coming) (before : List Line)
+    → HaveCome old now name items (Some before) → HasCome now new name item None → HaveCome old new name (items ++ item ∷ rest) None
 come_last old now new name [] item rest before (same, none) came = inl (subst (λ (begin : Sessions). HasCome begin new name item None) same came, refl)
 come_last old now new name (first ∷ items) item rest before (inl (came_first, none)) came = absurd (cc)
 come_last old now new name (first ∷ items) item rest before (inr (between, its, None, came_first, others, is)) came = absurd (cc)
@@ -239,13 +300,16 @@ come_last old now new name (first ∷ items) item rest before (inr (between, its
     inr (between, its, None, came_first, come_last between now new name items item rest more others came, refl)
 
 -- the items so far, the next, and the rest
-pub items_split : (list : List Item) (i : ℕ) (item : Item) → i < length list → item ≡ get_or list i item → map item_of list ≡ map item_of (take i list) ++ item_of item ∷ map item_of (drop (suc i) list)
+pub items_split : (list : List Item) (i : ℕ) (item : Item) → i < length list → item ≡ get_or list i item
+    → map item_of list ≡ map item_of (take i list) ++ item_of item ∷ map item_of (drop (suc i) list)
 items_split list i item within is =
     ap (map item_of) (sym (take-append-drop i list)) ∙ map-append item_of (take i list) (drop i list)
     ∙ ap (λ rest. map item_of (take i list) ++ map item_of rest) (drop-cons list i item within)
     ∙ ap (λ item. map item_of (take i list) ++ item_of item ∷ map item_of (drop (suc i) list)) (sym is)
 
 -- the items so far, with the next
-pub items_more : (list : List Item) (i : ℕ) (item : Item) → i < length list → item ≡ get_or list i item → map item_of (take (i + 1) list) ≡ map item_of (take i list) ++ item_of item ∷ []
+pub items_more : (list : List Item) (i : ℕ) (item : Item) → i < length list → item ≡ get_or list i item
+    → map item_of (take (i + 1) list) ≡ map item_of (take i list) ++ item_of item ∷ []
 items_more list i item within is =
-    ap (λ n. map item_of (take n list)) (add-one i) ∙ ap (map item_of) (take-suc list i item within) ∙ map-append item_of (take i list) _ ∙ ap (λ item. map item_of (take i list) ++ item_of item ∷ []) (sym is)
+    ap (λ n. map item_of (take n list)) (add-one i) ∙ ap (map item_of) (take-suc list i item within) ∙ map-append item_of (take i list) _
+    ∙ ap (λ item. map item_of (take i list) ++ item_of item ∷ []) (sym is)

@@ -1,5 +1,6 @@
 -- Which sessions join another one: by place, and so by name.
-use Rattle.std.proofs.Common.{◌≡◌, ◌<◌, ◌≤◌, ◌==◌, ◌||◌, ℕ, suc, Bool, true, false, true≢false, eqb, List, [], ◌∷◌, Option, Some, None, length, get_or, map, position, refl, sym, ap, subst, ◌∙◌, ⊎_elim, arith}
+use Rattle.std.proofs.Common.{◌≡◌, ◌<◌, ◌≤◌, ◌==◌, ◌||◌, ℕ, suc, Bool, true, false, true≢false, eqb, List, [], ◌∷◌, Option, Some, None, length, get_or, map}
+use Rattle.std.proofs.Common.{position, refl, sym, ap, subst, ◌∙◌, ⊎_elim, arith}
 use Rattle.std.specs.Prelude.{All, IfOk, Ok, Err, Result, bytes_eq}
 use Rattle.std.specs.List.{list_any}
 use Rattle.std.proofs.lemmas.Bool.{cases_lt}
@@ -26,7 +27,8 @@ any_alike p f q (x ∷ xs) alike =
 
 module _ (names : List (List ℕ)) (name : List ℕ) where
   -- where no two places have one name, a place has this one exactly if it is the place of the name
-  named_there : (found at : ℕ) → ((at : ℕ) → at < length names → position (bytes_eq (get_or names at [])) names ≡ Some at) → position (bytes_eq name) names ≡ Some found
+  named_there : (found at : ℕ) → ((at : ℕ) → at < length names → position (bytes_eq (get_or names at [])) names ≡ Some at)
+      → position (bytes_eq name) names ≡ Some found
       → at < length names → bytes_eq name (get_or names at []) ≡ eqb at found
   named_there found at named there within = by (bytes_eq name (get_or names at [])) (eqb at found) refl refl
     where
@@ -40,7 +42,8 @@ module _ (names : List (List ℕ)) (name : List ℕ) where
           absurd (grind (arith, nat_tests, same, f))
       by false true e f =
           let same : found ≡ at = grind (arith, nat_tests, f) in
-          let passes : bytes_eq name (get_or names at []) ≡ true = subst (λ at. bytes_eq name (get_or names at []) ≡ true) same (position-Some (bytes_eq name) names found [] there).1 in
+          let passes : bytes_eq name (get_or names at []) ≡ true =
+          subst (λ at. bytes_eq name (get_or names at []) ≡ true) same (position-Some (bytes_eq name) names found [] there).1 in
           absurd (true≢false (sym passes ∙ e))
 
   -- and none has a name that has no place
@@ -68,7 +71,8 @@ module _ (engine : EngineState) (from : List ℕ) (places : List ℕ) (whole : I
       joins = sym (are.exact at) ∙ list_any_at (λ place. place == at) places i default within (grind (arith, nat_tests))
 
       strange : length engine.names ≤ at → joins_name (state_at engine.tables at) from ≡ false
-      strange past = ap (λ (session : Session). joins_name session.state from) (session_past engine.tables at whole.even (omega (arith, past, whole.paired))) ∙ fresh_joins from
+      strange past = ap (λ (session : Session). joins_name session.state from) (session_past engine.tables at whole.even (omega (arith, past, whole.paired)))
+          ∙ fresh_joins from
 
   -- and a name is among theirs exactly if its session joins
   joiners_named : (name : List ℕ) → list_any (bytes_eq name) (names_at engine places) ≡ joins_name (states engine name) from
@@ -76,11 +80,13 @@ module _ (engine : EngineState) (from : List ℕ) (places : List ℕ) (whole : I
     where
       by : (found : Option ℕ) → place engine name ≡ found → list_any (bytes_eq name) (names_at engine places) ≡ joins_name (states engine name) from
       by (Some at) there =
-          any_alike (bytes_eq name) (name_at engine) (λ place. place == at) places (λ i default within. named_there engine.names name at (get_or places i default) whole.named there (joiners_within i default within))
+          any_alike (bytes_eq name) (name_at engine) (λ place. place == at) places
+          (λ i default within. named_there engine.names name at (get_or places i default) whole.named there (joiners_within i default within))
           ∙ are.exact at
           ∙ sym (ap (λ (session : Session). joins_name session.state from) (sessions-place engine name at there))
       by None absent =
-          any_alike (bytes_eq name) (name_at engine) (λ place. false) places (λ i default within. named_nowhere engine.names name (get_or places i default) absent (joiners_within i default within))
+          any_alike (bytes_eq name) (name_at engine) (λ place. false) places
+          (λ i default within. named_nowhere engine.names name (get_or places i default) absent (joiners_within i default within))
           ∙ list_any_none (λ place. false) places (λ i default within. refl)
           ∙ sym (ap (λ found. joins_name (option_map_or (session_at engine.tables) found fresh).state from) absent ∙ fresh_joins from)
 
@@ -88,6 +94,7 @@ module _ (engine : EngineState) (from : List ℕ) (places : List ℕ) (whole : I
   joiners_of = record { joiners = are; named = joiners_named; within = joiners_within }
 
 -- so what has found the places has found the names
-pub if_joiners : {X E : Type 0} (engine : EngineState) (from : List ℕ) (items : X → List ℕ) (result : Result X E) → IsWhole engine → IfOk result (λ found. AreJoiners engine.tables from (items found)) → IfOk result (λ found. AreJoinersOf engine from (items found))
+pub if_joiners : {X E : Type 0} (engine : EngineState) (from : List ℕ) (items : X → List ℕ) (result : Result X E) → IsWhole engine
+    → IfOk result (λ found. AreJoiners engine.tables from (items found)) → IfOk result (λ found. AreJoinersOf engine from (items found))
 if_joiners engine from items (Ok found) whole are = joiners_of engine from (items found) whole are
 if_joiners engine from items (Err error) whole are = are

@@ -22,23 +22,36 @@ class_found classes name passed = by (index_of name classes) passed
     by (Some index) passed = refl
     by None passed = absurd (cc)
 
-pub class_index_there : (classes : List Class) (name : List ℕ) → None ≡ class_refusal classes name → (class : Class) × (slice_get classes (class_index classes name) ≡ Some class)
+pub class_index_there : (classes : List Class) (name : List ℕ) → None ≡ class_refusal classes name
+    → (class : Class) × (slice_get classes (class_index classes name) ≡ Some class)
 class_index_there classes name passed = class_there classes name (class_index classes name) (class_found classes name passed)
 
 -- made of these
 abbrev told : List ℕ → ℕ → List (List ℕ) → List (List ℕ) → ℕ → Option (List ℕ) → MetaObject
 told class method_offset methods properties property_offset superclass =
-    record { class = class; method_offset = method_offset; methods = methods; properties = properties; property_offset = property_offset; superclass = superclass }
+    record {
+      class = class;
+      method_offset = method_offset;
+      methods = methods;
+      properties = properties;
+      property_offset = property_offset;
+      superclass = superclass;
+    }
 
-pub described_is : (classes : List Class) (index : ℕ) (class : Class) (name : List ℕ) (method_offset : ℕ) (method_texts property_names : List (List ℕ)) (property_offset : ℕ) (superclass : Option (List ℕ))
+pub described_is : (classes : List Class) (index : ℕ) (class : Class) (name : List ℕ) (method_offset : ℕ) (method_texts property_names : List (List ℕ))
+    (property_offset : ℕ) (superclass : Option (List ℕ))
     → name ≡ class.name → method_offset ≡ length (inherited (methods classes) class.superclass) → method_texts ≡ map method_text (methods classes index)
-    → property_names ≡ names (properties classes index) → property_offset ≡ length (inherited (properties classes) class.superclass) → superclass ≡ option_and_then (class_name classes) class.superclass
+    → property_names ≡ names (properties classes index) → property_offset ≡ length (inherited (properties classes) class.superclass)
+    → superclass ≡ option_and_then (class_name classes) class.superclass
     → told name method_offset method_texts property_names property_offset superclass ≡ described_by classes index class
 unfolding described_by
 described_is classes index class name method_offset method_texts property_names property_offset superclass a b c d e f =
     ap (λ name. told name method_offset method_texts property_names property_offset superclass) a
     ∙ ap (λ method_offset. told class.name method_offset method_texts property_names property_offset superclass) b
     ∙ ap (λ texts. told class.name (length (inherited (methods classes) class.superclass)) texts property_names property_offset superclass) c
-    ∙ ap (λ found. told class.name (length (inherited (methods classes) class.superclass)) (map method_text (methods classes index)) found property_offset superclass) d
-    ∙ ap (λ property_offset. told class.name (length (inherited (methods classes) class.superclass)) (map method_text (methods classes index)) (names (properties classes index)) property_offset superclass) e
-    ∙ ap (told class.name (length (inherited (methods classes) class.superclass)) (map method_text (methods classes index)) (names (properties classes index)) (length (inherited (properties classes) class.superclass))) f
+    ∙ ap (λ found. told class.name (length (inherited (methods classes) class.superclass))
+    (map method_text (methods classes index)) found property_offset superclass) d
+    ∙ ap (λ property_offset. told class.name (length (inherited (methods classes) class.superclass)) (map method_text (methods classes index))
+    (names (properties classes index)) property_offset superclass) e
+    ∙ ap (told class.name (length (inherited (methods classes) class.superclass)) (map method_text (methods classes index)) (names (properties classes index))
+    (length (inherited (properties classes) class.superclass))) f

@@ -1,5 +1,6 @@
 -- What a session does with a command, what it hears of others, and what holds of it between commands.
-use Rattle.std.proofs.Common.{◌≡◌, ◌&&◌, ℕ, Bool, true, false, true≢false, cond, not, List, [], ◌∷◌, ◌++◌, Some, None, All, IsFalse, length-append, refl, sym, ap, subst, ◌∙◌, inl, inr, arith}
+use Rattle.std.proofs.Common.{◌≡◌, ◌&&◌, ℕ, Bool, true, false, true≢false, cond, not, List, [], ◌∷◌, ◌++◌, Some, None, All, IsFalse, length-append, refl, sym}
+use Rattle.std.proofs.Common.{ap, subst, ◌∙◌, inl, inr, arith}
 use Rattle.std.specs.Prelude.{if◌then◌else◌}
 use Rattle.std.proofs.lemmas.Bool.{and_parts, cond-false, cond_both}
 use Rattle.std.proofs.lemmas.List.{get_or_append_left}
@@ -35,7 +36,8 @@ module _ (settings : Settings) (name : List ℕ) (session : Session) (asked : As
   -- and does the command
   pub does_fine : session.failed ≡ false → session_does settings name session asked ≡ does settings name session.state asked
   unfolding does
-  does_fine fine = ap (λ b. unless (if b then Some SessionFailed else refusal settings name session.state asked) session.state (performs settings name session.state asked)) (not_shut fine)
+  does_fine fine = ap (λ b. unless (if b then Some SessionFailed else refusal settings name session.state asked) session.state
+      (performs settings name session.state asked)) (not_shut fine)
 
   -- the one that begins anew is not refused
   mends : is_reset asked ≡ true → refusal settings name session.state asked ≡ None
@@ -53,7 +55,9 @@ module _ (settings : Settings) (name : List ℕ) (session : Session) (asked : As
       ∙ ap (λ failed. record { state = session.state; failed = failed }) (same session.failed (is_reset asked) refl refl)
     where
       same : (failed reset : Bool) → session.failed ≡ failed → is_reset asked ≡ reset → (failed && not reset) ≡ session.failed
-      same true true was reset = absurd (some_none code (sym e ∙ ap (λ b. if b then Some SessionFailed else refusal settings name session.state asked) (ap (λ failed. failed && not (is_reset asked)) was ∙ ap not reset) ∙ mends reset))
+      same true true was reset = absurd (some_none code
+          (sym e ∙ ap (λ b. if b then Some SessionFailed else refusal settings name session.state asked)
+          (ap (λ failed. failed && not (is_reset asked)) was ∙ ap not reset) ∙ mends reset))
       same true false was reset = sym was
       same false reset was is = sym was
 
@@ -66,7 +70,8 @@ module _ (settings : Settings) (name : List ℕ) (session : Session) (asked : As
     unfolding does
     sound_state = by (is_shut session asked)
       where
-        by : (shut : Bool) → IsSound (unless (if shut then Some SessionFailed else refusal settings name session.state asked) session.state (performs settings name session.state asked)).state
+        by : (shut : Bool) → IsSound (unless (if shut then Some SessionFailed else refusal settings name session.state asked) session.state
+            (performs settings name session.state asked)).state
         by true = sound.sound
         by false = keeps_sound.by_command settings name session.state asked sound.sound
 
@@ -74,7 +79,9 @@ module _ (settings : Settings) (name : List ℕ) (session : Session) (asked : As
     unfolding does
     declared_state = by (is_shut session asked)
       where
-        by : (shut : Bool) → IsDeclared settings.classes (unless (if shut then Some SessionFailed else refusal settings name session.state asked) session.state (performs settings name session.state asked)).state
+        by : (shut : Bool) → IsDeclared settings.classes
+            (unless (if shut then Some SessionFailed else refusal settings name session.state asked) session.state
+            (performs settings name session.state asked)).state
         by true = sound.declared
         by false = keeps_declared.by_command settings name session.state asked sound.sound sound.declared
 
@@ -83,8 +90,10 @@ module _ (settings : Settings) (name : List ℕ) (session : Session) (asked : As
     fitting_state = by (is_shut session asked)
       where
         by : (shut : Bool)
-            → IsFitting settings (unless (if shut then Some SessionFailed else refusal settings name session.state asked) session.state (performs settings name session.state asked)).state
-            × All IsRightPost (unless (if shut then Some SessionFailed else refusal settings name session.state asked) session.state (performs settings name session.state asked)).posts
+            → IsFitting settings (unless (if shut then Some SessionFailed else refusal settings name session.state asked) session.state
+            (performs settings name session.state asked)).state
+            × All IsRightPost (unless (if shut then Some SessionFailed else refusal settings name session.state asked) session.state
+            (performs settings name session.state asked)).posts
         by true = (sound.fitting, All-nil IsRightPost)
         by false = keeps_fitting.by_command settings name session.state asked are named sound.sound sound.declared sound.fitting
 
@@ -105,54 +114,83 @@ module _ (settings : Settings) (name : List ℕ) (session : Session) (asked : As
     right_front posts front = first_part posts front.0 (subst (All IsRightPost) front.1 right_posts)
       where
         first_part : (posts rest : List Post) → All IsRightPost (posts ++ rest) → All IsRightPost posts
-        first_part posts rest right k d within = subst IsRightPost (get_or_append_left posts rest d k within) (right k d (omega (arith, length-append posts rest, within)))
+        first_part posts rest right k d within = subst IsRightPost (get_or_append_left posts rest d k within)
+            (right k d (omega (arith, length-append posts rest, within)))
 
 -- a session is sound before its first command, and where it has failed
 pub fresh_sound : (settings : Settings) → IsSoundSession settings fresh
-fresh_sound settings = record { sound = keeps_sound.at_first; declared = keeps_declared.at_first settings.classes; fitting = keeps_fitting.at_first settings; empty = λ failed. absurd (true≢false (sym failed)) }
+fresh_sound settings = record {
+  sound = keeps_sound.at_first;
+  declared = keeps_declared.at_first settings.classes;
+  fitting = keeps_fitting.at_first settings;
+  empty = λ failed. absurd (true≢false (sym failed));
+}
 
 pub gone_sound : (settings : Settings) → IsSoundSession settings failed_session
-gone_sound settings = record { sound = keeps_sound.at_first; declared = keeps_declared.at_first settings.classes; fitting = keeps_fitting.at_first settings; empty = λ failed. refl }
+gone_sound settings = record {
+  sound = keeps_sound.at_first;
+  declared = keeps_declared.at_first settings.classes;
+  fitting = keeps_fitting.at_first settings;
+  empty = λ failed. refl;
+}
 
 -- a session that has not failed is in the state that posts leave
-pub after_posts_state : (settings : Settings) (from : List ℕ) (posts : List Post) (session : Session) → session.failed ≡ false → (after_posts settings.classes from posts session).state ≡ all_arrive (machine settings) session.state from posts
+pub after_posts_state : (settings : Settings) (from : List ℕ) (posts : List Post) (session : Session) → session.failed ≡ false
+    → (after_posts settings.classes from posts session).state ≡ all_arrive (machine settings) session.state from posts
 after_posts_state settings from posts session fine =
-    ap (λ (session : Session). session.state) (cond-false session.failed session (record { state = arrive_all settings.classes session.state from posts; failed = false }) fine) ∙ sym (arrive_all-is settings session.state from posts)
+    ap (λ (session : Session). session.state)
+    (cond-false session.failed session (record { state = arrive_all settings.classes session.state from posts; failed = false }) fine)
+    ∙ sym (arrive_all-is settings session.state from posts)
 
 -- a session is sound when it has heard right posts
-after_posts_sound : (settings : Settings) (from : List ℕ) (posts : List Post) (session : Session) → All IsRightPost posts → IsSoundSession settings session → IsSoundSession settings (after_posts settings.classes from posts session)
+after_posts_sound : (settings : Settings) (from : List ℕ) (posts : List Post) (session : Session) → All IsRightPost posts → IsSoundSession settings session
+    → IsSoundSession settings (after_posts settings.classes from posts session)
 after_posts_sound settings from posts session right sound = by session.failed refl
   where
     arrived : (state : State) (posts : List Post) → IsSound state → IsSound (arrive_all settings.classes state from posts)
     arrived state [] sound = sound
     arrived state (post ∷ posts) sound = arrived (arrives settings.classes state from post) posts (keeps_sound.by_post settings.classes state from post sound)
 
-    declares : (state : State) (posts : List Post) → IsDeclared settings.classes state → IsDeclared settings.classes (arrive_all settings.classes state from posts)
+    declares : (state : State) (posts : List Post) → IsDeclared settings.classes state
+        → IsDeclared settings.classes (arrive_all settings.classes state from posts)
     declares state [] declared = declared
-    declares state (post ∷ posts) declared = declares (arrives settings.classes state from post) posts (keeps_declared.by_post settings.classes state from post declared)
+    declares state (post ∷ posts) declared = declares (arrives settings.classes state from post) posts
+        (keeps_declared.by_post settings.classes state from post declared)
 
-    fits : (state : State) (posts : List Post) → All IsRightPost posts → IsFitting settings state → IsFitting settings (arrive_all settings.classes state from posts)
+    fits : (state : State) (posts : List Post) → All IsRightPost posts → IsFitting settings state
+        → IsFitting settings (arrive_all settings.classes state from posts)
     fits state [] right fitting = fitting
-    fits state (post ∷ posts) right fitting = fits (arrives settings.classes state from post) posts (All-tail IsRightPost post posts right) (keeps_fitting.by_post settings state from post fitting (All-head IsRightPost post posts right))
+    fits state (post ∷ posts) right fitting = fits (arrives settings.classes state from post) posts (All-tail IsRightPost post posts right)
+        (keeps_fitting.by_post settings state from post fitting (All-head IsRightPost post posts right))
 
-    by : (failed : Bool) → session.failed ≡ failed → IsSoundSession settings (cond failed session (record { state = arrive_all settings.classes session.state from posts; failed = false }))
+    by : (failed : Bool) → session.failed ≡ failed → IsSoundSession settings
+        (cond failed session (record { state = arrive_all settings.classes session.state from posts; failed = false }))
     by true was = sound
-    by false was = record { sound = arrived session.state posts sound.sound; declared = declares session.state posts sound.declared; fitting = fits session.state posts right sound.fitting; empty = λ failed. absurd (true≢false (sym failed)) }
+    by false was = record {
+      sound = arrived session.state posts sound.sound;
+      declared = declares session.state posts sound.declared;
+      fitting = fits session.state posts right sound.fitting;
+      empty = λ failed. absurd (true≢false (sym failed));
+    }
 
 -- what a session holds stays called by names after a command that uses names for what it sets, publishes and joins
-pub named_after : (settings : Settings) (name : List ℕ) (session : Session) (asked : Asked) → AreSettings settings → IsNamedAsked asked → AreNamed session.state → AreNamed (session_after settings name session asked).state
+pub named_after : (settings : Settings) (name : List ℕ) (session : Session) (asked : Asked) → AreSettings settings → IsNamedAsked asked → AreNamed session.state
+    → AreNamed (session_after settings name session asked).state
 unfolding does
 named_after settings name session asked are is named = by (is_shut session asked)
   where
-    by : (shut : Bool) → AreNamed (unless (if shut then Some SessionFailed else refusal settings name session.state asked) session.state (performs settings name session.state asked)).state
+    by : (shut : Bool) → AreNamed (unless (if shut then Some SessionFailed else refusal settings name session.state asked) session.state
+        (performs settings name session.state asked)).state
     by true = named
     by false = keeps_named.by_command settings name session.state asked are is named
 
 -- and so does what a session hears, or where it fails by it
-pub named_hears : (classes : List Class) (from : List ℕ) (posts : List Post) (old new : Session) → ReceivesPosts classes from posts old new → AreNamed old.state → AreNamed new.state
+pub named_hears : (classes : List Class) (from : List ℕ) (posts : List Post) (old new : Session) → ReceivesPosts classes from posts old new → AreNamed old.state
+    → AreNamed new.state
 named_hears classes from posts old new (inl is) named =
     subst (λ (session : Session). AreNamed session.state) (sym is)
-    (cond_both old.failed old (record { state = arrive_all classes old.state from posts; failed = false }) (λ (session : Session). AreNamed session.state) (λ failed. named) (λ fine. arrived old.state posts named))
+    (cond_both old.failed old (record { state = arrive_all classes old.state from posts; failed = false }) (λ (session : Session). AreNamed session.state)
+    (λ failed. named) (λ fine. arrived old.state posts named))
   where
     arrived : (state : State) (posts : List Post) → AreNamed state → AreNamed (arrive_all classes state from posts)
     arrived state [] named = named
@@ -160,10 +198,13 @@ named_hears classes from posts old new (inl is) named =
 named_hears classes from posts old new (inr fails) named = subst (λ (session : Session). AreNamed session.state) (sym fails.2) keeps_named.at_first
 
 -- what holds of every session holds of it then too
-pub kept_after_posts : (settings : Settings) (was now : Bool) (from : List ℕ) (posts : List Post) (session : Session) → (IsFalse now → IsFalse was) → All IsRightPost posts → IsKept settings was session → IsKept settings now (after_posts settings.classes from posts session)
-kept_after_posts settings was now from posts session less right kept = record { well = by session.failed refl; sound = after_posts_sound settings from posts session right kept.sound }
+pub kept_after_posts : (settings : Settings) (was now : Bool) (from : List ℕ) (posts : List Post) (session : Session) → (IsFalse now → IsFalse was)
+    → All IsRightPost posts → IsKept settings was session → IsKept settings now (after_posts settings.classes from posts session)
+kept_after_posts settings was now from posts session less right kept =
+    record { well = by session.failed refl; sound = after_posts_sound settings from posts session right kept.sound }
   where
-    by : (failed : Bool) → session.failed ≡ failed → IsFalse now → IsFalse (cond failed session (record { state = arrive_all settings.classes session.state from posts; failed = false })).failed
+    by : (failed : Bool) → session.failed ≡ failed → IsFalse now
+        → IsFalse (cond failed session (record { state = arrive_all settings.classes session.state from posts; failed = false })).failed
     by true e = λ none. kept.well (less none)
     by false e = λ none. refl
 

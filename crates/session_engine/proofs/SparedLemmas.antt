@@ -1,5 +1,6 @@
 -- Items of a session that finds memory for each of them, whatever other sessions do not find.
-use Rattle.std.proofs.Common.{◌≡◌, ◌⊎◌, inl, inr, ℕ, Bool, true, false, not, ◌&&◌, List, [], ◌∷◌, ◌++◌, Option, Some, None, IsTrue, IsFalse, refl, sym, ap, ap₂, subst, ◌∙◌}
+use Rattle.std.proofs.Common.{◌≡◌, ◌⊎◌, inl, inr, ℕ, Bool, true, false, not, ◌&&◌, List, [], ◌∷◌, ◌++◌, Option, Some, None, IsTrue, IsFalse, refl, sym, ap, ap₂}
+use Rattle.std.proofs.Common.{subst, ◌∙◌}
 use Rattle.std.specs.Prelude.{bytes_eq, if◌then◌else◌}
 use Rattle.std.proofs.lemmas.Bool.{cond-true}
 use Rattle.isolation.specs.Alone as theory
@@ -50,10 +51,12 @@ record DoesOne (old new : Sessions) (name : List ℕ) (item : Coming) (told : Li
 ajar : (session : Session) (asked : Asked) → IsFalse session.failed → is_shut session asked ≡ false
 ajar session asked well = ap (λ failed. failed && not (is_reset asked)) well
 
-does_ajar : (settings : Settings) (name : List ℕ) (session : Session) (asked : Asked) → IsFalse session.failed → session_does settings name session asked ≡ does settings name session.state asked
+does_ajar : (settings : Settings) (name : List ℕ) (session : Session) (asked : Asked) → IsFalse session.failed
+    → session_does settings name session asked ≡ does settings name session.state asked
 unfolding does
 does_ajar settings name session asked well =
-    ap (λ b. unless (if b then Some SessionFailed else refusal settings name session.state asked) session.state (performs settings name session.state asked)) (ajar session asked well)
+    ap (λ b. unless (if b then Some SessionFailed else refusal settings name session.state asked) session.state (performs settings name session.state asked))
+    (ajar session asked well)
 
 -- a session that has failed by posts has failed
 hears_or_fails : (classes : List Class) (from : List ℕ) (posts : List Post) (one other : Session) → ReceivesPosts classes from posts one other
@@ -61,15 +64,18 @@ hears_or_fails : (classes : List Class) (from : List ℕ) (posts : List Post) (o
 hears_or_fails classes from posts one other (inl hears) = inl hears
 hears_or_fails classes from posts one other (inr fails) = inr (ap (λ (session : Session). session.failed) fails.2)
 
-does_own : (old new : Sessions) (name : List ℕ) (asked : Asked) (told : List Line) → IsFalse (old.session name).failed → IsStep old new name asked (Some told) → DoesOne old new name (theory.Own asked) told
+does_own : (old new : Sessions) (name : List ℕ) (asked : Asked) (told : List Line) → IsFalse (old.session name).failed → IsStep old new name asked (Some told)
+    → DoesOne old new name (theory.Own asked) told
 does_own old new name asked told well step =
     let same = does_ajar old.settings name (old.session name) asked well in
     record {
       lines = step.tells ∙ ap (λ (effect : Effect State Line Post). effect.lines) same;
-      own = step.leaves ∙ ap₂ (λ (state : State) (failed : Bool). record { state = state; failed = failed }) (ap (λ (effect : Effect State Line Post). effect.state) same) (ajar (old.session name) asked well);
+      own = step.leaves ∙ ap₂ (λ (state : State) (failed : Bool). record { state = state; failed = failed })
+          (ap (λ (effect : Effect State Line Post). effect.state) same) (ajar (old.session name) asked well);
       others = λ other elsewhere.
           hears_or_fails old.settings.classes name _ (old.session other) (new.session other)
-          (subst (λ posts. ReceivesPosts old.settings.classes name posts (old.session other) (new.session other)) (step.posted ∙ ap (λ (effect : Effect State Line Post). effect.posts) same) (step.others other elsewhere));
+          (subst (λ posts. ReceivesPosts old.settings.classes name posts (old.session other) (new.session other))
+          (step.posted ∙ ap (λ (effect : Effect State Line Post). effect.posts) same) (step.others other elsewhere));
       settings = step.settings;
     }
 
@@ -78,7 +84,8 @@ after_posts_well : (classes : List Class) (from : List ℕ) (post : Post) (state
 after_posts_well classes from post state true well = absurd (cc well)
 after_posts_well classes from post state false well = refl
 
-does_arrival : (old new : Sessions) (name from : List ℕ) (post : Post) (told : List Line) → IsFalse (old.session name).failed → HasArrived old new name from post (Some told) → told ≡ [] → DoesOne old new name (theory.Arrival from post) told
+does_arrival : (old new : Sessions) (name from : List ℕ) (post : Post) (told : List Line) → IsFalse (old.session name).failed
+    → HasArrived old new name from post (Some told) → told ≡ [] → DoesOne old new name (theory.Arrival from post) told
 does_arrival old new name from post told well has none = record {
   lines = none;
   own = has.hears ∙ after_posts_well old.settings.classes from post (old.session name).state (old.session name).failed well;
@@ -86,12 +93,14 @@ does_arrival old new name from post told well has none = record {
   settings = has.settings;
 }
 
-does_one : (old new : Sessions) (name : List ℕ) (item : Coming) (told : List Line) → IsFalse (old.session name).failed → HasCome old new name item (Some told) → DoesOne old new name item told
+does_one : (old new : Sessions) (name : List ℕ) (item : Coming) (told : List Line) → IsFalse (old.session name).failed → HasCome old new name item (Some told)
+    → DoesOne old new name item told
 does_one old new name (theory.Own asked) told well step = does_own old new name asked told well step
 does_one old new name (theory.Arrival from post) told well (has, none) = does_arrival old new name from post told well has none
 
 -- posts that others have heard, and then more of them
-others_then : (old middle new : Sessions) (name : List ℕ) (posts more : List Post) → middle.settings ≡ old.settings → OthersHear old middle name posts → OthersHear middle new name more → OthersHear old new name (posts ++ more)
+others_then : (old middle new : Sessions) (name : List ℕ) (posts more : List Post) → middle.settings ≡ old.settings → OthersHear old middle name posts
+    → OthersHear middle new name more → OthersHear old new name (posts ++ more)
 others_then old middle new name posts more same first second = λ other elsewhere. by other (first other elsewhere) (second other elsewhere)
   where
     classes : Settings → List Class
@@ -102,7 +111,8 @@ others_then old middle new name posts more same first second = λ other elsewher
         → (new.session other ≡ after_posts old.settings.classes name (posts ++ more) (old.session other)) ⊎ IsTrue (new.session other).failed
     by other one (inr fails) = inr fails
     by other (inl hears) (inl later) =
-        inl (later ∙ ap (λ (settings : Settings). after_posts settings.classes name more (middle.session other)) same ∙ ap (after_posts old.settings.classes name more) hears
+        inl (later ∙ ap (λ (settings : Settings). after_posts settings.classes name more (middle.session other)) same
+        ∙ ap (after_posts old.settings.classes name more) hears
         ∙ sym (after_posts-append old.settings.classes name posts more (old.session other)))
     by other (inr fails) (inl later) =
         inr (ap (λ (session : Session). session.failed) (later ∙ cond-true (middle.session other).failed (middle.session other) _ fails) ∙ fails)
@@ -117,29 +127,39 @@ spared_then old middle new name (theory.Own asked) items lines more one rest =
     let m = machine old.settings in
     let state = ap (λ (session : Session). session.state) one.own in
     record {
-      lines = ap₂ (λ xs ys. xs ++ ys) one.lines (rest.lines ∙ ap₂ (λ (settings : Settings) (state : State). all_lines (alone_lines (machine settings) name state items)) one.settings state);
-      own = rest.own ∙ ap₂ (λ (settings : Settings) (state : State). record { state = alone_after (machine settings) name state items; failed = false }) one.settings state;
-      others = others_then old middle new name (posts_of old.settings name (states_of old name) (theory.Own asked)) (alone_posts m name (after_of old.settings name (states_of old name) (theory.Own asked)) items) one.settings one.others
-          (subst (OthersHear middle new name) (ap₂ (λ (settings : Settings) (state : State). alone_posts (machine settings) name state items) one.settings state) rest.others);
+      lines = ap₂ (λ xs ys. xs ++ ys) one.lines
+          (rest.lines ∙ ap₂ (λ (settings : Settings) (state : State). all_lines (alone_lines (machine settings) name state items)) one.settings state);
+      own = rest.own ∙ ap₂ (λ (settings : Settings) (state : State). record { state = alone_after (machine settings) name state items; failed = false })
+          one.settings state;
+      others = others_then old middle new name (posts_of old.settings name (states_of old name) (theory.Own asked))
+          (alone_posts m name (after_of old.settings name (states_of old name) (theory.Own asked)) items) one.settings one.others
+          (subst (OthersHear middle new name) (ap₂ (λ (settings : Settings) (state : State). alone_posts (machine settings) name state items) one.settings
+          state) rest.others);
     }
 spared_then old middle new name (theory.Arrival from post) items lines more one rest =
     let m = machine old.settings in
     let state = ap (λ (session : Session). session.state) one.own in
     record {
-      lines = ap₂ (λ xs ys. xs ++ ys) one.lines (rest.lines ∙ ap₂ (λ (settings : Settings) (state : State). all_lines (alone_lines (machine settings) name state items)) one.settings state);
-      own = rest.own ∙ ap₂ (λ (settings : Settings) (state : State). record { state = alone_after (machine settings) name state items; failed = false }) one.settings state;
-      others = others_then old middle new name [] (alone_posts m name (after_of old.settings name (states_of old name) (theory.Arrival from post)) items) one.settings one.others
-          (subst (OthersHear middle new name) (ap₂ (λ (settings : Settings) (state : State). alone_posts (machine settings) name state items) one.settings state) rest.others);
+      lines = ap₂ (λ xs ys. xs ++ ys) one.lines
+          (rest.lines ∙ ap₂ (λ (settings : Settings) (state : State). all_lines (alone_lines (machine settings) name state items)) one.settings state);
+      own = rest.own ∙ ap₂ (λ (settings : Settings) (state : State). record { state = alone_after (machine settings) name state items; failed = false })
+          one.settings state;
+      others = others_then old middle new name [] (alone_posts m name (after_of old.settings name (states_of old name) (theory.Arrival from post)) items)
+          one.settings one.others
+          (subst (OthersHear middle new name) (ap₂ (λ (settings : Settings) (state : State). alone_posts (machine settings) name state items) one.settings
+          state) rest.others);
     }
 
-pub spared_items : (old new : Sessions) (name : List ℕ) (items : List Coming) (told : Option (List Line)) (lines : List Line) → IsFalse (old.session name).failed → told ≡ Some lines
+pub spared_items : (old new : Sessions) (name : List ℕ) (items : List Coming) (told : Option (List Line)) (lines : List Line)
+    → IsFalse (old.session name).failed → told ≡ Some lines
     → HaveCome old new name items told → SparesItsSession old new name items lines
 spared_items old new name [] told lines well is (same, none) =
     let nothing : lines ≡ [] = cc in
     record {
       lines = nothing;
       own = ap (λ (sessions : Sessions). sessions.session name) same ∙ session_is (old.session name) well;
-      others = λ other elsewhere. inl (ap (λ (sessions : Sessions). sessions.session other) same ∙ sym (after_posts-none old.settings.classes name (old.session other)));
+      others = λ other elsewhere. inl (ap (λ (sessions : Sessions). sessions.session other) same
+          ∙ sym (after_posts-none old.settings.classes name (old.session other)));
     }
 spared_items old new name (item ∷ items) told lines well is (inl (came, none)) = absurd (cc)
 spared_items old new name (item ∷ items) told lines well is (inr (between, first, None, came, others, all)) = absurd (cc)

@@ -1,5 +1,6 @@
 -- What a command of one session makes of an engine, by names.
-use Rattle.std.proofs.Common.{◌≡◌, ◌<◌, ◌≤◌, ◌⊎◌, inl, inr, ℕ, Bool, true, false, true≢false, eqb, ltb, List, [], length, position, get_or, All, Option, Some, None, is_some, IfSome, IsSome, OnSome, IsFalse, IsTrue, refl, sym, ap, subst, ◌∙◌, ⊎_elim, arith}
+use Rattle.std.proofs.Common.{◌≡◌, ◌<◌, ◌≤◌, ◌⊎◌, inl, inr, ℕ, Bool, true, false, true≢false, eqb, ltb, List, [], length, position, get_or, All, Option, Some}
+use Rattle.std.proofs.Common.{None, is_some, IfSome, IsSome, OnSome, IsFalse, IsTrue, refl, sym, ap, subst, ◌∙◌, ⊎_elim, arith}
 use Rattle.std.specs.Prelude.{bytes_eq}
 use Rattle.std.proofs.Math.Path.{fun_ext}
 use Rattle.std.specs.Option.{option_map_or}
@@ -29,7 +30,8 @@ use Rattle.session_engine.specs.Commands.{OthersHear}
 use Rattle.session_engine.specs.Core.{EngineState, IsKept, IsWhole, place, seen_by_name, sessions, states}
 use Rattle.session_engine.specs.Sessions.{AllAreNamed, AnotherFails, Fails, IsStep, Sessions, given_by, session_after, session_does, session_refusal}
 use Rattle.session_engine.proofs.EngineLemmas.{kept_by_name, one_name, placed, sessions-place, sound_by_name}
-use Rattle.session_engine.proofs.SessionLemmas.{does_fine, after_posts_state, kept_fresh, kept_gone, kept_after_posts, named_after, named_hears, not_shut, right_front, right_posts, sound_after}
+use Rattle.session_engine.proofs.SessionLemmas.{does_fine, after_posts_state, kept_fresh, kept_gone, kept_after_posts, named_after, named_hears, not_shut}
+use Rattle.session_engine.proofs.SessionLemmas.{right_front, right_posts, sound_after}
 
 some_if : {T : Type 0} (P : T → Type 0) (value : Option T) (x : T) → value ≡ Some x → P x → IfSome value P
 some_if P value x e h = subst (λ value. IfSome value P) (sym e) h
@@ -57,9 +59,11 @@ pub data Marks (was now failing : Bool) (told : Option (List Line)) : Type 0 whe
   Quiet : failing ≡ false → is_some told ≡ true → now ≡ was → Marks was now failing told
   Loud : (told ≡ None) ⊎ (failing ≡ true) → now ≡ true → Marks was now failing told
 
--- what became of the session itself: it was told what it does with the command and is left so, with these posts; or memory was wanted, and these are the first of them
+-- what became of the session itself: it was told what it does with the command and is left so, with these posts; or
+-- memory was wanted, and these are the first of them
 pub data Own (settings : Settings) (name : List ℕ) (asked : Asked) (told : Option (List Line)) (posts : List Post) (old new : Session) : Type 0 where
-  Told : told ≡ Some (session_does settings name old asked).lines → new ≡ session_after settings name old asked → posts ≡ (session_does settings name old asked).posts → Own settings name asked told posts old new
+  Told : told ≡ Some (session_does settings name old asked).lines → new ≡ session_after settings name old asked
+      → posts ≡ (session_does settings name old asked).posts → Own settings name asked told posts old new
   GaveUp : told ≡ None → new ≡ failed_session → IsPrefix posts (session_does settings name old asked).posts → Own settings name asked told posts old new
 
 -- what became of a command of the session at a place
@@ -76,7 +80,9 @@ pub record Ended (old new : EngineState) (at : ℕ) (name : List ℕ) (asked : A
 after_posts_fresh : (classes : List Class) (from : List ℕ) (posts : List Post) → fresh ≡ after_posts classes from posts fresh
 after_posts_fresh classes from posts = sym (after_posts_stranger classes from posts fresh refl)
 
-module _ (old new : EngineState) (at : ℕ) (name : List ℕ) (asked : Asked) (told : Option (List Line)) (failing : Bool) (whole : IsWhole old) (named : (state : State) → IsFittingAsked old.settings state asked) (there : place old name ≡ Some at) (ended : Ended old new at name asked told failing) where
+module _ (old new : EngineState) (at : ℕ) (name : List ℕ) (asked : Asked) (told : Option (List Line)) (failing : Bool) (whole : IsWhole old)
+    (named : (state : State) → IsFittingAsked old.settings state asked) (there : place old name ≡ Some at)
+    (ended : Ended old new at name asked told failing) where
   own : sessions old name ≡ session_at old.tables at
   own = sessions-place old name at there
 
@@ -91,7 +97,8 @@ module _ (old new : EngineState) (at : ℕ) (name : List ℕ) (asked : Asked) (t
       (cases_Bool (bytes_eq other name))
 
   -- what holds of every other place holds of every other name
-  by_name : (P : Session → Session → Type 0) → P fresh fresh → ((other : ℕ) → IsFalse (eqb other at) → IsPlaced old.tables other → P (session_at old.tables other) (session_at new.tables other))
+  by_name : (P : Session → Session → Type 0) → P fresh fresh →
+      ((other : ℕ) → IsFalse (eqb other at) → IsPlaced old.tables other → P (session_at old.tables other) (session_at new.tables other))
       → (other : List ℕ) → bytes_eq other name ≡ false → P (sessions old other) (sessions new other)
   by_name P none some other differ = by (place old other) refl
     where
@@ -105,19 +112,23 @@ module _ (old new : EngineState) (at : ℕ) (name : List ℕ) (asked : Asked) (t
       by None e = subst (λ (session : Session). P session (sessions new other)) (sym (stood None e)) (subst (P fresh) (sym (moved None e)) none)
       by (Some other') e =
           let apart : eqb other' at ≡ false = apart_of other' e in
-          subst (λ (session : Session). P session (sessions new other)) (sym (stood (Some other') e)) (subst (P (session_at old.tables other')) (sym (moved (Some other') e)) (some other' apart (placed old other other' whole e)))
+          subst (λ (session : Session). P session (sessions new other)) (sym (stood (Some other') e))
+          (subst (P (session_at old.tables other')) (sym (moved (Some other') e)) (some other' apart (placed old other other' whole e)))
         where
           apart_of : (other' : ℕ) → place old other ≡ Some other' → eqb other' at ≡ false
           apart_of other' e = ⊎_elim
-              (λ same. let is : other' ≡ at = grind (arith, same) in absurd (both_ways _ differ ((bytes_eq-Decides other name).1 (sym (one_name old name other at there (e ∙ ap Some is))))))
+              (λ same. let is : other' ≡ at = grind (arith, same) in absurd
+              (both_ways _ differ ((bytes_eq-Decides other name).1 (sym (one_name old name other at there (e ∙ ap Some is))))))
               (λ apart. apart)
               (cases_Bool (eqb other' at))
 
   hears_other : (other : List ℕ) → bytes_eq other name ≡ false → ReceivesPosts old.settings.classes name ended.posts (sessions old other) (sessions new other)
   hears_other = by_name (ReceivesPosts old.settings.classes name ended.posts) (inl (after_posts_fresh old.settings.classes name ended.posts)) ended.others.hear
 
-  after_posts_other : failing ≡ false → (other : List ℕ) → bytes_eq other name ≡ false → sessions new other ≡ after_posts old.settings.classes name ended.posts (sessions old other)
-  after_posts_other none = by_name (λ was now. now ≡ after_posts old.settings.classes name ended.posts was) (after_posts_fresh old.settings.classes name ended.posts) (ended.others.all none)
+  after_posts_other : failing ≡ false → (other : List ℕ) → bytes_eq other name ≡ false
+      → sessions new other ≡ after_posts old.settings.classes name ended.posts (sessions old other)
+  after_posts_other none = by_name (λ was now. now ≡ after_posts old.settings.classes name ended.posts was)
+      (after_posts_fresh old.settings.classes name ended.posts) (ended.others.all none)
 
   -- the mark falls from what was found
   less : IsFalse new.memory_refused → IsFalse old.memory_refused
@@ -130,14 +141,17 @@ module _ (old new : EngineState) (at : ℕ) (name : List ℕ) (asked : Asked) (t
   kept_own : IsKept old.settings new.memory_refused (session_at new.tables at)
   kept_own = by ended.own ended.mark
     where
-      by : Own old.settings name asked told ended.posts (session_at old.tables at) (session_at new.tables at) → Marks old.memory_refused new.memory_refused failing told → IsKept old.settings new.memory_refused (session_at new.tables at)
+      by : Own old.settings name asked told ended.posts (session_at old.tables at) (session_at new.tables at)
+          → Marks old.memory_refused new.memory_refused failing told → IsKept old.settings new.memory_refused (session_at new.tables at)
       by (Told lines e posts) mark = subst (IsKept old.settings new.memory_refused) (sym e)
           (record {
             well = λ found. not_shut old.settings name (session_at old.tables at) asked ((whole.kept at).well (less found));
-            sound = sound_after old.settings name (session_at old.tables at) asked whole.settings (named (session_at old.tables at).state) (whole.kept at).sound;
+            sound = sound_after old.settings name (session_at old.tables at) asked whole.settings (named (session_at old.tables at).state)
+                (whole.kept at).sound;
           })
       by (GaveUp nothing e front) (Quiet none some f) = let no : false ≡ true = ap is_some (sym nothing) ∙ some in absurd (true≢false (sym no))
-      by (GaveUp nothing e front) (Loud either f) = subst (λ mark. IsKept old.settings mark (session_at new.tables at)) (sym f) (subst (IsKept old.settings true) (sym e) (kept_gone old.settings))
+      by (GaveUp nothing e front) (Loud either f) = subst (λ mark. IsKept old.settings mark (session_at new.tables at)) (sym f)
+          (subst (IsKept old.settings true) (sym e) (kept_gone old.settings))
 
   -- what it has posted is right
   right : All IsRightPost ended.posts
@@ -147,30 +161,36 @@ module _ (old new : EngineState) (at : ℕ) (name : List ℕ) (asked : Asked) (t
       own_front = right_front old.settings name (session_at old.tables at) asked whole.settings (named (session_at old.tables at).state) (whole.kept at).sound
 
       by : Own old.settings name asked told ended.posts (session_at old.tables at) (session_at new.tables at) → All IsRightPost ended.posts
-      by (Told lines e posts) = subst (All IsRightPost) (sym posts) (right_posts old.settings name (session_at old.tables at) asked whole.settings (named (session_at old.tables at).state) (whole.kept at).sound)
+      by (Told lines e posts) = subst (All IsRightPost) (sym posts)
+          (right_posts old.settings name (session_at old.tables at) asked whole.settings (named (session_at old.tables at).state) (whole.kept at).sound)
       by (GaveUp nothing e front) = own_front ended.posts front
 
   kept_other : (other : ℕ) → eqb other at ≡ false → IsPlaced old.tables other → IsKept old.settings new.memory_refused (session_at new.tables other)
   kept_other other apart placed = by ended.mark
     where
       after_posts_one : IsKept old.settings new.memory_refused (after_posts old.settings.classes name ended.posts (session_at old.tables other))
-      after_posts_one = kept_after_posts old.settings old.memory_refused new.memory_refused name ended.posts (session_at old.tables other) less right (whole.kept other)
+      after_posts_one = kept_after_posts old.settings old.memory_refused new.memory_refused name ended.posts (session_at old.tables other) less right
+          (whole.kept other)
 
       by : Marks old.memory_refused new.memory_refused failing told → IsKept old.settings new.memory_refused (session_at new.tables other)
       by (Quiet none some e) = subst (IsKept old.settings new.memory_refused) (sym (ended.others.all none other apart placed)) after_posts_one
       by (Loud either e) = either_way (ended.others.hear other apart placed)
         where
-          either_way : ReceivesPosts old.settings.classes name ended.posts (session_at old.tables other) (session_at new.tables other) → IsKept old.settings new.memory_refused (session_at new.tables other)
+          either_way : ReceivesPosts old.settings.classes name ended.posts (session_at old.tables other) (session_at new.tables other)
+              → IsKept old.settings new.memory_refused (session_at new.tables other)
           either_way (inl f) = subst (IsKept old.settings new.memory_refused) (sym f) after_posts_one
-          either_way (inr f) = subst (λ mark. IsKept old.settings mark (session_at new.tables other)) (sym e) (subst (IsKept old.settings true) (sym f.2) (kept_gone old.settings))
+          either_way (inr f) = subst (λ mark. IsKept old.settings mark (session_at new.tables other)) (sym e)
+              (subst (IsKept old.settings true) (sym f.2) (kept_gone old.settings))
 
   pub whole_after : IsWhole new
   whole_after = record {
     settings = subst AreSettings (sym ended.settings) whole.settings;
     even = even;
     paired = ap length ended.names ∙ whole.paired ∙ sym ended.others.shape.places;
-    named = subst (λ (names : List (List ℕ)). (at : ℕ) → at < length names → position (bytes_eq (get_or names at [])) names ≡ Some at) (sym ended.names) whole.named;
-    laid = λ class. ap (λ layouts. fields_in layouts class) ended.others.shape.layouts ∙ whole.laid class ∙ ap (λ (settings : Settings). fields_of settings.classes class) (sym ended.settings);
+    named = subst (λ (names : List (List ℕ)). (at : ℕ) → at < length names → position (bytes_eq (get_or names at [])) names ≡ Some at)
+        (sym ended.names) whole.named;
+    laid = λ class. ap (λ layouts. fields_in layouts class) ended.others.shape.layouts ∙ whole.laid class
+        ∙ ap (λ (settings : Settings). fields_of settings.classes class) (sym ended.settings);
     kept = λ other. subst (λ (settings : Settings). IsKept settings new.memory_refused (session_at new.tables other)) (sym ended.settings) (kept other);
   }
     where
@@ -180,9 +200,12 @@ module _ (old new : EngineState) (at : ℕ) (name : List ℕ) (asked : Asked) (t
       kept : (other : ℕ) → IsKept old.settings new.memory_refused (session_at new.tables other)
       kept other = by (eqb other at) (ltb other (length new.tables.failed.places)) refl refl
         where
-          by : (same within : Bool) → eqb other at ≡ same → ltb other (length new.tables.failed.places) ≡ within → IsKept old.settings new.memory_refused (session_at new.tables other)
-          by true within e f = let is : at ≡ other = grind (arith, nat_tests, e) in subst (λ other. IsKept old.settings new.memory_refused (session_at new.tables other)) is kept_own
-          by false true e f = let less : other < length old.tables.failed.places = grind (arith, nat_tests, f, ended.others.shape.places) in kept_other other e (placed_by old.tables other whole.even less)
+          by : (same within : Bool) → eqb other at ≡ same → ltb other (length new.tables.failed.places) ≡ within
+              → IsKept old.settings new.memory_refused (session_at new.tables other)
+          by true within e f = let is : at ≡ other = grind (arith, nat_tests, e) in subst
+              (λ other. IsKept old.settings new.memory_refused (session_at new.tables other)) is kept_own
+          by false true e f = let less : other < length old.tables.failed.places = grind (arith, nat_tests, f, ended.others.shape.places) in kept_other other e
+              (placed_by old.tables other whole.even less)
           by false false e f = let past : length new.tables.failed.places ≤ other = grind (arith, nat_tests, f) in
               subst (IsKept old.settings new.memory_refused) (sym (session_past new.tables other even past)) (kept_fresh old.settings new.memory_refused)
 
@@ -204,7 +227,8 @@ module _ (old new : EngineState) (at : ℕ) (name : List ℕ) (asked : Asked) (t
     where
       by : Own old.settings name asked told ended.posts (session_at old.tables at) (session_at new.tables at) → AreNamed (session_at new.tables at).state
       by (Told lines e posts) = subst (λ (session : Session). AreNamed session.state) (sym e)
-          (named_after old.settings name (session_at old.tables at) asked whole.settings is (subst (λ (session : Session). AreNamed session.state) own (all name)))
+          (named_after old.settings name (session_at old.tables at) asked whole.settings is
+          (subst (λ (session : Session). AreNamed session.state) own (all name)))
       by (GaveUp nothing e front) = subst (λ (session : Session). AreNamed session.state) (sym e) keeps_named.at_first
 
   pub step_of : IsStep (seen_by_name old) (seen_by_name new) name asked told
@@ -217,40 +241,52 @@ module _ (old new : EngineState) (at : ℕ) (name : List ℕ) (asked : Asked) (t
       on_same : (told : Option (List Line)) → OnSome told (new.tables ≡ old.tables) → OnSome told (sessions new ≡ sessions old)
       on_same None same = tt
       on_same (Some lines) same = fun_ext (λ other.
-          ap (λ found. option_map_or (session_at new.tables) found fresh) (ap (position (bytes_eq other)) ended.names) ∙ ap (λ tables. option_map_or (session_at tables) (place old other) fresh) same)
+          ap (λ found. option_map_or (session_at new.tables) found fresh) (ap (position (bytes_eq other)) ended.names)
+          ∙ ap (λ tables. option_map_or (session_at tables) (place old other) fresh) same)
 
       another : failing ≡ true → AnotherFails (seen_by_name old) (seen_by_name new) name
       another some =
           let it = ended.others.one some in
           let within : it.0 < length old.names = omega (arith, whole.paired, it.2.4) in
           let other = get_or old.names it.0 [] in
-          let found = whole.named it.0 within in
-          (other, apart_of other it.0 found it.1, ap (λ (session : Session). session.failed) (sessions-place old other it.0 found) ∙ it.3, ap (λ (session : Session). session.failed) (sessions-place new other it.0 (ap (position (bytes_eq other)) ended.names ∙ found)) ∙ it.4)
+          let found = whole.named it.0 within in (
+            other,
+            apart_of other it.0 found it.1,
+            ap (λ (session : Session). session.failed) (sessions-place old other it.0 found) ∙ it.3,
+            ap (λ (session : Session). session.failed) (sessions-place new other it.0 (ap (position (bytes_eq other)) ended.names ∙ found)) ∙ it.4,
+          )
         where
           apart_of : (other : List ℕ) (at' : ℕ) → place old other ≡ Some at' → eqb at' at ≡ false → bytes_eq other name ≡ false
           apart_of other at' found apart = ⊎_elim
-              (λ same. let two : Some at' ≡ Some at = sym found ∙ ap (place old) ((bytes_eq-Decides other name).0 same) ∙ there in let is : at' ≡ at = cc in absurd (grind (arith, nat_tests, is, apart)))
+              (λ same. let two : Some at' ≡ Some at = sym found ∙ ap (place old) ((bytes_eq-Decides other name).0 same) ∙ there in let is : at' ≡ at = cc in
+              absurd (grind (arith, nat_tests, is, apart)))
               (λ differ. differ)
               (cases_Bool (bytes_eq other name))
 
-      blames : Marks old.memory_refused new.memory_refused failing told → IsFalse old.memory_refused → IsTrue new.memory_refused → (told ≡ None) ⊎ AnotherFails (seen_by_name old) (seen_by_name new) name
+      blames : Marks old.memory_refused new.memory_refused failing told → IsFalse old.memory_refused → IsTrue new.memory_refused
+          → (told ≡ None) ⊎ AnotherFails (seen_by_name old) (seen_by_name new) name
       blames (Quiet none some e) was now = absurd (both_ways _ was (sym e ∙ now))
       blames (Loud (inl nothing) e) was now = inl nothing
       blames (Loud (inr some) e) was now = inr (another some)
 
-      by : Own old.settings name asked told ended.posts (session_at old.tables at) (session_at new.tables at) → Marks old.memory_refused new.memory_refused failing told → IsStep (seen_by_name old) (seen_by_name new) name asked told
+      by : Own old.settings name asked told ended.posts (session_at old.tables at) (session_at new.tables at)
+          → Marks old.memory_refused new.memory_refused failing told → IsStep (seen_by_name old) (seen_by_name new) name asked told
       by (Told lines e posts) mark =
-          let left : sessions new name ≡ session_after old.settings name (sessions old name) asked = now_own ∙ e ∙ ap (λ session. session_after old.settings name session asked) (sym own) in
-          let made : ended.posts ≡ (session_does old.settings name (sessions old name) asked).posts = posts ∙ ap (λ session. (session_does old.settings name session asked).posts) (sym own) in
+          let left : sessions new name ≡ session_after old.settings name (sessions old name) asked = now_own ∙ e
+          ∙ ap (λ session. session_after old.settings name session asked) (sym own) in
+          let made : ended.posts ≡ (session_does old.settings name (sessions old name) asked).posts = posts
+          ∙ ap (λ session. (session_does old.settings name session asked).posts) (sym own) in
           record {
-            lines = λ found. lines ∙ ap (λ session. Some (session_does old.settings name session asked).lines) (sym own) ∙ ap (λ effect. Some effect.lines) (does_fine old.settings name (sessions old name) asked (fine found name));
+            lines = λ found. lines ∙ ap (λ session. Some (session_does old.settings name session asked).lines) (sym own)
+                ∙ ap (λ effect. Some effect.lines) (does_fine old.settings name (sessions old name) asked (fine found name));
             states = λ found. fun_ext (each (λ other. states new other ≡ after (machine old.settings) (states old) (given_by name asked) other)
                 (ap (λ session. session.state) left ∙ ap (λ effect. effect.state) (does_fine old.settings name (sessions old name) asked (fine found name))
                 ∙ sym (after-own (machine old.settings) (lawful old.settings) (states old) (given_by name asked) name ((bytes_eq-Decides name name).1 refl)))
                 (λ other elsewhere.
                 ap (λ session. session.state) (after_posts_other (quiet found) other elsewhere)
                 ∙ after_posts_state old.settings name ended.posts (sessions old other) (fine found other)
-                ∙ ap (all_arrive (machine old.settings) (states old other) name) (made ∙ ap (λ effect. effect.posts) (does_fine old.settings name (sessions old name) asked (fine found name)))
+                ∙ ap (all_arrive (machine old.settings) (states old other) name)
+                (made ∙ ap (λ effect. effect.posts) (does_fine old.settings name (sessions old name) asked (fine found name)))
                 ∙ sym (after-other (machine old.settings) (states old) (given_by name asked) other elsewhere)));
             tells = some_if _ told _ lines (ap (λ session. (session_does old.settings name session asked).lines) (sym own));
             leaves = on_some told left;
@@ -293,12 +329,14 @@ module _ (old new : EngineState) (at : ℕ) (name : List ℕ) (asked : Asked) (t
           loud (Loud either f) = f
 
 -- what a command has posted is a front of what it says
-step_front : (old new : Sessions) (name : List ℕ) (asked : Asked) (told : Option (List Line)) → (step : IsStep old new name asked told) → IsPrefix step.posts (session_does old.settings name (old.session name) asked).posts
+step_front : (old new : Sessions) (name : List ℕ) (asked : Asked) (told : Option (List Line)) → (step : IsStep old new name asked told)
+    → IsPrefix step.posts (session_does old.settings name (old.session name) asked).posts
 step_front old new name asked (Some lines) step = subst (IsPrefix step.posts) step.posted (front_same step.posts)
 step_front old new name asked None step = step.front refl
 
 -- what memory was refused for, also while it told a refusal
-pub step_fails : (old middle new : Sessions) (name : List ℕ) (asked : Asked) (told : Option (List Line)) → IsStep old middle name asked told → Fails middle new name → IsStep old new name asked None
+pub step_fails : (old middle new : Sessions) (name : List ℕ) (asked : Asked) (told : Option (List Line)) → IsStep old middle name asked told
+    → Fails middle new name → IsStep old new name asked None
 step_fails old middle new name asked told step fails = record {
   lines = λ found. absurd (both_ways _ found fails.memory);
   states = λ found. absurd (both_ways _ found fails.memory);
@@ -308,7 +346,8 @@ step_fails old middle new name asked told step fails = record {
   posts = step.posts;
   posted = tt;
   front = λ none. step_front old middle name asked told step;
-  others = λ other elsewhere. subst (ReceivesPosts old.settings.classes name step.posts (old.session other)) (sym (fails.others other elsewhere)) (step.others other elsewhere);
+  others = λ other elsewhere. subst (ReceivesPosts old.settings.classes name step.posts (old.session other)) (sym (fails.others other elsewhere))
+      (step.others other elsewhere);
   settings = fails.settings ∙ step.settings;
   kept = λ was. fails.memory;
   memory = λ none. fails.memory;
@@ -316,7 +355,8 @@ step_fails old middle new name asked told step fails = record {
   well = step.well;
   sound = fails.sound;
   named = λ is all other. ⊎_elim
-      (λ same. subst (λ (session : Session). AreNamed session.state) (sym (ap new.session ((bytes_eq-Decides other name).0 same) ∙ fails.fails)) keeps_named.at_first)
+      (λ same. subst (λ (session : Session). AreNamed session.state)
+      (sym (ap new.session ((bytes_eq-Decides other name).0 same) ∙ fails.fails)) keeps_named.at_first)
       (λ elsewhere. subst (λ (session : Session). AreNamed session.state) (sym (fails.others other elsewhere)) (step.named is all other))
       (cases_Bool (bytes_eq other name));
 }

@@ -32,9 +32,11 @@ comes caller old middle items = puts items (in_state (begun (settings_of caller.
 
 module _ (caller : SessionContext) (asked : Asked) (old middle new : Tables) (before after : CommandOutput) (items : List Item) (next : Next) (answer : Answer)
     (placed : IsPlaced old caller.place) (fresh : before ≡ fresh_output caller.setup.now.turns) (passed : its_refusal caller asked old ≡ None)
-    (effect : its_effect caller asked old ≡ does_next (settings_of caller.setup.now) next answer) (is : next ≡ comes caller old middle items) (keeps : KeepsOthers caller.place old middle) where
+    (effect : its_effect caller asked old ≡ does_next (settings_of caller.setup.now) next answer) (is : next ≡ comes caller old middle items)
+    (keeps : KeepsOthers caller.place old middle) where
   -- it is done, and then replied
-  told_runs : its_effect caller asked old ≡ ended (line_told (run (settings_of caller.setup.now) items (doing_at caller.place middle before [])) (line.Reply answer))
+  told_runs : its_effect caller asked old ≡ ended
+      (line_told (run (settings_of caller.setup.now) items (doing_at caller.place middle before [])) (line.Reply answer))
   told_runs =
       let settings = settings_of caller.setup.now in
       effect
@@ -43,14 +45,20 @@ module _ (caller : SessionContext) (asked : Asked) (old middle new : Tables) (be
       ∙ ap (λ (output : CommandOutput). ended (line_told (run settings items (doing_at caller.place middle output [])) (line.Reply answer))) (sym fresh)
 
   -- the change itself has posted nothing
-  told_reaches : (posts : List Post) → Reaches caller.setup.now.classes caller.name.now caller.place posts middle new before.failing after.failing → Reaches caller.setup.now.classes caller.name.now caller.place posts old new false after.failing
+  told_reaches : (posts : List Post) → Reaches caller.setup.now.classes caller.name.now caller.place posts middle new before.failing after.failing
+      → Reaches caller.setup.now.classes caller.name.now caller.place posts old new false after.failing
   told_reaches posts reaches =
       at_first_reaches caller old new before after posts fresh
-      (reaches_twice caller.setup.now.classes caller.name.now caller.place [] posts old middle new before.failing before.failing after.failing placed (reaches_none caller old middle before.failing before.failing keeps refl) reaches)
+      (reaches_twice caller.setup.now.classes caller.name.now caller.place [] posts old middle new before.failing before.failing after.failing placed
+      (reaches_none caller old middle before.failing before.failing keeps refl) reaches)
 
-  pub performs_told : {T E : Type 0} (value : T) → RunsItems {E = E} caller items middle new before after (Ok value) → Performs caller asked old new after.failing (reply_after after.lines) (Ok answer)
-  performs_told value does = replied_last caller asked old new after answer does.posts passed (told_runs ∙ ap (λ doing. ended (line_told doing (line.Reply answer))) (does.runs [])) (told_reaches does.posts does.reaches)
+  pub performs_told : {T E : Type 0} (value : T) → RunsItems {E = E} caller items middle new before after (Ok value)
+      → Performs caller asked old new after.failing (reply_after after.lines) (Ok answer)
+  performs_told value does = replied_last caller asked old new after answer does.posts passed
+      (told_runs ∙ ap (λ doing. ended (line_told doing (line.Reply answer))) (does.runs [])) (told_reaches does.posts does.reaches)
 
   -- where memory was wanted, the first of its posts are made
-  pub starved_told : {T E U : Type 0} (error : E) (lines : U → List Line) (result : Result U Fault) → IsErrAnd result (λ fault. fault ≡ Memory) → RunsItems {T = T} caller items middle new before after (Err error) → Performs caller asked old new after.failing lines result
-  starved_told error lines result wanted does = starved_last caller asked old new after does.posts _ _ lines result wanted passed told_runs (does.front []) (told_reaches does.posts does.reaches)
+  pub starved_told : {T E U : Type 0} (error : E) (lines : U → List Line) (result : Result U Fault) → IsErrAnd result (λ fault. fault ≡ Memory)
+      → RunsItems {T = T} caller items middle new before after (Err error) → Performs caller asked old new after.failing lines result
+  starved_told error lines result wanted does = starved_last caller asked old new after does.posts _ _ lines result wanted passed told_runs (does.front [])
+      (told_reaches does.posts does.reaches)

@@ -43,9 +43,11 @@ module _ (settings : Settings) (self sender : ℕ) (args : List Value) (depth : 
   -- writing a property
   module _ (of : Target) (property : List ℕ) (value : Term) (target : ℕ) (is : target ≡ object of) where
     set_next : ℕ → Bool → Found Writing → Next
-    set_next target there found = warns_or (option_or (absent there) (result_err found)) self doing (with_found found (λ writing. written settings doing target depth writing) doing)
+    set_next target there found = warns_or (option_or (absent there) (result_err found)) self doing
+        (with_found found (λ writing. written settings doing target depth writing) doing)
 
-    by_owner : (there : Bool) → is_there doing.state.forest.rows target ≡ there → comes_to (e.Set of property value) ≡ set_next target there (writing doing.state self sender args target property value)
+    by_owner : (there : Bool) → is_there doing.state.forest.rows target ≡ there
+        → comes_to (e.Set of property value) ≡ set_next target there (writing doing.state self sender args target property value)
     unfolding set_next
     by_owner there e =
         ap (λ target. set_next target (is_there doing.state.forest.rows target) (writing doing.state self sender args target property value)) (sym is)
@@ -57,16 +59,19 @@ module _ (settings : Settings) (self sender : ℕ) (args : List Value) (depth : 
       set_faulty code found = by_owner true there ∙ ap (set_next target true) found
 
       -- what is written is written, and then told of
-      pub set_done : (found : Writing) → writing doing.state self sender args target property value ≡ Ok found → comes_to (e.Set of property value) ≡ written settings doing target depth found
+      pub set_done : (found : Writing) → writing doing.state self sender args target property value ≡ Ok found
+          → comes_to (e.Set of property value) ≡ written settings doing target depth found
       unfolding set_next
       set_done _ found = by_owner true there ∙ ap (set_next target true) found
 
   -- sending a signal
   module _ (of : Target) (signal : Signature) (sent : List Term) (target : ℕ) (is : target ≡ object of) where
     emit_next : ℕ → Bool → Found (ℕ × List Value) → Next
-    emit_next target there found = warns_or (option_or (absent there) (result_err found)) self doing (with_found found (λ emitted. puts (Emit target emitted.0 emitted.1 depth ∷ []) doing) doing)
+    emit_next target there found = warns_or (option_or (absent there) (result_err found)) self doing
+        (with_found found (λ emitted. puts (Emit target emitted.0 emitted.1 depth ∷ []) doing) doing)
 
-    by_sender : (there : Bool) → is_there doing.state.forest.rows target ≡ there → comes_to (e.Emit of signal sent) ≡ emit_next target there (emission settings doing.state self sender args target signal sent)
+    by_sender : (there : Bool) → is_there doing.state.forest.rows target ≡ there
+        → comes_to (e.Emit of signal sent) ≡ emit_next target there (emission settings doing.state self sender args target signal sent)
     unfolding emit_next
     by_sender there e =
         ap (λ target. emit_next target (is_there doing.state.forest.rows target) (emission settings doing.state self sender args target signal sent)) (sym is)
@@ -83,7 +88,8 @@ module _ (settings : Settings) (self sender : ℕ) (args : List Value) (depth : 
   next_of : Option (Found Operation) → Next
   next_of found = option_map_or found_next found (puts [] doing)
 
-  pub by_operation : (plain : SingleAction) (found : Found Operation) → act_operation settings doing.state self sender plain ≡ Some found → comes_to plain ≡ found_next found
+  pub by_operation : (plain : SingleAction) (found : Found Operation) → act_operation settings doing.state self sender plain ≡ Some found
+      → comes_to plain ≡ found_next found
   unfolding next_of
   by_operation (e.Set of property value) found is = absurd (cc)
   by_operation (e.Emit of signal sent) found is = absurd (cc)
@@ -94,15 +100,19 @@ module _ (settings : Settings) (self sender : ℕ) (args : List Value) (depth : 
   module _ (plain : SingleAction) where
     module _ (operation : Operation) (is : act_operation settings doing.state self sender plain ≡ Some (Ok operation)) where
       pub operation_is_done : operation_refusal doing.state operation ≡ None → comes_to plain ≡ puts [] (operation_done doing operation)
-      operation_is_done passed = by_operation plain (Ok operation) is ∙ ap (λ refusal. warns_or refusal self doing (puts [] (operation_done doing operation))) passed
+      operation_is_done passed = by_operation plain (Ok operation) is
+          ∙ ap (λ refusal. warns_or refusal self doing (puts [] (operation_done doing operation))) passed
 
   -- choosing a branch
   module _ (test : Term) (held failed : Acts) where
-    pub when_faulty : (code : Code) → truth_evaluated doing.state self sender args test ≡ Err code → step settings (Act (when test held failed) args self sender depth) doing ≡ warned code
+    pub when_faulty : (code : Code) → truth_evaluated doing.state self sender args test ≡ Err code
+        → step settings (Act (when test held failed) args self sender depth) doing ≡ warned code
     when_faulty code found = ap (λ truth. chosen truth held failed args self sender depth doing) found
 
-    pub when_held : truth_evaluated doing.state self sender args test ≡ Ok true → step settings (Act (when test held failed) args self sender depth) doing ≡ puts (acts held args self sender depth) doing
+    pub when_held : truth_evaluated doing.state self sender args test ≡ Ok true
+        → step settings (Act (when test held failed) args self sender depth) doing ≡ puts (acts held args self sender depth) doing
     when_held found = ap (λ truth. chosen truth held failed args self sender depth doing) found
 
-    pub when_failed : truth_evaluated doing.state self sender args test ≡ Ok false → step settings (Act (when test held failed) args self sender depth) doing ≡ puts (acts failed args self sender depth) doing
+    pub when_failed : truth_evaluated doing.state self sender args test ≡ Ok false
+        → step settings (Act (when test held failed) args self sender depth) doing ≡ puts (acts failed args self sender depth) doing
     when_failed found = ap (λ truth. chosen truth held failed args self sender depth doing) found

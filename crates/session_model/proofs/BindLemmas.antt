@@ -37,7 +37,8 @@ module _ (settings : Settings) (self : List ℕ) (state : State) where
     refusal_bind = refl
 
     -- what was looked for is refused only where there are too many bindings
-    pub bind_found : (bound : Bound) → asked_binding state target property to ≡ Ok bound → refusal settings self state (Bind target property to) ≡ bind_refusal state.graph bound.at
+    pub bind_found : (bound : Bound) → asked_binding state target property to ≡ Ok bound
+        → refusal settings self state (Bind target property to) ≡ bind_refusal state.graph bound.at
     bind_found _ found = refusal_bind ∙ ap (binding_refusal state) found
 
     pub performs_bind : performs settings self state (Bind target property to) ≡ binds_found settings state (asked_binding state target property to)
@@ -46,7 +47,8 @@ module _ (settings : Settings) (self : List ℕ) (state : State) where
 
     -- what was asked to be bound is bound, and then told of
     pub bind_done : (bound : Bound) → asked_binding state target property to ≡ Ok bound
-        → performs settings self state (Bind target property to) ≡ does_next settings (comes_to settings (begun settings state) 0 (with_binding state bound.at bound.term) (Some bound.at)) (a.Truth true)
+        → performs settings self state (Bind target property to)
+        ≡ does_next settings (comes_to settings (begun settings state) 0 (with_binding state bound.at bound.term) (Some bound.at)) (a.Truth true)
     bind_done _ found = performs_bind ∙ ap (binds_found settings state) found
 
   module _ (target : ℕ) (property : List ℕ) where
@@ -60,7 +62,9 @@ module _ (settings : Settings) (self : List ℕ) (state : State) where
 
     -- what the property shows is stored, and then told of
     pub unbind_done : (at : Property) → asked_property state target property ≡ Ok at
-        → performs settings self state (Unbind target property) ≡ does_next settings (comes_to settings (begun settings state) 0 (with_binding_taken state at) (Some at)) (a.Truth (is_bound state.graph.bindings at))
+        → performs settings self state (Unbind target property)
+        ≡ does_next settings (comes_to settings (begun settings state) 0 (with_binding_taken state at) (Some at))
+        (a.Truth (is_bound state.graph.bindings at))
     unbind_done _ found = performs_unbind ∙ ap (unbinds_found settings state) found
 
   pub refusal_begin : refusal settings self state Begin ≡ begin_refusal state.graph
@@ -81,22 +85,26 @@ module _ (settings : Settings) (self : List ℕ) (state : State) where
 
 module _ (settings : Settings) (state : State) where
   -- what was asked to be bound is told of
-  pub bind_keeps : (target : ℕ) (property : List ℕ) (to : Data) → binding_refusal state (asked_binding state target property to) ≡ None → Keeps settings state (Bind target property to) (binds_found settings state (asked_binding state target property to))
+  pub bind_keeps : (target : ℕ) (property : List ℕ) (to : Data) → binding_refusal state (asked_binding state target property to) ≡ None
+      → Keeps settings state (Bind target property to) (binds_found settings state (asked_binding state target property to))
   bind_keeps target property to = by (asked_binding state target property to) refl
     where
-      by : (found : Found Bound) → asked_binding state target property to ≡ found → binding_refusal state found ≡ None → Keeps settings state (Bind target property to) (binds_found settings state found)
+      by : (found : Found Bound) → asked_binding state target property to ≡ found → binding_refusal state found ≡ None
+          → Keeps settings state (Bind target property to) (binds_found settings state found)
       by (Err code) is passed = refused settings state (Bind target property to) code
       by (Ok bound) is passed =
           let its = may_be_bound state target property to bound is in
           told settings state (Bind target property to) (with_binding state bound.at bound.term) (Some bound.at) (a.Truth true) (record {
             sound = λ sound. record { whole = whole_with_binding state bound.at bound.term its.bindable its.short passed sound.whole; living = sound.living };
             declared = λ sound declared. declared;
-            fitting = λ fits. (let fit = fits.fit in record { objects = fit.objects; events = fit.events; connections = fit.connections; publications = fit.publications; joins = fit.joins });
+            fitting = λ fits. (let fit = fits.fit in record
+                { objects = fit.objects; events = fit.events; connections = fit.connections; publications = fit.publications; joins = fit.joins });
             named = λ are is named. named_beside state named (with_binding state bound.at bound.term) refl refl;
             joins = λ plain test held. held;
           })
 
-  pub unbind_keeps : (target : ℕ) (property : List ℕ) → Keeps settings state (Unbind target property) (unbinds_found settings state (asked_property state target property))
+  pub unbind_keeps : (target : ℕ) (property : List ℕ) → Keeps settings state (Unbind target property)
+      (unbinds_found settings state (asked_property state target property))
   unbind_keeps target property = by (asked_property state target property)
     where
       by : (found : Found Property) → Keeps settings state (Unbind target property) (unbinds_found settings state found)
@@ -104,7 +112,8 @@ module _ (settings : Settings) (state : State) where
       by (Ok at) = told settings state (Unbind target property) (with_binding_taken state at) (Some at) (a.Truth (is_bound state.graph.bindings at)) (record {
         sound = λ sound. record { whole = whole_with_binding_taken state at sound.whole; living = sound.living };
         declared = λ sound declared. declared_with_binding_taken settings.classes state declared at;
-        fitting = λ fits. (let fit = fits.fit in record { objects = fit.objects; events = fit.events; connections = fit.connections; publications = fit.publications; joins = fit.joins });
+        fitting = λ fits. (let fit = fits.fit in record
+            { objects = fit.objects; events = fit.events; connections = fit.connections; publications = fit.publications; joins = fit.joins });
         named = λ are is named. named_with_binding_taken state named at;
         joins = λ plain test held. held;
       })
@@ -113,7 +122,8 @@ module _ (settings : Settings) (state : State) where
   begin_keeps passed = replied settings state Begin (with_group state) _ (record {
     sound = λ sound. record { whole = whole_with_group state passed sound.whole; living = sound.living };
     declared = λ sound declared. declared;
-    fitting = λ fits. (let fit = fits.fit in record { objects = fit.objects; events = fit.events; connections = fit.connections; publications = fit.publications; joins = fit.joins });
+    fitting = λ fits. (let fit = fits.fit in record
+        { objects = fit.objects; events = fit.events; connections = fit.connections; publications = fit.publications; joins = fit.joins });
     named = λ are is named. named_beside state named (with_group state) refl refl;
     joins = λ plain test held. held;
   })
@@ -124,7 +134,8 @@ module _ (settings : Settings) (state : State) where
     leaves = record {
       sound = λ sound. record { whole = whole_without_group state sound.whole; living = sound.living };
       declared = λ sound declared. declared;
-      fitting = λ fits. (let fit = fits.fit in record { objects = fit.objects; events = fit.events; connections = fit.connections; publications = fit.publications; joins = fit.joins });
+      fitting = λ fits. (let fit = fits.fit in record
+          { objects = fit.objects; events = fit.events; connections = fit.connections; publications = fit.publications; joins = fit.joins });
       named = λ are is named. named_beside state named after refl refl;
       joins = λ plain test held. held;
     };

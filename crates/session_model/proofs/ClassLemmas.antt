@@ -19,7 +19,8 @@ described_by classes index class = record {
   superclass = option_and_then (class_name classes) class.superclass;
 }
 
-pub described_at : (classes : List Class) (index : ℕ) (class : Class) → slice_get classes index ≡ Some class → described classes index ≡ described_by classes index class
+pub described_at : (classes : List Class) (index : ℕ) (class : Class) → slice_get classes index ≡ Some class
+    → described classes index ≡ described_by classes index class
 unfolding described_by
 described_at classes index class there = ap by there
   where
@@ -34,7 +35,8 @@ described_at classes index class there = ap by there
     }
 
 -- a class that has an index is there
-pub class_there : (classes : List Class) (name : List ℕ) (index : ℕ) → index_of name classes ≡ Some index → (class : Class) × (slice_get classes index ≡ Some class)
+pub class_there : (classes : List Class) (name : List ℕ) (index : ℕ) → index_of name classes ≡ Some index
+    → (class : Class) × (slice_get classes index ≡ Some class)
 class_there [] name index found = absurd (cc)
 class_there (first ∷ rest) name index found =
     let classes = first ∷ rest in

@@ -13,7 +13,8 @@ use Rattle.session_model.proofs.PropertyLemmas.{set_keeps}
 use Rattle.session_model.proofs.SharingLemmas.{join_keeps, leave_keeps, publish_keeps, reset_keeps, unpublish_keeps}
 use Rattle.session_model.proofs.SignalLemmas.{connect_functor_keeps, connect_keeps, disconnect_keeps, disconnect_one_keeps, invoke_keeps}
 use Rattle.session_model.proofs.TreeLemmas.{delete_keeps, new_keeps}
-use Rattle.session_model.specs.Asked.{Ask, Asked, Begin, Bind, Connect, ConnectFunctor, Delete, Disconnect, DisconnectOne, Do, End, Invoke, Join, Leave, New, Publish, Reset, Set, Spin, Unbind, Unpublish}
+use Rattle.session_model.specs.Asked.{Ask, Asked, Begin, Bind, Connect, ConnectFunctor, Delete, Disconnect, DisconnectOne, Do, End, Invoke, Join, Leave, New}
+use Rattle.session_model.specs.Asked.{Publish, Reset, Set, Spin, Unbind, Unpublish}
 use Rattle.session_model.specs.Effects.{answers, unless}
 use Rattle.session_model.specs.Laws.{KeepsDeclared, KeepsFitting, KeepsNamed, KeepsSound}
 use Rattle.session_model.specs.Queries.{query_answer}
@@ -22,13 +23,16 @@ use Rattle.session_model.specs.Settings.{Settings}
 use Rattle.session_model.specs.State.{State}
 use Rattle.session_model.specs.Thread.{does, performs}
 
-performed_keeps : (settings : Settings) (self : List ℕ) (state : State) (asked : Asked) → refusal settings self state asked ≡ None → Keeps settings state asked (performs settings self state asked)
+performed_keeps : (settings : Settings) (self : List ℕ) (state : State) (asked : Asked) → refusal settings self state asked ≡ None
+    → Keeps settings state asked (performs settings self state asked)
 unfolding refusal performs
 performed_keeps settings self state (New class parent) passed = new_keeps settings state class parent passed
 performed_keeps settings self state (Delete target) passed = delete_keeps settings state target
 performed_keeps settings self state (Set target property value) passed = set_keeps settings state target property value
-performed_keeps settings self state (Connect sender signal receiver method mode unique single) passed = connect_keeps settings state sender signal receiver method mode unique single passed
-performed_keeps settings self state (ConnectFunctor sender signal context functor mode unique single) passed = connect_functor_keeps settings state sender signal context functor mode unique single passed
+performed_keeps settings self state (Connect sender signal receiver method mode unique single) passed =
+    connect_keeps settings state sender signal receiver method mode unique single passed
+performed_keeps settings self state (ConnectFunctor sender signal context functor mode unique single) passed =
+    connect_functor_keeps settings state sender signal context functor mode unique single passed
 performed_keeps settings self state (DisconnectOne connection) passed = disconnect_one_keeps settings state connection
 performed_keeps settings self state (Disconnect sender signal receiver method) passed = disconnect_keeps settings state sender signal receiver method passed
 performed_keeps settings self state (Invoke target method args mode priority) passed = invoke_keeps settings state target method args mode priority passed
@@ -42,7 +46,8 @@ performed_keeps settings self state (Bind target property to) passed = bind_keep
 performed_keeps settings self state (Unbind target property) passed = unbind_keeps settings state target property
 performed_keeps settings self state Begin passed = begin_keeps settings state passed
 performed_keeps settings self state End passed = end_keeps settings state
-performed_keeps settings self state (Ask query) passed = told_one settings state (Ask query) (answers state (query_answer settings.classes state query)) refl (stays settings state (Ask query))
+performed_keeps settings self state (Ask query) passed = told_one settings state (Ask query) (answers state (query_answer settings.classes state query)) refl
+    (stays settings state (Ask query))
 performed_keeps settings self state Reset passed = reset_keeps settings state
 
 -- a refused command leaves the session
@@ -50,12 +55,17 @@ pub command_keeps : (settings : Settings) (self : List ℕ) (state : State) (ask
 unfolding does
 command_keeps settings self state asked = by (refusal settings self state asked) (performed_keeps settings self state asked)
   where
-    by : (refusal : Option Code) → (refusal ≡ None → Keeps settings state asked (performs settings self state asked)) → Keeps settings state asked (unless refusal state (performs settings self state asked))
+    by : (refusal : Option Code) → (refusal ≡ None → Keeps settings state asked (performs settings self state asked))
+        → Keeps settings state asked (unless refusal state (performs settings self state asked))
     by None keeps = keeps refl
     by (Some code) keeps = refused settings state asked code
 
 pub keeps_sound : KeepsSound
-keeps_sound = record { at_first = empty_sound; by_command = λ settings self state asked. (command_keeps settings self state asked).leaves.sound; by_post = post_sound }
+keeps_sound = record {
+  at_first = empty_sound;
+  by_command = λ settings self state asked. (command_keeps settings self state asked).leaves.sound;
+  by_post = post_sound;
+}
 
 pub keeps_declared : KeepsDeclared
 keeps_declared = record {

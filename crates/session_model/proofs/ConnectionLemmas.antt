@@ -1,5 +1,6 @@
 -- What each change leaves of the connections of a session.
-use Rattle.std.proofs.Common.{◌≡◌, ◌+◌, ◌-◌, ◌^◌, ◌<◌, ◌≤◌, ◌==◌, ◌&&◌, ℕ, Bool, true, false, not, cond, List, [], ◌∷◌, ◌++◌, All, Option, Some, None, filter, find, length, nat_le, refl, sym, ap, ◌∙◌, subst, arith, ⊎_elim}
+use Rattle.std.proofs.Common.{◌≡◌, ◌+◌, ◌-◌, ◌^◌, ◌<◌, ◌≤◌, ◌==◌, ◌&&◌, ℕ, Bool, true, false, not, cond, List, [], ◌∷◌, ◌++◌, All, Option, Some, None, filter}
+use Rattle.std.proofs.Common.{find, length, nat_le, refl, sym, ap, ◌∙◌, subst, arith, ⊎_elim}
 use Rattle.std.specs.List.{list_any}
 use Rattle.std.specs.Option.{option_or}
 use Rattle.std.proofs.lemmas.Bool.{cases_Bool, eqb-true, or_left}
@@ -45,20 +46,25 @@ allowed place new unique passed = by (unique && list_any (same_ends new) place.r
     numbers' true is e = absurd (cc)
     numbers' false is e = grind (arith, nat_tests, is)
 
-    room' : (full : Bool) → nat_le CONNECTIONS (length place.rows) ≡ full → cond full (Some Limit) (cond (nat_le (2 ^ 32 - 1) place.last_number) (Some NumbersUsedUp) None) ≡ None → IsAllowed place
+    room' : (full : Bool) → nat_le CONNECTIONS (length place.rows) ≡ full
+        → cond full (Some Limit) (cond (nat_le (2 ^ 32 - 1) place.last_number) (Some NumbersUsedUp) None) ≡ None → IsAllowed place
     room' true is e = absurd (cc)
     room' false is e = record { room = grind (arith, nat_tests, is); number = numbers' (nat_le (2 ^ 32 - 1) place.last_number) refl e }
 
-    by : (joined : Bool) → cond joined (Some ConnectedAlready) (cond (nat_le CONNECTIONS (length place.rows)) (Some Limit) (cond (nat_le (2 ^ 32 - 1) place.last_number) (Some NumbersUsedUp) None)) ≡ None → IsAllowed place
+    by : (joined : Bool) → cond joined (Some ConnectedAlready)
+        (cond (nat_le CONNECTIONS (length place.rows)) (Some Limit) (cond (nat_le (2 ^ 32 - 1) place.last_number) (Some NumbersUsedUp) None)) ≡ None
+        → IsAllowed place
     by true e = absurd (cc)
     by false e = room' (nat_le CONNECTIONS (length place.rows)) refl e
 
 -- a number above all others stands last
-rising_push : (rows : List Connection) (last : Connection) → All (λ (row : Connection). row.number < last.number) rows → IsRising rows → IsRising (rows ++ last ∷ [])
+rising_push : (rows : List Connection) (last : Connection) → All (λ (row : Connection). row.number < last.number) rows → IsRising rows
+    → IsRising (rows ++ last ∷ [])
 rising_push [] last above rising = λ i j default below within. absurd (omega arith)
 rising_push (row ∷ rows) last above rising =
     AllPairs-cons (λ (earlier later : Connection). earlier.number < later.number) row (rows ++ last ∷ [])
-    (All-push (λ (later : Connection). row.number < later.number) rows last (rising_head row rows rising) (All-head (λ (row : Connection). row.number < last.number) row rows above))
+    (All-push (λ (later : Connection). row.number < later.number) rows last (rising_head row rows rising)
+    (All-head (λ (row : Connection). row.number < last.number) row rows above))
     (rising_push rows last (All-tail (λ (row : Connection). row.number < last.number) row rows above) (rising_tail row rows rising))
 
 -- the connections stay sound with one more that is not refused
@@ -66,9 +72,12 @@ pub sound_connected : (place : Rows) (new : NewConnection) → IsAllowed place �
 sound_connected place new is_allowed sound =
     let last : Connection = numbered (place.last_number + 1) new in
     record {
-      rising = rising_push place.rows last (All-weaker (λ (row : Connection). row.number ≤ place.last_number) (λ (row : Connection). row.number < place.last_number + 1) (λ row h. omega arith) place.rows sound.given) sound.rising;
+      rising = rising_push place.rows last (All-weaker (λ (row : Connection). row.number ≤ place.last_number)
+          (λ (row : Connection). row.number < place.last_number + 1) (λ row h. omega arith) place.rows sound.given) sound.rising;
       from_one = All-push (λ (row : Connection). 1 ≤ row.number) place.rows last sound.from_one (omega arith);
-      given = All-push (λ (row : Connection). row.number ≤ place.last_number + 1) place.rows last (All-weaker (λ (row : Connection). row.number ≤ place.last_number) (λ (row : Connection). row.number ≤ place.last_number + 1) (λ row h. omega arith) place.rows sound.given) (omega arith);
+      given = All-push (λ (row : Connection). row.number ≤ place.last_number + 1) place.rows last
+          (All-weaker (λ (row : Connection). row.number ≤ place.last_number) (λ (row : Connection). row.number ≤ place.last_number + 1)
+          (λ row h. omega arith) place.rows sound.given) (omega arith);
       fits = omega (arith, is_allowed.number);
       few = omega (arith, is_allowed.room, length-append place.rows (last ∷ []));
     }
@@ -90,14 +99,17 @@ tied_to old new P stands rows ends tied index default within =
     record { sender = stands _ end.sender was.sender; receiver = stands _ end.receiver was.receiver }
 
 -- an object stands still where the numbers of objects stay the same
-pub there_same : (old new : State) → numbers new.forest.rows ≡ numbers old.forest.rows → (number : ℕ) → is_there old.forest.rows number ≡ true → is_there new.forest.rows number ≡ true
+pub there_same : (old new : State) → numbers new.forest.rows ≡ numbers old.forest.rows → (number : ℕ) → is_there old.forest.rows number ≡ true
+    → is_there new.forest.rows number ≡ true
 there_same old new same number there =
     there_among new.forest.rows number ∙ ap (list_any (λ key. number == key)) same ∙ sym (there_among old.forest.rows number) ∙ there
 
 -- and where one more number is there
-pub there_more : (old new : State) (added : ℕ) → numbers new.forest.rows ≡ numbers old.forest.rows ++ added ∷ [] → (number : ℕ) → is_there old.forest.rows number ≡ true → is_there new.forest.rows number ≡ true
+pub there_more : (old new : State) (added : ℕ) → numbers new.forest.rows ≡ numbers old.forest.rows ++ added ∷ [] → (number : ℕ)
+    → is_there old.forest.rows number ≡ true → is_there new.forest.rows number ≡ true
 there_more old new added more number there =
-    there_among new.forest.rows number ∙ ap (list_any (λ key. number == key)) more ∙ list_any-append (λ key. number == key) (numbers old.forest.rows) (added ∷ [])
+    there_among new.forest.rows number ∙ ap (list_any (λ key. number == key)) more
+    ∙ list_any-append (λ key. number == key) (numbers old.forest.rows) (added ∷ [])
     ∙ or_left (list_any (λ key. number == key) (numbers old.forest.rows)) _ (sym (there_among old.forest.rows number) ∙ there)
 
 pub tied_same : (old new : State) → numbers new.forest.rows ≡ numbers old.forest.rows → (rows : List Connection) → All (IsTied old) rows → All (IsTied new) rows
@@ -105,13 +117,15 @@ tied_same old new same rows =
     tied_to old new (λ number. Unit {0}) (λ number any there. there_same old new same number there)
     rows (λ index default within. record { sender = tt; receiver = tt })
 
-pub tied_more : (old new : State) (number : ℕ) → numbers new.forest.rows ≡ numbers old.forest.rows ++ number ∷ [] → (rows : List Connection) → All (IsTied old) rows → All (IsTied new) rows
+pub tied_more : (old new : State) (number : ℕ) → numbers new.forest.rows ≡ numbers old.forest.rows ++ number ∷ [] → (rows : List Connection)
+    → All (IsTied old) rows → All (IsTied new) rows
 tied_more old new number more rows =
     tied_to old new (λ number. Unit {0}) (λ end any there. there_more old new number more end there)
     rows (λ index default within. record { sender = tt; receiver = tt })
 
 -- another number is there as before where one is taken out
-others_among : (number end : ℕ) → (end == number) ≡ false → (keys : List ℕ) → list_any (λ key. end == key) (filter (λ key. not (key == number)) keys) ≡ list_any (λ key. end == key) keys
+others_among : (number end : ℕ) → (end == number) ≡ false → (keys : List ℕ)
+    → list_any (λ key. end == key) (filter (λ key. not (key == number)) keys) ≡ list_any (λ key. end == key) keys
 others_among number end other [] = refl
 others_among number end other (key ∷ keys) = let rest = others_among number end other keys in
     ⊎_elim
@@ -120,9 +134,11 @@ others_among number end other (key ∷ keys) = let rest = others_among number en
     (cases_Bool (key == number))
 
 -- where a number goes, another stands still
-pub there_without : (old new : State) (gone : ℕ) → numbers new.forest.rows ≡ filter (λ key. not (key == gone)) (numbers old.forest.rows) → (number : ℕ) → (number == gone) ≡ false → is_there old.forest.rows number ≡ true → is_there new.forest.rows number ≡ true
+pub there_without : (old new : State) (gone : ℕ) → numbers new.forest.rows ≡ filter (λ key. not (key == gone)) (numbers old.forest.rows) → (number : ℕ)
+    → (number == gone) ≡ false → is_there old.forest.rows number ≡ true → is_there new.forest.rows number ≡ true
 there_without old new gone fewer number other there =
-    there_among new.forest.rows number ∙ ap (list_any (λ key. number == key)) fewer ∙ others_among gone number other (numbers old.forest.rows) ∙ sym (there_among old.forest.rows number) ∙ there
+    there_among new.forest.rows number ∙ ap (list_any (λ key. number == key)) fewer ∙ others_among gone number other (numbers old.forest.rows)
+    ∙ sym (there_among old.forest.rows number) ∙ there
 
 -- where a number goes that is no end
 pub tied_without : (old new : State) (number : ℕ) → numbers new.forest.rows ≡ filter (λ key. not (key == number)) (numbers old.forest.rows)

@@ -22,7 +22,8 @@ use Rattle.session_model.proofs.RunLemmas.{run_keeps}
 use Rattle.session_model.proofs.StepLemmas.{Holds, step_holds}
 use Rattle.session_model.specs.Agenda.{step}
 use Rattle.session_model.specs.Operations.{operation_done, with_operation}
-use Rattle.session_model.specs.Execution.{Execution, dying, first_taken, in_state, line_told, lost, enqueued, posting, severed, single_shot_broken, stepped, turn_taken, used_up}
+use Rattle.session_model.specs.Execution.{Execution, dying, first_taken, in_state, line_told, lost, enqueued, posting, severed, single_shot_broken, stepped}
+use Rattle.session_model.specs.Execution.{turn_taken, used_up}
 use Rattle.session_model.specs.Items.{Item}
 use Rattle.session_model.specs.Run.{run}
 use Rattle.session_model.specs.State.{IsDeclared, State, fields_of, with_binding_taken, with_object, with_properties, without_connections, without_object}
@@ -41,10 +42,13 @@ module _ (G : ℕ → ℕ → Type 0) where
   OfEach rows = All (λ row. G row.number row.class) rows
 
   -- it holds after a change of a row that leaves both
-  each_changed : (change : Row → Row) (number : ℕ) → ((row : Row) → G row.number row.class → G (change row).number (change row).class) → (rows : List Row) → OfEach rows → OfEach (changed change number rows)
+  each_changed : (change : Row → Row) (number : ℕ) → ((row : Row) → G row.number row.class → G (change row).number (change row).class) → (rows : List Row)
+      → OfEach rows → OfEach (changed change number rows)
   each_changed change number same rows all =
       All-map (λ (row : Row). G row.number row.class) (λ row. cond (has_number number row) (change row) row) rows
-      (All-weaker (λ (row : Row). G row.number row.class) (λ (row : Row). G (cond (has_number number row) (change row) row).number (cond (has_number number row) (change row) row).class) (λ row. one row (has_number number row)) rows all)
+      (All-weaker (λ (row : Row). G row.number row.class)
+      (λ (row : Row). G (cond (has_number number row) (change row) row).number (cond (has_number number row) (change row) row).class)
+      (λ row. one row (has_number number row)) rows all)
     where
       one : (row : Row) (is : Bool) → G row.number row.class → G (cond is (change row) row).number (cond is (change row) row).class
       one row true holds = same row holds
@@ -67,16 +71,20 @@ module _ (G : ℕ → ℕ → Type 0) where
   each_blocked forest number on all = each_changed (λ row. record row { blocked = on }) number (λ row holds. holds) forest.rows all
 
 -- it holds of what stays after an object has gone
-pub each_removed : (G H : ℕ → ℕ → Type 0) (forest : Forest) (number : ℕ) → ((n class : ℕ) → (n == number) ≡ false → G n class → H n class) → OfEach G forest.rows → OfEach H (removed forest number).rows
+pub each_removed : (G H : ℕ → ℕ → Type 0) (forest : Forest) (number : ℕ) → ((n class : ℕ) → (n == number) ≡ false → G n class → H n class)
+    → OfEach G forest.rows → OfEach H (removed forest number).rows
 unfolding removed
-each_removed G H forest number others all = All-map (λ (row : Row). H row.number row.class) (orphaned number) kept (λ index default within. root (get_or kept index default) (has_parent (Some number) (get_or kept index default))
-    (others (get_or kept index default).number (get_or kept index default).class (not-true (has_number number (get_or kept index default)) (filter_passes (λ row. not (has_number number row)) forest.rows index default within))
+each_removed G H forest number others all = All-map (λ (row : Row). H row.number row.class) (orphaned number) kept
+    (λ index default within. root (get_or kept index default) (has_parent (Some number) (get_or kept index default))
+    (others (get_or kept index default).number (get_or kept index default).class
+    (not-true (has_number number (get_or kept index default)) (filter_passes (λ row. not (has_number number row)) forest.rows index default within))
     (All-filter (λ row. not (has_number number row)) (λ (row : Row). G row.number row.class) forest.rows all index default within)))
   where
     kept : List Row
     kept = filter (λ row. not (has_number number row)) forest.rows
 
-    root : (row : Row) (child : Bool) → H row.number row.class → H (cond child (record row { parent = None }) row).number (cond child (record row { parent = None }) row).class
+    root : (row : Row) (child : Bool) → H row.number row.class
+        → H (cond child (record row { parent = None }) row).number (cond child (record row { parent = None }) row).class
     root row true holds = holds
     root row false holds = holds
 
@@ -85,7 +93,8 @@ abbrev Has : List Class → State → ℕ → ℕ → Type 0
 Has classes state number class = option_map (λ of. of.fields) (properties_of state.store number) ≡ Some (fields_of classes class)
 
 module _ (classes : List Class) (state : State) (declared : IsDeclared classes state) where
-  declared_with_properties : (number : ℕ) (change : Properties → Properties) → ((of : Properties) → (change of).object ≡ of.object) → ((of : Properties) → (change of).fields ≡ of.fields) → IsDeclared classes (with_properties state number change)
+  declared_with_properties : (number : ℕ) (change : Properties → Properties) → ((of : Properties) → (change of).object ≡ of.object)
+      → ((of : Properties) → (change of).fields ≡ of.fields) → IsDeclared classes (with_properties state number change)
   declared_with_properties number change same fields =
       All-weaker (λ row. Has classes state row.number row.class) (λ row. Has classes (with_properties state number change) row.number row.class)
       (λ row has. changed_fields change number same fields state.store row.number ∙ has) state.forest.rows declared
@@ -99,25 +108,33 @@ module _ (classes : List Class) (state : State) (declared : IsDeclared classes s
   -- what a bound property shows is stored
   pub declared_with_binding_taken : (at : At) → IsDeclared classes (with_binding_taken state at)
   declared_with_binding_taken at =
-      cond_both (is_bound state.graph.bindings at) (stored.written state.store at.object at.number shows) state.store (λ store. IsDeclared classes (record state { store = store; graph = unbound state.graph at }))
+      cond_both (is_bound state.graph.bindings at) (stored.written state.store at.object at.number shows) state.store
+      (λ store. IsDeclared classes (record state { store = store; graph = unbound state.graph at }))
       (λ bound. by (fitting state.store at.object at.number shows))
       (λ free. declared)
     where
       shows : Value
       shows = (value_in state.store state.graph at).0
 
-      by : (fit : Option Value) → IsDeclared classes (record state { store = option_map_or (λ fit. stored.changed (with_value at.number fit) at.object state.store) fit state.store; graph = unbound state.graph at })
+      by : (fit : Option Value) → IsDeclared classes
+          (record state {
+            store = option_map_or (λ fit. stored.changed (with_value at.number fit) at.object state.store) fit state.store;
+            graph = unbound state.graph at;
+          })
       by None = declared
       by (Some fit) = declared_with_properties at.object (with_value at.number fit) (λ of. refl) (λ of. refl)
 
   -- a new object has those of its class, and its number is new
-  pub declared_with_object : (parent : Option ℕ) (class : ℕ) → All (λ row. row.number ≤ state.forest.last_number) state.forest.rows → IsDeclared classes (with_object classes state parent class)
+  pub declared_with_object : (parent : Option ℕ) (class : ℕ) → All (λ row. row.number ≤ state.forest.last_number) state.forest.rows
+      → IsDeclared classes (with_object classes state parent class)
   unfolding added
-  declared_with_object parent class known = All-push (λ (row : Row). Has classes (with_object classes state parent class) row.number row.class) state.forest.rows _
+  declared_with_object parent class known = All-push (λ (row : Row). Has classes (with_object classes state parent class) row.number row.class)
+      state.forest.rows _
       (λ index default within. old (get_or state.forest.rows index default) (known index default within) (declared index default within))
       (ap (option_map (λ of. of.fields)) (added_found state.store (state.forest.last_number + 1) (fields_of classes class)))
     where
-      old : (row : Row) → row.number ≤ state.forest.last_number → Has classes state row.number row.class → Has classes (with_object classes state parent class) row.number row.class
+      old : (row : Row) → row.number ≤ state.forest.last_number → Has classes state row.number row.class
+          → Has classes (with_object classes state parent class) row.number row.class
       old row below has =
           let apart : (state.forest.last_number + 1 == row.number) ≡ false = grind (arith, nat_tests, below) in
           ap (option_map (λ of. of.fields)) (added_others state.store (state.forest.last_number + 1) (fields_of classes class) row.number apart) ∙ has
@@ -141,7 +158,8 @@ module _ (classes : List Class) (doing : Execution) (declared : IsDeclared class
 
   shot_declared : (row : Connection) → IsDeclared classes (single_shot_broken doing row).state
   unfolding single_shot_broken
-  shot_declared row = cond_both row.single (in_state doing (without_connections doing.state (has_connection_number row.number))) doing (λ (new : Execution). IsDeclared classes new.state) (λ single. declared) (λ lasting. declared)
+  shot_declared row = cond_both row.single (in_state doing (without_connections doing.state (has_connection_number row.number))) doing
+      (λ (new : Execution). IsDeclared classes new.state) (λ single. declared) (λ lasting. declared)
 
   severed_declared : (target : ℕ) → IsDeclared classes (severed doing target).state
   unfolding severed
@@ -203,14 +221,19 @@ holds classes = record {
   steps = λ doing number next declared. stepped_declared classes doing declared number next;
 }
 
-pub item_declared : (settings : Settings) (item : Item) (doing : Execution) → IsDeclared settings.classes doing.state → IsDeclared settings.classes (step settings item doing).doing.state
-item_declared settings item doing = step_holds settings (λ old new. IsDeclared settings.classes old.state → IsDeclared settings.classes new.state) (holds settings.classes) item doing
+pub item_declared : (settings : Settings) (item : Item) (doing : Execution) → IsDeclared settings.classes doing.state
+    → IsDeclared settings.classes (step settings item doing).doing.state
+item_declared settings item doing = step_holds settings (λ old new. IsDeclared settings.classes old.state → IsDeclared settings.classes new.state)
+    (holds settings.classes) item doing
 
 -- and after an agenda is done
-pub run_declared : (settings : Settings) (agenda : List Item) (doing : Execution) → IsDeclared settings.classes doing.state → IsDeclared settings.classes (run settings agenda doing).state
-run_declared settings agenda doing declared = run_keeps settings (λ items doing. IsDeclared settings.classes doing.state) (λ item agenda doing. item_declared settings item doing) agenda doing declared
+pub run_declared : (settings : Settings) (agenda : List Item) (doing : Execution) → IsDeclared settings.classes doing.state
+    → IsDeclared settings.classes (run settings agenda doing).state
+run_declared settings agenda doing declared = run_keeps settings (λ items doing. IsDeclared settings.classes doing.state)
+    (λ item agenda doing. item_declared settings item doing) agenda doing declared
 
 -- and after a post
-pub post_declared : (classes : List Class) (state : State) (from : List ℕ) (post : Post) → IsDeclared classes state → IsDeclared classes (arrives classes state from post)
+pub post_declared : (classes : List Class) (state : State) (from : List ℕ) (post : Post) → IsDeclared classes state
+    → IsDeclared classes (arrives classes state from post)
 unfolding arrives
 post_declared classes state from post declared = declared

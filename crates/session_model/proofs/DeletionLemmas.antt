@@ -21,7 +21,8 @@ module _ (settings : Settings) (target depth : ℕ) (doing : Execution) where
   delete_none absent = cond-false (lives doing target) _ _ absent
 
   -- an object that lives is dying from now on, and says so first
-  pub delete_some : lives doing target ≡ true → step settings (Delete target depth) doing ≡ puts (Emit target DESTROYED [] depth ∷ Detach target depth ∷ Remove target depth ∷ []) (dying doing target)
+  pub delete_some : lives doing target ≡ true → step settings (Delete target depth) doing
+      ≡ puts (Emit target DESTROYED [] depth ∷ Detach target depth ∷ Remove target depth ∷ []) (dying doing target)
   delete_some living = cond-true (lives doing target) _ _ living
 
   -- nothing ties a dying object to others any more, and then its children are deleted
@@ -34,11 +35,13 @@ module _ (settings : Settings) (target depth : ℕ) (doing : Execution) where
 
   -- which is nothing where no property is bound
   pub gone_silently : doing.state.graph.bindings ≡ [] → step settings (Remove target depth) doing ≡ puts [] (in_state doing (without_object doing.state target))
-  gone_silently none = ap (λ changes. puts (tells settings (without_object doing.state target) depth changes) (in_state doing (without_object doing.state target))) (by (is_open doing.state.graph))
+  gone_silently none = ap (λ changes. puts (tells settings (without_object doing.state target) depth changes)
+      (in_state doing (without_object doing.state target))) (by (is_open doing.state.graph))
     where
       told : graph.changes (showing doing.state) (showing (without_object doing.state target)) None ≡ []
       told =
-          ap (λ bindings. graph.changes (all_shown doing.state.store bindings) (all_shown (without target doing.state.store) (filter (λ (binding : Binding). not (binding.at.object == target)) bindings)) None) none
+          ap (λ bindings. graph.changes (all_shown doing.state.store bindings)
+          (all_shown (without target doing.state.store) (filter (λ (binding : Binding). not (binding.at.object == target)) bindings)) None) none
           ∙ going_told doing.state.store target None
 
       by : (deep : Bool) → cond deep [] (graph.changes (showing doing.state) (showing (without_object doing.state target)) None) ≡ []

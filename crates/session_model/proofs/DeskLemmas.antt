@@ -1,5 +1,6 @@
 -- What each change leaves of what a session publishes and joins.
-use Rattle.std.proofs.Common.{◌≡◌, ◌<◌, ◌≤◌, ◌==◌, ◌||◌, bytes_eq, ℕ, Bool, true, false, not, cond, List, [], ◌∷◌, ◌++◌, Some, None, filter, length, nat_le, refl, sym, ap, ◌∙◌, arith}
+use Rattle.std.proofs.Common.{◌≡◌, ◌<◌, ◌≤◌, ◌==◌, ◌||◌, bytes_eq, ℕ, Bool, true, false, not, cond, List, [], ◌∷◌, ◌++◌, Some, None, filter, length, nat_le}
+use Rattle.std.proofs.Common.{refl, sym, ap, ◌∙◌, arith}
 use Rattle.std.specs.List.{All, AllByRecursion, list_any}
 use Rattle.std.proofs.lemmas.Bool.Decides.{nat_tests}
 use Rattle.std.proofs.lemmas.List.{length-append}
@@ -32,7 +33,8 @@ Apart earlier later = has_name later.name earlier ≡ false
 each_other : (name : List ℕ) (rows : List Publication) → list_any (has_name name) rows ≡ false → All (λ row. has_name name row ≡ false) rows
 each_other name rows none = All-from_recursion (λ row. has_name name row ≡ false) rows (by rows none)
   where
-    one : (passed : Bool) (rest : List Publication) → (passed || list_any (has_name name) rest) ≡ false → (passed ≡ false) × (list_any (has_name name) rest ≡ false)
+    one : (passed : Bool) (rest : List Publication) → (passed || list_any (has_name name) rest) ≡ false
+        → (passed ≡ false) × (list_any (has_name name) rest ≡ false)
     one true rest e = absurd (cc)
     one false rest e = (refl, e)
 
@@ -43,7 +45,8 @@ each_other name rows none = All-from_recursion (λ row. has_name name row ≡ fa
 pub sound_published : (desk : Desk) (row : Publication) → publish_refusal desk row.name ≡ None → IsSound desk → IsSound (published desk row)
 sound_published desk row passed sound = by (list_any (has_name row.name) desk.publications) (nat_le 1024 (length desk.publications)) refl refl passed
   where
-    by : (taken full : Bool) → list_any (has_name row.name) desk.publications ≡ taken → nat_le 1024 (length desk.publications) ≡ full → cond taken (Some NameTaken) (cond full (Some Limit) None) ≡ None → IsSound (published desk row)
+    by : (taken full : Bool) → list_any (has_name row.name) desk.publications ≡ taken → nat_le 1024 (length desk.publications) ≡ full
+        → cond taken (Some NameTaken) (cond full (Some Limit) None) ≡ None → IsSound (published desk row)
     by true full is room e = absurd (cc)
     by false true is room e = absurd (cc)
     by false false is room e =
@@ -61,10 +64,12 @@ sound_unpublished desk name sound = record {
   distinct = AllPairs-filter Apart (λ row. not (has_name name row)) desk.publications sound.distinct;
 }
 
-pub sound_joined : (own : List ℕ) (desk : Desk) (join : Join) (wanted : List Kind) → join_refusal own desk join wanted ≡ None → IsSound desk → IsSound (with_join desk join)
+pub sound_joined : (own : List ℕ) (desk : Desk) (join : Join) (wanted : List Kind) → join_refusal own desk join wanted ≡ None → IsSound desk
+    → IsSound (with_join desk join)
 sound_joined own desk join wanted passed sound = by (not (fits join.kinds wanted)) (bytes_eq join.from own) (nat_le 1024 (length desk.joins)) refl passed
   where
-    by : (unfit own' full : Bool) → nat_le 1024 (length desk.joins) ≡ full → cond unfit (Some DoesNotFit) (cond own' (Some OwnSession) (cond full (Some Limit) None)) ≡ None → IsSound (with_join desk join)
+    by : (unfit own' full : Bool) → nat_le 1024 (length desk.joins) ≡ full
+        → cond unfit (Some DoesNotFit) (cond own' (Some OwnSession) (cond full (Some Limit) None)) ≡ None → IsSound (with_join desk join)
     by true own' full room e = absurd (cc)
     by false true full room e = absurd (cc)
     by false false true room e = absurd (cc)
@@ -89,7 +94,8 @@ sound_withdrawn object desk sound = record {
 -- what holds of each object of a desk
 pub each_of : (P Q : ℕ → Type 0) → ((number : ℕ) → P number → Q number) → (desk : Desk) → OfDesk P desk → OfDesk Q desk
 each_of P Q weaker desk all = record {
-  publications = All-weaker (λ (row : Publication). P row.object) (λ (row : Publication). Q row.object) (λ row. weaker row.object) desk.publications all.publications;
+  publications = All-weaker (λ (row : Publication). P row.object) (λ (row : Publication). Q row.object)
+      (λ row. weaker row.object) desk.publications all.publications;
   joins = All-weaker (λ (join : Join). P join.object) (λ (join : Join). Q join.object) (λ join. weaker join.object) desk.joins all.joins;
 }
 
@@ -101,10 +107,18 @@ module _ (P : ℕ → Type 0) (desk : Desk) (all : OfDesk P desk) where
   of_joined join new = record { publications = all.publications; joins = All-push (λ (join : Join). P join.object) desk.joins join all.joins new }
 
   pub of_unpublished : (name : List ℕ) → OfDesk P (unpublished desk name)
-  of_unpublished name = record { publications = All-filter (λ row. not (has_name name row)) (λ (row : Publication). P row.object) desk.publications all.publications; joins = all.joins }
+  of_unpublished name = record {
+    publications = All-filter (λ row. not (has_name name row))
+        (λ (row : Publication). P row.object) desk.publications all.publications;
+    joins = all.joins;
+  }
 
   pub of_left : (from name : List ℕ) (object method : ℕ) → OfDesk P (left desk from name object method)
-  of_left from name object method = record { publications = all.publications; joins = All-filter (λ join. not (is_join from name object method join)) (λ (join : Join). P join.object) desk.joins all.joins }
+  of_left from name object method = record {
+    publications = all.publications;
+    joins = All-filter (λ join. not (is_join from name object method join))
+        (λ (join : Join). P join.object) desk.joins all.joins;
+  }
 
   pub of_withdrawn : (object : ℕ) → OfDesk P (without_object object desk)
   of_withdrawn object = record {
@@ -113,37 +127,47 @@ module _ (P : ℕ → Type 0) (desk : Desk) (all : OfDesk P desk) where
   }
 
 -- of the rows that are left when an object is taken out, each has another
-others_left : {X : Type 0} (P : ℕ → Type 0) (of : X → ℕ) (object : ℕ) (rows : List X) → All (λ row. P (of row)) rows → All (λ row. P (of row) × ((of row == object) ≡ false)) (filter (λ row. not (of row == object)) rows)
-others_left {X} P of object rows all = All-from_recursion (λ row. P (of row) × ((of row == object) ≡ false)) _ (those rows (recursion_from_All (λ row. P (of row)) rows all))
+others_left : {X : Type 0} (P : ℕ → Type 0) (of : X → ℕ) (object : ℕ) (rows : List X) → All (λ row. P (of row)) rows
+    → All (λ row. P (of row) × ((of row == object) ≡ false)) (filter (λ row. not (of row == object)) rows)
+others_left {X} P of object rows all = All-from_recursion (λ row. P (of row) × ((of row == object) ≡ false)) _
+    (those rows (recursion_from_All (λ row. P (of row)) rows all))
   where
-    those : (rows : List X) → AllByRecursion (λ row. P (of row)) rows → AllByRecursion (λ row. P (of row) × ((of row == object) ≡ false)) (filter (λ row. not (of row == object)) rows)
+    those : (rows : List X) → AllByRecursion (λ row. P (of row)) rows
+        → AllByRecursion (λ row. P (of row) × ((of row == object) ≡ false)) (filter (λ row. not (of row == object)) rows)
     those [] all = tt
     those (row ∷ rest) all = by (of row == object) refl (those rest all.1)
       where
-        by : (same : Bool) → (of row == object) ≡ same → AllByRecursion (λ row. P (of row) × ((of row == object) ≡ false)) (filter (λ row. not (of row == object)) rest)
-            → AllByRecursion (λ row. P (of row) × ((of row == object) ≡ false)) (cond (not same) (row ∷ filter (λ row. not (of row == object)) rest) (filter (λ row. not (of row == object)) rest))
+        by : (same : Bool) → (of row == object) ≡ same → AllByRecursion (λ row. P (of row) × ((of row == object) ≡ false))
+            (filter (λ row. not (of row == object)) rest)
+            → AllByRecursion (λ row. P (of row) × ((of row == object) ≡ false))
+            (cond (not same) (row ∷ filter (λ row. not (of row == object)) rest) (filter (λ row. not (of row == object)) rest))
         by true is later = later
         by false is later = ((all.0, is), later)
 
-pub of_others : (P : ℕ → Type 0) (desk : Desk) (object : ℕ) → OfDesk P desk → OfDesk (λ number. P number × ((number == object) ≡ false)) (without_object object desk)
+pub of_others : (P : ℕ → Type 0) (desk : Desk) (object : ℕ) → OfDesk P desk
+    → OfDesk (λ number. P number × ((number == object) ≡ false)) (without_object object desk)
 of_others P desk object all = record {
   publications = others_left P (λ (row : Publication). row.object) object desk.publications all.publications;
   joins = others_left P (λ (join : Join). join.object) object desk.joins all.joins;
 }
 
 -- the objects stand still where the numbers of objects stay the same
-pub desk_same : (old new : State) → numbers new.forest.rows ≡ numbers old.forest.rows → (desk : Desk) → OfDesk (λ number. is_there old.forest.rows number ≡ true) desk → OfDesk (λ number. is_there new.forest.rows number ≡ true) desk
+pub desk_same : (old new : State) → numbers new.forest.rows ≡ numbers old.forest.rows → (desk : Desk)
+    → OfDesk (λ number. is_there old.forest.rows number ≡ true) desk → OfDesk (λ number. is_there new.forest.rows number ≡ true) desk
 desk_same old new same desk = each_of _ _ (there_same old new same) desk
 
 -- where one more number is there
-pub desk_more : (old new : State) (number : ℕ) → numbers new.forest.rows ≡ numbers old.forest.rows ++ number ∷ [] → (desk : Desk) → OfDesk (λ number. is_there old.forest.rows number ≡ true) desk → OfDesk (λ number. is_there new.forest.rows number ≡ true) desk
+pub desk_more : (old new : State) (number : ℕ) → numbers new.forest.rows ≡ numbers old.forest.rows ++ number ∷ [] → (desk : Desk)
+    → OfDesk (λ number. is_there old.forest.rows number ≡ true) desk → OfDesk (λ number. is_there new.forest.rows number ≡ true) desk
 desk_more old new number more desk = each_of _ _ (there_more old new number more) desk
 
 -- and where a number goes that is not named
-pub desk_without : (old new : State) (gone : ℕ) → numbers new.forest.rows ≡ filter (λ key. not (key == gone)) (numbers old.forest.rows) → (desk : Desk) → OfDesk (λ number. (number == gone) ≡ false) desk
+pub desk_without : (old new : State) (gone : ℕ) → numbers new.forest.rows ≡ filter (λ key. not (key == gone)) (numbers old.forest.rows) → (desk : Desk)
+    → OfDesk (λ number. (number == gone) ≡ false) desk
     → OfDesk (λ number. is_there old.forest.rows number ≡ true) desk → OfDesk (λ number. is_there new.forest.rows number ≡ true) desk
 desk_without old new gone fewer desk others there = record {
-  publications = λ index default within. there_without old new gone fewer _ (others.publications index default within) (there.publications index default within);
+  publications = λ index default within. there_without old new gone fewer _ (others.publications index default within)
+      (there.publications index default within);
   joins = λ index default within. there_without old new gone fewer _ (others.joins index default within) (there.joins index default within);
 }
 
@@ -152,7 +176,8 @@ pub fewer_pass : {X : Type 0} (test keep : X → Bool) (rows : List X) → list_
 fewer_pass test keep [] e = e
 fewer_pass {X} test keep (row ∷ rest) e = by (keep row) (test row) refl e (fewer_pass test keep rest)
   where
-    by : (kept passed : Bool) → test row ≡ passed → list_any test (cond kept (row ∷ filter keep rest) (filter keep rest)) ≡ true → (list_any test (filter keep rest) ≡ true → list_any test rest ≡ true) → (passed || list_any test rest) ≡ true
+    by : (kept passed : Bool) → test row ≡ passed → list_any test (cond kept (row ∷ filter keep rest) (filter keep rest)) ≡ true
+        → (list_any test (filter keep rest) ≡ true → list_any test rest ≡ true) → (passed || list_any test rest) ≡ true
     by kept true is e later = refl
     by true false is e later = later (sym (ap (λ b. b || list_any test (filter keep rest)) is) ∙ e)
     by false false is e later = later e

@@ -17,7 +17,8 @@ module _ (G : ℕ → Bool → Type 0) where
   OfEach rows = All (λ row. G row.number row.dying) rows
 
   -- it holds of a new object where it holds of its number, living
-  pub each_added : (forest : Forest) (parent : Option ℕ) (class : ℕ) → G (forest.last_number + 1) false → OfEach forest.rows → OfEach (added forest parent class).rows
+  pub each_added : (forest : Forest) (parent : Option ℕ) (class : ℕ) → G (forest.last_number + 1) false → OfEach forest.rows
+      → OfEach (added forest parent class).rows
   unfolding added
   each_added forest parent class new all = All-push (λ (row : Row). G row.number row.dying) forest.rows _ all new
 
@@ -36,14 +37,18 @@ module _ (G : ℕ → Bool → Type 0) where
       by : (keeps : Bool) → OfEach (cond keeps forest (moved forest number parent)).rows
       by true = all
       by false = All-map (λ (row : Row). G row.number row.dying) (λ row. cond (has_number number row) (moves row) row) forest.rows
-          (All-weaker (λ (row : Row). G row.number row.dying) (λ (row : Row). G (cond (has_number number row) (moves row) row).number (cond (has_number number row) (moves row) row).dying) (λ row. one row (has_number number row)) forest.rows all)
+          (All-weaker (λ (row : Row). G row.number row.dying)
+          (λ (row : Row). G (cond (has_number number row) (moves row) row).number (cond (has_number number row) (moves row) row).dying)
+          (λ row. one row (has_number number row)) forest.rows all)
 
   -- what is blocked, or not, is as dying as before
   pub each_blocked : (forest : Forest) (number : ℕ) (on : Bool) → OfEach forest.rows → OfEach (with_blocked forest number on).rows
   unfolding with_blocked
   each_blocked forest number on all =
       All-map (λ (row : Row). G row.number row.dying) (λ row. cond (has_number number row) (blocks row) row) forest.rows
-      (All-weaker (λ (row : Row). G row.number row.dying) (λ (row : Row). G (cond (has_number number row) (blocks row) row).number (cond (has_number number row) (blocks row) row).dying) (λ row. one row (has_number number row)) forest.rows all)
+      (All-weaker (λ (row : Row). G row.number row.dying)
+      (λ (row : Row). G (cond (has_number number row) (blocks row) row).number (cond (has_number number row) (blocks row) row).dying)
+      (λ row. one row (has_number number row)) forest.rows all)
     where
       blocks : Row → Row
       blocks row = record row { blocked = on }
@@ -58,40 +63,53 @@ module _ (G : ℕ → Bool → Type 0) where
   of_row (first ∷ rest) number row found all =
       by (has_number number first) refl found (λ found. of_row rest number row found (All-tail (λ (row : Row). G row.number row.dying) first rest all))
     where
-      by : (same : Bool) → has_number number first ≡ same → cond same (Some first) (row_of rest number) ≡ Some row → (row_of rest number ≡ Some row → G number row.dying) → G number row.dying
+      by : (same : Bool) → has_number number first ≡ same → cond same (Some first) (row_of rest number) ≡ Some row
+          → (row_of rest number ≡ Some row → G number row.dying) → G number row.dying
       by true is found later = let same : first ≡ row = cc in
-          subst (λ (row : Row). G number row.dying) same (subst (λ n. G n first.dying) (eqb-true first.number number is) (All-head (λ (row : Row). G row.number row.dying) first rest all))
+          subst (λ (row : Row). G number row.dying) same
+          (subst (λ n. G n first.dying) (eqb-true first.number number is) (All-head (λ (row : Row). G row.number row.dying) first rest all))
       by false is found later = later found
 
 -- it holds after an object began to die
-pub each_marked : (G H : ℕ → Bool → Type 0) (forest : Forest) (number : ℕ) → H number true → ((n : ℕ) (dying : Bool) → (n == number) ≡ false → G n dying → H n dying) → OfEach G forest.rows → OfEach H (marked forest number).rows
+pub each_marked : (G H : ℕ → Bool → Type 0) (forest : Forest) (number : ℕ) → H number true
+    → ((n : ℕ) (dying : Bool) → (n == number) ≡ false → G n dying → H n dying) → OfEach G forest.rows → OfEach H (marked forest number).rows
 unfolding marked
 each_marked G H forest number marked' others all =
     All-map (λ (row : Row). H row.number row.dying) (λ row. cond (has_number number row) (dies row) row) forest.rows
-    (All-weaker (λ (row : Row). G row.number row.dying) (λ (row : Row). H (cond (has_number number row) (dies row) row).number (cond (has_number number row) (dies row) row).dying) (λ row. one row (has_number number row) refl) forest.rows all)
+    (All-weaker (λ (row : Row). G row.number row.dying)
+    (λ (row : Row). H (cond (has_number number row) (dies row) row).number (cond (has_number number row) (dies row) row).dying)
+    (λ row. one row (has_number number row) refl) forest.rows all)
   where
     dies : Row → Row
     dies row = record row { dying = true }
 
-    one : (row : Row) (same : Bool) → has_number number row ≡ same → G row.number row.dying → H (cond same (dies row) row).number (cond same (dies row) row).dying
+    one : (row : Row) (same : Bool) → has_number number row ≡ same → G row.number row.dying
+        → H (cond same (dies row) row).number (cond same (dies row) row).dying
     one row true is holds = subst (λ n. H n true) (sym (eqb-true row.number number is)) marked'
     one row false is holds = others row.number row.dying is holds
 
 -- and of what stays after an object has gone
-pub each_removed : (G H : ℕ → Bool → Type 0) (forest : Forest) (number : ℕ) → ((n : ℕ) (dying : Bool) → (n == number) ≡ false → G n dying → H n dying) → OfEach G forest.rows → OfEach H (removed forest number).rows
+pub each_removed : (G H : ℕ → Bool → Type 0) (forest : Forest) (number : ℕ) → ((n : ℕ) (dying : Bool) → (n == number) ≡ false → G n dying → H n dying)
+    → OfEach G forest.rows → OfEach H (removed forest number).rows
 unfolding removed
-each_removed G H forest number others all = All-from_recursion (λ (row : Row). H row.number row.dying) _ (those forest.rows (recursion_from_All (λ (row : Row). G row.number row.dying) forest.rows all))
+each_removed G H forest number others all = All-from_recursion (λ (row : Row). H row.number row.dying) _
+    (those forest.rows (recursion_from_All (λ (row : Row). G row.number row.dying) forest.rows all))
   where
-    root : (row : Row) (child : Bool) → H row.number row.dying → H (cond child (record row { parent = None }) row).number (cond child (record row { parent = None }) row).dying
+    root : (row : Row) (child : Bool) → H row.number row.dying
+        → H (cond child (record row { parent = None }) row).number (cond child (record row { parent = None }) row).dying
     root row true holds = holds
     root row false holds = holds
 
-    those : (rows : List Row) → AllByRecursion (λ (row : Row). G row.number row.dying) rows → AllByRecursion (λ (row : Row). H row.number row.dying) (map (orphaned number) (filter (λ row. not (has_number number row)) rows))
+    those : (rows : List Row) → AllByRecursion (λ (row : Row). G row.number row.dying) rows
+        → AllByRecursion (λ (row : Row). H row.number row.dying) (map (orphaned number) (filter (λ row. not (has_number number row)) rows))
     those [] all = tt
     those (row ∷ rest) all = by (has_number number row) refl (those rest all.1)
       where
-        by : (same : Bool) → has_number number row ≡ same → AllByRecursion (λ (row : Row). H row.number row.dying) (map (orphaned number) (filter (λ row. not (has_number number row)) rest))
-            → AllByRecursion (λ (row : Row). H row.number row.dying) (map (orphaned number) (cond (not same) (row ∷ filter (λ row. not (has_number number row)) rest) (filter (λ row. not (has_number number row)) rest)))
+        by : (same : Bool) → has_number number row ≡ same → AllByRecursion (λ (row : Row). H row.number row.dying)
+            (map (orphaned number) (filter (λ row. not (has_number number row)) rest))
+            → AllByRecursion (λ (row : Row). H row.number row.dying)
+            (map (orphaned number) (cond (not same) (row ∷ filter (λ row. not (has_number number row)) rest)
+            (filter (λ row. not (has_number number row)) rest)))
         by true is later = later
         by false is later = (root row (has_parent (Some number) row) (others row.number row.dying is all.0), later)
 
@@ -109,6 +127,7 @@ stands_living rows number passed = by (row_of rows number) refl passed
     lives row true e = absurd (cc)
     lives row false e = refl
 
-    by : (found : Option Row) → row_of rows number ≡ found → option_map_or (λ (row : Row). cond row.dying (Some Dying) None) found (Some NoSuchObject) ≡ None → Stands rows number
+    by : (found : Option Row) → row_of rows number ≡ found → option_map_or (λ (row : Row). cond row.dying (Some Dying) None) found (Some NoSuchObject) ≡ None
+        → Stands rows number
     by None is e = absurd (cc)
     by (Some row) is e = record { there = ap is_some is; row = row; found = is; living = lives row row.dying e }

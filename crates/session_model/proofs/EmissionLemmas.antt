@@ -19,7 +19,8 @@ use Rattle.session_model.specs.Acts.{acts}
 use Rattle.session_model.specs.Arriving.{posts_of}
 use Rattle.binding_values.specs.declared.property.BindingError.{BindingError}
 use Rattle.property_store.specs.declared.property.Property.{Property}
-use Rattle.session_model.specs.Agenda.{binding_line, call_line, callee_called, called, calls_of, connection_of, emitted, functor_ran, is_held_back, ran, step, with_turn}
+use Rattle.session_model.specs.Agenda.{binding_line, call_line, callee_called, called, calls_of, connection_of, emitted, functor_ran, is_held_back, ran, step}
+use Rattle.session_model.specs.Agenda.{with_turn}
 use Rattle.session_model.specs.Execution.{Execution, posting, single_shot_broken, line_told, turn_taken, used_up}
 use Rattle.session_model.specs.Items.{Call, Emit, Run, RunFunctor, Warn, WarnOf, puts}
 use Rattle.session_model.specs.Functors.{functor_at}
@@ -45,7 +46,8 @@ module _ (settings : Settings) (target signal : ℕ) (args : List Value) (depth 
 
     module _ (sent : is_held_back signal row ≡ false) where
       is_sent : step settings (Emit target signal args depth) doing
-          ≡ cond (nat_le NESTED_SIGNALS depth) (puts (Warn Limit (Some target) ∷ []) doing) (puts (calls_of doing target signal args depth) (posting doing (posts_of settings.classes doing.state target signal args)))
+          ≡ cond (nat_le NESTED_SIGNALS depth) (puts (Warn Limit (Some target) ∷ []) doing)
+          (puts (calls_of doing target signal args depth) (posting doing (posts_of settings.classes doing.state target signal args)))
       is_sent = is_emitted ∙ cond-false (is_held_back signal row) _ _ sent
 
       -- a signal that is nested too deep is not sent, and its object is warned of
@@ -53,8 +55,10 @@ module _ (settings : Settings) (target signal : ℕ) (args : List Value) (depth 
       emit_deep deep = let is : nat_le NESTED_SIGNALS depth ≡ true = grind (arith, nat_tests, deep) in is_sent ∙ cond-true (nat_le NESTED_SIGNALS depth) _ _ is
 
       -- a signal that is not nested too deep is posted, and calls what is connected to it
-      pub emit_calls : depth < NESTED_SIGNALS → step settings (Emit target signal args depth) doing ≡ puts (calls_of doing target signal args depth) (posting doing (posts_of settings.classes doing.state target signal args))
-      emit_calls shallow = let is : nat_le NESTED_SIGNALS depth ≡ false = grind (arith, nat_tests, shallow) in is_sent ∙ cond-false (nat_le NESTED_SIGNALS depth) _ _ is
+      pub emit_calls : depth < NESTED_SIGNALS → step settings (Emit target signal args depth) doing
+          ≡ puts (calls_of doing target signal args depth) (posting doing (posts_of settings.classes doing.state target signal args))
+      emit_calls shallow = let is : nat_le NESTED_SIGNALS depth ≡ false = grind (arith, nat_tests, shallow) in is_sent
+          ∙ cond-false (nat_le NESTED_SIGNALS depth) _ _ is
 
 module _ (settings : Settings) (number : ℕ) (args : List Value) (depth : ℕ) (doing : Execution) where
   -- a connection that is broken is not called
@@ -75,7 +79,8 @@ module _ (settings : Settings) (number : ℕ) (args : List Value) (depth : ℕ) 
 
     -- a connection that stands takes a turn where one is left
     pub call_taken : 0 < doing.turns → step settings (Call number args depth) doing ≡ callee_called settings connection args depth after connection.callee
-    call_taken some = let is : (doing.turns == 0) ≡ false = grind (arith, nat_tests, some) in is_called ∙ cond-false (doing.turns == 0) _ (called settings connection args depth (turn_taken doing)) is
+    call_taken some = let is : (doing.turns == 0) ≡ false = grind (arith, nat_tests, some) in is_called
+        ∙ cond-false (doing.turns == 0) _ (called settings connection args depth (turn_taken doing)) is
 
 module _ (settings : Settings) (target index sender : ℕ) (args : List Value) (depth : ℕ) (doing : Execution) where
   -- a slot that is there is told of, and does what its body says, one level deeper
@@ -89,7 +94,8 @@ module _ (settings : Settings) (target index sender connection : ℕ) (args : Li
   run_functor_absent absent = ap (λ found. option_map_or (functor_ran doing target sender connection args depth) found (puts [] doing)) absent
 
   -- a functor that is there is told of, steps its connection's state, and does what its body says
-  pub run_functor : (functor : Functor) → functor_at settings index ≡ Some functor → step settings (RunFunctor target index sender connection args depth) doing ≡ functor_ran doing target sender connection args depth functor
+  pub run_functor : (functor : Functor) → functor_at settings index ≡ Some functor
+      → step settings (RunFunctor target index sender connection args depth) doing ≡ functor_ran doing target sender connection args depth functor
   run_functor functor has = ap (λ found. option_map_or (functor_ran doing target sender connection args depth) found (puts [] doing)) has
 
 module _ (settings : Settings) (doing : Execution) where
@@ -97,5 +103,6 @@ module _ (settings : Settings) (doing : Execution) where
   pub warn_told : (code : Code) (object : Option ℕ) → step settings (Warn code object) doing ≡ puts [] (line_told doing (line.Warning code object))
   warn_told code object = refl
 
-  pub warn_of_told : (at : Property) (error : BindingError) → step settings (WarnOf at error) doing ≡ puts [] (line_told doing (binding_line settings doing.state at error))
+  pub warn_of_told : (at : Property) (error : BindingError) → step settings (WarnOf at error) doing
+      ≡ puts [] (line_told doing (binding_line settings doing.state at error))
   warn_of_told at error = refl

@@ -55,7 +55,8 @@ module _ (settings : Settings) (self : List ℕ) (state : State) where
   unfolding refusal
   refusal_do operation = refl
 
-  pub performs_do : (operation : Operation) → performs settings self state (Do operation) ≡ replies (with_operation state operation) (operation_answer state operation)
+  pub performs_do : (operation : Operation) → performs settings self state (Do operation)
+      ≡ replies (with_operation state operation) (operation_answer state operation)
   unfolding performs
   performs_do operation = refl
 
@@ -64,10 +65,12 @@ module _ (settings : Settings) (state : State) where
   spin_keeps = ran settings state spin (Spin ∷ to_do.ReplySpun ∷ []) (begun settings state) (record {
     none = refl;
     leaves = stays settings state spin;
-    items = λ fits. All-cons (IsFittingItem settings state) Spin (to_do.ReplySpun ∷ []) tt (All-cons (IsFittingItem settings state) to_do.ReplySpun [] tt (All-nil (IsFittingItem settings state)));
+    items = λ fits. All-cons (IsFittingItem settings state) Spin (to_do.ReplySpun ∷ []) tt
+        (All-cons (IsFittingItem settings state) to_do.ReplySpun [] tt (All-nil (IsFittingItem settings state)));
     posts = All-nil IsRightPost;
     names = λ are is named. All-cons IsNamedItem Spin (to_do.ReplySpun ∷ []) tt (All-cons IsNamedItem to_do.ReplySpun [] tt (All-nil IsNamedItem));
   })
 
   pub do_keeps : (operation : Operation) → operation_refusal state operation ≡ None → Keeps settings state (Do operation) (does_found state (Ok operation))
-  do_keeps operation passed = found_keeps settings state (Do operation) (Ok operation) passed (λ other is may. let same : operation ≡ other = cc in subst (IsFittingOperation settings state.forest.rows) same may)
+  do_keeps operation passed = found_keeps settings state (Do operation) (Ok operation) passed
+      (λ other is may. let same : operation ≡ other = cc in subst (IsFittingOperation settings state.forest.rows) same may)

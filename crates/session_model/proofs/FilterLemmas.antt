@@ -47,7 +47,8 @@ pub find-none : {X : Type 0} (q : X → Bool) (xs : List X) → find q xs ≡ No
 find-none q [] e = refl
 find-none q (first ∷ xs) e = by (q first) e (find-none q xs)
   where
-    by : (passed : Bool) → cond passed (Some first) (find q xs) ≡ None → (find q xs ≡ None → filter q xs ≡ []) → cond passed (first ∷ filter q xs) (filter q xs) ≡ []
+    by : (passed : Bool) → cond passed (Some first) (find q xs) ≡ None → (find q xs ≡ None → filter q xs ≡ [])
+        → cond passed (first ∷ filter q xs) (filter q xs) ≡ []
     by true e later = absurd (cc)
     by false e later = later e
 

@@ -12,17 +12,21 @@ use Rattle.signature_core.specs.declared.kind.Kind.TheVariants as k
 use Rattle.variant_value.specs.declared.value.Value.{Value}
 use Rattle.variant_value.specs.declared.value.Value.TheVariants as v
 use Rattle.variant_value.specs.declared.value.TheConstants.{TEXT_BYTES}
-use Rattle.variant_value.specs.Values.{IsOfKind, IsShort, converted, inferred, inferred_number, number_in, number_of, text_in, text_of, truth_in, value_of, whole_number}
+use Rattle.variant_value.specs.Values.{IsOfKind, IsShort, converted, inferred, inferred_number, number_in, number_of, text_in, text_of, truth_in, value_of}
+use Rattle.variant_value.specs.Values.{whole_number}
 use Rattle.property_store.specs.declared.field.Field.{Field}
-use Rattle.property_store.specs.Store.{AreSound, Properties, dynamic_refusal, field_number, properties_of, refusal_of_name, with_dynamic, with_value, without_dynamic}
+use Rattle.property_store.specs.Store.{AreSound, Properties, dynamic_refusal, field_number, properties_of, refusal_of_name, with_dynamic, with_value}
+use Rattle.property_store.specs.Store.{without_dynamic}
 use Rattle.property_store.proofs.ForCallers.{with_dynamic_sound, without_dynamic_sound, with_value_sound}
 use Rattle.session_model.specs.Methods.{Found, ◌>>=◌}
 use Rattle.session_model.specs.State.{State}
-use Rattle.session_model.specs.Writing.{Declared, Dynamic, Nothing, DeclaredField, Removed, Writing, acted_writing, asked_place, asked_writing, declared, dynamic_writing, short}
+use Rattle.session_model.specs.Writing.{Declared, Dynamic, Nothing, DeclaredField, Removed, Writing, acted_writing, asked_place, asked_writing, declared}
+use Rattle.session_model.specs.Writing.{dynamic_writing, short}
 
 -- what is written keeps the properties of an object sound
 abbrev pub IsFit : State → ℕ → Writing → Type 0
-IsFit state object (Declared number value) = (of : Properties) → properties_of state.store object ≡ Some of → AreSound of → AreSound (with_value number value of)
+IsFit state object (Declared number value) = (of : Properties) → properties_of state.store object ≡ Some of → AreSound of
+    → AreSound (with_value number value of)
 IsFit state object (Dynamic name value) = (of : Properties) → properties_of state.store object ≡ Some of → AreSound of → AreSound (with_dynamic name value of)
 IsFit state object (Removed name) = (of : Properties) → properties_of state.store object ≡ Some of → AreSound of → AreSound (without_dynamic name of)
 IsFit state object Nothing = Unit {0}
@@ -122,7 +126,8 @@ inferred_short d.null value e = given IsShort v.Invalid value tt e
 inferred_short (d.boolean b) value e = given IsShort (v.Bool b) value tt e
 inferred_short (d.number n) value e = whole (as_integer n) e
   where
-    made : (z : ℤ) (one two three : Option Value) → number_of k.Int z ≡ one → number_of k.Longlong z ≡ two → number_of k.Ulonglong z ≡ three → ok_or (option_or one (option_or two three)) BadValue ≡ Ok value → IsShort value
+    made : (z : ℤ) (one two three : Option Value) → number_of k.Int z ≡ one → number_of k.Longlong z ≡ two → number_of k.Ulonglong z ≡ three
+        → ok_or (option_or one (option_or two three)) BadValue ≡ Ok value → IsShort value
     made z (Some number) two three is so also e = given IsShort number value (number_kind k.Int z number is).of_kind.1 e
     made z None (Some number) three is so also e = given IsShort number value (number_kind k.Longlong z number so).of_kind.1 e
     made z None None (Some number) is so also e = given IsShort number value (number_kind k.Ulonglong z number also).of_kind.1 e
@@ -147,27 +152,33 @@ short_short (v.Text text) new e = (text_short text new e).1
 
 module _ (state : State) (object : ℕ) (name : List ℕ) where
   -- a declared property takes a value of its kind
-  declared_fit : (place : DeclaredField) (value : Value) → declared state object name ≡ Some place → IsOfKind place.kind value → IsFit state object (Declared place.number value)
-  declared_fit place value e kind of is sound = numbered (field_number name of.fields) (sym (ap (option_and_then (λ of. option_and_then (at of) (field_number name of.fields))) is) ∙ e)
+  declared_fit : (place : DeclaredField) (value : Value) → declared state object name ≡ Some place → IsOfKind place.kind value
+      → IsFit state object (Declared place.number value)
+  declared_fit place value e kind of is sound = numbered (field_number name of.fields)
+      (sym (ap (option_and_then (λ of. option_and_then (at of) (field_number name of.fields))) is) ∙ e)
     where
       at : Properties → ℕ → Option DeclaredField
       at of number = option_map (λ field. record { number = number; kind = field.kind }) (slice_get of.fields number)
 
-      found : (number : ℕ) (field : Option Field) → slice_get of.fields number ≡ field → option_map (λ field. record { number = number; kind = field.kind }) field ≡ Some place → AreSound (with_value place.number value of)
+      found : (number : ℕ) (field : Option Field) → slice_get of.fields number ≡ field
+          → option_map (λ field. record { number = number; kind = field.kind }) field ≡ Some place → AreSound (with_value place.number value of)
       found number None is e = absurd (cc)
       found number (Some field) is e =
           let same : record { number = number; kind = field.kind } ≡ place = cc in
-          subst (λ (place : DeclaredField). IsOfKind place.kind value → AreSound (with_value place.number value of)) same (λ kind. with_value_sound of sound number value field is kind.0 kind.1) kind
+          subst (λ (place : DeclaredField). IsOfKind place.kind value → AreSound (with_value place.number value of)) same
+          (λ kind. with_value_sound of sound number value field is kind.0 kind.1) kind
 
       numbered : (number : Option ℕ) → option_and_then (at of) number ≡ Some place → AreSound (with_value place.number value of)
       numbered None e = absurd (cc)
       numbered (Some number) e = found number (slice_get of.fields number) refl e
 
   -- a dynamic one a short value, where there is room
-  set_fit : (value : Value) (writing : Writing) → IsShort value → option_map_or Err (dynamic_refusal state.store object name) (Ok (Dynamic name value)) ≡ Ok writing → IsFit state object writing
+  set_fit : (value : Value) (writing : Writing) → IsShort value
+      → option_map_or Err (dynamic_refusal state.store object name) (Ok (Dynamic name value)) ≡ Ok writing → IsFit state object writing
   set_fit value writing is_short e = by (dynamic_refusal state.store object name) refl e
     where
-      by : (refusal : Option Code) → dynamic_refusal state.store object name ≡ refusal → option_map_or Err refusal (Ok (Dynamic name value)) ≡ Ok writing → IsFit state object writing
+      by : (refusal : Option Code) → dynamic_refusal state.store object name ≡ refusal → option_map_or Err refusal (Ok (Dynamic name value)) ≡ Ok writing
+          → IsFit state object writing
       by (Some code) is e = absurd (cc)
       by None is e =
           let same : Dynamic name value ≡ writing = cc in
@@ -175,7 +186,8 @@ module _ (state : State) (object : ℕ) (name : List ℕ) where
           (λ of there sound. with_dynamic_sound of name value sound is_short (sym (ap (option_and_then (λ of. refusal_of_name name of.dynamic)) there) ∙ is))
 
   dynamic_fit : (value : Value) (writing : Writing) → IsShort value → dynamic_writing state object name value ≡ Ok writing → IsFit state object writing
-  dynamic_fit v.Invalid writing is_short e = let same : Removed name ≡ writing = cc in subst (IsFit state object) same (λ of there sound. without_dynamic_sound of name sound)
+  dynamic_fit v.Invalid writing is_short e = let same : Removed name ≡ writing = cc in subst (IsFit state object) same
+      (λ of there sound. without_dynamic_sound of name sound)
   dynamic_fit (v.Bool b) writing is_short e = set_fit (v.Bool b) writing is_short e
   dynamic_fit (v.Int z) writing is_short e = set_fit (v.Int z) writing is_short e
   dynamic_fit (v.Uint n) writing is_short e = set_fit (v.Uint n) writing is_short e
@@ -184,12 +196,15 @@ module _ (state : State) (object : ℕ) (name : List ℕ) where
   dynamic_fit (v.Text text) writing is_short e = set_fit (v.Text text) writing is_short e
 
   -- a value that is found is written
-  placed_fit : (place : DeclaredField) (found : Found Value) (writing : Writing) → declared state object name ≡ Some place → ((value : Value) → found ≡ Ok value → IsOfKind place.kind value)
+  placed_fit : (place : DeclaredField) (found : Found Value) (writing : Writing) → declared state object name ≡ Some place
+      → ((value : Value) → found ≡ Ok value → IsOfKind place.kind value)
       → (found >>= λ value. Ok (Declared place.number value)) ≡ Ok writing → IsFit state object writing
   placed_fit place (Err code) writing is kind e = absurd (cc)
-  placed_fit place (Ok value) writing is kind e = let same : Declared place.number value ≡ writing = cc in subst (IsFit state object) same (declared_fit place value is (kind value refl))
+  placed_fit place (Ok value) writing is kind e = let same : Declared place.number value ≡ writing = cc in subst (IsFit state object) same
+      (declared_fit place value is (kind value refl))
 
-  named_fit : (found : Found Value) (writing : Writing) → ((value : Value) → found ≡ Ok value → IsShort value) → (found >>= dynamic_writing state object name) ≡ Ok writing → IsFit state object writing
+  named_fit : (found : Found Value) (writing : Writing) → ((value : Value) → found ≡ Ok value → IsShort value)
+      → (found >>= dynamic_writing state object name) ≡ Ok writing → IsFit state object writing
   named_fit (Err code) writing short e = absurd (cc)
   named_fit (Ok value) writing short e = dynamic_fit value writing (short value refl) e
 
@@ -197,7 +212,8 @@ module _ (state : State) (object : ℕ) (name : List ℕ) where
   pub asked_fit : (json : Data) (writing : Writing) → asked_writing state object name json ≡ Ok writing → IsFit state object writing
   asked_fit json writing e = by (declared state object name) refl e
     where
-      place_fit : (place : DeclaredField) (json : Data) → declared state object name ≡ Some place → asked_place json place ≡ Ok writing → IsFit state object writing
+      place_fit : (place : DeclaredField) (json : Data) → declared state object name ≡ Some place → asked_place json place ≡ Ok writing
+          → IsFit state object writing
       place_fit place d.null is e = let same : Nothing ≡ writing = cc in subst (IsFit state object) same tt
       place_fit place (d.boolean b) is e = placed_fit place (value_of place.kind (d.boolean b)) writing is (read_kind place.kind (d.boolean b)) e
       place_fit place (d.number n) is e = placed_fit place (value_of place.kind (d.number n)) writing is (read_kind place.kind (d.number n)) e
@@ -205,7 +221,8 @@ module _ (state : State) (object : ℕ) (name : List ℕ) where
       place_fit place (d.array items) is e = placed_fit place (value_of place.kind (d.array items)) writing is (read_kind place.kind (d.array items)) e
       place_fit place (d.object fields) is e = placed_fit place (value_of place.kind (d.object fields)) writing is (read_kind place.kind (d.object fields)) e
 
-      by : (found : Option DeclaredField) → declared state object name ≡ found → option_map_or (asked_place json) found (inferred json >>= dynamic_writing state object name) ≡ Ok writing → IsFit state object writing
+      by : (found : Option DeclaredField) → declared state object name ≡ found
+          → option_map_or (asked_place json) found (inferred json >>= dynamic_writing state object name) ≡ Ok writing → IsFit state object writing
       by None is e = named_fit (inferred json) writing (inferred_short json) e
       by (Some place) is e = place_fit place json is e
 
@@ -214,7 +231,8 @@ module _ (state : State) (object : ℕ) (name : List ℕ) where
   acted_fit value writing e = by (declared state object name) refl e
     where
       by : (found : Option DeclaredField) → declared state object name ≡ found
-          → option_map_or (λ place. ok_or (converted place.kind value) BadValue >>= short >>= λ value. Ok (Declared place.number value)) found (short value >>= dynamic_writing state object name) ≡ Ok writing
+          → option_map_or (λ place. ok_or (converted place.kind value) BadValue >>= short >>= λ value. Ok (Declared place.number value)) found
+          (short value >>= dynamic_writing state object name) ≡ Ok writing
           → IsFit state object writing
       by None is e = named_fit (short value) writing (short_short value) e
       by (Some place) is e = placed_fit place (ok_or (converted place.kind value) BadValue >>= short) writing is (converted_kind place.kind value) e

@@ -1,5 +1,6 @@
 -- Arguments: as many as there are parameters, each of its kind, and no text too long.
-use Rattle.std.proofs.Common.{◌≡◌, ◌==◌, ℕ, Bool, true, false, cond, bytes_eq, List, [], ◌∷◌, ◌++◌, Option, Some, None, Ok, Err, IfOk, IfSome, find, length, take, refl, ap, subst, append_assoc, ◌∙◌}
+use Rattle.std.proofs.Common.{◌≡◌, ◌==◌, ℕ, Bool, true, false, cond, bytes_eq, List, [], ◌∷◌, ◌++◌, Option, Some, None, Ok, Err, IfOk, IfSome, find, length}
+use Rattle.std.proofs.Common.{take, refl, ap, subst, append_assoc, ◌∙◌}
 use Rattle.std.specs.List.{All, list_all}
 use Rattle.std.specs.Option.{ok_or, option_and_then, option_map, option_map_or}
 use Rattle.std.proofs.lemmas.Bool.{and_parts}
@@ -39,17 +40,20 @@ front_arguments [] rest (value ∷ args) all = tt
 front_arguments (kind ∷ front) rest [] all = absurd all
 front_arguments (kind ∷ front) rest (value ∷ args) all = (all.0, front_arguments front rest args all.1)
 
-pub fitting_arguments : (kinds params : List Kind) (args : List Value) → fits kinds params ≡ true → AreArguments kinds args → AreArguments params (take (length params) args)
+pub fitting_arguments : (kinds params : List Kind) (args : List Value) → fits kinds params ≡ true → AreArguments kinds args
+    → AreArguments params (take (length params) args)
 fitting_arguments kinds params args fit all =
     let split = (Decides-fits kinds params).0 fit in
     front_arguments params split.0 args (subst (λ kinds. AreArguments kinds args) split.1 all)
 
 -- so do parameters that are the first of those
-pub fitting_through : (kinds front params : List Kind) (args : List Value) → fits kinds front ≡ true → fits front params ≡ true → AreArguments kinds args → AreArguments params (take (length params) args)
+pub fitting_through : (kinds front params : List Kind) (args : List Value) → fits kinds front ≡ true → fits front params ≡ true → AreArguments kinds args
+    → AreArguments params (take (length params) args)
 fitting_through kinds front params args one other all =
     let first = (Decides-fits kinds front).0 one in
     let second = (Decides-fits front params).0 other in
-    front_arguments params (second.0 ++ first.0) args (subst (λ kinds. AreArguments kinds args) (first.1 ∙ ap (λ kinds. kinds ++ first.0) second.1 ∙ append_assoc params second.0 first.0) all)
+    front_arguments params (second.0 ++ first.0) args
+    (subst (λ kinds. AreArguments kinds args) (first.1 ∙ ap (λ kinds. kinds ++ first.0) second.1 ∙ append_assoc params second.0 first.0) all)
 
 pub short_arguments : (kinds : List Kind) (args : List Value) → AreArguments kinds args → All IsShort args
 short_arguments [] [] all = All-nil IsShort
@@ -62,15 +66,18 @@ pub converted_arguments : (kinds : List Kind) (values new : List Value) → All 
 converted_arguments [] [] new short e = let same : [] ≡ new = cc in subst (AreArguments []) same tt
 converted_arguments [] (value ∷ values) new short e = absurd (cc)
 converted_arguments (kind ∷ kinds) [] new short e = absurd (cc)
-converted_arguments (kind ∷ kinds) (value ∷ values) new short e = first (converted kind value) refl (λ rest so. converted_arguments kinds values rest (All-tail IsShort value values short) so) e
+converted_arguments (kind ∷ kinds) (value ∷ values) new short e =
+    first (converted kind value) refl (λ rest so. converted_arguments kinds values rest (All-tail IsShort value values short) so) e
   where
-    others : (one : Value) → IsOfKind kind one → (found : Found (List Value)) → ((rest : List Value) → found ≡ Ok rest → AreArguments kinds rest) → (found >>= λ rest. Ok (one ∷ rest)) ≡ Ok new → AreArguments (kind ∷ kinds) new
+    others : (one : Value) → IsOfKind kind one → (found : Found (List Value)) → ((rest : List Value) → found ≡ Ok rest → AreArguments kinds rest)
+        → (found >>= λ rest. Ok (one ∷ rest)) ≡ Ok new → AreArguments (kind ∷ kinds) new
     others one is (Err code) later e = absurd (cc)
     others one is (Ok rest) later e =
         let same : one ∷ rest ≡ new = cc in
         subst (AreArguments (kind ∷ kinds)) same (is, later rest refl)
 
-    first : (one : Option Value) → converted kind value ≡ one → ((rest : List Value) → all_converted kinds values ≡ Ok rest → AreArguments kinds rest) → (ok_or one BadValue >>= λ first. all_converted kinds values >>= λ rest. Ok (first ∷ rest)) ≡ Ok new → AreArguments (kind ∷ kinds) new
+    first : (one : Option Value) → converted kind value ≡ one → ((rest : List Value) → all_converted kinds values ≡ Ok rest → AreArguments kinds rest)
+        → (ok_or one BadValue >>= λ first. all_converted kinds values >>= λ rest. Ok (first ∷ rest)) ≡ Ok new → AreArguments (kind ∷ kinds) new
     first None is later e = absurd (cc)
     first (Some one) is later e = others one (converted_fits kind value one (All-head IsShort value values short) is) (all_converted kinds values) later e
 
@@ -81,7 +88,8 @@ read_arguments [] (json ∷ jsons) values e = absurd (cc)
 read_arguments (kind ∷ kinds) [] values e = absurd (cc)
 read_arguments (kind ∷ kinds) (json ∷ jsons) values e = by (value_of kind json) (values_of kinds jsons) refl (λ rest so. read_arguments kinds jsons rest so) e
   where
-    by : (one : Found Value) (others : Found (List Value)) → value_of kind json ≡ one → ((rest : List Value) → others ≡ Ok rest → AreArguments kinds rest) → with_value one others ≡ Ok values → AreArguments (kind ∷ kinds) values
+    by : (one : Found Value) (others : Found (List Value)) → value_of kind json ≡ one → ((rest : List Value) → others ≡ Ok rest → AreArguments kinds rest)
+        → with_value one others ≡ Ok values → AreArguments (kind ∷ kinds) values
     by (Ok value) (Ok rest) is later e =
         let same : value ∷ rest ≡ values = cc in
         subst (AreArguments (kind ∷ kinds)) same (read_kind kind json value is, later rest refl)
@@ -95,24 +103,29 @@ module _ (state : State) (properties : stored.IsSound state.store) (bound : grap
   named_short : (object : ℕ) (name : List ℕ) → IfSome (named_value state object name) IsShort
   named_short object name = by (properties_of state.store object) refl
     where
-      free : (of : Properties) → AreSound of → (named : Option Named) → find (λ (named : Named). bytes_eq named.name name) of.dynamic ≡ named → IfSome (option_map (λ (named : Named). named.value) named) IsShort
+      free : (of : Properties) → AreSound of → (named : Option Named) → find (λ (named : Named). bytes_eq named.name name) of.dynamic ≡ named
+          → IfSome (option_map (λ (named : Named). named.value) named) IsShort
       free of sound None e = tt
       free of sound (Some named) e =
           let there = found (λ (named : Named). bytes_eq named.name name) of.dynamic named e in
           subst (λ (named : Named). IsShort named.value) (there.is named) (sound.dynamic_short there.at named there.within)
 
-      numbered : (of : Properties) → AreSound of → (number : Option ℕ) → IfSome (option_map_or (λ number. Some (shown state object number).0) number (dynamic_value name of.dynamic)) IsShort
+      numbered : (of : Properties) → AreSound of → (number : Option ℕ)
+          → IfSome (option_map_or (λ number. Some (shown state object number).0) number (dynamic_value name of.dynamic)) IsShort
       numbered of sound None = free of sound (find (λ (named : Named). bytes_eq named.name name) of.dynamic) refl
       numbered of sound (Some number) = value_short state.store properties state.graph bound (record { object = object; number = number })
 
-      by : (of : Option Properties) → properties_of state.store object ≡ of → IfSome (option_and_then (λ of. option_map_or (λ number. Some (shown state object number).0) (field_number name of.fields) (dynamic_value name of.dynamic)) of) IsShort
+      by : (of : Option Properties) → properties_of state.store object ≡ of
+          → IfSome (option_and_then (λ of. option_map_or (λ number. Some (shown state object number).0) (field_number name of.fields)
+          (dynamic_value name of.dynamic)) of) IsShort
       by None e = tt
       by (Some of) e =
           let there = found (λ (of : Properties). of.object == object) state.store of e in
           numbered of (subst AreSound (there.is of) (properties.each there.at of there.within)) (field_number name of.fields)
 
   reads_short : (self sender : ℕ) (target : Target) (name : List ℕ) → IfOk (reads state self sender target name) IsShort
-  reads_short self sender target name = by (is_there state.forest.rows (object_of state self sender target)) (named_value state (object_of state self sender target) name) (named_short (object_of state self sender target) name)
+  reads_short self sender target name = by (is_there state.forest.rows (object_of state self sender target))
+      (named_value state (object_of state self sender target) name) (named_short (object_of state self sender target) name)
     where
       read : Bool → Option Value → Answer (Unit {0})
       read there value = cond there (ok_or value (refused NoSuchProperty)) (Err (refused NoSuchObject))
@@ -122,26 +135,34 @@ module _ (state : State) (properties : stored.IsSound state.store) (bound : grap
       by true None short = tt
       by true (Some value) short = short
 
-  evaluated_short : (self sender : ℕ) (args : List Value) (term : Term) (value : Value) → All IsShort args → is_within_limits term ≡ true → evaluated state self sender args term ≡ Ok value → IsShort value
+  evaluated_short : (self sender : ℕ) (args : List Value) (term : Term) (value : Value) → All IsShort args → is_within_limits term ≡ true
+      → evaluated state self sender args term ≡ Ok value → IsShort value
   unfolding evaluated
   evaluated_short self sender args term value short limited e =
-      by (eval_by args (reads state self sender) term) (short_value term args (reads state self sender) (and_parts _ _ limited).1 short (reads_short self sender)) e
+      by (eval_by args (reads state self sender) term)
+      (short_value term args (reads state self sender) (and_parts _ _ limited).1 short (reads_short self sender)) e
     where
       by : (answer : Answer (Unit {0})) → IfOk answer IsShort → outcome answer ≡ Ok value → IsShort value
       by (Ok made) is e = let same : made ≡ value = cc in subst IsShort same is
       by (Err (refused code)) is e = absurd (cc)
       by (Err (own fault)) is e = absurd (cc)
 
-  pub all_evaluated_short : (self sender : ℕ) (args : List Value) (terms : List Term) (values : List Value) → All IsShort args → list_all is_within_limits terms ≡ true → all_evaluated state self sender args terms ≡ Ok values → All IsShort values
+  pub all_evaluated_short : (self sender : ℕ) (args : List Value) (terms : List Term) (values : List Value) → All IsShort args
+      → list_all is_within_limits terms ≡ true → all_evaluated state self sender args terms ≡ Ok values → All IsShort values
   all_evaluated_short self sender args [] values short limited e = let same : [] ≡ values = cc in subst (All IsShort) same (All-nil IsShort)
-  all_evaluated_short self sender args (term ∷ terms) values short limited e = first (evaluated state self sender args term) refl (λ rest so. all_evaluated_short self sender args terms rest short (and_parts _ _ limited).1 so) e
+  all_evaluated_short self sender args (term ∷ terms) values short limited e =
+      first (evaluated state self sender args term) refl (λ rest so. all_evaluated_short self sender args terms rest short (and_parts _ _ limited).1 so) e
     where
-      others : (one : Value) → IsShort one → (found : Found (List Value)) → ((rest : List Value) → found ≡ Ok rest → All IsShort rest) → (found >>= λ values. Ok (one ∷ values)) ≡ Ok values → All IsShort values
+      others : (one : Value) → IsShort one → (found : Found (List Value)) → ((rest : List Value) → found ≡ Ok rest → All IsShort rest)
+          → (found >>= λ values. Ok (one ∷ values)) ≡ Ok values → All IsShort values
       others one is (Err code) later e = absurd (cc)
       others one is (Ok rest) later e =
           let same : one ∷ rest ≡ values = cc in
           subst (All IsShort) same (All-cons IsShort one rest is (later rest refl))
 
-      first : (one : Found Value) → evaluated state self sender args term ≡ one → ((rest : List Value) → all_evaluated state self sender args terms ≡ Ok rest → All IsShort rest) → (one >>= λ value. all_evaluated state self sender args terms >>= λ values. Ok (value ∷ values)) ≡ Ok values → All IsShort values
+      first : (one : Found Value) → evaluated state self sender args term ≡ one
+          → ((rest : List Value) → all_evaluated state self sender args terms ≡ Ok rest → All IsShort rest)
+          → (one >>= λ value. all_evaluated state self sender args terms >>= λ values. Ok (value ∷ values)) ≡ Ok values → All IsShort values
       first (Err code) is later e = absurd (cc)
-      first (Ok one) is later e = others one (evaluated_short self sender args term one short (and_parts _ _ limited).0 is) (all_evaluated state self sender args terms) later e
+      first (Ok one) is later e = others one (evaluated_short self sender args term one short (and_parts _ _ limited).0 is)
+          (all_evaluated state self sender args terms) later e

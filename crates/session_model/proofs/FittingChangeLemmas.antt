@@ -22,7 +22,8 @@ use Rattle.session_model.specs.declared.line.Line.TheVariants.{Warning}
 use Rattle.session_model.specs.declared.post.Post.{Post}
 use Rattle.session_model.specs.Agenda.{queued}
 use Rattle.session_model.specs.Operations.{operation_done, with_operation}
-use Rattle.session_model.specs.Execution.{Execution, dying, first_taken, in_state, lost, enqueued, posting, severed, single_shot_broken, line_told, turn_taken, used_up, stepped}
+use Rattle.session_model.specs.Execution.{Execution, dying, first_taken, in_state, lost, enqueued, posting, severed, single_shot_broken, line_told, turn_taken}
+use Rattle.session_model.specs.Execution.{used_up, stepped}
 use Rattle.session_model.specs.Fitting.{IsConnected, IsFittingOperation, IsFittingEvent, IsFittingItem, IsJoined, IsPublished, IsRightPost}
 use Rattle.session_model.specs.Items.{Item, Next, puts}
 use Rattle.session_model.specs.Settings.{Settings}
@@ -60,7 +61,8 @@ module _ (settings : Settings) (rows : List Row) where
     joins = fit.joins;
   }
 
-  pub fits_operation : (state : State) (operation : Operation) → IsFittingOperation settings rows operation → Fits settings rows state → Fits settings rows (with_operation state operation)
+  pub fits_operation : (state : State) (operation : Operation) → IsFittingOperation settings rows operation → Fits settings rows state
+      → Fits settings rows (with_operation state operation)
   fits_operation state (d.Connect new unique) may fit = record {
     events = fit.events;
     connections = All-push (IsConnected settings rows) state.connections.rows (numbered (state.connections.last_number + 1) new) fit.connections may;
@@ -68,14 +70,19 @@ module _ (settings : Settings) (rows : List Row) where
     joins = fit.joins;
   }
   fits_operation state (d.Disconnect pattern) may fit = fits_without state (matches pattern) fit
-  fits_operation state (d.SetParent target parent) may fit = record { events = fit.events; connections = fit.connections; publications = fit.publications; joins = fit.joins }
+  fits_operation state (d.SetParent target parent) may fit = record
+      { events = fit.events; connections = fit.connections; publications = fit.publications; joins = fit.joins }
   fits_operation state (d.DeleteLater target) may fit = fits_event state (event.Deletion target) tt fit
-  fits_operation state (d.Block target on) may fit = record { events = fit.events; connections = fit.connections; publications = fit.publications; joins = fit.joins }
+  fits_operation state (d.Block target on) may fit =
+      record { events = fit.events; connections = fit.connections; publications = fit.publications; joins = fit.joins }
 
   pub fits_writing : (state : State) (object : ℕ) (writing : Writing) → Fits settings rows state → Fits settings rows (with_writing state object writing)
-  fits_writing state object (Declared number value) fit = record { events = fit.events; connections = fit.connections; publications = fit.publications; joins = fit.joins }
-  fits_writing state object (Dynamic name value) fit = record { events = fit.events; connections = fit.connections; publications = fit.publications; joins = fit.joins }
-  fits_writing state object (Removed name) fit = record { events = fit.events; connections = fit.connections; publications = fit.publications; joins = fit.joins }
+  fits_writing state object (Declared number value) fit = record
+      { events = fit.events; connections = fit.connections; publications = fit.publications; joins = fit.joins }
+  fits_writing state object (Dynamic name value) fit = record
+      { events = fit.events; connections = fit.connections; publications = fit.publications; joins = fit.joins }
+  fits_writing state object (Removed name) fit =
+      record { events = fit.events; connections = fit.connections; publications = fit.publications; joins = fit.joins }
   fits_writing state object Nothing fit = fit
 
   module _ (doing : Execution) (on : Carries doing) where
@@ -93,7 +100,8 @@ module _ (settings : Settings) (rows : List Row) where
 
     pub used_up_carries : Carries (used_up doing)
     unfolding used_up
-    used_up_carries = cond_both doing.spent doing (record doing { spent = true; lines = doing.lines ++ Warning TurnsUsedUp None ∷ [] }) Carries (λ spent. on) (λ fresh. record { fits = on.fits; posts = on.posts })
+    used_up_carries = cond_both doing.spent doing (record doing { spent = true; lines = doing.lines ++ Warning TurnsUsedUp None ∷ [] }) Carries (λ spent. on)
+        (λ fresh. record { fits = on.fits; posts = on.posts })
 
     pub shot_carries : (row : Connection) → Carries (single_shot_broken doing row)
     unfolding single_shot_broken
@@ -105,7 +113,9 @@ module _ (settings : Settings) (rows : List Row) where
     stepped_carries number next = record {
       fits = record {
         events = on.fits.events;
-        connections = all_stepped number next (IsConnected settings rows) (λ row may. record { signal_there = may.signal_there; callee = may.callee; fitting = may.fitting }) doing.state.connections.rows on.fits.connections;
+        connections = all_stepped number next (IsConnected settings rows)
+            (λ row may. record { signal_there = may.signal_there; callee = may.callee; fitting = may.fitting }) doing.state.connections.rows
+            on.fits.connections;
         publications = on.fits.publications;
         joins = on.fits.joins;
       };
@@ -118,15 +128,29 @@ module _ (settings : Settings) (rows : List Row) where
 
     lost_carries : Carries (lost doing)
     unfolding lost
-    lost_carries = record { fits = record { events = on.fits.events; connections = on.fits.connections; publications = on.fits.publications; joins = on.fits.joins }; posts = on.posts }
+    lost_carries = record {
+      fits = record {
+        events = on.fits.events;
+        connections = on.fits.connections;
+        publications = on.fits.publications;
+        joins = on.fits.joins;
+      };
+      posts = on.posts;
+    }
 
     pub queued_carries : (call : QueuedCall) → IsFittingEvent settings rows (event.Call call) → Carries (queued doing call)
-    queued_carries call new = cond_both (has_room doing.state.queue) (enqueued doing (event.Call call)) (lost doing) Carries (λ room. posted_carries (event.Call call) new) (λ full. lost_carries)
+    queued_carries call new = cond_both (has_room doing.state.queue) (enqueued doing (event.Call call)) (lost doing) Carries
+        (λ room. posted_carries (event.Call call) new) (λ full. lost_carries)
 
     pub first_carries : Carries (first_taken doing)
     unfolding first_taken
     first_carries = record {
-      fits = record { events = each_taken (IsFittingEvent settings rows) doing.state.queue on.fits.events; connections = on.fits.connections; publications = on.fits.publications; joins = on.fits.joins };
+      fits = record {
+        events = each_taken (IsFittingEvent settings rows) doing.state.queue on.fits.events;
+        connections = on.fits.connections;
+        publications = on.fits.publications;
+        joins = on.fits.joins;
+      };
       posts = on.posts;
     }
 
@@ -136,7 +160,11 @@ module _ (settings : Settings) (rows : List Row) where
 
     pub dying_carries : (target : ℕ) → Carries (dying doing target)
     unfolding dying
-    dying_carries target = record { fits = record { events = on.fits.events; connections = on.fits.connections; publications = on.fits.publications; joins = on.fits.joins }; posts = on.posts }
+    dying_carries target = record {
+      fits = record
+          { events = on.fits.events; connections = on.fits.connections; publications = on.fits.publications; joins = on.fits.joins };
+      posts = on.posts;
+    }
 
     pub severed_carries : (target : ℕ) → Carries (severed doing target)
     unfolding severed
@@ -144,7 +172,8 @@ module _ (settings : Settings) (rows : List Row) where
       fits = record {
         events = each_dropped (IsFittingEvent settings rows) target doing.state.queue on.fits.events;
         connections = All-filter (λ row. not (touches target row)) (IsConnected settings rows) doing.state.connections.rows on.fits.connections;
-        publications = All-filter (λ (row : Publication). not (row.object == target)) (IsPublished settings rows) doing.state.desk.publications on.fits.publications;
+        publications = All-filter (λ (row : Publication). not (row.object == target))
+            (IsPublished settings rows) doing.state.desk.publications on.fits.publications;
         joins = All-filter (λ (join : Join). not (join.object == target)) (IsJoined settings rows) doing.state.desk.joins on.fits.joins;
       };
       posts = on.posts;
@@ -155,7 +184,11 @@ module _ (settings : Settings) (rows : List Row) where
     no_item = record { carries = on; items = All-nil (IsFittingItem settings doing.state) }
 
     pub one_item : (item : Item) → IsFittingItem settings doing.state item → Comes (puts (item ∷ []) doing)
-    one_item item fit = record { carries = on; items = All-cons (IsFittingItem settings doing.state) item [] fit (All-nil (IsFittingItem settings doing.state)) }
+    one_item item fit = record {
+      carries = on;
+      items = All-cons (IsFittingItem settings doing.state) item [] fit
+          (All-nil (IsFittingItem settings doing.state));
+    }
 
 -- a turn, and a single-shot connection that is broken, leave the objects
 pub turn_rows : (doing : Execution) → (turn_taken doing).state.forest.rows ≡ doing.state.forest.rows
@@ -164,7 +197,8 @@ turn_rows doing = refl
 
 pub shot_rows : (doing : Execution) (row : Connection) → (single_shot_broken doing row).state.forest.rows ≡ doing.state.forest.rows
 unfolding single_shot_broken
-shot_rows doing row = cond_both row.single (in_state doing (without_connections doing.state (has_number row.number))) doing (λ (new : Execution). new.state.forest.rows ≡ doing.state.forest.rows) (λ single. refl) (λ lasting. refl)
+shot_rows doing row = cond_both row.single (in_state doing (without_connections doing.state (has_number row.number))) doing
+    (λ (new : Execution). new.state.forest.rows ≡ doing.state.forest.rows) (λ single. refl) (λ lasting. refl)
 
 pub first_rows : (doing : Execution) → (first_taken doing).state.forest.rows ≡ doing.state.forest.rows
 unfolding first_taken

@@ -1,5 +1,6 @@
 -- What is looked for by name or signature is there, and a connection that is found fits.
-use Rattle.std.proofs.Common.{◌≡◌, ◌<◌, ℕ, zero, suc, Bool, true, false, cond, List, [], ◌∷◌, Option, Some, None, Ok, Err, is_some, length, slice_get, refl, subst, arith}
+use Rattle.std.proofs.Common.{◌≡◌, ◌<◌, ℕ, zero, suc, Bool, true, false, cond, List, [], ◌∷◌, Option, Some, None, Ok, Err, is_some, length, slice_get, refl}
+use Rattle.std.proofs.Common.{subst, arith}
 use Rattle.std.specs.Option.{ok_or}
 use Rattle.plain_types.specs.declared.code.Code.{Code}
 use Rattle.plain_types.specs.declared.code.Code.TheVariants.{DoesNotFit, NoSuchFunctor, NoSuchMethod}
@@ -35,7 +36,8 @@ found_past None found value e = e
 found_past (Some code) found value e = absurd (cc)
 
 -- where a first thing and a second are found, something holds of both
-after_found : {A B : Type 0} (P : A → Type 0) (Q : B → Type 0) (found : Found A) (more : A → Found B) → ((a : A) → found ≡ Ok a → P a) → ((a : A) → P a → (b : B) → more a ≡ Ok b → Q b) → (b : B) → (found >>= more) ≡ Ok b → Q b
+after_found : {A B : Type 0} (P : A → Type 0) (Q : B → Type 0) (found : Found A) (more : A → Found B) → ((a : A) → found ≡ Ok a → P a)
+    → ((a : A) → P a → (b : B) → more a ≡ Ok b → Q b) → (b : B) → (found >>= more) ≡ Ok b → Q b
 after_found P Q (Err code) more first second b e = absurd (cc)
 after_found P Q (Ok a) more first second b e = second a (first a refl) b e
 
@@ -68,26 +70,33 @@ module _ (methods : List Method) where
       by (Ok number) e = tested number (is_signal_at methods number) refl e
 
   pub named_method_there : (text : List ℕ) (index : ℕ) → method_named methods text ≡ Ok index → IsMethodAt index
-  named_method_there text = after_found (λ signature. Unit {0}) IsMethodAt (signature_in text) (method_with methods) (λ signature e. tt) (λ signature any. method_there signature)
+  named_method_there text = after_found (λ signature. Unit {0}) IsMethodAt (signature_in text) (method_with methods) (λ signature e. tt)
+      (λ signature any. method_there signature)
 
   pub named_signal_there : (text : List ℕ) (index : ℕ) → signal_named methods text ≡ Ok index → IsSignalAt index
-  named_signal_there text = after_found (λ signature. Unit {0}) IsSignalAt (signature_in text) (signal_with methods) (λ signature e. tt) (λ signature any. signal_there signature)
+  named_signal_there text = after_found (λ signature. Unit {0}) IsSignalAt (signature_in text) (signal_with methods) (λ signature e. tt)
+      (λ signature any. signal_there signature)
 
-pub functor_there : (settings : Settings) (name : List ℕ) (index : ℕ) → functor_named settings name ≡ Ok index → is_some (slice_get settings.functors index) ≡ true
+pub functor_there : (settings : Settings) (name : List ℕ) (index : ℕ) → functor_named settings name ≡ Ok index
+    → is_some (slice_get settings.functors index) ≡ true
 functor_there settings name index e = by (index_of name settings.functors) refl e
   where
-    by : (found : Option ℕ) → index_of name settings.functors ≡ found → ok_or found NoSuchFunctor ≡ Ok index → is_some (slice_get settings.functors index) ≡ true
+    by : (found : Option ℕ) → index_of name settings.functors ≡ found → ok_or found NoSuchFunctor ≡ Ok index
+        → is_some (slice_get settings.functors index) ≡ true
     by None is e = absurd (cc)
     by (Some number) is e =
         let same : number ≡ index = cc in
-        subst (λ index. is_some (slice_get settings.functors index) ≡ true) same (there_within settings.functors number (position_some _ settings.functors number is).1)
+        subst (λ index. is_some (slice_get settings.functors index) ≡ true) same
+        (there_within settings.functors number (position_some _ settings.functors number is).1)
 
-module _ (settings : Settings) (state : State) (sender : ℕ) (signal : Found ℕ) (signals : (index : ℕ) → signal ≡ Ok index → is_signal_at (methods_of settings state sender) index ≡ true) where
+module _ (settings : Settings) (state : State) (sender : ℕ) (signal : Found ℕ)
+    (signals : (index : ℕ) → signal ≡ Ok index → is_signal_at (methods_of settings state sender) index ≡ true) where
   abbrev Joins : NewConnection → Type 0
   Joins new = MayBeConnected settings state.forest.rows new.sender new.signal new.receiver new.callee
 
   -- a connection that is found joins a signal to a method that it fits
-  pub connection_fits : (receiver : ℕ) (method : Found ℕ) → ((index : ℕ) → method ≡ Ok index → is_some (slice_get (methods_of settings state receiver) index) ≡ true) → (mode : ConnectionType) (single : Bool)
+  pub connection_fits : (receiver : ℕ) (method : Found ℕ)
+      → ((index : ℕ) → method ≡ Ok index → is_some (slice_get (methods_of settings state receiver) index) ≡ true) → (mode : ConnectionType) (single : Bool)
       → (new : NewConnection) → new_connection settings state sender signal receiver method mode single ≡ Ok new → Joins new
   connection_fits receiver method methods mode single new e = by signal method signals methods e
     where
@@ -99,14 +108,16 @@ module _ (settings : Settings) (state : State) (sender : ℕ) (signal : Found �
       tested s m one other true is e = let same : made s m ≡ new = cc in subst Joins same (record { signal_there = one; callee = other; fitting = is })
       tested s m one other false is e = absurd (cc)
 
-      by : (one other : Found ℕ) → ((index : ℕ) → one ≡ Ok index → is_signal_at (methods_of settings state sender) index ≡ true) → ((index : ℕ) → other ≡ Ok index → is_some (slice_get (methods_of settings state receiver) index) ≡ true)
+      by : (one other : Found ℕ) → ((index : ℕ) → one ≡ Ok index → is_signal_at (methods_of settings state sender) index ≡ true)
+          → ((index : ℕ) → other ≡ Ok index → is_some (slice_get (methods_of settings state receiver) index) ≡ true)
           → (one >>= λ s. other >>= λ m. cond (fits_at settings state sender s receiver m) (Ok (made s m)) (Err DoesNotFit)) ≡ Ok new → Joins new
       by (Err code) other signals methods e = absurd (cc)
       by (Ok s) (Err code) signals methods e = absurd (cc)
       by (Ok s) (Ok m) signals methods e = tested s m (signals s refl) (methods m refl) (fits_at settings state sender s receiver m) refl e
 
   -- or to a functor
-  pub functor_connection_fits : (context : ℕ) (functor : Found ℕ) → ((index : ℕ) → functor ≡ Ok index → is_some (slice_get settings.functors index) ≡ true) → (mode : ConnectionType) (single : Bool)
+  pub functor_connection_fits : (context : ℕ) (functor : Found ℕ) → ((index : ℕ) → functor ≡ Ok index → is_some (slice_get settings.functors index) ≡ true)
+      → (mode : ConnectionType) (single : Bool)
       → (new : NewConnection) → new_functor_connection settings state sender signal context functor mode single ≡ Ok new → Joins new
   functor_connection_fits context functor functors mode single new e = by signal functor signals functors e
     where
@@ -118,20 +129,24 @@ module _ (settings : Settings) (state : State) (sender : ℕ) (signal : Found �
       tested s f one other true is e = let same : made s f ≡ new = cc in subst Joins same (record { signal_there = one; callee = other; fitting = is })
       tested s f one other false is e = absurd (cc)
 
-      by : (one other : Found ℕ) → ((index : ℕ) → one ≡ Ok index → is_signal_at (methods_of settings state sender) index ≡ true) → ((index : ℕ) → other ≡ Ok index → is_some (slice_get settings.functors index) ≡ true)
+      by : (one other : Found ℕ) → ((index : ℕ) → one ≡ Ok index → is_signal_at (methods_of settings state sender) index ≡ true)
+          → ((index : ℕ) → other ≡ Ok index → is_some (slice_get settings.functors index) ≡ true)
           → (one >>= λ s. other >>= λ f. cond (fits_functor settings state sender s f) (Ok (made s f)) (Err DoesNotFit)) ≡ Ok new → Joins new
       by (Err code) other signals functors e = absurd (cc)
       by (Ok s) (Err code) signals functors e = absurd (cc)
       by (Ok s) (Ok f) signals functors e = tested s f (signals s refl) (functors f refl) (fits_functor settings state sender s f) refl e
 
 -- so does the operation that makes it
-pub operation_fits : (settings : Settings) (rows : List Row) (found : Found NewConnection) (unique : Bool) → ((new : NewConnection) → found ≡ Ok new → MayBeConnected settings rows new.sender new.signal new.receiver new.callee)
+pub operation_fits : (settings : Settings) (rows : List Row) (found : Found NewConnection) (unique : Bool)
+    → ((new : NewConnection) → found ≡ Ok new → MayBeConnected settings rows new.sender new.signal new.receiver new.callee)
     → (operation : Operation) → (found >>= λ new. Ok (d.Connect new unique)) ≡ Ok operation → IsFittingOperation settings rows operation
 operation_fits settings rows (Err code) unique fits operation e = absurd (cc)
-operation_fits settings rows (Ok new) unique fits operation e = let same : d.Connect new unique ≡ operation = cc in subst (IsFittingOperation settings rows) same (fits new refl)
+operation_fits settings rows (Ok new) unique fits operation e =
+    let same : d.Connect new unique ≡ operation = cc in subst (IsFittingOperation settings rows) same (fits new refl)
 
 -- what breaks connections makes none
-pub pattern_fits : (settings : Settings) (rows : List Row) (absent other : Option Code) (found : Found Pattern) (operation : Operation) → behind absent (behind other (found >>= λ pattern. Ok (d.Disconnect pattern))) ≡ Ok operation → IsFittingOperation settings rows operation
+pub pattern_fits : (settings : Settings) (rows : List Row) (absent other : Option Code) (found : Found Pattern) (operation : Operation)
+    → behind absent (behind other (found >>= λ pattern. Ok (d.Disconnect pattern))) ≡ Ok operation → IsFittingOperation settings rows operation
 pattern_fits settings rows absent other found operation e = by found (found_past other _ operation (found_past absent _ operation e))
   where
     by : (found : Found Pattern) → (found >>= λ pattern. Ok (d.Disconnect pattern)) ≡ Ok operation → IsFittingOperation settings rows operation

@@ -36,7 +36,8 @@ use Rattle.session_model.specs.Operations.{behind, operation_done, operation_ref
 use Rattle.session_model.specs.Execution.{Execution, dying, severed, line_told, stepped}
 use Rattle.session_model.specs.Fitting.{AreSettings, IsCall, IsFittingOperation, IsFittingItem, IsFittingUnderWay, IsSent}
 use Rattle.session_model.specs.Functors.{functor_at}
-use Rattle.session_model.specs.Items.{Act, Call, Detach, Delete, Emit, Remove, Item, DeleteChild, Next, Reply, ReplySpun, Run, RunFunctor, Spin, Warn, WarnOf, puts}
+use Rattle.session_model.specs.Items.{Act, Call, Detach, Delete, Emit, Remove, Item, DeleteChild, Next, Reply, ReplySpun, Run, RunFunctor, Spin, Warn, WarnOf}
+use Rattle.session_model.specs.Items.{puts}
 use Rattle.session_model.specs.Methods.{Found, ◌>>=◌, is_signal_at, kinds_at, method_at, method_with, methods_by, methods_of, signal_with}
 use Rattle.session_model.specs.Posting.{spin_of}
 use Rattle.session_model.specs.Settings.{Settings}
@@ -46,7 +47,8 @@ use Rattle.session_model.specs.Targets.{all_converted, all_evaluated, named_obje
 use Rattle.session_model.specs.Writing.{Writing, with_writing, written, written_property}
 use Rattle.session_model.proofs.FittingArgumentLemmas.{all_evaluated_short, converted_arguments, short_arguments}
 use Rattle.session_model.proofs.FittingCallLemmas.{connection_comes, emitted_comes, spun_comes}
-use Rattle.session_model.proofs.FittingChangeLemmas.{Carries, Comes, done_carries, dying_carries, fits_writing, no_item, one_item, severed_carries, told_carries, stepped_carries}
+use Rattle.session_model.proofs.FittingChangeLemmas.{Carries, Comes, done_carries, dying_carries, fits_writing, no_item, one_item, severed_carries}
+use Rattle.session_model.proofs.FittingChangeLemmas.{told_carries, stepped_carries}
 use Rattle.session_model.proofs.DeclaredLemmas.{each_marked, item_declared}
 use Rattle.session_model.proofs.ItemLemmas.{item_under_way}
 use Rattle.session_model.proofs.FittingFoundLemmas.{connection_fits, operation_fits, found_past, method_there, pattern_fits, signal_there}
@@ -56,17 +58,21 @@ use Rattle.session_model.proofs.FittingLaterLemmas.{classes_stay, item_stays}
 use Rattle.session_model.proofs.FittingToldLemmas.{change_fits}
 
 -- the actions of a body that keeps to the limits fit, over short arguments
-acts_fit : (settings : Settings) (state : State) (body : Acts) (args : List Value) (self sender depth : ℕ) → are_limited body ≡ true → All IsShort args → All (IsFittingItem settings state) (acts body args self sender depth)
+acts_fit : (settings : Settings) (state : State) (body : Acts) (args : List Value) (self sender depth : ℕ) → are_limited body ≡ true → All IsShort args
+    → All (IsFittingItem settings state) (acts body args self sender depth)
 acts_fit settings state nothing args self sender depth limited short = All-nil (IsFittingItem settings state)
 acts_fit settings state (more action rest) args self sender depth limited short =
-    All-cons (IsFittingItem settings state) (Act action args self sender depth) (acts rest args self sender depth) ((and_parts _ _ limited).0, short) (acts_fit settings state rest args self sender depth (and_parts _ _ limited).1 short)
+    All-cons (IsFittingItem settings state) (Act action args self sender depth) (acts rest args self sender depth) ((and_parts _ _ limited).0, short)
+    (acts_fit settings state rest args self sender depth (and_parts _ _ limited).1 short)
 
 module _ (settings : Settings) (are : AreSettings settings) where
   -- the method of an object keeps to the limits
-  body_limited : (rows : List Row) (target index : ℕ) (method : Method) → slice_get (methods_by settings.classes rows target) index ≡ Some method → are_limited (acts_of method.body.actions) ≡ true
+  body_limited : (rows : List Row) (target index : ℕ) (method : Method) → slice_get (methods_by settings.classes rows target) index ≡ Some method
+      → are_limited (acts_of method.body.actions) ≡ true
   body_limited rows target index method is = by (row_of rows target) is
     where
-      by : (row : Option Row) → slice_get (option_map_or (λ row. methods settings.classes row.class) row []) index ≡ Some method → are_limited (acts_of method.body.actions) ≡ true
+      by : (row : Option Row) → slice_get (option_map_or (λ row. methods settings.classes row.class) row []) index ≡ Some method
+          → are_limited (acts_of method.body.actions) ≡ true
       by None e = absurd (cc)
       by (Some row) e = method_limited settings are row.class index method e
 
@@ -78,11 +84,15 @@ module _ (settings : Settings) (are : AreSettings settings) where
       by None is e = absurd (cc)
       by (Some row) is e =
           let it = found (has_number target) rows row is in
-          let class : is_some (slice_get settings.classes row.class) ≡ true = subst (λ (row : Row). is_some (slice_get settings.classes row.class) ≡ true) (it.is row) (classes it.at row it.within) in
-          let first : slice_get (methods_by settings.classes rows target) 0 ≡ Some destroyed = ap (λ row. slice_get (option_map_or (λ (row : Row). methods settings.classes row.class) row []) 0) is ∙ first_method settings are row.class class in
+          let class : is_some (slice_get settings.classes row.class) ≡ true =
+          subst (λ (row : Row). is_some (slice_get settings.classes row.class) ≡ true) (it.is row) (classes it.at row it.within) in
+          let first : slice_get (methods_by settings.classes rows target) 0 ≡ Some destroyed =
+          ap (λ row. slice_get (option_map_or (λ (row : Row). methods settings.classes row.class) row []) 0) is
+          ∙ first_method settings are row.class class in
           record {
             signal_there = ap (λ found. option_map_or (λ (method : Method). method.is_signal) found false) first;
-            arguments = subst (λ kinds. AreArguments kinds []) (sym (ap (λ found. option_map_or (λ (method : Method). method.signature.kinds) found []) first)) tt;
+            arguments = subst (λ kinds. AreArguments kinds [])
+                (sym (ap (λ found. option_map_or (λ (method : Method). method.signature.kinds) found []) first)) tt;
           }
 
   module _ (doing : Execution) (on : Carries settings doing.state.forest.rows doing) where
@@ -90,16 +100,20 @@ module _ (settings : Settings) (are : AreSettings settings) where
     rows = doing.state.forest.rows
 
     -- a slot that is run does what its body says
-    ran_comes : (target index sender : ℕ) (args : List Value) (depth : ℕ) → (is_there rows target ≡ true → IsCall settings rows target (callee.Method index) args) → (found : Option Method) → method_at settings doing.state target index ≡ found
+    ran_comes : (target index sender : ℕ) (args : List Value) (depth : ℕ)
+        → (is_there rows target ≡ true → IsCall settings rows target (callee.Method index) args) → (found : Option Method)
+        → method_at settings doing.state target index ≡ found
         → Comes settings rows (option_map_or (ran doing target sender args depth) found (puts [] doing))
     ran_comes target index sender args depth fit None is = no_item settings rows doing on
     ran_comes target index sender args depth fit (Some method) is = record {
       carries = told_carries settings rows doing on (call_line method target sender args);
-      items = acts_fit settings (line_told doing (call_line method target sender args)).state (acts_of method.body.actions) args target sender (depth + 1) (body_limited rows target index method is)
+      items = acts_fit settings (line_told doing (call_line method target sender args)).state (acts_of method.body.actions) args target sender (depth + 1)
+          (body_limited rows target index method is)
           (short_arguments _ args (fit (has_method settings.classes rows target index method is)).arguments);
     }
 
-    functor_ran_comes : (target index sender connection : ℕ) (args : List Value) (depth : ℕ) → IsCall settings rows target (callee.Functor index) args → (found : Option Functor) → functor_at settings index ≡ found
+    functor_ran_comes : (target index sender connection : ℕ) (args : List Value) (depth : ℕ) → IsCall settings rows target (callee.Functor index) args
+        → (found : Option Functor) → functor_at settings index ≡ found
         → Comes settings rows (option_map_or (functor_ran doing target sender connection args depth) found (puts [] doing))
     functor_ran_comes target index sender connection args depth fit None is = no_item settings rows doing on
     functor_ran_comes target index sender connection args depth fit (Some functor) is =
@@ -108,17 +122,23 @@ module _ (settings : Settings) (are : AreSettings settings) where
         let next = after functor.next state args in
         record {
           carries = stepped_carries settings rows new (told_carries settings rows doing on (functor_line functor target sender args)) connection next;
-          items = acts_fit settings (stepped new connection next).state (acts_of (with_state state functor.body).actions) args target sender (depth + 1) (functor_limited settings are index state functor is) (short_arguments _ args fit.arguments);
+          items = acts_fit settings (stepped new connection next).state (acts_of (with_state state functor.body).actions) args target sender (depth + 1)
+              (functor_limited settings are index state functor is) (short_arguments _ args fit.arguments);
         }
 
-    chosen_comes : (truth : Found Bool) (held failed : Acts) (args : List Value) (self sender depth : ℕ) → are_limited held ≡ true → are_limited failed ≡ true → All IsShort args → Comes settings rows (chosen truth held failed args self sender depth doing)
-    chosen_comes (Ok true) held failed args self sender depth one other short = record { carries = on; items = acts_fit settings doing.state held args self sender depth one short }
-    chosen_comes (Ok false) held failed args self sender depth one other short = record { carries = on; items = acts_fit settings doing.state failed args self sender depth other short }
+    chosen_comes : (truth : Found Bool) (held failed : Acts) (args : List Value) (self sender depth : ℕ) → are_limited held ≡ true → are_limited failed ≡ true
+        → All IsShort args → Comes settings rows (chosen truth held failed args self sender depth doing)
+    chosen_comes (Ok true) held failed args self sender depth one other short =
+        record { carries = on; items = acts_fit settings doing.state held args self sender depth one short }
+    chosen_comes (Ok false) held failed args self sender depth one other short =
+        record { carries = on; items = acts_fit settings doing.state failed args self sender depth other short }
     chosen_comes (Err code) held failed args self sender depth one other short = one_item settings rows doing on (Warn code (Some self)) tt
 
     -- another state is told of
-    telling_comes : IsWhole doing.state → (depth : ℕ) (after : State) (written : _) → Fits settings rows after → IsWhole after → IsDeclared settings.classes after → Comes settings rows (comes_to settings doing depth after written)
-    telling_comes before depth after written fit whole declared = record { carries = record { fits = fit; posts = on.posts }; items = change_fits settings are.table after whole declared doing before depth written }
+    telling_comes : IsWhole doing.state → (depth : ℕ) (after : State) (written : _) → Fits settings rows after → IsWhole after
+        → IsDeclared settings.classes after → Comes settings rows (comes_to settings doing depth after written)
+    telling_comes before depth after written fit whole declared =
+        record { carries = record { fits = fit; posts = on.posts }; items = change_fits settings are.table after whole declared doing before depth written }
 
     module _ (whole : IsWhole doing.state) (self sender : ℕ) (args : List Value) (short : All IsShort args) (depth : ℕ) where
       -- it comes to this, where that is a session such as an item leaves
@@ -128,14 +148,18 @@ module _ (settings : Settings) (are : AreSettings settings) where
       warns : (code : Code) → May (puts (Warn code (Some self) ∷ []) doing)
       warns code after declared = one_item settings rows doing on (Warn code (Some self)) tt
 
-      written_comes : (of : ℕ) (absent : Option Code) (found : Found Writing) → May (warns_or (option_or absent (result_err found)) self doing (with_found found (λ writing. written settings doing of depth writing) doing))
+      written_comes : (of : ℕ) (absent : Option Code) (found : Found Writing)
+          → May (warns_or (option_or absent (result_err found)) self doing (with_found found (λ writing. written settings doing of depth writing) doing))
       written_comes of (Some code) found = warns code
       written_comes of None (Err code) = warns code
       written_comes of None (Ok writing) = λ after declared.
-          telling_comes whole depth (with_writing doing.state of writing) (written_property of writing) (fits_writing settings rows doing.state of writing on.fits) after declared
+          telling_comes whole depth (with_writing doing.state of writing) (written_property of writing)
+          (fits_writing settings rows doing.state of writing on.fits) after declared
 
-      sent_comes : (of : ℕ) (absent : Option Code) (found : Found (ℕ × List Value)) → ((emitted : ℕ × List Value) → found ≡ Ok emitted → IsSent settings rows of emitted.0 emitted.1)
-          → May (warns_or (option_or absent (result_err found)) self doing (with_found found (λ emitted. puts (Emit of emitted.0 emitted.1 depth ∷ []) doing) doing))
+      sent_comes : (of : ℕ) (absent : Option Code) (found : Found (ℕ × List Value))
+          → ((emitted : ℕ × List Value) → found ≡ Ok emitted → IsSent settings rows of emitted.0 emitted.1)
+          → May (warns_or (option_or absent (result_err found)) self doing
+          (with_found found (λ emitted. puts (Emit of emitted.0 emitted.1 depth ∷ []) doing) doing))
       sent_comes of (Some code) found sent = warns code
       sent_comes of None (Err code) sent = warns code
       sent_comes of None (Ok emitted) sent = λ after declared. one_item settings rows doing on (Emit of emitted.0 emitted.1 depth) (λ there. sent emitted refl)
@@ -144,19 +168,25 @@ module _ (settings : Settings) (are : AreSettings settings) where
       deleted_comes target (Some code) = warns code
       deleted_comes target None = λ after declared. one_item settings rows doing on (Delete target depth) tt
 
-      done_comes : (operation : Operation) (refusal : Option Code) → IsFittingOperation settings rows operation → May (warns_or refusal self doing (puts [] (operation_done doing operation)))
+      done_comes : (operation : Operation) (refusal : Option Code) → IsFittingOperation settings rows operation
+          → May (warns_or refusal self doing (puts [] (operation_done doing operation)))
       done_comes operation (Some code) may = warns code
-      done_comes operation None may = λ after declared. no_item settings rows (operation_done doing operation) (done_carries settings rows doing on operation may)
+      done_comes operation None may = λ after declared. no_item settings rows (operation_done doing operation)
+          (done_carries settings rows doing on operation may)
 
-      found_comes : (found : Found Operation) → ((operation : Operation) → found ≡ Ok operation → IsFittingOperation settings rows operation) → May (warns_or (found_refusal doing.state found) self doing (with_found found (λ operation. puts [] (operation_done doing operation)) doing))
+      found_comes : (found : Found Operation) → ((operation : Operation) → found ≡ Ok operation → IsFittingOperation settings rows operation)
+          → May (warns_or (found_refusal doing.state found) self doing (with_found found (λ operation. puts [] (operation_done doing operation)) doing))
       found_comes (Ok operation) may = done_comes operation (operation_refusal doing.state operation) (may operation refl)
       found_comes (Err code) may = warns code
 
       -- a signal of an object's class is sent with values of its kinds
-      emission_sent : (of : ℕ) (signal : Signature) (sent : List Term) → list_all is_within_limits sent ≡ true → (emitted : ℕ × List Value) → emission settings doing.state self sender args of signal sent ≡ Ok emitted → IsSent settings rows of emitted.0 emitted.1
-      emission_sent of signal sent limited emitted e = by (signal_with (methods_of settings doing.state of) signal) refl (all_evaluated doing.state self sender args sent) refl e
+      emission_sent : (of : ℕ) (signal : Signature) (sent : List Term) → list_all is_within_limits sent ≡ true → (emitted : ℕ × List Value)
+          → emission settings doing.state self sender args of signal sent ≡ Ok emitted → IsSent settings rows of emitted.0 emitted.1
+      emission_sent of signal sent limited emitted e = by (signal_with (methods_of settings doing.state of) signal) refl
+          (all_evaluated doing.state self sender args sent) refl e
         where
-          third : (index : ℕ) (values : List Value) → is_signal_at (methods_of settings doing.state of) index ≡ true → All IsShort values → (converted : Found (List Value)) → all_converted (kinds_at (methods_of settings doing.state of) index) values ≡ converted
+          third : (index : ℕ) (values : List Value) → is_signal_at (methods_of settings doing.state of) index ≡ true → All IsShort values
+              → (converted : Found (List Value)) → all_converted (kinds_at (methods_of settings doing.state of) index) values ≡ converted
               → (converted >>= λ converted. Ok (index, converted)) ≡ Ok emitted → IsSent settings rows of emitted.0 emitted.1
           third index values one other (Err code) is e = absurd (cc)
           third index values one other (Ok converted) is e =
@@ -164,8 +194,10 @@ module _ (settings : Settings) (are : AreSettings settings) where
               subst (λ (emitted : ℕ × List Value). IsSent settings rows of emitted.0 emitted.1) same
               (record { signal_there = one; arguments = converted_arguments (kinds_at (methods_of settings doing.state of) index) values converted other is })
 
-          by : (index : Found ℕ) → signal_with (methods_of settings doing.state of) signal ≡ index → (values : Found (List Value)) → all_evaluated doing.state self sender args sent ≡ values
-              → (index >>= λ index. values >>= λ values. all_converted (kinds_at (methods_of settings doing.state of) index) values >>= λ converted. Ok (index, converted)) ≡ Ok emitted → IsSent settings rows of emitted.0 emitted.1
+          by : (index : Found ℕ) → signal_with (methods_of settings doing.state of) signal ≡ index → (values : Found (List Value))
+              → all_evaluated doing.state self sender args sent ≡ values
+              → (index >>= λ index. values >>= λ values. all_converted (kinds_at (methods_of settings doing.state of) index) values >>=
+              λ converted. Ok (index, converted)) ≡ Ok emitted → IsSent settings rows of emitted.0 emitted.1
           by (Err code) is values so e = absurd (cc)
           by (Ok index) is (Err code) so e = absurd (cc)
           by (Ok index) is (Ok values) so e =
@@ -173,15 +205,21 @@ module _ (settings : Settings) (are : AreSettings settings) where
               (all_evaluated_short doing.state whole.properties whole.graph self sender args sent values short limited so) _ refl e
 
       -- what an action comes to
-      act_comes : (plain : SingleAction) → is_effect_limited plain ≡ true → May (warns_or (act_refusal settings doing.state self sender args plain) self doing (acted settings doing self sender args depth plain))
-      act_comes (e.Set of property value) limited = written_comes (object_of doing.state self sender of) (absence doing.state (object_of doing.state self sender of)) (writing doing.state self sender args (object_of doing.state self sender of) property value)
+      act_comes : (plain : SingleAction) → is_effect_limited plain ≡ true
+          → May (warns_or (act_refusal settings doing.state self sender args plain) self doing (acted settings doing self sender args depth plain))
+      act_comes (e.Set of property value) limited = written_comes (object_of doing.state self sender of)
+          (absence doing.state (object_of doing.state self sender of))
+          (writing doing.state self sender args (object_of doing.state self sender of) property value)
       act_comes (e.Emit of signal sent) limited =
-          sent_comes (object_of doing.state self sender of) (absence doing.state (object_of doing.state self sender of)) (emission settings doing.state self sender args (object_of doing.state self sender of) signal sent)
+          sent_comes (object_of doing.state self sender of) (absence doing.state (object_of doing.state self sender of))
+          (emission settings doing.state self sender args (object_of doing.state self sender of) signal sent)
           (emission_sent (object_of doing.state self sender of) signal sent limited)
       act_comes (e.Connect of signal to method mode unique single) limited = found_comes
-          (behind (object_refusal rows sends) (behind (object_refusal rows gets) (connection settings doing.state sends signal gets method mode single >>= λ new. Ok (d.Connect new unique))))
+          (behind (object_refusal rows sends) (behind (object_refusal rows gets)
+          (connection settings doing.state sends signal gets method mode single >>= λ new. Ok (d.Connect new unique))))
           (λ operation e. operation_fits settings rows (connection settings doing.state sends signal gets method mode single) unique
-          (connection_fits settings doing.state sends (signal_with (methods_of settings doing.state sends) signal) (signal_there (methods_of settings doing.state sends) signal)
+          (connection_fits settings doing.state sends (signal_with (methods_of settings doing.state sends) signal)
+          (signal_there (methods_of settings doing.state sends) signal)
           gets (method_with (methods_of settings doing.state gets) method) (method_there (methods_of settings doing.state gets) method) mode single)
           operation (found_past (object_refusal rows gets) _ operation (found_past (object_refusal rows sends) _ operation e)))
         where
@@ -190,21 +228,28 @@ module _ (settings : Settings) (are : AreSettings settings) where
 
           gets : ℕ
           gets = object_of doing.state self sender to
-      act_comes (e.Disconnect of signal to method) limited = found_comes _ (pattern_fits settings rows _ _ (pattern settings doing.state (object_of doing.state self sender of) signal (named_object_of doing.state self sender to) method))
-      act_comes (e.Delete target) limited = deleted_comes (object_of doing.state self sender target) (object_refusal rows (object_of doing.state self sender target))
-      act_comes (e.DeleteLater target) limited = done_comes (d.DeleteLater (object_of doing.state self sender target)) (operation_refusal doing.state (d.DeleteLater (object_of doing.state self sender target))) tt
-      act_comes (e.Block of on') limited = done_comes (d.Block (object_of doing.state self sender of) on') (operation_refusal doing.state (d.Block (object_of doing.state self sender of) on')) tt
+      act_comes (e.Disconnect of signal to method) limited = found_comes _
+          (pattern_fits settings rows _ _ (pattern settings doing.state (object_of doing.state self sender of) signal
+          (named_object_of doing.state self sender to) method))
+      act_comes (e.Delete target) limited = deleted_comes (object_of doing.state self sender target)
+          (object_refusal rows (object_of doing.state self sender target))
+      act_comes (e.DeleteLater target) limited = done_comes (d.DeleteLater (object_of doing.state self sender target))
+          (operation_refusal doing.state (d.DeleteLater (object_of doing.state self sender target))) tt
+      act_comes (e.Block of on') limited = done_comes (d.Block (object_of doing.state self sender of) on')
+          (operation_refusal doing.state (d.Block (object_of doing.state self sender of) on')) tt
       act_comes (e.SetParent of parent) limited =
           let operation = d.SetParent (object_of doing.state self sender of) (named_object_of doing.state self sender parent) in
           done_comes operation (operation_refusal doing.state operation) tt
 
     -- an object that begins to die sends `destroyed()`
-    deleted : HaveClasses settings rows → (target depth : ℕ) → Comes settings rows (puts (Emit target DESTROYED [] depth ∷ Detach target depth ∷ Remove target depth ∷ []) (dying doing target))
+    deleted : HaveClasses settings rows → (target depth : ℕ) →
+        Comes settings rows (puts (Emit target DESTROYED [] depth ∷ Detach target depth ∷ Remove target depth ∷ []) (dying doing target))
     unfolding dying
     deleted classes target depth = record {
       carries = dying_carries settings rows doing on target;
       items = All-cons Fit (Emit target DESTROYED [] depth) (Detach target depth ∷ Remove target depth ∷ [])
-          (destroyed_sent (dying doing target).state.forest.rows (each_marked (λ number class. is_some (slice_get settings.classes class) ≡ true) doing.state.forest target classes) target)
+          (destroyed_sent (dying doing target).state.forest.rows
+          (each_marked (λ number class. is_some (slice_get settings.classes class) ≡ true) doing.state.forest target classes) target)
           (All-cons Fit (Detach target depth) (Remove target depth ∷ []) tt (All-cons Fit (Remove target depth) [] tt (All-nil Fit)));
     }
       where
@@ -215,37 +260,48 @@ module _ (settings : Settings) (are : AreSettings settings) where
     unfolding delete_children
     delete_children_come target depth = record {
       carries = severed_carries settings rows doing on target;
-      items = All-map (IsFittingItem settings (severed doing target).state) (λ child. DeleteChild target child depth) (children rows (Some target)) (λ index default within. tt);
+      items = All-map (IsFittingItem settings (severed doing target).state) (λ child. DeleteChild target child depth) (children rows (Some target))
+          (λ index default within. tt);
     }
 
     -- what an item comes to
     item_comes : IsWhole doing.state → HaveClasses settings rows → (item : Item) → IsFittingItem settings doing.state item
-        → IsWhole (step settings item doing).doing.state → IsDeclared settings.classes (step settings item doing).doing.state → Comes settings rows (step settings item doing)
-    item_comes whole classes (Emit target signal args depth) fit after declared = emitted_comes settings doing on whole.connections target signal args depth fit (row_of rows target) refl
-    item_comes whole classes (Call number args depth) fit after declared = connection_comes settings doing on number args depth fit (connection_of doing number) refl
-    item_comes whole classes (Run target index sender args depth) fit after declared = ran_comes target index sender args depth fit (method_at settings doing.state target index) refl
-    item_comes whole classes (RunFunctor target index sender connection args depth) fit after declared = functor_ran_comes target index sender connection args depth fit (functor_at settings index) refl
-    item_comes whole classes (Act (single_action plain) args self sender depth) fit after declared = act_comes whole self sender args fit.1 depth plain fit.0 after declared
+        → IsWhole (step settings item doing).doing.state → IsDeclared settings.classes (step settings item doing).doing.state
+        → Comes settings rows (step settings item doing)
+    item_comes whole classes (Emit target signal args depth) fit after declared =
+        emitted_comes settings doing on whole.connections target signal args depth fit (row_of rows target) refl
+    item_comes whole classes (Call number args depth) fit after declared =
+        connection_comes settings doing on number args depth fit (connection_of doing number) refl
+    item_comes whole classes (Run target index sender args depth) fit after declared =
+        ran_comes target index sender args depth fit (method_at settings doing.state target index) refl
+    item_comes whole classes (RunFunctor target index sender connection args depth) fit after declared =
+        functor_ran_comes target index sender connection args depth fit (functor_at settings index) refl
+    item_comes whole classes (Act (single_action plain) args self sender depth) fit after declared =
+        act_comes whole self sender args fit.1 depth plain fit.0 after declared
     item_comes whole classes (Act (when test held failed) args self sender depth) fit after declared =
         let both = (and_parts _ _ fit.0).1 in
         chosen_comes (truth_evaluated doing.state self sender args test) held failed args self sender depth (and_parts _ _ both).0 (and_parts _ _ both).1 fit.1
     item_comes whole classes (Warn code object) fit after declared = no_item settings rows _ (told_carries settings rows doing on (line.Warning code object))
-    item_comes whole classes (WarnOf at error) fit after declared = no_item settings rows _ (told_carries settings rows doing on (binding_line settings doing.state at error))
+    item_comes whole classes (WarnOf at error) fit after declared =
+        no_item settings rows _ (told_carries settings rows doing on (binding_line settings doing.state at error))
     item_comes whole classes (Delete target depth) fit after declared =
-        cond_both (lives doing target) (puts (Emit target DESTROYED [] depth ∷ Detach target depth ∷ Remove target depth ∷ []) (dying doing target)) (puts [] doing) (Comes settings rows)
+        cond_both (lives doing target) (puts (Emit target DESTROYED [] depth ∷ Detach target depth ∷ Remove target depth ∷ []) (dying doing target))
+        (puts [] doing) (Comes settings rows)
         (λ living. deleted classes target depth) (λ absent. no_item settings rows doing on)
     item_comes whole classes (Detach target depth) fit after declared = delete_children_come target depth
     item_comes whole classes (DeleteChild parent child depth) fit after declared =
         cond_both (lives_below doing parent child) (puts (Delete child depth ∷ []) doing) (puts [] doing) (Comes settings rows)
         (λ living. one_item settings rows doing on (Delete child depth) tt) (λ other. no_item settings rows doing on)
     item_comes whole classes (Remove target depth) fit after declared =
-        telling_comes whole depth (without_object doing.state target) None (record { events = on.fits.events; connections = on.fits.connections; publications = on.fits.publications; joins = on.fits.joins }) after declared
+        telling_comes whole depth (without_object doing.state target) None
+        (record { events = on.fits.events; connections = on.fits.connections; publications = on.fits.publications; joins = on.fits.joins }) after declared
     item_comes whole classes Spin fit after declared = spun_comes settings doing on doing.state.queue.events refl
     item_comes whole classes (Reply answer) fit after declared = no_item settings rows _ (told_carries settings rows doing on (line.Reply answer))
     item_comes whole classes ReplySpun fit after declared = no_item settings rows _ (told_carries settings rows doing on (line.Reply (a.Spun (spin_of doing))))
 
 -- each item leaves a session that fits, and an agenda that fits it
-pub item_fits : (settings : Settings) (item : Item) (agenda : List Item) (doing : Execution) → AreSettings settings → IsFittingUnderWay settings (item ∷ agenda) doing
+pub item_fits : (settings : Settings) (item : Item) (agenda : List Item) (doing : Execution) → AreSettings settings
+    → IsFittingUnderWay settings (item ∷ agenda) doing
     → IsFittingUnderWay settings ((step settings item doing).items ++ agenda) (step settings item doing).doing
 item_fits settings item agenda doing are under =
     let before = under.under_way.whole in
@@ -253,14 +309,17 @@ item_fits settings item agenda doing are under =
     let under_way = item_under_way settings item agenda doing under.under_way in
     let declared = item_declared settings item doing under.declared in
     let on : Carries settings doing.state.forest.rows doing = record { fits = fits_own settings doing.state under.fitting; posts = under.posts } in
-    let comes = item_comes settings are doing on before under.fitting.objects item (All-head (IsFittingItem settings doing.state) item agenda under.items) under_way.whole declared in
-    let kept = classes_stay (λ number class. class_at doing.state.forest.rows number ≡ Some class) settings item doing (own_classes doing.state.forest before.forest) in
+    let comes = item_comes settings are doing on before under.fitting.objects item
+    (All-head (IsFittingItem settings doing.state) item agenda under.items) under_way.whole declared in
+    let kept = classes_stay (λ number class. class_at doing.state.forest.rows number ≡ Some class) settings item doing
+    (own_classes doing.state.forest before.forest) in
     let classes = classes_stay (λ number class. is_some (slice_get settings.classes class) ≡ true) settings item doing under.fitting.objects in
     record {
       under_way = under_way;
       declared = declared;
       fitting = fits_whole settings doing.state.forest.rows next.doing.state under_way.whole kept classes comes.carries.fits;
       items = All-append (IsFittingItem settings next.doing.state) next.items agenda comes.items
-          (All-weaker (IsFittingItem settings doing.state) (IsFittingItem settings next.doing.state) (item_stays settings item doing under_way.whole kept) agenda (All-tail (IsFittingItem settings doing.state) item agenda under.items));
+          (All-weaker (IsFittingItem settings doing.state) (IsFittingItem settings next.doing.state)
+          (item_stays settings item doing under_way.whole kept) agenda (All-tail (IsFittingItem settings doing.state) item agenda under.items));
       posts = comes.carries.posts;
     }

@@ -21,7 +21,8 @@ use Rattle.session_model.specs.declared.post.Post.{Post}
 use Rattle.session_model.specs.Agenda.{step}
 use Rattle.session_model.specs.Arriving.{kinds_of}
 use Rattle.session_model.specs.Operations.{operation_done, with_operation}
-use Rattle.session_model.specs.Execution.{Execution, dying, first_taken, in_state, lost, enqueued, posting, severed, single_shot_broken, line_told, turn_taken, used_up, stepped}
+use Rattle.session_model.specs.Execution.{Execution, dying, first_taken, in_state, lost, enqueued, posting, severed, single_shot_broken, line_told, turn_taken}
+use Rattle.session_model.specs.Execution.{used_up, stepped}
 use Rattle.session_model.specs.Fitting.{IsCalledBy, IsFittingItem}
 use Rattle.session_model.specs.Items.{Act, Call, Detach, Delete, Emit, Remove, Item, DeleteChild, Reply, ReplySpun, Run, RunFunctor, Spin, Warn, WarnOf}
 use Rattle.session_model.specs.Settings.{Settings}
@@ -31,7 +32,8 @@ use Rattle.session_model.proofs.DeclaredLemmas.{OfEach, each_blocked, each_marke
 use Rattle.session_model.proofs.FittingClassLemmas.{SameClass, arguments_moved, call_moved, class_at, kept_class, sent_moved, was_there}
 use Rattle.session_model.proofs.StepLemmas.{Holds, step_holds}
 
-module _ (G : ℕ → ℕ → Type 0) (number : ℕ) (Q : Connection → Type 0) (stateless : (row : Connection) (state : ℕ) → Q row → Q (record row { state = state })) where
+module _ (G : ℕ → ℕ → Type 0) (number : ℕ) (Q : Connection → Type 0)
+    (stateless : (row : Connection) (state : ℕ) → Q row → Q (record row { state = state })) where
   -- what is said of the connection of this number
   abbrev Called : State → Type 0
   Called state = All (λ row. row.number ≡ number → Q row) state.connections.rows
@@ -49,16 +51,22 @@ module _ (G : ℕ → ℕ → Type 0) (number : ℕ) (Q : Connection → Type 0)
   writing_stays state object Nothing = record { classes = λ all. all; last = omega arith; calls = λ given all. all }
 
   without_stays : (state : State) (test : Connection → Bool) → Stays state (without_connections state test)
-  without_stays state test = record { classes = λ all. all; last = omega arith; calls = λ given all. All-filter (λ row. not (test row)) (λ (row : Connection). row.number ≡ number → Q row) state.connections.rows all }
+  without_stays state test = record {
+    classes = λ all. all;
+    last = omega arith;
+    calls = λ given all. All-filter (λ row. not (test row)) (λ (row : Connection). row.number ≡ number → Q row) state.connections.rows all;
+  }
 
   operation_stays : (state : State) (operation : Operation) → Stays state (with_operation state operation)
   operation_stays state (d.Connect new unique) = record {
     classes = λ all. all;
     last = omega arith;
-    calls = λ given all. All-push (λ (row : Connection). row.number ≡ number → Q row) state.connections.rows (numbered (state.connections.last_number + 1) new) all (λ same. absurd (omega (arith, given, same)));
+    calls = λ given all. All-push (λ (row : Connection). row.number ≡ number → Q row) state.connections.rows
+        (numbered (state.connections.last_number + 1) new) all (λ same. absurd (omega (arith, given, same)));
   }
   operation_stays state (d.Disconnect pattern) = without_stays state (matches pattern)
-  operation_stays state (d.SetParent target parent) = record { classes = each_reparented G state.forest target parent; last = omega arith; calls = λ given all. all }
+  operation_stays state (d.SetParent target parent) =
+      record { classes = each_reparented G state.forest target parent; last = omega arith; calls = λ given all. all }
   operation_stays state (d.DeleteLater target) = record { classes = λ all. all; last = omega arith; calls = λ given all. all }
   operation_stays state (d.Block target on) = record { classes = each_blocked G state.forest target on; last = omega arith; calls = λ given all. all }
 
@@ -87,7 +95,8 @@ module _ (G : ℕ → ℕ → Type 0) (number : ℕ) (Q : Connection → Type 0)
   used_up_stays : (doing : Execution) → Stay doing (used_up doing)
   unfolding used_up
   used_up_stays doing = cond_both doing.spent doing (record doing { spent = true; lines = doing.lines ++ Warning TurnsUsedUp None ∷ [] }) (Stay doing)
-      (λ spent. record { classes = λ all. all; last = omega arith; calls = λ given all. all }) (λ fresh. record { classes = λ all. all; last = omega arith; calls = λ given all. all })
+      (λ spent. record { classes = λ all. all; last = omega arith; calls = λ given all. all })
+      (λ fresh. record { classes = λ all. all; last = omega arith; calls = λ given all. all })
 
   shot_stays : (doing : Execution) (row : Connection) → Stay doing (single_shot_broken doing row)
   unfolding single_shot_broken
@@ -99,7 +108,8 @@ module _ (G : ℕ → ℕ → Type 0) (number : ℕ) (Q : Connection → Type 0)
   stepped_stays doing object next = record {
     classes = λ all. all;
     last = omega arith;
-    calls = λ given all. all_stepped object next (λ (row : Connection). row.number ≡ number → Q row) (λ row holds same. stateless row next (holds same)) doing.state.connections.rows all;
+    calls = λ given all. all_stepped object next (λ (row : Connection). row.number ≡ number → Q row)
+        (λ row holds same. stateless row next (holds same)) doing.state.connections.rows all;
   }
 
   posted_stays : (doing : Execution) (event : Event) → Stay doing (enqueued doing event)
@@ -125,10 +135,19 @@ module _ (G : ℕ → ℕ → Type 0) (number : ℕ) (Q : Connection → Type 0)
   severed_stays : (doing : Execution) (target : ℕ) → Stay doing (severed doing target)
   unfolding severed
   severed_stays doing target =
-      record { classes = λ all. all; last = omega arith; calls = λ given all. All-filter (λ row. not (touches target row)) (λ (row : Connection). row.number ≡ number → Q row) doing.state.connections.rows all }
+      record {
+        classes = λ all. all;
+        last = omega arith;
+        calls =
+            λ given all. All-filter (λ row. not (touches target row)) (λ (row : Connection). row.number ≡ number → Q row) doing.state.connections.rows all;
+      }
 
   gone_stays : (doing : Execution) (target : ℕ) → Stay doing (in_state doing (without_object doing.state target))
-  gone_stays doing target = record { classes = each_removed G G doing.state.forest target (λ n class apart holds. holds); last = omega arith; calls = λ given all. all }
+  gone_stays doing target = record {
+    classes = each_removed G G doing.state.forest target (λ n class apart holds. holds);
+    last = omega arith;
+    calls = λ given all. all;
+  }
 
   stay : Holds Stay
   stay = record {
@@ -151,11 +170,14 @@ module _ (G : ℕ → ℕ → Type 0) (number : ℕ) (Q : Connection → Type 0)
   }
 
 -- what is said of each object by its number and its class stays with each item
-pub classes_stay : (G : ℕ → ℕ → Type 0) (settings : Settings) (item : Item) (doing : Execution) → OfEach G doing.state.forest.rows → OfEach G (step settings item doing).doing.state.forest.rows
-classes_stay G settings item doing = (step_holds settings (Stay G 0 (λ row. Unit {0}) (λ row state h. h)) (stay G 0 (λ row. Unit {0}) (λ row state h. h)) item doing).classes
+pub classes_stay : (G : ℕ → ℕ → Type 0) (settings : Settings) (item : Item) (doing : Execution) → OfEach G doing.state.forest.rows
+    → OfEach G (step settings item doing).doing.state.forest.rows
+classes_stay G settings item doing = (step_holds settings (Stay G 0 (λ row. Unit {0}) (λ row state h. h))
+    (stay G 0 (λ row. Unit {0}) (λ row state h. h)) item doing).classes
 
 -- and with each operation
-pub operation_classes : (G : ℕ → ℕ → Type 0) (state : State) (operation : Operation) → OfEach G state.forest.rows → OfEach G (with_operation state operation).forest.rows
+pub operation_classes : (G : ℕ → ℕ → Type 0) (state : State) (operation : Operation) → OfEach G state.forest.rows
+    → OfEach G (with_operation state operation).forest.rows
 operation_classes G state operation = (operation_stays G 0 (λ row. Unit {0}) (λ row state h. h) state operation).classes
 
 module _ (settings : Settings) (item : Item) (doing : Execution) (whole : IsWhole (step settings item doing).doing.state)
@@ -174,7 +196,8 @@ module _ (settings : Settings) (item : Item) (doing : Execution) (whole : IsWhol
   called_stays number args fit = record {
     given = omega (arith, fit.given, stays.last);
     arguments = λ index default within is.
-        arguments_moved settings doing.state.forest.rows after.forest.rows _ _ args (same _ (whole.ends index default within).sender) (stays.calls fit.given fit.arguments index default within is);
+        arguments_moved settings doing.state.forest.rows after.forest.rows _ _ args (same _ (whole.ends index default within).sender)
+        (stays.calls fit.given fit.arguments index default within is);
   }
     where
       its : Connection → Type 0
@@ -188,9 +211,11 @@ module _ (settings : Settings) (item : Item) (doing : Execution) (whole : IsWhol
 
   -- and so does each item that is still to be done fit
   pub item_stays : (other : Item) → IsFittingItem settings doing.state other → IsFittingItem settings after other
-  item_stays (Emit target signal args depth) fit = λ there. sent_moved settings doing.state.forest.rows after.forest.rows target signal args (same target there) (fit (was target there))
+  item_stays (Emit target signal args depth) fit = λ there. sent_moved settings doing.state.forest.rows after.forest.rows target signal args (same target there)
+      (fit (was target there))
   item_stays (Call number args depth) fit = called_stays number args fit
-  item_stays (Run target method sender args depth) fit = λ there. call_moved settings doing.state.forest.rows after.forest.rows target (callee.Method method) args (same target there) (fit (was target there))
+  item_stays (Run target method sender args depth) fit = λ there. call_moved settings doing.state.forest.rows after.forest.rows target
+      (callee.Method method) args (same target there) (fit (was target there))
   item_stays (RunFunctor target functor sender connection args depth) fit = record { callee = fit.callee; arguments = fit.arguments }
   item_stays (Act action args self sender depth) fit = fit
   item_stays (Warn code object) fit = tt

@@ -25,14 +25,20 @@ first_fits settings = record {
 }
 
 -- a right post calls the methods of joins with arguments of their kinds
-pub post_fits : (settings : Settings) (state : State) (from : List ℕ) (post : Post) → IsFitting settings state → IsRightPost post → IsFitting settings (arrives settings.classes state from post)
+pub post_fits : (settings : Settings) (state : State) (from : List ℕ) (post : Post) → IsFitting settings state → IsRightPost post
+    → IsFitting settings (arrives settings.classes state from post)
 unfolding arrives
 post_fits settings state from post fit right = record {
   objects = fit.objects;
   events = reached_by_keeps settings.classes rows' from post (λ queue. All (IsFittingEvent settings rows') queue.events)
       (λ queue holds. holds) (λ queue holds. holds) (IsJoined settings rows')
-      (λ queue join matched joined holds. each_posted (IsFittingEvent settings rows') queue (event.Call (joined_call settings.classes rows' post.arguments join))
-      (record { callee = joined.callee; arguments = fitting_through post.kinds join.kinds (kinds_of settings.classes rows' join.object join.method) post.arguments (and_parts _ _ matched).0 joined.fitting right }) holds)
+      (λ queue join matched joined holds. each_posted (IsFittingEvent settings rows') queue
+      (event.Call (joined_call settings.classes rows' post.arguments join))
+      (record {
+        callee = joined.callee;
+        arguments = fitting_through post.kinds join.kinds
+            (kinds_of settings.classes rows' join.object join.method) post.arguments (and_parts _ _ matched).0 joined.fitting right;
+      }) holds)
       state.queue state.desk.joins fit.joins fit.events;
   connections = fit.connections;
   publications = fit.publications;

@@ -1,5 +1,6 @@
 -- What the classes and the functors of a server have.
-use Rattle.std.proofs.Common.{◌≡◌, ◌<◌, ◌≤◌, ℕ, zero, suc, Bool, true, false, List, [], ◌∷◌, ◌++◌, Option, Some, None, IfSome, IsTrue, codes, get_or, is_some, length, nat_le, nat_lt, slice_get, refl, sym, ap, subst, ◌∙◌, arith}
+use Rattle.std.proofs.Common.{◌≡◌, ◌<◌, ◌≤◌, ℕ, zero, suc, Bool, true, false, List, [], ◌∷◌, ◌++◌, Option, Some, None, IfSome, IsTrue, codes, get_or, is_some}
+use Rattle.std.proofs.Common.{length, nat_le, nat_lt, slice_get, refl, sym, ap, subst, ◌∙◌, arith}
 use Rattle.std.specs.List.{All}
 use Rattle.std.specs.Option.{ForSome}
 use Rattle.std.proofs.lemmas.Bool.{and_parts}
@@ -47,7 +48,8 @@ module _ (classes : List Class) (table : IsTable classes) where
         by None is before = none index (past (nat_lt index (length classes)) refl is)
           where
             past : (within : Bool) → nat_lt index (length classes) ≡ within → slice_get classes index ≡ None → length classes ≤ index
-            past true e is = absurd (let within : index < length classes = grind (arith, nat_tests, e) in let no : Some (get_or classes index q_object) ≡ None = sym (slice_get-get_or classes index q_object within) ∙ is in cc)
+            past true e is = absurd (let within : index < length classes = grind (arith, nat_tests, e) in
+                let no : Some (get_or classes index q_object) ≡ None = sym (slice_get-get_or classes index q_object within) ∙ is in cc)
             past false e is = grind (arith, nat_tests, e)
         by (Some class) is before =
             let has = table.each index class is in
@@ -63,7 +65,9 @@ module _ (classes : List Class) (table : IsTable classes) where
   each_method : (index : ℕ) → All IsMethod (methods classes index)
   each_method = each_class (λ index. All IsMethod (methods classes index))
       (λ index past. subst (All IsMethod) (sym (of_class-none (λ at class. class.methods) classes index past)) (All-nil IsMethod))
-      (λ index class is has base. subst (All IsMethod) (sym has.its_methods) (All-append IsMethod (inherited (methods classes) class.superclass) class.methods (each_inherited IsMethod (methods classes) class.superclass base) has.each_method))
+      (λ index class is has base. subst (All IsMethod) (sym has.its_methods)
+      (All-append IsMethod (inherited (methods classes) class.superclass) class.methods
+      (each_inherited IsMethod (methods classes) class.superclass base) has.each_method))
 
   abbrev Tells : ℕ → Property → Type 0
   Tells index property = IsTrue (is_told (methods classes index) property)
@@ -75,11 +79,14 @@ module _ (classes : List Class) (table : IsTable classes) where
       let all = inherited (methods classes) class.superclass ++ class.methods in
       subst (λ methods. All (λ property. IsTrue (is_told methods property)) (properties classes index)) (sym has.its_methods)
       (subst (All (λ property. IsTrue (is_told all property))) (sym has.its_properties)
-      (All-append (λ property. IsTrue (is_told all property)) (inherited (properties classes) class.superclass) class.properties (handed class.superclass class.methods base) has.each_property)))
+      (All-append (λ property. IsTrue (is_told all property)) (inherited (properties classes) class.superclass) class.properties
+      (handed class.superclass class.methods base) has.each_property)))
     where
-      handed : (base : Option ℕ) (own : List Method) → ForSome base (λ base. All (Tells base) (properties classes base)) → All (λ property. IsTrue (is_told (inherited (methods classes) base ++ own) property)) (inherited (properties classes) base)
+      handed : (base : Option ℕ) (own : List Method) → ForSome base (λ base. All (Tells base) (properties classes base))
+          → All (λ property. IsTrue (is_told (inherited (methods classes) base ++ own) property)) (inherited (properties classes) base)
       handed None own all = All-nil (λ property. IsTrue (is_told ([] ++ own) property))
-      handed (Some base) own all = All-weaker (Tells base) (λ property. IsTrue (is_told (methods classes base ++ own) property)) (told_behind (methods classes base) own) (properties classes base) (all base refl)
+      handed (Some base) own all = All-weaker (Tells base) (λ property. IsTrue (is_told (methods classes base ++ own) property))
+          (told_behind (methods classes base) own) (properties classes base) (all base refl)
 
 module _ (settings : Settings) (are : AreSettings settings) where
   abbrev classes : List Class
@@ -88,10 +95,12 @@ module _ (settings : Settings) (are : AreSettings settings) where
   -- `destroyed()` is the first method of each class
   pub first_method : (index : ℕ) → is_some (slice_get classes index) ≡ true → slice_get (methods classes index) 0 ≡ Some destroyed
   first_method = each_class classes are.table (λ index. is_some (slice_get classes index) ≡ true → slice_get (methods classes index) 0 ≡ Some destroyed)
-      (λ index past there. absurd (let none : slice_get classes index ≡ None = slice_get_past classes index past in let no : false ≡ true = ap is_some (sym none) ∙ there in cc))
+      (λ index past there. absurd (let none : slice_get classes index ≡ None = slice_get_past classes index past in
+      let no : false ≡ true = ap is_some (sym none) ∙ there in cc))
       (λ index class is has base there. ap (λ methods. slice_get methods 0) has.its_methods ∙ by index class is class.superclass refl has base)
     where
-      by : (index : ℕ) (class : Class) → slice_get classes index ≡ Some class → (superclass : Option ℕ) → class.superclass ≡ superclass → IsClassAt classes index class
+      by : (index : ℕ) (class : Class) → slice_get classes index ≡ Some class → (superclass : Option ℕ) → class.superclass ≡ superclass
+          → IsClassAt classes index class
           → ForSome class.superclass (λ base. is_some (slice_get classes base) ≡ true → slice_get (methods classes base) 0 ≡ Some destroyed)
           → slice_get (inherited (methods classes) superclass ++ class.methods) 0 ≡ Some destroyed
       by index class is (Some base) so has handed =
@@ -111,17 +120,23 @@ module _ (settings : Settings) (are : AreSettings settings) where
               let no : false ≡ true = sym (ap is_some so) ∙ subst (λ (class : Class). is_some class.superclass ≡ true) same some in absurd (cc)
 
   -- the body of each slot, and of each functor with a state put in, keeps to the limits
-  pub method_limited : (index number : ℕ) (method : Method) → slice_get (methods classes index) number ≡ Some method → are_limited (acts_of method.body.actions) ≡ true
-  method_limited index number method is = (and_parts _ _ (of_slice IsMethod (methods classes index) number method is (each_method classes are.table index)).body.limited).1
+  pub method_limited : (index number : ℕ) (method : Method) → slice_get (methods classes index) number ≡ Some method
+      → are_limited (acts_of method.body.actions) ≡ true
+  method_limited index number method is = (and_parts _ _
+      (of_slice IsMethod (methods classes index) number method is (each_method classes are.table index)).body.limited).1
 
-  pub functor_limited : (number state : ℕ) (functor : Functor) → slice_get settings.functors number ≡ Some functor → are_limited (acts_of (with_state state functor.body).actions) ≡ true
+  pub functor_limited : (number state : ℕ) (functor : Functor) → slice_get settings.functors number ≡ Some functor
+      → are_limited (acts_of (with_state state functor.body).actions) ≡ true
   functor_limited number state functor is =
       let limited = (of_slice IsFunctor settings.functors number functor is are.functors).body.keeps.limited in
       (and_parts (nat_le (counts (acts_of (with_state state functor.body).actions)) ACTIONS) _ (state_limits functor.body state limited)).1
 
   -- and sets only what has a name
-  pub method_named : (index number : ℕ) (method : Method) → slice_get (methods classes index) number ≡ Some method → are_named (acts_of method.body.actions) ≡ true
+  pub method_named : (index number : ℕ) (method : Method) → slice_get (methods classes index) number ≡ Some method
+      → are_named (acts_of method.body.actions) ≡ true
   method_named index number method is = (of_slice IsMethod (methods classes index) number method is (each_method classes are.table index)).body.named
 
-  pub functor_named : (number state : ℕ) (functor : Functor) → slice_get settings.functors number ≡ Some functor → are_named (acts_of (with_state state functor.body).actions) ≡ true
-  functor_named number state functor is = state_named functor.body state ∙ (of_slice IsFunctor settings.functors number functor is are.functors).body.keeps.named
+  pub functor_named : (number state : ℕ) (functor : Functor) → slice_get settings.functors number ≡ Some functor
+      → are_named (acts_of (with_state state functor.body).actions) ≡ true
+  functor_named number state functor is = state_named functor.body state
+      ∙ (of_slice IsFunctor settings.functors number functor is are.functors).body.keeps.named

@@ -6,7 +6,8 @@ use Rattle.publish_board.specs.Rows.{is_from}
 use Rattle.publish_board.specs.declared.join.Join.{Join}
 use Rattle.plain_types.specs.declared.code.Code.{Code}
 use Rattle.signature_core.specs.declared.kind.Kind.{Kind}
-use Rattle.std.proofs.Common.{⊎_elim, Bool, Err, List, None, Ok, Option, Some, [], ap, arith, bytes_eq, cond, false, inl, inr, is_none, refl, sym, true, ℕ, ◌&&◌, ◌||◌, ◌∙◌, ◌∷◌, ◌≡◌, ◌⊎◌}
+use Rattle.std.proofs.Common.{⊎_elim, Bool, Err, List, None, Ok, Option, Some, [], ap, arith, bytes_eq, cond, false, inl, inr, is_none, refl, sym, true, ℕ}
+use Rattle.std.proofs.Common.{◌&&◌, ◌||◌, ◌∙◌, ◌∷◌, ◌≡◌, ◌⊎◌}
 use Rattle.std.proofs.lemmas.Bool.{or_cases, or_right}
 use Rattle.std.proofs.lemmas.List.Folds.{list_any-append}
 use Rattle.std.specs.List.{list_any}
@@ -31,10 +32,14 @@ or-false true = refl
 or-false false = refl
 
 -- a join that was found is of the session that is asked for
-found_from : (settings : Settings) (state : State) (from name : List ℕ) (types : List (List ℕ)) (target : ℕ) (method : List ℕ) (join : Join) → asked_join settings state from name types target method ≡ Ok join → join.from ≡ from
-found_from settings state from name types target method join is = by (absence state target) (asked_kinds types) (method_named (methods_of settings state target) method) is
+found_from : (settings : Settings) (state : State) (from name : List ℕ) (types : List (List ℕ)) (target : ℕ) (method : List ℕ) (join : Join)
+    → asked_join settings state from name types target method ≡ Ok join → join.from ≡ from
+found_from settings state from name types target method join is =
+    by (absence state target) (asked_kinds types) (method_named (methods_of settings state target) method) is
   where
-    by : (missing : Option Code) (kinds : Found (List Kind)) (found : Found ℕ) → behind missing (kinds >>= λ kinds. found >>= λ index. Ok (record { from = from; name = name; kinds = kinds; object = target; method = index })) ≡ Ok join → join.from ≡ from
+    by : (missing : Option Code) (kinds : Found (List Kind)) (found : Found ℕ)
+        → behind missing (kinds >>= λ kinds. found >>= λ index. Ok (record { from = from; name = name; kinds = kinds; object = target; method = index }))
+        ≡ Ok join → join.from ≡ from
     by (Some code) kinds found e = absurd (cc)
     by None (Err code) found e = absurd (cc)
     by None (Ok kinds) (Err code) e = absurd (cc)
@@ -46,21 +51,26 @@ module _ (settings : Settings) (self : List ℕ) (state : State) where
   after_join refusal found = (unless refusal state (joins_found state found)).state
 
   -- what is named after it was named before, or is what it names, and it is not refused
-  join_made : (found : Found Join) (from name : List ℕ) → ((join : Join) → found ≡ Ok join → join.from ≡ from) → names_session name (after_join (joining_refusal settings self state found) found).desk ≡ true
+  join_made : (found : Found Join) (from name : List ℕ) → ((join : Join) → found ≡ Ok join → join.from ≡ from)
+      → names_session name (after_join (joining_refusal settings self state found) found).desk ≡ true
       → (names_session name state.desk ≡ true) ⊎ ((is_none (joining_refusal settings self state found) && bytes_eq from name) ≡ true)
   join_made (Err code) from name whose named = inl named
   join_made (Ok join) from name whose named = by (join_refusal self state.desk join (kinds_of settings.classes state.forest.rows join.object join.method)) named
     where
-      by : (refused : Option Code) → names_session name (after_join refused (Ok join)).desk ≡ true → (names_session name state.desk ≡ true) ⊎ ((is_none refused && bytes_eq from name) ≡ true)
+      by : (refused : Option Code) → names_session name (after_join refused (Ok join)).desk ≡ true
+          → (names_session name state.desk ≡ true) ⊎ ((is_none refused && bytes_eq from name) ≡ true)
       by (Some code) named = inl named
-      by None named = ⊎_elim (λ old. inl old) (λ new. inr (ap (λ from. bytes_eq from name) (sym (whose join refl)) ∙ sym (or-false (bytes_eq join.from name)) ∙ new))
+      by None named = ⊎_elim (λ old. inl old) (λ new. inr
+          (ap (λ from. bytes_eq from name) (sym (whose join refl)) ∙ sym (or-false (bytes_eq join.from name)) ∙ new))
           (or_cases (names_session name state.desk) _ (sym (list_any-append (is_from name) state.desk.joins (join ∷ [])) ∙ named))
 
   -- and what it names is named after it, where it is not refused
-  join_stands : (found : Found Join) (from name : List ℕ) → ((join : Join) → found ≡ Ok join → join.from ≡ from) → (is_none (joining_refusal settings self state found) && bytes_eq from name) ≡ true
+  join_stands : (found : Found Join) (from name : List ℕ) → ((join : Join) → found ≡ Ok join → join.from ≡ from)
+      → (is_none (joining_refusal settings self state found) && bytes_eq from name) ≡ true
       → names_session name (after_join (joining_refusal settings self state found) found).desk ≡ true
   join_stands (Err code) from name whose accepted = absurd (cc)
-  join_stands (Ok join) from name whose accepted = by (join_refusal self state.desk join (kinds_of settings.classes state.forest.rows join.object join.method)) accepted
+  join_stands (Ok join) from name whose accepted = by (join_refusal self state.desk join (kinds_of settings.classes state.forest.rows join.object join.method))
+      accepted
     where
       by : (refused : Option Code) → (is_none refused && bytes_eq from name) ≡ true → names_session name (after_join refused (Ok join)).desk ≡ true
       by (Some code) accepted = absurd (cc)
@@ -69,32 +79,41 @@ module _ (settings : Settings) (self : List ℕ) (state : State) where
           ∙ or_right (names_session name state.desk) _ (or-false (bytes_eq join.from name) ∙ ap (λ from. bytes_eq from name) (whose join refl) ∙ accepted)
 
   -- a command that is no join makes none
-  plain_made : (asked : Asked) (name : List ℕ) → is_join_asked asked ≡ false → joins_name (does settings self state asked).state name ≡ true → joins_name state name ≡ true
+  plain_made : (asked : Asked) (name : List ℕ) → is_join_asked asked ≡ false → joins_name (does settings self state asked).state name ≡ true
+      → joins_name state name ≡ true
   unfolding joins_name
   plain_made asked name plain = (command_keeps settings self state asked).leaves.joins plain (is_from name)
 
-  pub command_made : (asked : Asked) (name : List ℕ) → joins_name (does settings self state asked).state name ≡ true → (joins_name state name ≡ true) ⊎ (accepts_join settings self state asked name ≡ true)
+  pub command_made : (asked : Asked) (name : List ℕ) → joins_name (does settings self state asked).state name ≡ true
+      → (joins_name state name ≡ true) ⊎ (accepts_join settings self state asked name ≡ true)
   unfolding does performs refusal joins_name accepts_join
-  command_made (AsksJoin from name types target method) other named = join_made (asked_join settings state from name types target method) from other (found_from settings state from name types target method) named
+  command_made (AsksJoin from name types target method) other named =
+      join_made (asked_join settings state from name types target method) from other (found_from settings state from name types target method) named
   command_made asked other named = inl (plain_made asked other (grind (arith)) named)
 
-  pub command_stands : (asked : Asked) (name : List ℕ) → accepts_join settings self state asked name ≡ true → joins_name (does settings self state asked).state name ≡ true
+  pub command_stands : (asked : Asked) (name : List ℕ) → accepts_join settings self state asked name ≡ true
+      → joins_name (does settings self state asked).state name ≡ true
   unfolding does performs refusal joins_name accepts_join
-  command_stands (AsksJoin from name types target method) other accepted = join_stands (asked_join settings state from name types target method) from other (found_from settings state from name types target method) accepted
+  command_stands (AsksJoin from name types target method) other accepted =
+      join_stands (asked_join settings state from name types target method) from other (found_from settings state from name types target method) accepted
   command_stands asked other accepted = absurd (cc)
 
 -- where no join names the session, its posts do nothing
-pub post_stranger : (classes : List Class) (state : State) (from : List ℕ) (post : Post) → joins_name state from ≡ false → arrives classes state from post ≡ state
+pub post_stranger : (classes : List Class) (state : State) (from : List ℕ) (post : Post) → joins_name state from ≡ false
+    → arrives classes state from post ≡ state
 unfolding joins_name arrives
 post_stranger classes state from post unnamed = ap (λ queue. record state { queue = queue }) (by state.desk.joins state.queue unnamed)
   where
     passed : (queue : Queue) (join : Join) → bytes_eq join.from from ≡ false → reached classes state.forest.rows from post queue join ≡ queue
-    passed queue join e = ap (λ b. cond (b && bytes_eq join.name post.name) (cond (is_matched post.kinds join) (with_call queue (joined_call classes state.forest.rows post.arguments join)) (with_mismatched queue)) queue) e
+    passed queue join e = ap (λ b. cond (b && bytes_eq join.name post.name)
+        (cond (is_matched post.kinds join) (with_call queue (joined_call classes state.forest.rows post.arguments join)) (with_mismatched queue)) queue) e
 
     by : (joins : List Join) (queue : Queue) → list_any (is_from from) joins ≡ false → reached_by classes state.forest.rows from post queue joins ≡ queue
     by [] queue none = refl
     by (join ∷ joins) queue none = either (bytes_eq join.from from) refl none (by joins queue)
       where
-        either : (named : Bool) → bytes_eq join.from from ≡ named → (named || list_any (is_from from) joins) ≡ false → (list_any (is_from from) joins ≡ false → reached_by classes state.forest.rows from post queue joins ≡ queue) → reached_by classes state.forest.rows from post queue (join ∷ joins) ≡ queue
+        either : (named : Bool) → bytes_eq join.from from ≡ named → (named || list_any (is_from from) joins) ≡ false
+            → (list_any (is_from from) joins ≡ false → reached_by classes state.forest.rows from post queue joins ≡ queue)
+            → reached_by classes state.forest.rows from post queue (join ∷ joins) ≡ queue
         either true e none rest = absurd (cc)
         either false e none rest = ap (λ queue. reached_by classes state.forest.rows from post queue joins) (passed queue join e) ∙ rest none

@@ -79,7 +79,13 @@ pub record Begins (settings : Settings) (state : State) (asked : Asked) (agenda 
 module _ (settings : Settings) (state : State) (asked : Asked) where
   -- the session stays as it is
   pub stays : Leaves settings state asked state
-  stays = record { sound = λ sound. sound; declared = λ sound declared. declared; fitting = λ fits. fits.fit; named = λ are is named. named; joins = λ plain test held. held }
+  stays = record {
+    sound = λ sound. sound;
+    declared = λ sound declared. declared;
+    fitting = λ fits. fits.fit;
+    named = λ are is named. named;
+    joins = λ plain test held. held;
+  }
 
   pub told_one : (effect : Effect State Line Post) → effect.posts ≡ [] → Leaves settings state asked effect.state → Keeps settings state asked effect
   told_one effect none leaves = record { leaves = leaves; posts = λ fits. subst (All IsRightPost) (sym none) (All-nil IsRightPost) }
@@ -119,17 +125,21 @@ module _ (settings : Settings) (state : State) (asked : Asked) where
   done next answer begins = ran (next.items ++ to_do.Reply answer ∷ []) next.doing (record {
     none = replies_stay next.items answer begins.none;
     leaves = begins.leaves;
-    items = λ fits. All-append (IsFittingItem settings next.doing.state) next.items (to_do.Reply answer ∷ []) (begins.items fits) (All-cons (IsFittingItem settings next.doing.state) (to_do.Reply answer) [] tt (All-nil (IsFittingItem settings next.doing.state)));
+    items = λ fits. All-append (IsFittingItem settings next.doing.state) next.items (to_do.Reply answer ∷ []) (begins.items fits)
+        (All-cons (IsFittingItem settings next.doing.state) (to_do.Reply answer) [] tt (All-nil (IsFittingItem settings next.doing.state)));
     posts = begins.posts;
-    names = λ are is named. All-append IsNamedItem next.items (to_do.Reply answer ∷ []) (begins.names are is named) (All-cons IsNamedItem (to_do.Reply answer) [] tt (All-nil IsNamedItem));
+    names = λ are is named. All-append IsNamedItem next.items (to_do.Reply answer ∷ []) (begins.names are is named)
+        (All-cons IsNamedItem (to_do.Reply answer) [] tt (All-nil IsNamedItem));
   })
 
   -- one item is done first, whatever was taken of the turns
-  pub one_begins : (item : Item) (doing : Execution) → doing.state ≡ state → doing.posts ≡ [] → is_gone item ≡ false → (FitsBefore settings state asked → IsFittingItem settings state item) → IsNamedItem item → Begins settings state asked (item ∷ []) doing
+  pub one_begins : (item : Item) (doing : Execution) → doing.state ≡ state → doing.posts ≡ [] → is_gone item ≡ false
+      → (FitsBefore settings state asked → IsFittingItem settings state item) → IsNamedItem item → Begins settings state asked (item ∷ []) doing
   one_begins item doing same none stays_there fits named = record {
     none = ap (λ b. b || false) stays_there;
     leaves = subst (Leaves settings state asked) (sym same) stays;
-    items = λ before. subst (λ state. All (IsFittingItem settings state) (item ∷ [])) (sym same) (All-cons (IsFittingItem settings state) item [] (fits before) (All-nil (IsFittingItem settings state)));
+    items = λ before. subst (λ state. All (IsFittingItem settings state) (item ∷ [])) (sym same)
+        (All-cons (IsFittingItem settings state) item [] (fits before) (All-nil (IsFittingItem settings state)));
     posts = subst (All IsRightPost) (sym none) (All-nil IsRightPost);
     names = λ are is names. All-cons IsNamedItem item [] named (All-nil IsNamedItem);
   }
@@ -144,11 +154,13 @@ module _ (settings : Settings) (state : State) (asked : Asked) where
   }
 
   -- another state is told of
-  pub told : (after : State) (written : Option At) (answer : Answer) → Leaves settings state asked after → Keeps settings state asked (does_next settings (comes_to settings (begun settings state) 0 after written) answer)
+  pub told : (after : State) (written : Option At) (answer : Answer) → Leaves settings state asked after
+      → Keeps settings state asked (does_next settings (comes_to settings (begun settings state) 0 after written) answer)
   told after written answer leaves = done (comes_to settings (begun settings state) 0 after written) answer (record {
     none = tells_stay settings after 0 (changes state after written);
     leaves = leaves;
-    items = λ fits. change_fits settings fits.are.table after (leaves.sound fits.sound).whole (leaves.declared fits.sound fits.declared) (begun settings state) fits.sound.whole 0 written;
+    items = λ fits. change_fits settings fits.are.table after (leaves.sound fits.sound).whole (leaves.declared fits.sound fits.declared)
+        (begun settings state) fits.sound.whole 0 written;
     posts = All-nil IsRightPost;
     names = λ are is named. tells_named settings after 0 (changes state after written);
   })
@@ -158,11 +170,14 @@ module _ (settings : Settings) (state : State) (asked : Asked) where
   operation_falls (d.Connect new unique) = λ test held. held
   operation_falls _ = λ test held. held
 
-  operation_leaves : (operation : Operation) → operation_refusal state operation ≡ None → (IsFittingAsked settings state asked → IsFittingOperation settings state.forest.rows operation) → Leaves settings state asked (with_operation state operation)
+  operation_leaves : (operation : Operation) → operation_refusal state operation ≡ None
+      → (IsFittingAsked settings state asked → IsFittingOperation settings state.forest.rows operation)
+      → Leaves settings state asked (with_operation state operation)
   operation_leaves operation passed may = record {
     sound = λ sound. operation_sound (begun settings state) operation passed sound;
     declared = λ sound declared. operation_declared settings.classes (begun settings state) declared operation;
-    fitting = λ fits. fits_whole settings state.forest.rows (with_operation state operation) (operation_sound (begun settings state) operation passed fits.sound).whole
+    fitting = λ fits. fits_whole settings state.forest.rows (with_operation state operation)
+        (operation_sound (begun settings state) operation passed fits.sound).whole
         (operation_classes (λ number class. class_at state.forest.rows number ≡ Some class) state operation (own_classes state.forest fits.sound.whole.forest))
         (operation_classes (λ number class. is_some (slice_get settings.classes class) ≡ true) state operation fits.fit.objects)
         (fits_operation settings state.forest.rows state operation (may fits.may) (fits_own settings state fits.fit));
@@ -170,6 +185,9 @@ module _ (settings : Settings) (state : State) (asked : Asked) where
     joins = λ plain. operation_falls operation;
   }
 
-  pub found_keeps : (found : Found Operation) → found_refusal state found ≡ None → ((operation : Operation) → found ≡ Ok operation → IsFittingAsked settings state asked → IsFittingOperation settings state.forest.rows operation) → Keeps settings state asked (does_found state found)
+  pub found_keeps : (found : Found Operation) → found_refusal state found ≡ None
+      → ((operation : Operation) → found ≡ Ok operation → IsFittingAsked settings state asked → IsFittingOperation settings state.forest.rows operation)
+      → Keeps settings state asked (does_found state found)
   found_keeps (Err code) passed may = refused code
-  found_keeps (Ok operation) passed may = replied (with_operation state operation) (operation_answer state operation) (operation_leaves operation passed (may operation refl))
+  found_keeps (Ok operation) passed may = replied (with_operation state operation) (operation_answer state operation)
+      (operation_leaves operation passed (may operation refl))

@@ -1,6 +1,7 @@
 -- What becomes of connections while an agenda is done: some are broken, and those that are made have
 -- greater numbers.
-use Rattle.std.proofs.Common.{◌≡◌, ◌<◌, ◌≤◌, ◌+◌, ◌&&◌, ℕ, Bool, true, not, List, [], ◌∷◌, ◌++◌, ◌==◌, All, Option, Some, None, filter, map, refl, sym, ap, ap₂, subst, ◌∙◌, append_assoc, arith}
+use Rattle.std.proofs.Common.{◌≡◌, ◌<◌, ◌≤◌, ◌+◌, ◌&&◌, ℕ, Bool, true, not, List, [], ◌∷◌, ◌++◌, ◌==◌, All, Option, Some, None, filter, map, refl, sym, ap, ap₂}
+use Rattle.std.proofs.Common.{subst, ◌∙◌, append_assoc, arith}
 use Rattle.std.proofs.lemmas.Bool.{cond_both}
 use Rattle.std.proofs.lemmas.List.{append-nil, map-append}
 use Rattle.std.proofs.lemmas.List.Elements.{filter-append}
@@ -18,7 +19,8 @@ use Rattle.session_model.specs.declared.operation.Operation.{Operation}
 use Rattle.session_model.specs.declared.operation.Operation.TheVariants as d
 use Rattle.session_model.specs.Agenda.{step}
 use Rattle.session_model.specs.Operations.{operation_done}
-use Rattle.session_model.specs.Execution.{Execution, dying, first_taken, in_state, lost, enqueued, posting, single_shot_broken, line_told, turn_taken, used_up, severed, stepped}
+use Rattle.session_model.specs.Execution.{Execution, dying, first_taken, in_state, lost, enqueued, posting, single_shot_broken, line_told, turn_taken, used_up}
+use Rattle.session_model.specs.Execution.{severed, stepped}
 use Rattle.session_model.specs.Items.{Item}
 use Rattle.session_model.specs.Run.{run}
 use Rattle.session_model.specs.Settings.{Settings}
@@ -40,17 +42,32 @@ above-nothing : (last : ℕ) → All (λ (row : Connection). last < row.number) 
 above-nothing last = All-nil (λ (row : Connection). last < row.number)
 
 pub later_same : (place : Rows) → IsLater place place
-later_same place = record { left = λ row. true; added = []; rows = sym (filter-all place.rows) ∙ sym (append-nil (filter (λ row. true) place.rows)); above = above-nothing place.last_number; last = omega arith }
+later_same place = record {
+  left = λ row. true;
+  added = [];
+  rows = sym (filter-all place.rows) ∙ sym (append-nil (filter (λ row. true) place.rows));
+  above = above-nothing place.last_number;
+  last = omega arith;
+}
 
-later_without : (test : Connection → Bool) (place : Rows) → IsLater place (record { rows = filter (λ row. not (test row)) place.rows; last_number = place.last_number })
-later_without test place = record { left = λ row. not (test row); added = []; rows = sym (append-nil (filter (λ row. not (test row)) place.rows)); above = above-nothing place.last_number; last = omega arith }
+later_without : (test : Connection → Bool) (place : Rows) → IsLater place
+    (record { rows = filter (λ row. not (test row)) place.rows; last_number = place.last_number })
+later_without test place = record {
+  left = λ row. not (test row);
+  added = [];
+  rows = sym (append-nil (filter (λ row. not (test row)) place.rows));
+  above = above-nothing place.last_number;
+  last = omega arith;
+}
 
-later_linked : (place : Rows) (new : NewConnection) → IsLater place (record { rows = place.rows ++ numbered (place.last_number + 1) new ∷ []; last_number = place.last_number + 1 })
+later_linked : (place : Rows) (new : NewConnection) → IsLater place
+    (record { rows = place.rows ++ numbered (place.last_number + 1) new ∷ []; last_number = place.last_number + 1 })
 later_linked place new = record {
   left = λ row. true;
   added = numbered (place.last_number + 1) new ∷ [];
   rows = ap (λ rows. rows ++ numbered (place.last_number + 1) new ∷ []) (sym (filter-all place.rows));
-  above = All-cons (λ (row : Connection). place.last_number < row.number) (numbered (place.last_number + 1) new) [] (omega arith) (above-nothing place.last_number);
+  above = All-cons (λ (row : Connection). place.last_number < row.number) (numbered (place.last_number + 1) new) [] (omega arith)
+      (above-nothing place.last_number);
   last = omega arith;
 }
 
@@ -66,7 +83,8 @@ later_both one two three first second = record {
       ∙ ap (λ rows. rows ++ (filter second.left first.added ++ second.added)) (filter-both first.left second.left one.rows);
   above = All-append (λ (row : Connection). one.last_number < row.number) (filter second.left first.added) second.added
       (All-filter second.left (λ (row : Connection). one.last_number < row.number) first.added first.above)
-      (All-weaker (λ (row : Connection). two.last_number < row.number) (λ (row : Connection). one.last_number < row.number) (λ row h. omega (arith, first.last, h)) second.added second.above);
+      (All-weaker (λ (row : Connection). two.last_number < row.number) (λ (row : Connection). one.last_number < row.number)
+      (λ row h. omega (arith, first.last, h)) second.added second.above);
   last = omega (arith, first.last, second.last);
 }
 
@@ -77,9 +95,11 @@ bare_row row = record row { state = 0 }
 abbrev pub bare : Rows → Rows
 bare place = record { rows = map bare_row place.rows; last_number = place.last_number }
 
-bare_without : (test : Connection → Bool) → IsUnseen bare_row test → (place : Rows) → IsLater (bare place) (bare (record { rows = filter (λ row. not (test row)) place.rows; last_number = place.last_number }))
+bare_without : (test : Connection → Bool) → IsUnseen bare_row test → (place : Rows)
+    → IsLater (bare place) (bare (record { rows = filter (λ row. not (test row)) place.rows; last_number = place.last_number }))
 bare_without test keeps place =
-    subst (λ rows. IsLater (bare place) (record { rows = rows; last_number = place.last_number })) (filter-changed bare_row (λ row. not (test row)) (λ row. ap not (keeps row)) place.rows) (later_without test (bare place))
+    subst (λ rows. IsLater (bare place) (record { rows = rows; last_number = place.last_number }))
+    (filter-changed bare_row (λ row. not (test row)) (λ row. ap not (keeps row)) place.rows) (later_without test (bare place))
 
 -- a pattern does not ask for them
 bare_matches : (pattern : Pattern) → IsUnseen bare_row (matches pattern)
@@ -89,9 +109,11 @@ bare_matches pattern row = ap (λ b. pattern.sender == row.sender && allows patt
     by None = refl
     by (Some wanted) = refl
 
-bare_linked : (place : Rows) (new : NewConnection) → IsLater (bare place) (bare (record { rows = place.rows ++ numbered (place.last_number + 1) new ∷ []; last_number = place.last_number + 1 }))
+bare_linked : (place : Rows) (new : NewConnection) → IsLater (bare place)
+    (bare (record { rows = place.rows ++ numbered (place.last_number + 1) new ∷ []; last_number = place.last_number + 1 }))
 bare_linked place new =
-    subst (λ rows. IsLater (bare place) (record { rows = rows; last_number = place.last_number + 1 })) (sym (map-append bare_row place.rows (numbered (place.last_number + 1) new ∷ []))) (later_linked (bare place) new)
+    subst (λ rows. IsLater (bare place) (record { rows = rows; last_number = place.last_number + 1 }))
+    (sym (map-append bare_row place.rows (numbered (place.last_number + 1) new ∷ []))) (later_linked (bare place) new)
 
 bare_stepped : (number next : ℕ) (rows : List Connection) → map bare_row (map (stepped_row number next) rows) ≡ map bare_row rows
 bare_stepped number next [] = refl
@@ -125,8 +147,10 @@ holds = record {
   tells = λ doing said. unchanged doing;
   publishes = λ doing more. unchanged doing;
   takes_turn = unchanged;
-  uses_up = λ doing. cond_both doing.spent doing (record doing { spent = true; lines = doing.lines ++ Warning TurnsUsedUp None ∷ [] }) (Later doing) (λ spent. unchanged doing) (λ fresh. unchanged doing);
-  shoots = λ doing row. cond_both row.single (in_state doing (without_connections doing.state (has_number row.number))) doing (Later doing) (λ single. bare_without (has_number row.number) (λ row. refl) doing.state.connections) (λ lasting. unchanged doing);
+  uses_up = λ doing. cond_both doing.spent doing (record doing { spent = true; lines = doing.lines ++ Warning TurnsUsedUp None ∷ [] }) (Later doing)
+      (λ spent. unchanged doing) (λ fresh. unchanged doing);
+  shoots = λ doing row. cond_both row.single (in_state doing (without_connections doing.state (has_number row.number))) doing (Later doing)
+      (λ single. bare_without (has_number row.number) (λ row. refl) doing.state.connections) (λ lasting. unchanged doing);
   posts = λ doing event. unchanged doing;
   loses = unchanged;
   takes = unchanged;
@@ -135,7 +159,9 @@ holds = record {
   marks = λ doing target. unchanged doing;
   severs = λ doing target. bare_without (touches target) (λ row. refl) doing.state.connections;
   goes = λ doing target. unchanged doing;
-  steps = λ doing number next. subst (λ rows. IsLater (bare doing.state.connections) (record { rows = rows; last_number = doing.state.connections.last_number })) (sym (bare_stepped number next doing.state.connections.rows)) (unchanged doing);
+  steps = λ doing number next. subst (λ rows. IsLater (bare doing.state.connections)
+      (record { rows = rows; last_number = doing.state.connections.last_number })) (sym (bare_stepped number next doing.state.connections.rows))
+      (unchanged doing);
 }
 
 module _ (settings : Settings) where
@@ -144,4 +170,5 @@ module _ (settings : Settings) where
 
   pub run_later : (agenda : List Item) (doing : Execution) → Later doing (run settings agenda doing)
   run_later agenda doing = run_keeps settings (λ items new. Later doing new)
-      (λ item rest new before. later_both (bare doing.state.connections) (bare new.state.connections) (bare (step settings item new).doing.state.connections) before (step_later item new)) agenda doing (unchanged doing)
+      (λ item rest new before. later_both (bare doing.state.connections) (bare new.state.connections)
+      (bare (step settings item new).doing.state.connections) before (step_later item new)) agenda doing (unchanged doing)

@@ -1,5 +1,6 @@
 -- How many objects are there, and how many of them are not dying.
-use Rattle.std.proofs.Common.{◌≡◌, ◌≤◌, ◌+◌, ℕ, suc, Bool, true, false, cond, List, [], ◌∷◌, length, map, filter, Option, Some, refl, ap, ◌∙◌, if◌then◌else◌, ⊎_elim, ltb, arith}
+use Rattle.std.proofs.Common.{◌≡◌, ◌≤◌, ◌+◌, ℕ, suc, Bool, true, false, cond, List, [], ◌∷◌, length, map, filter, Option, Some, refl, ap, ◌∙◌, if◌then◌else◌}
+use Rattle.std.proofs.Common.{⊎_elim, ltb, arith}
 use Rattle.std.specs.Option.{option_map_or}
 use Rattle.std.proofs.lemmas.List.{length-map}
 use Rattle.std.proofs.lemmas.Bool.{cases_Bool}
@@ -79,7 +80,8 @@ pub record AreAsMany (one other : List Row) : Type 0 where
   pub living : living_rows one ≡ living_rows other
 
 -- a change of a row that leaves it as dying as it was leaves as many
-pub changed-as_many : (change : Row → Row) (number : ℕ) → ((row : Row) → (change row).dying ≡ row.dying) → (rows : List Row) → AreAsMany (changed change number rows) rows
+pub changed-as_many : (change : Row → Row) (number : ℕ) → ((row : Row) → (change row).dying ≡ row.dying) → (rows : List Row)
+    → AreAsMany (changed change number rows) rows
 changed-as_many change number same rows = record { objects = length-map rows (λ row. if has_number number row then change row else row); living = by rows }
   where
     by : (rows : List Row) → living_rows (changed change number rows) ≡ living_rows rows

@@ -26,7 +26,8 @@ use Rattle.session_model.specs.declared.line.Answer.TheVariants as a
 
 module _ (settings : Settings) (self : List ℕ) (state : State) where
   module _ (target : ℕ) (property : List ℕ) (value : Data) where
-    pub refusal_set : refusal settings self state (Set target property value) ≡ option_or (absence state target) (result_err (asked_writing state target property value))
+    pub refusal_set : refusal settings self state (Set target property value)
+        ≡ option_or (absence state target) (result_err (asked_writing state target property value))
     unfolding refusal
     refusal_set = refl
 
@@ -36,26 +37,34 @@ module _ (settings : Settings) (self : List ℕ) (state : State) where
 
     -- what was asked to be written is written, and then told of
     pub set_written : (writing : Writing) → asked_writing state target property value ≡ Ok writing
-        → performs settings self state (Set target property value) ≡ does_next settings (written settings (begun settings state) target 0 writing) (a.Truth (is_declared writing))
+        → performs settings self state (Set target property value)
+        ≡ does_next settings (written settings (begun settings state) target 0 writing) (a.Truth (is_declared writing))
     set_written _ found = performs_set ∙ ap (sets settings state target) found
 
 module _ (settings : Settings) (state : State) where
   writing_fits : (object : ℕ) (writing : Writing) → IsFitting settings state → IsFitting settings (with_writing state object writing)
-  writing_fits object (Declared number value) fit = record { objects = fit.objects; events = fit.events; connections = fit.connections; publications = fit.publications; joins = fit.joins }
-  writing_fits object (Dynamic name value) fit = record { objects = fit.objects; events = fit.events; connections = fit.connections; publications = fit.publications; joins = fit.joins }
-  writing_fits object (Removed name) fit = record { objects = fit.objects; events = fit.events; connections = fit.connections; publications = fit.publications; joins = fit.joins }
+  writing_fits object (Declared number value) fit =
+      record { objects = fit.objects; events = fit.events; connections = fit.connections; publications = fit.publications; joins = fit.joins }
+  writing_fits object (Dynamic name value) fit =
+      record { objects = fit.objects; events = fit.events; connections = fit.connections; publications = fit.publications; joins = fit.joins }
+  writing_fits object (Removed name) fit =
+      record { objects = fit.objects; events = fit.events; connections = fit.connections; publications = fit.publications; joins = fit.joins }
   writing_fits object Nothing fit = fit
 
   -- what is written is told of
-  pub set_keeps : (target : ℕ) (property : List ℕ) (value : Data) → Keeps settings state (Set target property value) (sets settings state target (asked_writing state target property value))
+  pub set_keeps : (target : ℕ) (property : List ℕ) (value : Data)
+      → Keeps settings state (Set target property value) (sets settings state target (asked_writing state target property value))
   set_keeps target property value = by (asked_writing state target property value) refl
     where
-      by : (found : Found Writing) → asked_writing state target property value ≡ found → Keeps settings state (Set target property value) (sets settings state target found)
+      by : (found : Found Writing) → asked_writing state target property value ≡ found
+          → Keeps settings state (Set target property value) (sets settings state target found)
       by (Err code) is = refused settings state (Set target property value) code
-      by (Ok writing) is = told settings state (Set target property value) (with_writing state target writing) (written_property target writing) (a.Truth (is_declared writing)) (record {
-        sound = λ sound. writing_sound (begun settings state) target writing (asked_fit state target property value writing is) sound;
-        declared = λ sound declared. declared_with_writing settings.classes state declared target writing;
-        fitting = λ fits. writing_fits target writing fits.fit;
-        named = λ are its named. named_with_writing state named target writing (subst (λ found. IfOk found IsNamedWriting) is (asked_named state target property its value));
-        joins = λ plain. (written_shrinks (begun settings state) target writing).joins;
-      })
+      by (Ok writing) is = told settings state (Set target property value) (with_writing state target writing) (written_property target writing)
+          (a.Truth (is_declared writing)) (record {
+            sound = λ sound. writing_sound (begun settings state) target writing (asked_fit state target property value writing is) sound;
+            declared = λ sound declared. declared_with_writing settings.classes state declared target writing;
+            fitting = λ fits. writing_fits target writing fits.fit;
+            named = λ are its named. named_with_writing state named target writing
+                (subst (λ found. IfOk found IsNamedWriting) is (asked_named state target property its value));
+            joins = λ plain. (written_shrinks (begun settings state) target writing).joins;
+          })

@@ -32,7 +32,11 @@ sound_taken queue sound = record { few = omega (arith, sound.few, length-drop 1 
 pub sound_dropped : (object : ℕ) (queue : Queue) → IsSound queue → IsSound (dropped object queue)
 sound_dropped object queue sound =
     let kept = λ (event : Event). not (object_of event == object) in
-    record { few = omega (arith, sound.few, length-filter kept queue.events, count_by-le-length kept queue.events); lost = sound.lost; mismatched = sound.mismatched }
+    record {
+      few = omega (arith, sound.few, length-filter kept queue.events, count_by-le-length kept queue.events);
+      lost = sound.lost;
+      mismatched = sound.mismatched;
+    }
 
 pub sound_lost : (queue : Queue) → IsSound queue → IsSound (with_lost queue)
 sound_lost queue sound = record { few = sound.few; lost = omega arith; mismatched = sound.mismatched }
@@ -55,24 +59,29 @@ pub each_dropped : (P : Event → Type 0) (object : ℕ) (queue : Queue) → All
 each_dropped P object queue all = All-filter (λ (event : Event). not (object_of event == object)) P queue.events all
 
 -- what is left of the events without those of an object names others
-pub others_named : (P : Event → Type 0) (object : ℕ) (events : List Event) → All P events → All (λ event. P event × ((object_of event == object) ≡ false)) (others object events)
-others_named P object events all = All-from_recursion (λ event. P event × ((object_of event == object) ≡ false)) _ (those events (recursion_from_All P events all))
+pub others_named : (P : Event → Type 0) (object : ℕ) (events : List Event) → All P events
+    → All (λ event. P event × ((object_of event == object) ≡ false)) (others object events)
+others_named P object events all = All-from_recursion (λ event. P event × ((object_of event == object) ≡ false)) _
+    (those events (recursion_from_All P events all))
   where
     those : (events : List Event) → AllByRecursion P events → AllByRecursion (λ event. P event × ((object_of event == object) ≡ false)) (others object events)
     those [] all = tt
     those (event ∷ rest) all = by (object_of event == object) refl (those rest all.1)
       where
-        by : (named : Bool) → (object_of event == object) ≡ named → AllByRecursion (λ event. P event × ((object_of event == object) ≡ false)) (others object rest)
+        by : (named : Bool) → (object_of event == object) ≡ named
+            → AllByRecursion (λ event. P event × ((object_of event == object) ≡ false)) (others object rest)
             → AllByRecursion (λ event. P event × ((object_of event == object) ≡ false)) (cond (not named) (event ∷ others object rest) (others object rest))
         by true is later = later
         by false is later = ((all.0, is), later)
 
 -- the objects that events name stand still where the numbers of objects stay the same
-pub meant_same : (old new : State) → numbers new.forest.rows ≡ numbers old.forest.rows → (events : List Event) → All (IsMeant old) events → All (IsMeant new) events
+pub meant_same : (old new : State) → numbers new.forest.rows ≡ numbers old.forest.rows → (events : List Event) → All (IsMeant old) events
+    → All (IsMeant new) events
 meant_same old new same events = All-weaker (IsMeant old) (IsMeant new) (λ event. there_same old new same (object_of event)) events
 
 -- where one more number is there
-pub meant_more : (old new : State) (number : ℕ) → numbers new.forest.rows ≡ numbers old.forest.rows ++ number ∷ [] → (events : List Event) → All (IsMeant old) events → All (IsMeant new) events
+pub meant_more : (old new : State) (number : ℕ) → numbers new.forest.rows ≡ numbers old.forest.rows ++ number ∷ [] → (events : List Event)
+    → All (IsMeant old) events → All (IsMeant new) events
 meant_more old new number more events = All-weaker (IsMeant old) (IsMeant new) (λ event. there_more old new number more (object_of event)) events
 
 -- and where a number goes that no event names

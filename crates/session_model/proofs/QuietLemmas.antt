@@ -1,5 +1,6 @@
 -- Where properties show what they showed, nothing is told.
-use Rattle.std.proofs.Common.{◌≡◌, ◌∙◌, ◌==◌, ℕ, suc, Bool, true, false, cond, List, [], ◌∷◌, ◌++◌, Option, Some, None, Ok, All, filter, filter_map, get_or, is_some, option_map, slice_get, refl, sym, ap, arith, if◌then◌else◌}
+use Rattle.std.proofs.Common.{◌≡◌, ◌∙◌, ◌==◌, ℕ, suc, Bool, true, false, cond, List, [], ◌∷◌, ◌++◌, Option, Some, None, Ok, All, filter, filter_map, get_or}
+use Rattle.std.proofs.Common.{is_some, option_map, slice_get, refl, sym, ap, arith, if◌then◌else◌}
 use Rattle.std.specs.List.{cons_option}
 use Rattle.std.specs.Option.{option_and_then, option_map_or}
 use Rattle.std.proofs.lemmas.List.Elements.{All-append, All-filter}
@@ -30,24 +31,33 @@ same_error_itself EvaluationError = refl
 -- a function that makes nothing of any element
 pub none_made : {X Y : Type 0} (h : X → Option Y) (xs : List X) → All (λ x. h x ≡ None) xs → filter_map h xs ≡ []
 none_made h [] none = refl
-none_made h (x ∷ xs) none = let here : h x ≡ None = none 0 x (omega arith) in rw here (none_made h xs (λ index default within. none (suc index) default (omega arith)))
+none_made h (x ∷ xs) none = let here : h x ≡ None = none 0 x (omega arith) in rw here
+    (none_made h xs (λ index default within. none (suc index) default (omega arith)))
 
 -- functions that make the same of each element
 made_same : {X Y : Type 0} (f h : X → Option Y) (xs : List X) → All (λ x. f x ≡ h x) xs → filter_map f xs ≡ filter_map h xs
 made_same f h [] same = refl
 made_same f h (x ∷ xs) same =
     let here : f x ≡ h x = same 0 x (omega arith) in
-    ap (λ made. cons_option made (filter_map f xs)) here ∙ ap (cons_option (h x)) (made_same f h xs (λ index default within. same (suc index) default (omega arith)))
+    ap (λ made. cons_option made (filter_map f xs)) here ∙ ap (cons_option (h x))
+    (made_same f h xs (λ index default within. same (suc index) default (omega arith)))
 
 -- what holds of all rows holds of them in turn
 pub all_in_turn : (P : Shown → Type 0) (written : Option Property) (now : List Shown) → All P now → All P (in_turn written now)
-all_in_turn P written now all = All-append P (filter (has_turn written true) now) (filter (has_turn written false) now) (All-filter (has_turn written true) P now all) (All-filter (has_turn written false) P now all)
+all_in_turn P written now all = All-append P (filter (has_turn written true) now) (filter (has_turn written false) now)
+    (All-filter (has_turn written true) P now all) (All-filter (has_turn written false) P now all)
 
 -- what has changed is told by what each property showed before: two lists that agree there tell the same
-pub changes_by_before : (last other now : List Shown) (written : Option Property) → All (λ (shown : Shown). before last shown ≡ before other shown) now → changes last now written ≡ changes other now written
+pub changes_by_before : (last other now : List Shown) (written : Option Property) → All (λ (shown : Shown). before last shown ≡ before other shown) now
+    → changes last now written ≡ changes other now written
 changes_by_before last other now written same =
-    ap (λ warned. warned ++ filter_map (notice last) rows) (made_same (warning last) (warning other) rows (λ index default within. warns (get_or rows index default) (turned index default within)))
-    ∙ ap (λ noticed. filter_map (warning other) rows ++ noticed) (made_same (notice last) (notice other) rows (λ index default within. ap (λ (stood : Shown). if is_same stood.value (get_or rows index default).value then None else Some (let change : Change = record { at = (get_or rows index default).at; told = message.Value (get_or rows index default).value } in change)) (turned index default within)))
+    ap (λ warned. warned ++ filter_map (notice last) rows)
+    (made_same (warning last) (warning other) rows (λ index default within. warns (get_or rows index default) (turned index default within)))
+    ∙ ap (λ noticed. filter_map (warning other) rows ++ noticed)
+    (made_same (notice last) (notice other) rows
+    (λ index default within. ap (λ (stood : Shown). if is_same stood.value (get_or rows index default).value then None
+    else Some (let change : Change = record { at = (get_or rows index default).at; told = message.Value (get_or rows index default).value } in change))
+    (turned index default within)))
   where
     rows : List Shown
     rows = in_turn written now
@@ -56,12 +66,15 @@ changes_by_before last other now written same =
     turned = all_in_turn (λ shown. before last shown ≡ before other shown) written now same
 
     warns : (shown : Shown) → before last shown ≡ before other shown → warning last shown ≡ warning other shown
-    warns shown is = ap (λ (stood : Shown). option_and_then (λ error. if option_map_or (is_same_error error) stood.error false then None else Some (let change : Change = record { at = shown.at; told = message.Error error } in change)) shown.error) is
+    warns shown is = ap (λ (stood : Shown). option_and_then
+        (λ error. if option_map_or (is_same_error error) stood.error false then None
+        else Some (let change : Change = record { at = shown.at; told = message.Error error } in change)) shown.error) is
 
 -- nothing is told where each property shows what it showed
 pub quiet : (last now : List Shown) (written : Option Property) → All (λ (shown : Shown). before last shown ≡ shown) now → changes last now written ≡ []
 quiet last now written same =
-    ap (λ warned. warned ++ filter_map (notice last) rows) (none_made (warning last) rows (λ index default within. warns (get_or rows index default) (turned index default within)))
+    ap (λ warned. warned ++ filter_map (notice last) rows)
+    (none_made (warning last) rows (λ index default within. warns (get_or rows index default) (turned index default within)))
     ∙ none_made (notice last) rows (λ index default within. notices (get_or rows index default) (turned index default within))
   where
     rows : List Shown
@@ -70,74 +83,96 @@ quiet last now written same =
     turned : All (λ (shown : Shown). before last shown ≡ shown) rows
     turned = all_in_turn (λ shown. before last shown ≡ shown) written now same
 
-    by_error : (shown : Shown) (error : Option BindingError) → option_and_then (λ error'. if option_map_or (is_same_error error') error false then None else Some (let change : Change = record { at = shown.at; told = message.Error error' } in change)) error ≡ None
+    by_error : (shown : Shown) (error : Option BindingError) →
+        option_and_then (λ error'. if option_map_or (is_same_error error') error false then None
+        else Some (let change : Change = record { at = shown.at; told = message.Error error' } in change)) error ≡ None
     by_error shown None = refl
-    by_error shown (Some error) = ap (λ same. cond same None (Some (let change : Change = record { at = shown.at; told = message.Error error } in change))) (same_error_itself error)
+    by_error shown (Some error) = ap (λ same. cond same None (Some (let change : Change = record { at = shown.at; told = message.Error error } in change)))
+        (same_error_itself error)
 
     warns : (shown : Shown) → before last shown ≡ shown → warning last shown ≡ None
     warns shown is =
-        ap (λ (stood : Shown). option_and_then (λ error. if option_map_or (is_same_error error) stood.error false then None else Some (let change : Change = record { at = shown.at; told = message.Error error } in change)) shown.error) is
+        ap (λ (stood : Shown). option_and_then (λ error. if option_map_or (is_same_error error) stood.error false then None
+        else Some (let change : Change = record { at = shown.at; told = message.Error error } in change)) shown.error) is
         ∙ by_error shown shown.error
 
     notices : (shown : Shown) → before last shown ≡ shown → notice last shown ≡ None
     notices shown is =
-        ap (λ (stood : Shown). if is_same stood.value shown.value then None else Some (let change : Change = record { at = shown.at; told = message.Value shown.value } in change)) is
-        ∙ ap (λ same. cond same None (Some (let change : Change = record { at = shown.at; told = message.Value shown.value } in change))) (same_value shown.value)
+        ap (λ (stood : Shown). if is_same stood.value shown.value then None
+        else Some (let change : Change = record { at = shown.at; told = message.Value shown.value } in change)) is
+        ∙ ap (λ same. cond same None (Some (let change : Change = record { at = shown.at; told = message.Value shown.value } in change)))
+        (same_value shown.value)
 
 module _ (s : Store) (bindings : List Binding) where
   -- each row shows what its property shows
-  pub rows_of_now : (properties : List Property) → All (λ (shown : Shown). shown_now s bindings shown.at ≡ Some shown) (filter_map (shown_now s bindings) properties)
-  rows_of_now properties = all_given (shown_now s bindings) (λ (shown : Shown). shown_now s bindings shown.at ≡ Some shown) properties (λ index default within shown made. ap (shown_now s bindings) (shown_of s bindings (get_or properties index default) shown made) ∙ made)
+  pub rows_of_now : (properties : List Property) → All (λ (shown : Shown). shown_now s bindings shown.at ≡ Some shown)
+      (filter_map (shown_now s bindings) properties)
+  rows_of_now properties = all_given (shown_now s bindings) (λ (shown : Shown). shown_now s bindings shown.at ≡ Some shown) properties
+      (λ index default within shown made. ap (shown_now s bindings) (shown_of s bindings (get_or properties index default) shown made) ∙ made)
 
   -- where nothing has changed nothing is told
   pub nothing_changed : (written : Option Property) → changes (all_shown s bindings) (all_shown s bindings) written ≡ []
-  nothing_changed written = quiet (all_shown s bindings) (all_shown s bindings) written (λ index default within. one (get_or (all_shown s bindings) index default) (rows_of_now (properties_in s) index default within))
+  nothing_changed written = quiet (all_shown s bindings) (all_shown s bindings) written
+      (λ index default within. one (get_or (all_shown s bindings) index default) (rows_of_now (properties_in s) index default within))
     where
       one : (shown : Shown) → shown_now s bindings shown.at ≡ Some shown → before (all_shown s bindings) shown ≡ shown
-      one shown is = ap (λ stood. option_map_or (λ (stood : Shown). stood) stood (shown_as shown.at shown.kind (Ok (default_of shown.kind)))) (found_in_all s bindings shown.at ∙ is)
+      one shown is = ap (λ stood. option_map_or (λ (stood : Shown). stood) stood (shown_as shown.at shown.kind (Ok (default_of shown.kind))))
+          (found_in_all s bindings shown.at ∙ is)
 
 -- what all properties show, by their cells and by the properties that names stand for
 abbrev all_by : List Binding → (Property → Option Cell) → (ℕ → Target → List ℕ → Option Property) → List Property → List Shown
 all_by bindings cell_at named properties =
-    filter_map (λ q. option_map (λ cell. shown_as q cell.kind (plain (record { bindings = filter (λ binding. is_some (cell_at binding.at)) bindings; cell_at = cell_at; named = named }) [] q)) (cell_at q)) properties
+    filter_map (λ q. option_map (λ cell. shown_as q cell.kind
+    (plain (record { bindings = filter (λ binding. is_some (cell_at binding.at)) bindings; cell_at = cell_at; named = named }) [] q)) (cell_at q))
+    properties
 
 -- what is found of an object after a change that leaves it its number
 abbrev pub changed_one : (Properties → Properties) → ℕ → Properties → Properties
 changed_one change object of = cond (of.object == object) (change of) of
 
-pub found_changed : (change : Properties → Properties) (object : ℕ) → ((of : Properties) → (change of).object ≡ of.object) → (s : Store) (other : ℕ) → properties_of (changed change object s) other ≡ option_map (changed_one change object) (properties_of s other)
+pub found_changed : (change : Properties → Properties) (object : ℕ) → ((of : Properties) → (change of).object ≡ of.object) → (s : Store) (other : ℕ)
+    → properties_of (changed change object s) other ≡ option_map (changed_one change object) (properties_of s other)
 found_changed change object same [] other = refl
 found_changed change object same (of ∷ rest) other =
-    ap (λ number. cond (number == other) (Some (changed_one change object of)) (properties_of (changed change object rest) other)) (same_one (of.object == object)) ∙ by (of.object == other) (found_changed change object same rest other)
+    ap (λ number. cond (number == other) (Some (changed_one change object of)) (properties_of (changed change object rest) other))
+    (same_one (of.object == object)) ∙ by (of.object == other) (found_changed change object same rest other)
   where
     same_one : (is : Bool) → (cond is (change of) of).object ≡ of.object
     same_one true = same of
     same_one false = refl
 
     by : (is : Bool) → properties_of (changed change object rest) other ≡ option_map (changed_one change object) (properties_of rest other)
-        → cond is (Some (changed_one change object of)) (properties_of (changed change object rest) other) ≡ option_map (changed_one change object) (cond is (Some of) (properties_of rest other))
+        → cond is (Some (changed_one change object of)) (properties_of (changed change object rest) other)
+        ≡ option_map (changed_one change object) (cond is (Some of) (properties_of rest other))
     by true later = refl
     by false later = later
 
 -- a change that leaves an object its number, what it declares and its values leaves what all properties show
-module _ (change : Properties → Properties) (object : ℕ) (same : (of : Properties) → (change of).object ≡ of.object) (fields : (of : Properties) → (change of).fields ≡ of.fields) (values : (of : Properties) → (change of).values ≡ of.values) where
+module _ (change : Properties → Properties) (object : ℕ) (same : (of : Properties) → (change of).object ≡ of.object)
+    (fields : (of : Properties) → (change of).fields ≡ of.fields) (values : (of : Properties) → (change of).values ≡ of.values) where
   cells_same : (s : Store) (q : Property) → cell_in (changed change object s) q ≡ cell_in s q
   cells_same s q = ap (λ found. option_map_or (cell_of q.number) found None) (found_changed change object same s q.object) ∙ by (properties_of s q.object)
     where
       inside : (of : Properties) (is : Bool) → cell_of q.number (cond is (change of) of) ≡ cell_of q.number of
-      inside of true = λ i. option_map_or (λ (field : Field). option_map (λ value. let cell : Cell = record { kind = field.kind; value = value } in cell) (slice_get (values of i) q.number)) (slice_get (fields of i) q.number) None
+      inside of true = λ i. option_map_or (λ (field : Field). option_map (λ value. let cell : Cell = record { kind = field.kind; value = value } in cell)
+          (slice_get (values of i) q.number)) (slice_get (fields of i) q.number) None
       inside of false = refl
 
-      by : (found : Option Properties) → option_map_or (cell_of q.number) (option_map (changed_one change object) found) None ≡ option_map_or (cell_of q.number) found None
+      by : (found : Option Properties) → option_map_or (cell_of q.number) (option_map (changed_one change object) found) None
+          ≡ option_map_or (cell_of q.number) found None
       by None = refl
       by (Some of) = inside of (of.object == object)
 
   fields_same : (s : Store) (other : ℕ) → fields_at (changed change object s) other ≡ fields_at s other
-  fields_same s other = by (properties_of (changed change object s) other) ∙ (ap (λ fields. option_map_or (λ fields. fields) fields []) (changed_fields change object same fields s other) ∙ sym (by (properties_of s other)))
+  fields_same s other = by (properties_of (changed change object s) other)
+      ∙ (ap (λ fields. option_map_or (λ fields. fields) fields []) (changed_fields change object same fields s other) ∙ sym (by (properties_of s other)))
     where
-      by : (found : Option Properties) → option_map_or (λ (of : Properties). of.fields) found [] ≡ option_map_or (λ (fields : List Field). fields) (option_map (λ (of : Properties). of.fields) found) []
+      by : (found : Option Properties) → option_map_or (λ (of : Properties). of.fields) found []
+          ≡ option_map_or (λ (fields : List Field). fields) (option_map (λ (of : Properties). of.fields) found) []
       by None = refl
       by (Some of) = refl
 
   pub showing_same : (s : Store) (bindings : List Binding) → all_shown (changed change object s) bindings ≡ all_shown s bindings
-  showing_same s bindings = λ i. all_by bindings (λ q. cells_same s q i) (λ object target name. option_map (λ number. record { object = number; number = bindable_number name (fields_same s number i) }) (meant object target)) (properties_changed change object same fields s i)
+  showing_same s bindings = λ i. all_by bindings (λ q. cells_same s q i)
+      (λ object target name. option_map (λ number. record { object = number; number = bindable_number name (fields_same s number i) }) (meant object target))
+      (properties_changed change object same fields s i)

@@ -27,18 +27,21 @@ total-more m n doing items less =
     let deletions = mul-le-mul_left (living_rows doing.state.forest.rows) deletion in
     omega (arith, turns, deletions)
 
-enough-total : (settings : Settings) (agenda : List Item) (doing : Execution) → enough settings agenda doing ≡ total (most settings doing) doing (weights (most settings doing) agenda)
+enough-total : (settings : Settings) (agenda : List Item) (doing : Execution)
+    → enough settings agenda doing ≡ total (most settings doing) doing (weights (most settings doing) agenda)
 unfolding enough living
 enough-total settings agenda doing = refl
 
 -- fewer steps are enough after an item than before it
-enough-falls : (settings : Settings) (item : Item) (agenda : List Item) (doing : Execution) → enough settings ((step settings item doing).items ++ agenda) (step settings item doing).doing < enough settings (item ∷ agenda) doing
+enough-falls : (settings : Settings) (item : Item) (agenda : List Item) (doing : Execution)
+    → enough settings ((step settings item doing).items ++ agenda) (step settings item doing).doing < enough settings (item ∷ agenda) doing
 enough-falls settings item agenda doing = by (step settings item doing).items (step settings item doing).doing (falls settings item doing)
   where
     n : Most
     n = most settings doing
 
-    by : (items : List Item) (new : Execution) → FallsTo settings item doing (record { items = items; doing = new }) → enough settings (items ++ agenda) new < enough settings (item ∷ agenda) doing
+    by : (items : List Item) (new : Execution) → FallsTo settings item doing (record { items = items; doing = new })
+        → enough settings (items ++ agenda) new < enough settings (item ∷ agenda) doing
     by items new fall =
         let is_less = bounded settings doing new fall.shrinks in
         let less = total-more (most settings new) (most settings doing) new (weights (most settings new) (items ++ agenda)) is_less in
@@ -53,7 +56,8 @@ enough-some settings item agenda doing = let some = weight-some (most settings d
 
 module _ (settings : Settings) where
   -- two runs that have enough steps come to the same
-  same_end : (one other : ℕ) (agenda : List Item) (doing : Execution) → enough settings agenda doing ≤ one → enough settings agenda doing ≤ other → steps settings one agenda doing ≡ steps settings other agenda doing
+  same_end : (one other : ℕ) (agenda : List Item) (doing : Execution) → enough settings agenda doing ≤ one → enough settings agenda doing ≤ other
+      → steps settings one agenda doing ≡ steps settings other agenda doing
   same_end zero zero agenda doing a b = refl
   same_end zero (suc other) [] doing a b = refl
   same_end (suc one) zero [] doing a b = refl
@@ -72,30 +76,40 @@ module _ (settings : Settings) where
       by zero = refl
       by (suc fuel) = refl
 
-  pub at_item : (item : Item) (agenda : List Item) (doing : Execution) → run settings (item ∷ agenda) doing ≡ run settings ((step settings item doing).items ++ agenda) (step settings item doing).doing
+  pub at_item : (item : Item) (agenda : List Item) (doing : Execution)
+      → run settings (item ∷ agenda) doing ≡ run settings ((step settings item doing).items ++ agenda) (step settings item doing).doing
   unfolding run
   at_item item agenda doing = by (enough settings (item ∷ agenda) doing) refl
     where
-      by : (fuel : ℕ) → enough settings (item ∷ agenda) doing ≡ fuel → steps settings fuel (item ∷ agenda) doing ≡ steps settings (enough settings ((step settings item doing).items ++ agenda) (step settings item doing).doing) ((step settings item doing).items ++ agenda) (step settings item doing).doing
+      by : (fuel : ℕ) → enough settings (item ∷ agenda) doing ≡ fuel
+          → steps settings fuel (item ∷ agenda) doing ≡ steps settings
+          (enough settings ((step settings item doing).items ++ agenda) (step settings item doing).doing) ((step settings item doing).items ++ agenda)
+          (step settings item doing).doing
       by zero e = absurd (let some = enough-some settings item agenda doing in omega (arith, some, e))
       by (suc fuel) e = let less = enough-falls settings item agenda doing in
-          same_end fuel (enough settings ((step settings item doing).items ++ agenda) (step settings item doing).doing) ((step settings item doing).items ++ agenda) (step settings item doing).doing (omega (arith, less, e)) (omega arith)
+          same_end fuel (enough settings ((step settings item doing).items ++ agenda) (step settings item doing).doing)
+          ((step settings item doing).items ++ agenda) (step settings item doing).doing (omega (arith, less, e)) (omega arith)
 
   -- nothing is done after the last item
   pub behind_nothing : (items : List Item) (doing : Execution) → run settings (items ++ []) doing ≡ run settings items doing
   behind_nothing items doing = ap (λ items. run settings items doing) (append-nil items)
 
   -- an item is done by what it comes to
-  pub by_step : (item : Item) (doing : Execution) (next : Next) → step settings item doing ≡ next → run settings (item ∷ []) doing ≡ run settings next.items next.doing
-  by_step item doing next e = at_item item [] doing ∙ behind_nothing (step settings item doing).items (step settings item doing).doing ∙ ap (λ (next : Next). run settings next.items next.doing) e
+  pub by_step : (item : Item) (doing : Execution) (next : Next) → step settings item doing ≡ next
+      → run settings (item ∷ []) doing ≡ run settings next.items next.doing
+  by_step item doing next e = at_item item [] doing ∙ behind_nothing (step settings item doing).items (step settings item doing).doing
+      ∙ ap (λ (next : Next). run settings next.items next.doing) e
 
   -- an item that puts nothing in front only changes the session
   pub by_change : (item : Item) (doing new : Execution) → step settings item doing ≡ puts [] new → run settings (item ∷ []) doing ≡ new
   by_change item doing new e = by_step item doing (puts [] new) e ∙ at_end new
 
   -- what stays with each item, from any agenda and session, holds when all is done
-  module _ (P : List Item → Execution → Type 0) (keeps : (item : Item) (agenda : List Item) (doing : Execution) → P (item ∷ agenda) doing → P ((step settings item doing).items ++ agenda) (step settings item doing).doing) where
-    steps_keep : (fuel : ℕ) (agenda : List Item) (doing : Execution) → enough settings agenda doing ≤ fuel → P agenda doing → P [] (steps settings fuel agenda doing)
+  module _ (P : List Item → Execution → Type 0)
+      (keeps : (item : Item) (agenda : List Item) (doing : Execution) → P (item ∷ agenda) doing
+      → P ((step settings item doing).items ++ agenda) (step settings item doing).doing) where
+    steps_keep : (fuel : ℕ) (agenda : List Item) (doing : Execution) → enough settings agenda doing ≤ fuel → P agenda doing
+        → P [] (steps settings fuel agenda doing)
     steps_keep zero [] doing is_enough holds = holds
     steps_keep (suc fuel) [] doing is_enough holds = holds
     steps_keep zero (item ∷ agenda) doing is_enough holds = absurd (let some = enough-some settings item agenda doing in omega (arith, some))
@@ -108,7 +122,8 @@ module _ (settings : Settings) where
     run_keeps agenda doing holds = steps_keep (enough settings agenda doing) agenda doing (omega arith) holds
 
   -- two agendas are done one after the other, where the first comes to its end in so many steps
-  parts_within : (fuel : ℕ) (one other : List Item) (doing : Execution) → enough settings one doing ≤ fuel → run settings (one ++ other) doing ≡ run settings other (run settings one doing)
+  parts_within : (fuel : ℕ) (one other : List Item) (doing : Execution) → enough settings one doing ≤ fuel
+      → run settings (one ++ other) doing ≡ run settings other (run settings one doing)
   parts_within fuel [] other doing is_enough = ap (run settings other) (sym (at_end doing))
   parts_within zero (item ∷ one) other doing is_enough = absurd (let some = enough-some settings item one doing in omega (arith, some))
   parts_within (suc fuel) (item ∷ one) other doing is_enough =
@@ -124,12 +139,14 @@ module _ (settings : Settings) where
   in_parts one other doing = parts_within (enough settings one doing) one other doing (omega arith)
 
   -- an agenda is done item after item
-  pub after_first : (item : Item) (agenda : List Item) (doing : Execution) → run settings (item ∷ agenda) doing ≡ run settings agenda (run settings (item ∷ []) doing)
+  pub after_first : (item : Item) (agenda : List Item) (doing : Execution)
+      → run settings (item ∷ agenda) doing ≡ run settings agenda (run settings (item ∷ []) doing)
   after_first item agenda doing = in_parts (item ∷ []) agenda doing
 
   -- a run leaves no more turns, living objects and connections than there were
   pub run_shrinks : (agenda : List Item) (doing : Execution) → Shrinks doing (run settings agenda doing)
-  run_shrinks agenda doing = run_keeps (λ items new. Shrinks doing new) (λ item rest new before. both doing new (step settings item new).doing before (falls settings item new).shrinks) agenda doing (same doing)
+  run_shrinks agenda doing = run_keeps (λ items new. Shrinks doing new)
+      (λ item rest new before. both doing new (step settings item new).doing before (falls settings item new).shrinks) agenda doing (same doing)
 
 pub runs_to_its_end : RunsToItsEnd
 runs_to_its_end = record { at_end = at_end; at_item = at_item; in_parts = in_parts }

@@ -10,14 +10,16 @@ use Rattle.signature_core.specs.declared.kind.Kind.{Kind}
 use Rattle.plain_types.specs.declared.code.Code.{Code}
 use Rattle.plain_types.specs.declared.code.Code.TheVariants.{BadSignature, DoesNotFit, NoSuchObject}
 use Rattle.signature_core.specs.Kinds.{fits, kind_named}
-use Rattle.std.proofs.Common.{Bool, Err, List, None, Ok, Option, Some, [], ap, arith, cond, false, is_some, length, nat_le, not, refl, slice_get, subst, suc, sym, true, ℕ, ◌∷◌, ◌≡◌, ◌≤◌}
+use Rattle.std.proofs.Common.{Bool, Err, List, None, Ok, Option, Some, [], ap, arith, cond, false, is_some, length, nat_le, not, refl, slice_get, subst, suc}
+use Rattle.std.proofs.Common.{sym, true, ℕ, ◌∷◌, ◌≡◌, ◌≤◌}
 use Rattle.std.proofs.lemmas.Bool.Decides.{nat_tests}
 use Rattle.std.proofs.lemmas.List.Elements.{All-filter, All-push}
 use Rattle.std.specs.List.{All}
 use Rattle.std.specs.Option.{ok_or, option_map_or}
 use Rattle.std.specs.Prelude.{IfOk}
 use Rattle.std.specs.Result.{result_err, result_ok}
-use Rattle.session_model.proofs.DeskLemmas.{fewer_pass, of_joined, of_left, of_published, of_unpublished, sound_joined, sound_left, sound_published, sound_unpublished}
+use Rattle.session_model.proofs.DeskLemmas.{fewer_pass, of_joined, of_left, of_published, of_unpublished, sound_joined, sound_left, sound_published}
+use Rattle.session_model.proofs.DeskLemmas.{sound_unpublished}
 use Rattle.session_model.proofs.FittingFoundLemmas.{found_past, named_method_there, named_signal_there}
 use Rattle.session_model.proofs.FittingPostLemmas.{first_fits}
 use Rattle.session_model.proofs.KeepingLemmas.{Falls, Keeps, Leaves, is_join_asked, refused, replied}
@@ -33,7 +35,8 @@ use Rattle.session_model.specs.Fitting.{IsFitting, IsJoined, IsPublished}
 use Rattle.session_model.specs.Methods.{Found, method_named, methods_of, signal_named, ◌>>=◌}
 use Rattle.session_model.specs.Named.{AreNamed, IsNamedAsked, IsNamedJoin, IsNamedPublication}
 use Rattle.session_model.specs.Refusing.{refusal}
-use Rattle.session_model.specs.Sharing.{asked_join, asked_kinds, asked_listener, asked_publication, joining_refusal, joins_found, kinds_named, leaves, publication_refusal, publishes_found, unpublishes}
+use Rattle.session_model.specs.Sharing.{asked_join, asked_kinds, asked_listener, asked_publication, joining_refusal, joins_found, kinds_named, leaves}
+use Rattle.session_model.specs.Sharing.{publication_refusal, publishes_found, unpublishes}
 use Rattle.session_model.specs.State.{IsSound, OfDesk, State, empty, with_desk}
 use Rattle.session_model.specs.Thread.{Settings, performs}
 use Rattle.session_model.specs.declared.line.Answer.TheVariants as a
@@ -41,11 +44,13 @@ use Rattle.publish_board.specs.Desk as board
 
 module _ (settings : Settings) (self : List ℕ) (state : State) where
   module _ (target : ℕ) (signal name : List ℕ) where
-    pub refusal_publish : refusal settings self state (Publish target signal name) ≡ publication_refusal state (asked_publication settings state target signal name)
+    pub refusal_publish : refusal settings self state (Publish target signal name)
+        ≡ publication_refusal state (asked_publication settings state target signal name)
     unfolding refusal
     refusal_publish = refl
 
-    pub performs_publish : performs settings self state (Publish target signal name) ≡ publishes_found state (asked_publication settings state target signal name)
+    pub performs_publish : performs settings self state (Publish target signal name)
+        ≡ publishes_found state (asked_publication settings state target signal name)
     unfolding performs
     performs_publish = refl
 
@@ -58,11 +63,13 @@ module _ (settings : Settings) (self : List ℕ) (state : State) where
   performs_unpublish name = refl
 
   module _ (from name : List ℕ) (types : List (List ℕ)) (target : ℕ) (method : List ℕ) where
-    pub refusal_join : refusal settings self state (AsksJoin from name types target method) ≡ joining_refusal settings self state (asked_join settings state from name types target method)
+    pub refusal_join : refusal settings self state (AsksJoin from name types target method)
+        ≡ joining_refusal settings self state (asked_join settings state from name types target method)
     unfolding refusal
     refusal_join = refl
 
-    pub performs_join : performs settings self state (AsksJoin from name types target method) ≡ joins_found state (asked_join settings state from name types target method)
+    pub performs_join : performs settings self state (AsksJoin from name types target method)
+        ≡ joins_found state (asked_join settings state from name types target method)
     unfolding performs
     performs_join = refl
 
@@ -71,7 +78,8 @@ module _ (settings : Settings) (self : List ℕ) (state : State) where
     unfolding refusal
     refusal_leave = refl
 
-    pub performs_leave : performs settings self state (Leave from name target method) ≡ leaves state from name target (asked_listener settings state target method)
+    pub performs_leave : performs settings self state (Leave from name target method)
+        ≡ leaves state from name target (asked_listener settings state target method)
     unfolding performs
     performs_leave = refl
 
@@ -88,7 +96,8 @@ kinds_counted : (texts : List (List ℕ)) (kinds : List Kind) → kinds_named te
 kinds_counted [] kinds e = let same : [] ≡ kinds = cc in ap length (sym same)
 kinds_counted (text ∷ texts) kinds e = by (kind_named text) (kinds_named texts) (kinds_counted texts) e
   where
-    by : (one : Option Kind) (rest : Found (List Kind)) → ((others : List Kind) → rest ≡ Ok others → length others ≡ length texts) → (ok_or one BadSignature >>= λ kind. rest >>= λ kinds. Ok (kind ∷ kinds)) ≡ Ok kinds → length kinds ≡ length (text ∷ texts)
+    by : (one : Option Kind) (rest : Found (List Kind)) → ((others : List Kind) → rest ≡ Ok others → length others ≡ length texts)
+        → (ok_or one BadSignature >>= λ kind. rest >>= λ kinds. Ok (kind ∷ kinds)) ≡ Ok kinds → length kinds ≡ length (text ∷ texts)
     by None rest counted e = absurd (cc)
     by (Some kind) (Err code) counted e = absurd (cc)
     by (Some kind) (Ok others) counted e =
@@ -105,30 +114,40 @@ few_kinds texts kinds e = by (nat_le (length texts) 10) refl e
         omega (arith, within, kinds_counted texts kinds e)
 
 -- what was looked for behind an object is found where that is there
-found_behind : {A : Type 0} (there : Bool) (found : Found A) (value : A) → behind (cond there None (Some NoSuchObject)) found ≡ Ok value → (there ≡ true) × (found ≡ Ok value)
+found_behind : {A : Type 0} (there : Bool) (found : Found A) (value : A) → behind (cond there None (Some NoSuchObject)) found ≡ Ok value
+    → (there ≡ true) × (found ≡ Ok value)
 found_behind true found value is = (refl, is)
 found_behind false found value is = absurd (cc)
 
 -- a publication that was found is of an object that stands
-publication_there : (settings : Settings) (state : State) (target : ℕ) (signal name : List ℕ) (row : Publication) → asked_publication settings state target signal name ≡ Ok row → is_there state.forest.rows row.object ≡ true
+publication_there : (settings : Settings) (state : State) (target : ℕ) (signal name : List ℕ) (row : Publication)
+    → asked_publication settings state target signal name ≡ Ok row → is_there state.forest.rows row.object ≡ true
 publication_there settings state target signal name row is =
     let parts = found_behind (is_there state.forest.rows target) _ row is in
     by (signal_named (methods_of settings state target) signal) parts.0 parts.1
   where
-    by : (found : Found ℕ) → is_there state.forest.rows target ≡ true → (found >>= λ index. Ok (record { name = name; object = target; signal = index })) ≡ Ok row → is_there state.forest.rows row.object ≡ true
+    by : (found : Found ℕ) → is_there state.forest.rows target ≡ true
+        → (found >>= λ index. Ok (record { name = name; object = target; signal = index })) ≡ Ok row → is_there state.forest.rows row.object ≡ true
     by (Err code) there e = absurd (cc)
-    by (Ok index) there e = let same : target ≡ row.object = ap (λ (found : Found Publication). option_map_or (λ (row : Publication). row.object) (result_ok found) target) e in subst (λ object. is_there state.forest.rows object ≡ true) same there
+    by (Ok index) there e =
+        let same : target ≡ row.object = ap (λ (found : Found Publication). option_map_or (λ (row : Publication). row.object) (result_ok found) target) e in
+        subst (λ object. is_there state.forest.rows object ≡ true) same there
 
 -- and so does a join call one
-join_there : (settings : Settings) (state : State) (from name : List ℕ) (types : List (List ℕ)) (target : ℕ) (method : List ℕ) (join : Join) → asked_join settings state from name types target method ≡ Ok join → is_there state.forest.rows join.object ≡ true
+join_there : (settings : Settings) (state : State) (from name : List ℕ) (types : List (List ℕ)) (target : ℕ) (method : List ℕ) (join : Join)
+    → asked_join settings state from name types target method ≡ Ok join → is_there state.forest.rows join.object ≡ true
 join_there settings state from name types target method join is =
     let parts = found_behind (is_there state.forest.rows target) _ join is in
     by (asked_kinds types) (method_named (methods_of settings state target) method) parts.0 parts.1
   where
-    by : (kinds : Found (List Kind)) (found : Found ℕ) → is_there state.forest.rows target ≡ true → (kinds >>= λ kinds. found >>= λ index. Ok (record { from = from; name = name; kinds = kinds; object = target; method = index })) ≡ Ok join → is_there state.forest.rows join.object ≡ true
+    by : (kinds : Found (List Kind)) (found : Found ℕ) → is_there state.forest.rows target ≡ true
+        → (kinds >>= λ kinds. found >>= λ index. Ok (record { from = from; name = name; kinds = kinds; object = target; method = index })) ≡ Ok join
+        → is_there state.forest.rows join.object ≡ true
     by (Err code) found there e = absurd (cc)
     by (Ok kinds) (Err code) there e = absurd (cc)
-    by (Ok kinds) (Ok index) there e = let same : target ≡ join.object = ap (λ (found : Found Join). option_map_or (λ (join : Join). join.object) (result_ok found) target) e in subst (λ object. is_there state.forest.rows object ≡ true) same there
+    by (Ok kinds) (Ok index) there e =
+        let same : target ≡ join.object = ap (λ (found : Found Join). option_map_or (λ (join : Join). join.object) (result_ok found) target) e in subst
+        (λ object. is_there state.forest.rows object ≡ true) same there
 
 module _ (settings : Settings) (state : State) where
   abbrev rows : List Row
@@ -142,27 +161,40 @@ module _ (settings : Settings) (state : State) where
   desk_leaves asked desk sound fits named falls = record {
     sound = λ its. record { whole = whole_with_desk state desk (sound its).0 (sound its).1 its.whole; living = its.living };
     declared = λ sound declared. declared;
-    fitting = λ before. (let fit = before.fit in record { objects = fit.objects; events = fit.events; connections = fit.connections; publications = (fits fit).0; joins = (fits fit).1 });
+    fitting = λ before. (let fit = before.fit in record
+        { objects = fit.objects; events = fit.events; connections = fit.connections; publications = (fits fit).0; joins = (fits fit).1 });
     named = λ are is its. record { store = its.store; publications = (named is its).0; joins = (named is its).1 };
     joins = falls;
   }
 
   -- a signal that is found is published
-  pub publish_keeps : (target : ℕ) (signal name : List ℕ) → publication_refusal state (asked_publication settings state target signal name) ≡ None → Keeps settings state (Publish target signal name) (publishes_found state (asked_publication settings state target signal name))
+  pub publish_keeps : (target : ℕ) (signal name : List ℕ) → publication_refusal state (asked_publication settings state target signal name) ≡ None
+      → Keeps settings state (Publish target signal name) (publishes_found state (asked_publication settings state target signal name))
   publish_keeps target signal name = by (asked_publication settings state target signal name) refl
     where
-      by : (found : Found Publication) → asked_publication settings state target signal name ≡ found → publication_refusal state found ≡ None → Keeps settings state (Publish target signal name) (publishes_found state found)
+      by : (found : Found Publication) → asked_publication settings state target signal name ≡ found → publication_refusal state found ≡ None
+          → Keeps settings state (Publish target signal name) (publishes_found state found)
       by (Err code) is passed = refused settings state (Publish target signal name) code
-      by (Ok row) is passed = replied settings state (Publish target signal name) _ (a.Truth true) (desk_leaves (Publish target signal name) (published state.desk row)
-          (λ sound. (sound_published state.desk row passed sound.whole.desk, of_published _ state.desk sound.whole.named row (publication_there settings state target signal name row is)))
+      by (Ok row) is passed = replied settings state (Publish target signal name) _ (a.Truth true)
+          (desk_leaves (Publish target signal name) (published state.desk row)
+          (λ sound. (
+            sound_published state.desk row passed sound.whole.desk,
+            of_published _ state.desk sound.whole.named row (publication_there settings state target signal name row is),
+          ))
           (λ fit. (All-push (IsPublished settings rows) state.desk.publications row fit.publications its, fit.joins))
-          (λ called named. (All-push IsNamedPublication state.desk.publications row named.publications (subst (λ found. IfOk found IsNamedPublication) is (publication_named settings state target signal name called)), named.joins))
+          (λ called named. (
+            All-push IsNamedPublication state.desk.publications row named.publications
+                (subst (λ found. IfOk found IsNamedPublication) is (publication_named settings state target signal name called)),
+            named.joins,
+          ))
           (λ plain test held. held))
         where
           its : IsPublished settings rows row
           its = found_so (signal_named (methods_of settings state target) signal) refl (found_past (absence state target) _ row is)
             where
-              found_so : (found : Found ℕ) → signal_named (methods_of settings state target) signal ≡ found → (found >>= λ index. Ok (let row : Publication = record { name = name; object = target; signal = index } in row)) ≡ Ok row → IsPublished settings rows row
+              found_so : (found : Found ℕ) → signal_named (methods_of settings state target) signal ≡ found
+                  → (found >>= λ index. Ok (let row : Publication = record { name = name; object = target; signal = index } in row)) ≡ Ok row
+                  → IsPublished settings rows row
               found_so (Err code) so e = absurd (cc)
               found_so (Ok index) so e =
                   let same : (let row : Publication = record { name = name; object = target; signal = index } in row) ≡ row = cc in
@@ -176,28 +208,45 @@ module _ (settings : Settings) (state : State) where
       (λ plain test held. held))
 
   -- and so is a method joined
-  pub join_keeps : (self from name : List ℕ) (types : List (List ℕ)) (target : ℕ) (method : List ℕ) → joining_refusal settings self state (asked_join settings state from name types target method) ≡ None
+  pub join_keeps : (self from name : List ℕ) (types : List (List ℕ)) (target : ℕ) (method : List ℕ)
+      → joining_refusal settings self state (asked_join settings state from name types target method) ≡ None
       → Keeps settings state (AsksJoin from name types target method) (joins_found state (asked_join settings state from name types target method))
   join_keeps self from name types target method = by (asked_join settings state from name types target method) refl
     where
-      by : (found : Found Join) → asked_join settings state from name types target method ≡ found → joining_refusal settings self state found ≡ None → Keeps settings state (AsksJoin from name types target method) (joins_found state found)
+      by : (found : Found Join) → asked_join settings state from name types target method ≡ found → joining_refusal settings self state found ≡ None
+          → Keeps settings state (AsksJoin from name types target method) (joins_found state found)
       by (Err code) is passed = refused settings state (AsksJoin from name types target method) code
-      by (Ok join) is passed = replied settings state (AsksJoin from name types target method) _ (a.Truth true) (desk_leaves (AsksJoin from name types target method) (with_join state.desk join)
-          (λ sound. (sound_joined self state.desk join _ passed sound.whole.desk, of_joined _ state.desk sound.whole.named join (join_there settings state from name types target method join is)))
-          (λ fit. (fit.publications, All-push (IsJoined settings rows) state.desk.joins join fit.joins (record { callee = there; fitting = fitting; few = few })))
-          (λ called named. (named.publications, All-push IsNamedJoin state.desk.joins join named.joins (subst (λ found. IfOk found IsNamedJoin) is (join_named settings state from name types target method called))))
+      by (Ok join) is passed = replied settings state (AsksJoin from name types target method) _ (a.Truth true)
+          (desk_leaves (AsksJoin from name types target method) (with_join state.desk join)
+          (λ sound. (
+            sound_joined self state.desk join _ passed sound.whole.desk,
+            of_joined _ state.desk sound.whole.named join (join_there settings state from name types target method join is),
+          ))
+          (λ fit. (
+            fit.publications,
+            All-push (IsJoined settings rows) state.desk.joins join fit.joins
+                (record { callee = there; fitting = fitting; few = few }),
+          ))
+          (λ called named. (
+            named.publications,
+            All-push IsNamedJoin state.desk.joins join named.joins
+                (subst (λ found. IfOk found IsNamedJoin) is (join_named settings state from name types target method called)),
+          ))
           (λ plain. absurd (cc)))
         where
           there : is_some (slice_get (methods_of settings state join.object) join.method) ≡ true
           there = of_found (asked_kinds types) (method_named (methods_of settings state target) method) refl (found_past (absence state target) _ join is)
             where
               of_found : (kinds : Found (List Kind)) (found : Found ℕ) → method_named (methods_of settings state target) method ≡ found
-                  → (kinds >>= λ kinds. found >>= λ index. Ok (let join : Join = record { from = from; name = name; kinds = kinds; object = target; method = index } in join)) ≡ Ok join → is_some (slice_get (methods_of settings state join.object) join.method) ≡ true
+                  → (kinds >>= λ kinds. found >>= λ index. Ok
+                  (let join : Join = record { from = from; name = name; kinds = kinds; object = target; method = index } in join)) ≡ Ok join
+                  → is_some (slice_get (methods_of settings state join.object) join.method) ≡ true
               of_found (Err code) found so e = absurd (cc)
               of_found (Ok kinds) (Err code) so e = absurd (cc)
               of_found (Ok kinds) (Ok index) so e =
                   let same : (let join : Join = record { from = from; name = name; kinds = kinds; object = target; method = index } in join) ≡ join = cc in
-                  subst (λ (join : Join). is_some (slice_get (methods_of settings state join.object) join.method) ≡ true) same (named_method_there (methods_of settings state target) method index so)
+                  subst (λ (join : Join). is_some (slice_get (methods_of settings state join.object) join.method) ≡ true) same
+                  (named_method_there (methods_of settings state target) method index so)
 
           fitting : fits join.kinds (kinds_of settings.classes rows join.object join.method) ≡ true
           fitting = of_found (fits join.kinds (kinds_of settings.classes rows join.object join.method)) _ passed
@@ -210,19 +259,23 @@ module _ (settings : Settings) (state : State) where
           few = of_found (asked_kinds types) (method_named (methods_of settings state target) method) refl (found_past (absence state target) _ join is)
             where
               of_found : (kinds : Found (List Kind)) (found : Found ℕ) → asked_kinds types ≡ kinds
-                  → (kinds >>= λ kinds. found >>= λ index. Ok (let join : Join = record { from = from; name = name; kinds = kinds; object = target; method = index } in join)) ≡ Ok join → length join.kinds ≤ 10
+                  → (kinds >>= λ kinds. found >>= λ index. Ok
+                  (let join : Join = record { from = from; name = name; kinds = kinds; object = target; method = index } in join)) ≡ Ok join
+                  → length join.kinds ≤ 10
               of_found (Err code) found so e = absurd (cc)
               of_found (Ok kinds) (Err code) so e = absurd (cc)
               of_found (Ok kinds) (Ok index) so e =
                   let same : (let join : Join = record { from = from; name = name; kinds = kinds; object = target; method = index } in join) ≡ join = cc in
                   subst (λ (join : Join). length join.kinds ≤ 10) same (few_kinds types kinds so)
 
-  pub leave_keeps : (from name : List ℕ) (target : ℕ) (method : List ℕ) → Keeps settings state (Leave from name target method) (leaves state from name target (asked_listener settings state target method))
+  pub leave_keeps : (from name : List ℕ) (target : ℕ) (method : List ℕ)
+      → Keeps settings state (Leave from name target method) (leaves state from name target (asked_listener settings state target method))
   leave_keeps from name target method = by (asked_listener settings state target method)
     where
       by : (found : Found ℕ) → Keeps settings state (Leave from name target method) (leaves state from name target found)
       by (Err code) = refused settings state (Leave from name target method) code
-      by (Ok index) = replied settings state (Leave from name target method) _ _ (desk_leaves (Leave from name target method) (left state.desk from name target index)
+      by (Ok index) = replied settings state (Leave from name target method) _ _
+          (desk_leaves (Leave from name target method) (left state.desk from name target index)
           (λ sound. (sound_left state.desk from name target index sound.whole.desk, of_left _ state.desk sound.whole.named from name target index))
           (λ fit. (fit.publications, All-filter (λ join. not (is_join from name target index join)) (IsJoined settings rows) state.desk.joins fit.joins))
           (λ is named. (named.publications, All-filter (λ join. not (is_join from name target index join)) IsNamedJoin state.desk.joins named.joins))

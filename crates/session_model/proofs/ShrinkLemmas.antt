@@ -25,7 +25,8 @@ use Rattle.session_model.specs.Agenda.{lives, queued}
 use Rattle.session_model.specs.declared.operation.Operation.{Operation}
 use Rattle.session_model.specs.declared.operation.Operation.TheVariants as d
 use Rattle.session_model.specs.Operations.{operation_done, operation_refusal}
-use Rattle.session_model.specs.Execution.{Execution, dying, first_taken, in_state, lost, enqueued, single_shot_broken, stepped, line_told, turn_taken, used_up, posting, severed}
+use Rattle.session_model.specs.Execution.{Execution, dying, first_taken, in_state, lost, enqueued, single_shot_broken, stepped, line_told, turn_taken, used_up}
+use Rattle.session_model.specs.Execution.{posting, severed}
 use Rattle.binding_values.specs.Stored.{properties_in}
 use Rattle.property_store.specs.Store.{with_dynamic, with_value, without_dynamic}
 use Rattle.session_model.specs.State.{without_connections, without_object}
@@ -48,7 +49,15 @@ pub record Shrinks (old new : Execution) : Type 0 where
   pub joins : (test : Join → Bool) → list_any test new.state.desk.joins ≡ true → list_any test old.state.desk.joins ≡ true
 
 pub same : (doing : Execution) → Shrinks doing doing
-same doing = record { turns = omega arith; taken = omega arith; living = omega arith; objects = omega arith; connections = omega arith; properties = omega arith; joins = λ test held. held }
+same doing = record {
+  turns = omega arith;
+  taken = omega arith;
+  living = omega arith;
+  objects = omega arith;
+  connections = omega arith;
+  properties = omega arith;
+  joins = λ test held. held;
+}
 
 pub both : (one two three : Execution) → Shrinks one two → Shrinks two three → Shrinks one three
 both one two three first second = record {
@@ -67,22 +76,54 @@ kept n test rows = let fewer = filter-fewer test rows in omega (arith, fewer)
 
 pub told_shrinks : (doing : Execution) (said : Line) → Shrinks doing (line_told doing said)
 unfolding line_told
-told_shrinks doing said = record { turns = omega arith; taken = omega arith; living = omega arith; objects = omega arith; connections = omega arith; properties = omega arith; joins = λ test held. held }
+told_shrinks doing said = record {
+  turns = omega arith;
+  taken = omega arith;
+  living = omega arith;
+  objects = omega arith;
+  connections = omega arith;
+  properties = omega arith;
+  joins = λ test held. held;
+}
 
 pub posting_shrinks : (doing : Execution) (more : List Post) → Shrinks doing (posting doing more)
 unfolding posting
-posting_shrinks doing more = record { turns = omega arith; taken = omega arith; living = omega arith; objects = omega arith; connections = omega arith; properties = omega arith; joins = λ test held. held }
+posting_shrinks doing more = record {
+  turns = omega arith;
+  taken = omega arith;
+  living = omega arith;
+  objects = omega arith;
+  connections = omega arith;
+  properties = omega arith;
+  joins = λ test held. held;
+}
 
 pub used_up_shrinks : (doing : Execution) → Shrinks doing (used_up doing)
 unfolding used_up
 used_up_shrinks doing =
     cond_both doing.spent doing (record doing { spent = true; lines = doing.lines ++ Warning TurnsUsedUp None ∷ [] }) (Shrinks doing)
     (λ spent. same doing)
-    (λ fresh. record { turns = omega arith; taken = omega arith; living = omega arith; objects = omega arith; connections = omega arith; properties = omega arith; joins = λ test held. held })
+    (λ fresh. record {
+      turns = omega arith;
+      taken = omega arith;
+      living = omega arith;
+      objects = omega arith;
+      connections = omega arith;
+      properties = omega arith;
+      joins = λ test held. held;
+    })
 
 pub turn_shrinks : (doing : Execution) → Shrinks doing (turn_taken doing)
 unfolding turn_taken
-turn_shrinks doing = record { turns = omega arith; taken = omega arith; living = omega arith; objects = omega arith; connections = omega arith; properties = omega arith; joins = λ test held. held }
+turn_shrinks doing = record {
+  turns = omega arith;
+  taken = omega arith;
+  living = omega arith;
+  objects = omega arith;
+  connections = omega arith;
+  properties = omega arith;
+  joins = λ test held. held;
+}
 
 pub turn_taken-less : (doing : Execution) → (doing.turns == 0) ≡ false → (turn_taken doing).turns + 1 ≤ doing.turns
 unfolding turn_taken
@@ -92,14 +133,30 @@ pub shot_shrinks : (doing : Execution) (row : Connection) → Shrinks doing (sin
 unfolding single_shot_broken
 shot_shrinks doing row =
     cond_both row.single (in_state doing (without_connections doing.state (has_number row.number))) doing (Shrinks doing)
-    (λ single. record { turns = omega arith; taken = omega arith; living = omega arith; objects = omega arith; connections = kept CONNECTIONS (λ other. not (has_number row.number other)) doing.state.connections.rows; properties = omega arith; joins = λ test held. held })
+    (λ single. record {
+      turns = omega arith;
+      taken = omega arith;
+      living = omega arith;
+      objects = omega arith;
+      connections = kept CONNECTIONS (λ other. not (has_number row.number other)) doing.state.connections.rows;
+      properties = omega arith;
+      joins = λ test held. held;
+    })
     (λ lasting. same doing)
 
 pub stepped_shrinks : (doing : Execution) (number next : ℕ) → Shrinks doing (stepped doing number next)
 unfolding stepped
 stepped_shrinks doing number next =
     let many = length-map doing.state.connections.rows (stepped_row number next) in
-    record { turns = omega arith; taken = omega arith; living = omega arith; objects = omega arith; connections = omega (arith, many); properties = omega arith; joins = λ test held. held }
+    record {
+      turns = omega arith;
+      taken = omega arith;
+      living = omega arith;
+      objects = omega arith;
+      connections = omega (arith, many);
+      properties = omega arith;
+      joins = λ test held. held;
+    }
 
 pub severed_shrinks : (doing : Execution) (target : ℕ) → Shrinks doing (severed doing target)
 unfolding severed
@@ -115,11 +172,27 @@ severed_shrinks doing target = record {
 
 pub posted_shrinks : (doing : Execution) (event : Event) → Shrinks doing (enqueued doing event)
 unfolding enqueued
-posted_shrinks doing event = record { turns = omega arith; taken = omega arith; living = omega arith; objects = omega arith; connections = omega arith; properties = omega arith; joins = λ test held. held }
+posted_shrinks doing event = record {
+  turns = omega arith;
+  taken = omega arith;
+  living = omega arith;
+  objects = omega arith;
+  connections = omega arith;
+  properties = omega arith;
+  joins = λ test held. held;
+}
 
 pub lost_shrinks : (doing : Execution) → Shrinks doing (lost doing)
 unfolding lost
-lost_shrinks doing = record { turns = omega arith; taken = omega arith; living = omega arith; objects = omega arith; connections = omega arith; properties = omega arith; joins = λ test held. held }
+lost_shrinks doing = record {
+  turns = omega arith;
+  taken = omega arith;
+  living = omega arith;
+  objects = omega arith;
+  connections = omega arith;
+  properties = omega arith;
+  joins = λ test held. held;
+}
 
 pub queued_shrinks : (doing : Execution) (call : QueuedCall) → Shrinks doing (queued doing call)
 queued_shrinks doing call =
@@ -132,7 +205,15 @@ pub taken_shrinks : (doing : Execution) → (doing.turns == 0) ≡ false → Shr
 unfolding first_taken turn_taken
 taken_shrinks doing some =
     let more = eqb-false doing.turns 0 some in
-    record { turns = omega arith; taken = omega (arith, more); living = omega arith; objects = omega arith; connections = omega arith; properties = omega arith; joins = λ test held. held }
+    record {
+      turns = omega arith;
+      taken = omega (arith, more);
+      living = omega arith;
+      objects = omega arith;
+      connections = omega arith;
+      properties = omega arith;
+      joins = λ test held. held;
+    }
 
 pub first_taken-turns : (doing : Execution) → (first_taken doing).turns ≡ doing.turns
 unfolding first_taken
@@ -142,17 +223,42 @@ first_taken-turns doing = refl
 pub written_shrinks : (doing : Execution) (target : ℕ) (writing : Writing) → Shrinks doing (in_state doing (with_writing doing.state target writing))
 written_shrinks doing target (Declared number value) =
     let many = many_changed (with_value number value) target (λ of. refl) (λ of. refl) doing.state.store in
-    record { turns = omega arith; taken = omega arith; living = omega arith; objects = omega arith; connections = omega arith; properties = omega (arith, many); joins = λ test held. held }
+    record {
+      turns = omega arith;
+      taken = omega arith;
+      living = omega arith;
+      objects = omega arith;
+      connections = omega arith;
+      properties = omega (arith, many);
+      joins = λ test held. held;
+    }
 written_shrinks doing target (Dynamic name value) =
     let many = many_changed (with_dynamic name value) target (λ of. refl) (λ of. refl) doing.state.store in
-    record { turns = omega arith; taken = omega arith; living = omega arith; objects = omega arith; connections = omega arith; properties = omega (arith, many); joins = λ test held. held }
+    record {
+      turns = omega arith;
+      taken = omega arith;
+      living = omega arith;
+      objects = omega arith;
+      connections = omega arith;
+      properties = omega (arith, many);
+      joins = λ test held. held;
+    }
 written_shrinks doing target (Removed name) =
     let many = many_changed (without_dynamic name) target (λ of. refl) (λ of. refl) doing.state.store in
-    record { turns = omega arith; taken = omega arith; living = omega arith; objects = omega arith; connections = omega arith; properties = omega (arith, many); joins = λ test held. held }
+    record {
+      turns = omega arith;
+      taken = omega arith;
+      living = omega arith;
+      objects = omega arith;
+      connections = omega arith;
+      properties = omega (arith, many);
+      joins = λ test held. held;
+    }
 written_shrinks doing target Nothing = same doing
 
 -- an operation leaves as many living objects
-pub operation_shrinks : (doing : Execution) (operation : Operation) → operation_refusal doing.state operation ≡ None → Shrinks doing (operation_done doing operation)
+pub operation_shrinks : (doing : Execution) (operation : Operation) → operation_refusal doing.state operation ≡ None
+    → Shrinks doing (operation_done doing operation)
 unfolding operation_done with_blocked
 operation_shrinks doing (d.Connect new unique) passed =
     let all = or_none (object_refusal doing.state.forest.rows new.sender) _ passed in
@@ -166,14 +272,46 @@ operation_shrinks doing (d.Connect new unique) passed =
       properties = omega arith;
       joins = λ test held. held;
     }
-operation_shrinks doing (d.Disconnect pattern) passed = record { turns = omega arith; taken = omega arith; living = omega arith; objects = omega arith; connections = kept CONNECTIONS (λ row. not (matches pattern row)) doing.state.connections.rows; properties = omega arith; joins = λ test held. held }
+operation_shrinks doing (d.Disconnect pattern) passed = record {
+  turns = omega arith;
+  taken = omega arith;
+  living = omega arith;
+  objects = omega arith;
+  connections = kept CONNECTIONS (λ row. not (matches pattern row)) doing.state.connections.rows;
+  properties = omega arith;
+  joins = λ test held. held;
+}
 operation_shrinks doing (d.SetParent target parent) passed =
     let many = reparented-as_many doing.state.forest target parent in
-    record { turns = omega arith; taken = omega arith; living = omega (arith, many.living); objects = omega (arith, many.objects); connections = omega arith; properties = omega arith; joins = λ test held. held }
-operation_shrinks doing (d.DeleteLater target) passed = record { turns = omega arith; taken = omega arith; living = omega arith; objects = omega arith; connections = omega arith; properties = omega arith; joins = λ test held. held }
+    record {
+      turns = omega arith;
+      taken = omega arith;
+      living = omega (arith, many.living);
+      objects = omega (arith, many.objects);
+      connections = omega arith;
+      properties = omega arith;
+      joins = λ test held. held;
+    }
+operation_shrinks doing (d.DeleteLater target) passed = record {
+  turns = omega arith;
+  taken = omega arith;
+  living = omega arith;
+  objects = omega arith;
+  connections = omega arith;
+  properties = omega arith;
+  joins = λ test held. held;
+}
 operation_shrinks doing (d.Block target on) passed =
     let many = changed-as_many (λ (row : Row). record row { blocked = on }) target (λ row. refl) doing.state.forest.rows in
-    record { turns = omega arith; taken = omega arith; living = omega (arith, many.living); objects = omega (arith, many.objects); connections = omega arith; properties = omega arith; joins = λ test held. held }
+    record {
+      turns = omega arith;
+      taken = omega arith;
+      living = omega (arith, many.living);
+      objects = omega (arith, many.objects);
+      connections = omega arith;
+      properties = omega arith;
+      joins = λ test held. held;
+    }
 
 pub gone_shrinks : (doing : Execution) (target : ℕ) → Shrinks doing (in_state doing (without_object doing.state target))
 unfolding removed
@@ -193,7 +331,8 @@ gone_shrinks doing target =
     }
 
 -- marking a living object as dying leaves fewer living ones
-pub dying_less : (doing : Execution) (target : ℕ) → lives doing target ≡ true → living_rows (dying doing target).state.forest.rows + 1 ≤ living_rows doing.state.forest.rows
+pub dying_less : (doing : Execution) (target : ℕ) → lives doing target ≡ true
+    → living_rows (dying doing target).state.forest.rows + 1 ≤ living_rows doing.state.forest.rows
 unfolding dying marked
 dying_less doing target lives = let less = marked-one target doing.state.forest.rows lives in omega (arith, less)
 
@@ -202,4 +341,12 @@ unfolding dying marked
 dying_shrinks doing target lives =
     let less = marked-one target doing.state.forest.rows lives in
     let mapped = length-map doing.state.forest.rows (λ row. cond (has_object target row) (record row { dying = true }) row) in
-    record { turns = omega arith; taken = omega arith; living = omega (arith, less); objects = omega (arith, mapped); connections = omega arith; properties = omega arith; joins = λ test held. held }
+    record {
+      turns = omega arith;
+      taken = omega arith;
+      living = omega (arith, less);
+      objects = omega (arith, mapped);
+      connections = omega arith;
+      properties = omega arith;
+      joins = λ test held. held;
+    }

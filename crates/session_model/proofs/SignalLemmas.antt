@@ -20,7 +20,8 @@ use Rattle.std.specs.Result.{result_err, result_unwrap_or}
 use Rattle.stored_slots.specs.Functors.{AreArguments}
 use Rattle.session_model.proofs.ConnectionLemmas.{or_none}
 use Rattle.session_model.proofs.FittingArgumentLemmas.{read_arguments}
-use Rattle.session_model.proofs.FittingFoundLemmas.{connection_fits, operation_fits, found_past, functor_connection_fits, functor_there, named_method_there, named_signal_there, numbered_there, pattern_fits}
+use Rattle.session_model.proofs.FittingFoundLemmas.{connection_fits, operation_fits, found_past, functor_connection_fits, functor_there, named_method_there}
+use Rattle.session_model.proofs.FittingFoundLemmas.{named_signal_there, numbered_there, pattern_fits}
 use Rattle.session_model.proofs.KeepingLemmas.{Keeps, done, found_keeps, nothing_begins, one_begins, replied, stays}
 use Rattle.session_model.proofs.NamedLemmas.{named_beside}
 use Rattle.session_model.proofs.QueueLemmas.{each_posted}
@@ -38,7 +39,8 @@ use Rattle.session_model.specs.Items.{Next, Run, puts}
 use Rattle.session_model.specs.Methods.{Found, is_signal_at, method_named, methods_of, signal_named, signature_in, ◌>>=◌}
 use Rattle.session_model.specs.Posting.{is_queued}
 use Rattle.session_model.specs.Refusing.{later_refusal, refusal, values_refusal}
-use Rattle.session_model.specs.Signals.{asked_connect, asked_connect_functor, asked_connection, asked_disconnect, asked_functor_connection, asked_method, asked_pattern, asked_values, disconnects_one, does_found, invoked, invoked_later, invokes}
+use Rattle.session_model.specs.Signals.{asked_connect, asked_connect_functor, asked_connection, asked_disconnect, asked_functor_connection, asked_method}
+use Rattle.session_model.specs.Signals.{asked_pattern, asked_values, disconnects_one, does_found, invoked, invoked_later, invokes}
 use Rattle.session_model.specs.State.{State, with_event, without_connections}
 use Rattle.session_model.specs.Thread.{Settings, performs}
 use Rattle.session_model.specs.declared.operation.Operation.{Operation}
@@ -52,19 +54,23 @@ use Rattle.session_model.specs.Items as to_do
 
 module _ (settings : Settings) (self : List ℕ) (state : State) where
   module _ (sender : ℕ) (signal : List ℕ) (receiver : ℕ) (method : List ℕ) (mode : ConnectionType) (unique single : Bool) where
-    pub refusal_connect : refusal settings self state (Connect sender signal receiver method mode unique single) ≡ found_refusal state (asked_connect settings state sender signal receiver method mode unique single)
+    pub refusal_connect : refusal settings self state (Connect sender signal receiver method mode unique single)
+        ≡ found_refusal state (asked_connect settings state sender signal receiver method mode unique single)
     unfolding refusal
     refusal_connect = refl
 
-    pub performs_connect : performs settings self state (Connect sender signal receiver method mode unique single) ≡ does_found state (asked_connect settings state sender signal receiver method mode unique single)
+    pub performs_connect : performs settings self state (Connect sender signal receiver method mode unique single)
+        ≡ does_found state (asked_connect settings state sender signal receiver method mode unique single)
     unfolding performs
     performs_connect = refl
 
-    pub refusal_connect_functor : refusal settings self state (ConnectFunctor sender signal receiver method mode unique single) ≡ found_refusal state (asked_connect_functor settings state sender signal receiver method mode unique single)
+    pub refusal_connect_functor : refusal settings self state (ConnectFunctor sender signal receiver method mode unique single)
+        ≡ found_refusal state (asked_connect_functor settings state sender signal receiver method mode unique single)
     unfolding refusal
     refusal_connect_functor = refl
 
-    pub performs_connect_functor : performs settings self state (ConnectFunctor sender signal receiver method mode unique single) ≡ does_found state (asked_connect_functor settings state sender signal receiver method mode unique single)
+    pub performs_connect_functor : performs settings self state (ConnectFunctor sender signal receiver method mode unique single)
+        ≡ does_found state (asked_connect_functor settings state sender signal receiver method mode unique single)
     unfolding performs
     performs_connect_functor = refl
 
@@ -77,11 +83,13 @@ module _ (settings : Settings) (self : List ℕ) (state : State) where
   performs_disconnect_one connection = refl
 
   module _ (sender : ℕ) (signal : Option (List ℕ)) (receiver : Option ℕ) (method : Option (List ℕ)) where
-    pub refusal_disconnect : refusal settings self state (Disconnect sender signal receiver method) ≡ found_refusal state (asked_disconnect settings state sender signal receiver method)
+    pub refusal_disconnect : refusal settings self state (Disconnect sender signal receiver method)
+        ≡ found_refusal state (asked_disconnect settings state sender signal receiver method)
     unfolding refusal
     refusal_disconnect = refl
 
-    pub performs_disconnect : performs settings self state (Disconnect sender signal receiver method) ≡ does_found state (asked_disconnect settings state sender signal receiver method)
+    pub performs_disconnect : performs settings self state (Disconnect sender signal receiver method)
+        ≡ does_found state (asked_disconnect settings state sender signal receiver method)
     unfolding performs
     performs_disconnect = refl
 
@@ -90,7 +98,9 @@ module _ (settings : Settings) (self : List ℕ) (state : State) where
     invoke = Invoke target method args mode priority
 
     pub refusal_invoke : refusal settings self state invoke
-        ≡ option_or (absence state target) (option_or (result_err (signature_in method)) (option_or (values_refusal settings state target args (asked_method settings state target method)) (later_refusal state mode (asked_method settings state target method))))
+        ≡ option_or (absence state target) (option_or (result_err (signature_in method))
+        (option_or (values_refusal settings state target args (asked_method settings state target method))
+        (later_refusal state mode (asked_method settings state target method))))
     unfolding refusal
     refusal_invoke = refl
 
@@ -132,22 +142,28 @@ module _ (settings : Settings) (state : State) where
 
   module _ (sender : ℕ) (signal : List ℕ) (receiver : ℕ) (method : List ℕ) (mode : ConnectionType) (unique single : Bool) where
     pub connect_keeps : found_refusal state (asked_connect settings state sender signal receiver method mode unique single) ≡ None
-        → Keeps settings state (Connect sender signal receiver method mode unique single) (does_found state (asked_connect settings state sender signal receiver method mode unique single))
+        → Keeps settings state (Connect sender signal receiver method mode unique single)
+        (does_found state (asked_connect settings state sender signal receiver method mode unique single))
     connect_keeps passed = found_keeps settings state (Connect sender signal receiver method mode unique single) _ passed (λ operation e may.
         operation_fits settings rows (asked_connection settings state sender signal receiver method mode single) unique
-        (connection_fits settings state sender (signal_named (methods_of settings state sender) signal) (named_signal_there (methods_of settings state sender) signal)
+        (connection_fits settings state sender (signal_named (methods_of settings state sender) signal)
+        (named_signal_there (methods_of settings state sender) signal)
         receiver (method_named (methods_of settings state receiver) method) (named_method_there (methods_of settings state receiver) method) mode single)
         operation (found_past (object_refusal rows receiver) _ operation (found_past (object_refusal rows sender) _ operation e)))
 
     pub connect_functor_keeps : found_refusal state (asked_connect_functor settings state sender signal receiver method mode unique single) ≡ None
-        → Keeps settings state (ConnectFunctor sender signal receiver method mode unique single) (does_found state (asked_connect_functor settings state sender signal receiver method mode unique single))
+        → Keeps settings state (ConnectFunctor sender signal receiver method mode unique single)
+        (does_found state (asked_connect_functor settings state sender signal receiver method mode unique single))
     connect_functor_keeps passed = found_keeps settings state (ConnectFunctor sender signal receiver method mode unique single) _ passed (λ operation e may.
         by operation unique (asked_functor_connection settings state sender signal receiver method mode single)
-        (functor_connection_fits settings state sender (signal_named (methods_of settings state sender) signal) (named_signal_there (methods_of settings state sender) signal)
+        (functor_connection_fits settings state sender (signal_named (methods_of settings state sender) signal)
+        (named_signal_there (methods_of settings state sender) signal)
         receiver (functor_named settings method) (functor_there settings method) mode single)
         (found_past (object_refusal rows receiver) _ operation (found_past (object_refusal rows sender) _ operation e)))
       where
-        by : (operation : Operation) (unique : Bool) (found : Found NewConnection) → ((new : NewConnection) → found ≡ Ok new → IsFittingOperation settings rows (d.Connect new false)) → (found >>= λ new. cond unique (Err UniqueFunctor) (Ok (d.Connect new false))) ≡ Ok operation → IsFittingOperation settings rows operation
+        by : (operation : Operation) (unique : Bool) (found : Found NewConnection)
+            → ((new : NewConnection) → found ≡ Ok new → IsFittingOperation settings rows (d.Connect new false))
+            → (found >>= λ new. cond unique (Err UniqueFunctor) (Ok (d.Connect new false))) ≡ Ok operation → IsFittingOperation settings rows operation
         by operation unique (Err code) fits e = absurd (cc)
         by operation true (Ok new) fits e = absurd (cc)
         by operation false (Ok new) fits e = let same : d.Connect new false ≡ operation = cc in subst (IsFittingOperation settings rows) same (fits new refl)
@@ -167,25 +183,33 @@ module _ (settings : Settings) (state : State) where
     joins = λ plain test held. held;
   })
 
-  pub disconnect_keeps : (sender : ℕ) (signal : Option (List ℕ)) (receiver : Option ℕ) (method : Option (List ℕ)) → found_refusal state (asked_disconnect settings state sender signal receiver method) ≡ None
+  pub disconnect_keeps : (sender : ℕ) (signal : Option (List ℕ)) (receiver : Option ℕ) (method : Option (List ℕ))
+      → found_refusal state (asked_disconnect settings state sender signal receiver method) ≡ None
       → Keeps settings state (Disconnect sender signal receiver method) (does_found state (asked_disconnect settings state sender signal receiver method))
   disconnect_keeps sender signal receiver method passed =
-      found_keeps settings state (Disconnect sender signal receiver method) _ passed (λ operation e may. pattern_fits settings rows _ _ (asked_pattern settings state sender signal receiver method) operation e)
+      found_keeps settings state (Disconnect sender signal receiver method) _ passed
+      (λ operation e may. pattern_fits settings rows _ _ (asked_pattern settings state sender signal receiver method) operation e)
 
   -- a method is called with the values that are given, at once or by an event
   module _ (target : ℕ) (method : List ℕ) (args : List Data) (mode : ConnectionType) (priority : Priority) where
     module _ (index : ℕ) (values : List Value) (call : IsCall settings rows target (callee.Method index) values) where
-      at_once : (answer : Answer) → Keeps settings state (Invoke target method args mode priority) (does_next settings (invoked settings state target index values) answer)
+      at_once : (answer : Answer) → Keeps settings state (Invoke target method args mode priority)
+          (does_next settings (invoked settings state target index values) answer)
       at_once answer =
           let asked = Invoke target method args mode priority in
           let doing = begun settings state in
           let signal = to_do.Emit target index values 0 in
           let slot = Run target index 0 values 0 in
-          cond_both (is_signal_at (methods_of settings state target) index) (puts (signal ∷ []) doing) (with_turn doing (puts (slot ∷ []))) (λ next. Keeps settings state asked (does_next settings next answer))
-          (λ is. done settings state asked (puts (signal ∷ []) doing) answer (one_begins settings state asked signal doing refl refl refl (λ fits there. record { signal_there = is; arguments = call.arguments }) tt))
-          (λ is. cond_both (doing.turns == 0) (puts [] (used_up doing)) (puts (slot ∷ []) (turn_taken doing)) (λ next. Keeps settings state asked (does_next settings next answer))
-          (λ none. done settings state asked (puts [] (used_up doing)) answer (nothing_begins settings state asked (used_up doing) (used_up_state doing) (used_up_posts doing)))
-          (λ some. done settings state asked (puts (slot ∷ []) (turn_taken doing)) answer (one_begins settings state asked slot (turn_taken doing) (turn_state doing) (turn_posts doing) refl (λ fits there. call) tt)))
+          cond_both (is_signal_at (methods_of settings state target) index) (puts (signal ∷ []) doing) (with_turn doing (puts (slot ∷ [])))
+          (λ next. Keeps settings state asked (does_next settings next answer))
+          (λ is. done settings state asked (puts (signal ∷ []) doing) answer
+          (one_begins settings state asked signal doing refl refl refl (λ fits there. record { signal_there = is; arguments = call.arguments }) tt))
+          (λ is. cond_both (doing.turns == 0) (puts [] (used_up doing)) (puts (slot ∷ []) (turn_taken doing))
+          (λ next. Keeps settings state asked (does_next settings next answer))
+          (λ none. done settings state asked (puts [] (used_up doing)) answer
+          (nothing_begins settings state asked (used_up doing) (used_up_state doing) (used_up_posts doing)))
+          (λ some. done settings state asked (puts (slot ∷ []) (turn_taken doing)) answer
+          (one_begins settings state asked slot (turn_taken doing) (turn_state doing) (turn_posts doing) refl (λ fits there. call) tt)))
 
       later : is_there rows target ≡ true → Keeps settings state (Invoke target method args mode priority) (invoked_later state target index values priority)
       later there =
@@ -193,40 +217,57 @@ module _ (settings : Settings) (state : State) where
           replied settings state (Invoke target method args mode priority) (with_event state it) (a.Truth true) (record {
             sound = λ sound. record { whole = whole_with_event state it there sound.whole; living = sound.living };
             declared = λ sound declared. declared;
-            fitting = λ fits. (let fit = fits.fit in record { objects = fit.objects; events = each_posted (IsFittingEvent settings rows) state.queue it call fit.events; connections = fit.connections; publications = fit.publications; joins = fit.joins });
+            fitting = λ fits. (let fit = fits.fit in record {
+              objects = fit.objects;
+              events = each_posted (IsFittingEvent settings rows) state.queue it call fit.events;
+              connections = fit.connections;
+              publications = fit.publications;
+              joins = fit.joins;
+            });
             named = λ are is named. named_beside state named (with_event state it) refl refl;
             joins = λ plain test held. held;
           })
 
-    pub invoke_keeps : option_or (absence state target) (option_or (result_err (signature_in method)) (option_or (values_refusal settings state target args (asked_method settings state target method)) (later_refusal state mode (asked_method settings state target method)))) ≡ None
-        → Keeps settings state (Invoke target method args mode priority) (invokes settings state target args mode priority (asked_method settings state target method))
+    pub invoke_keeps : option_or (absence state target)
+        (option_or (result_err (signature_in method))
+        (option_or (values_refusal settings state target args (asked_method settings state target method))
+        (later_refusal state mode (asked_method settings state target method)))) ≡ None
+        → Keeps settings state (Invoke target method args mode priority)
+        (invokes settings state target args mode priority (asked_method settings state target method))
     invoke_keeps passed = by (asked_method settings state target method) refl valued
       where
         present : absence state target ≡ None
         present = (or_none (absence state target) _ passed).0
 
         valued : values_refusal settings state target args (asked_method settings state target method) ≡ None
-        valued = (or_none (values_refusal settings state target args (asked_method settings state target method)) _ (or_none (result_err (signature_in method)) _ (or_none (absence state target) _ passed).1).1).0
+        valued = (or_none (values_refusal settings state target args (asked_method settings state target method)) _
+            (or_none (result_err (signature_in method)) _ (or_none (absence state target) _ passed).1).1).0
 
-        by : (index : Option ℕ) → asked_method settings state target method ≡ index → values_refusal settings state target args index ≡ None → Keeps settings state (Invoke target method args mode priority) (invokes settings state target args mode priority index)
-        by None is fit = replied settings state (Invoke target method args mode priority) state (a.Truth false) (stays settings state (Invoke target method args mode priority))
+        by : (index : Option ℕ) → asked_method settings state target method ≡ index → values_refusal settings state target args index ≡ None
+            → Keeps settings state (Invoke target method args mode priority) (invokes settings state target args mode priority index)
+        by None is fit = replied settings state (Invoke target method args mode priority) state (a.Truth false)
+            (stays settings state (Invoke target method args mode priority))
         by (Some index) is fit =
             let values = result_unwrap_or (asked_values settings state target index args) [] in
-            cond_both (is_queued mode) (invoked_later state target index values priority) (does_next settings (invoked settings state target index values) (a.Truth true)) (Keeps settings state (Invoke target method args mode priority))
+            cond_both (is_queued mode) (invoked_later state target index values priority)
+            (does_next settings (invoked settings state target index values) (a.Truth true))
+            (Keeps settings state (Invoke target method args mode priority))
             (λ queued. later index values call (is_present state target present))
             (λ now. at_once index values call (a.Truth true))
           where
             there : is_some (slice_get (methods_of settings state target) index) ≡ true
             there = numbered (signature_of method) is
               where
-                numbered : (signature : Option Signature) → option_and_then (λ signature. method_number signature (methods_of settings state target)) signature ≡ Some index → is_some (slice_get (methods_of settings state target) index) ≡ true
+                numbered : (signature : Option Signature) → option_and_then (λ signature. method_number signature (methods_of settings state target)) signature
+                    ≡ Some index → is_some (slice_get (methods_of settings state target) index) ≡ true
                 numbered None e = absurd (cc)
                 numbered (Some signature) e = numbered_there (methods_of settings state target) signature index e
 
             given : AreArguments (kinds_of settings.classes rows target index) (result_unwrap_or (asked_values settings state target index args) [])
             given = read (asked_values settings state target index args) refl fit
               where
-                read : (found : Found (List Value)) → asked_values settings state target index args ≡ found → result_err found ≡ None → AreArguments (kinds_of settings.classes rows target index) (result_unwrap_or found [])
+                read : (found : Found (List Value)) → asked_values settings state target index args ≡ found → result_err found ≡ None
+                    → AreArguments (kinds_of settings.classes rows target index) (result_unwrap_or found [])
                 read (Ok values) so e = read_arguments (kinds_of settings.classes rows target index) args values so
                 read (Err code) so e = absurd (cc)
 

@@ -1,5 +1,6 @@
 -- What each change leaves of a session's state.
-use Rattle.std.proofs.Common.{◌≡◌, ◌+◌, ◌<◌, ◌≤◌, ◌==◌, ℕ, suc, Bool, true, false, not, cond, List, [], ◌∷◌, ◌++◌, Option, Some, None, filter, refl, sym, ap, ◌∙◌, subst, arith}
+use Rattle.std.proofs.Common.{◌≡◌, ◌+◌, ◌<◌, ◌≤◌, ◌==◌, ℕ, suc, Bool, true, false, not, cond, List, [], ◌∷◌, ◌++◌, Option, Some, None, filter, refl, sym, ap}
+use Rattle.std.proofs.Common.{◌∙◌, subst, arith}
 use Rattle.std.specs.List.{All, AllByRecursion}
 use Rattle.std.proofs.lemmas.List.Elements.{All-filter, All-map, All-push, All-weaker, recursion_from_All}
 use Rattle.std.specs.Option.{option_map_or}
@@ -28,11 +29,17 @@ use Rattle.binding_graph.specs.Graph as graph
 use Rattle.binding_graph.specs.Graph.{Graph, begin_refusal, begun, bind_refusal, bound, ended, is_bound, is_open, unbound, value_in}
 use Rattle.binding_graph.proofs.ForCallers.{value_short}
 use Rattle.property_store.proofs.ForCallers.{objects, objects_added, objects_changed, objects_without, sound_added, sound_changed, sound_empty, sound_without}
-use Rattle.session_model.specs.State.{IsMeant, IsTied, IsWhole, OfDesk, State, closed, empty, fields_of, with_binding, with_binding_taken, with_blocking, with_connection, with_desk, with_event, with_functor_state, with_group, with_lost, with_object, with_parent, with_properties, without_binding, without_connections, without_events, without_first, without_group, without_object, without_rows_of}
+use Rattle.session_model.specs.State.{IsMeant, IsTied, IsWhole, OfDesk, State, closed, empty, fields_of, with_binding, with_binding_taken, with_blocking}
+use Rattle.session_model.specs.State.{with_connection, with_desk, with_event, with_functor_state, with_group, with_lost, with_object, with_parent}
+use Rattle.session_model.specs.State.{with_properties, without_binding, without_connections, without_events, without_first, without_group, without_object}
+use Rattle.session_model.specs.State.{without_rows_of}
 use Rattle.session_model.specs.Writing.{Declared, Dynamic, Nothing, Removed, Writing, with_writing}
-use Rattle.session_model.proofs.BindingLemmas.{AreBindable, IsBindable, bindable_added, bindable_bound, bindable_changed, bindable_unbound, bindable_without, fit_sound, graph_sound_begun, graph_sound_bound, graph_sound_ended, graph_sound_none, graph_sound_unbound, graph_sound_without}
+use Rattle.session_model.proofs.BindingLemmas.{AreBindable, IsBindable, bindable_added, bindable_bound, bindable_changed, bindable_unbound, bindable_without}
+use Rattle.session_model.proofs.BindingLemmas.{fit_sound, graph_sound_begun, graph_sound_bound, graph_sound_ended, graph_sound_none, graph_sound_unbound}
+use Rattle.session_model.proofs.BindingLemmas.{graph_sound_without}
 use Rattle.session_model.proofs.ConnectionLemmas.{Ends, IsAllowed, sound_connected, sound_empty as none_connected, tied_more, tied_same, tied_without}
-use Rattle.session_model.proofs.QueueLemmas.{each_dropped, each_posted, each_taken, meant_more, meant_same, meant_without, sound_dropped, sound_lost, sound_none, sound_posted, sound_taken}
+use Rattle.session_model.proofs.QueueLemmas.{each_dropped, each_posted, each_taken, meant_more, meant_same, meant_without, sound_dropped, sound_lost}
+use Rattle.session_model.proofs.QueueLemmas.{sound_none, sound_posted, sound_taken}
 use Rattle.session_model.proofs.DeskLemmas.{desk_more, desk_same, desk_without, of_withdrawn, sound_bare, sound_withdrawn}
 use Rattle.session_model.proofs.FitLemmas.{IsFit}
 
@@ -52,29 +59,36 @@ whole_empty = record {
   named = record { publications = λ index default within. absurd (omega arith); joins = λ index default within. absurd (omega arith) };
 }
 
-pub whole_with_object : (classes : List Class) (state : State) (parent : Option ℕ) (class : ℕ) → add_refusal state.forest parent ≡ None → IsWhole state → IsWhole (with_object classes state parent class)
+pub whole_with_object : (classes : List Class) (state : State) (parent : Option ℕ) (class : ℕ) → add_refusal state.forest parent ≡ None → IsWhole state
+    → IsWhole (with_object classes state parent class)
 whole_with_object classes state parent class allowed whole = record {
   forest = keeps_sound.by_added state.forest parent class allowed whole.forest;
-  objects = objects_added state.store (state.forest.last_number + 1) (fields_of classes class) below ∙ ap (λ numbers. numbers ++ (state.forest.last_number + 1) ∷ []) whole.objects ∙ sym (keeps_numbers.by_added state.forest parent class);
+  objects = objects_added state.store (state.forest.last_number + 1) (fields_of classes class) below
+      ∙ ap (λ numbers. numbers ++ (state.forest.last_number + 1) ∷ []) whole.objects ∙ sym (keeps_numbers.by_added state.forest parent class);
   properties = sound_added state.store (state.forest.last_number + 1) (fields_of classes class) whole.properties;
   graph = whole.graph;
   bound = bindable_added (state.forest.last_number + 1) (fields_of classes class) state.store state.graph.bindings below whole.bound;
   closed = whole.closed;
   connections = whole.connections;
-  ends = tied_more state (with_object classes state parent class) (state.forest.last_number + 1) (keeps_numbers.by_added state.forest parent class) state.connections.rows whole.ends;
+  ends = tied_more state (with_object classes state parent class) (state.forest.last_number + 1)
+      (keeps_numbers.by_added state.forest parent class) state.connections.rows whole.ends;
   queue = whole.queue;
-  meant = meant_more state (with_object classes state parent class) (state.forest.last_number + 1) (keeps_numbers.by_added state.forest parent class) state.queue.events whole.meant;
+  meant = meant_more state (with_object classes state parent class) (state.forest.last_number + 1)
+      (keeps_numbers.by_added state.forest parent class) state.queue.events whole.meant;
   desk = whole.desk;
-  named = desk_more state (with_object classes state parent class) (state.forest.last_number + 1) (keeps_numbers.by_added state.forest parent class) state.desk whole.named;
+  named = desk_more state (with_object classes state parent class) (state.forest.last_number + 1)
+      (keeps_numbers.by_added state.forest parent class) state.desk whole.named;
 }
   where
     below : AllByRecursion (λ number. number < state.forest.last_number + 1) (objects state.store)
     below = subst (AllByRecursion (λ number. number < state.forest.last_number + 1)) (sym whole.objects)
         (recursion_from_All (λ number. number < state.forest.last_number + 1) (numbers state.forest.rows)
         (All-map (λ number. number < state.forest.last_number + 1) (λ (row : Row). row.number) state.forest.rows
-        (All-weaker (λ (row : Row). row.number ≤ state.forest.last_number) (λ (row : Row). row.number < state.forest.last_number + 1) (λ row h. omega arith) state.forest.rows whole.forest.numbers_given)))
+        (All-weaker (λ (row : Row). row.number ≤ state.forest.last_number) (λ (row : Row). row.number < state.forest.last_number + 1)
+        (λ row h. omega arith) state.forest.rows whole.forest.numbers_given)))
 
-pub whole_with_parent : (state : State) (number : ℕ) (parent : Option ℕ) → set_parent_refusal state.forest number parent ≡ None → IsWhole state → IsWhole (with_parent state number parent)
+pub whole_with_parent : (state : State) (number : ℕ) (parent : Option ℕ) → set_parent_refusal state.forest number parent ≡ None → IsWhole state
+    → IsWhole (with_parent state number parent)
 whole_with_parent state number parent allowed whole = record {
   forest = keeps_sound.by_reparented state.forest number parent allowed whole.forest;
   objects = whole.objects ∙ sym (keeps_numbers.by_reparented state.forest number parent);
@@ -90,8 +104,10 @@ whole_with_parent state number parent allowed whole = record {
   named = desk_same state (with_parent state number parent) (keeps_numbers.by_reparented state.forest number parent) state.desk whole.named;
 }
 
-pub whole_with_properties : (state : State) (number : ℕ) (change : Properties → Properties) → ((of : Properties) → (change of).object ≡ of.object) → ((of : Properties) → (change of).fields ≡ of.fields)
-    → ((of : Properties) → properties_of state.store number ≡ Some of → AreSound of → AreSound (change of)) → IsWhole state → IsWhole (with_properties state number change)
+pub whole_with_properties : (state : State) (number : ℕ) (change : Properties → Properties) → ((of : Properties) → (change of).object ≡ of.object)
+    → ((of : Properties) → (change of).fields ≡ of.fields)
+    → ((of : Properties) → properties_of state.store number ≡ Some of → AreSound of → AreSound (change of)) → IsWhole state
+    → IsWhole (with_properties state number change)
 whole_with_properties state number change same fields keeps whole = record {
   forest = whole.forest;
   objects = objects_changed change number same state.store ∙ whole.objects;
@@ -111,7 +127,8 @@ whole_with_properties state number change same fields keeps whole = record {
 abbrev with_graph : State → Graph → State
 with_graph state new = record state { graph = new }
 
-pub whole_with_graph : (state : State) (new : Graph) → graph.IsSound new → AreBindable state.store new.bindings → (is_open new ≡ false → new.last ≡ []) → IsWhole state → IsWhole (with_graph state new)
+pub whole_with_graph : (state : State) (new : Graph) → graph.IsSound new → AreBindable state.store new.bindings → (is_open new ≡ false → new.last ≡ [])
+    → IsWhole state → IsWhole (with_graph state new)
 whole_with_graph state new sound bound closed whole = record {
   forest = whole.forest;
   objects = whole.objects;
@@ -128,37 +145,49 @@ whole_with_graph state new sound bound closed whole = record {
 }
 
 pub whole_without_binding : (state : State) (at : At) → IsWhole state → IsWhole (without_binding state at)
-whole_without_binding state at whole = whole_with_graph state (unbound state.graph at) (graph_sound_unbound state.graph at whole.graph) (bindable_unbound state.store state.graph at whole.bound) whole.closed whole
+whole_without_binding state at whole = whole_with_graph state (unbound state.graph at) (graph_sound_unbound state.graph at whole.graph)
+    (bindable_unbound state.store state.graph at whole.bound) whole.closed whole
 
-pub whole_with_binding : (state : State) (at : At) (term : Term) → IsBindable state.store at → is_within_limits term ≡ true → bind_refusal state.graph at ≡ None → IsWhole state → IsWhole (with_binding state at term)
+pub whole_with_binding : (state : State) (at : At) (term : Term) → IsBindable state.store at → is_within_limits term ≡ true → bind_refusal state.graph at ≡ None
+    → IsWhole state → IsWhole (with_binding state at term)
 whole_with_binding state at term is short passed whole =
-    whole_with_graph state (bound state.graph at term) (graph_sound_bound state.graph at term passed short whole.graph) (bindable_bound state.store (record { at = at; expr = term }) state.graph.bindings is whole.bound) whole.closed whole
+    whole_with_graph state (bound state.graph at term) (graph_sound_bound state.graph at term passed short whole.graph)
+    (bindable_bound state.store (record { at = at; expr = term }) state.graph.bindings is whole.bound) whole.closed whole
 
 pub whole_with_group : (state : State) → begin_refusal state.graph ≡ None → IsWhole state → IsWhole (with_group state)
-whole_with_group state passed whole = whole_with_graph state (begun state.store state.graph) (graph_sound_begun state.store state.graph whole.properties passed whole.graph) whole.bound (λ closed. absurd (let never : true ≡ false = sym (lt-ltb 0 (suc state.graph.depth) (omega arith)) ∙ closed in cc)) whole
+whole_with_group state passed whole = whole_with_graph state (begun state.store state.graph)
+    (graph_sound_begun state.store state.graph whole.properties passed whole.graph) whole.bound
+    (λ closed. absurd (let never : true ≡ false = sym (lt-ltb 0 (suc state.graph.depth) (omega arith)) ∙ closed in cc)) whole
 
 pub whole_without_group : (state : State) → IsWhole state → IsWhole (without_group state)
-whole_without_group state whole = whole_with_graph state (closed (ended state.graph)) (graph_sound_ended state.graph whole.graph) (bound (is_open (ended state.graph))) (none (is_open (ended state.graph)) refl) whole
+whole_without_group state whole = whole_with_graph state (closed (ended state.graph)) (graph_sound_ended state.graph whole.graph)
+    (bound (is_open (ended state.graph))) (none (is_open (ended state.graph)) refl) whole
   where
     bound : (deep : Bool) → AreBindable state.store (cond deep (ended state.graph) (record (ended state.graph) { last = [] })).bindings
     bound true = whole.bound
     bound false = whole.bound
 
-    none : (deep : Bool) → is_open (ended state.graph) ≡ deep → is_open (cond deep (ended state.graph) (record (ended state.graph) { last = [] })) ≡ false → (cond deep (ended state.graph) (record (ended state.graph) { last = [] })).last ≡ []
+    none : (deep : Bool) → is_open (ended state.graph) ≡ deep → is_open (cond deep (ended state.graph) (record (ended state.graph) { last = [] })) ≡ false
+        → (cond deep (ended state.graph) (record (ended state.graph) { last = [] })).last ≡ []
     none true is e = absurd (let never : true ≡ false = sym is ∙ e in cc)
     none false is e = refl
 
 -- what a property shows is stored, and it is bound no longer
 pub whole_with_binding_taken : (state : State) (at : At) → IsWhole state → IsWhole (with_binding_taken state at)
 whole_with_binding_taken state at whole =
-    cond_both (is_bound state.graph.bindings at) (written state.store at.object at.number shows) state.store (λ store. IsWhole (record state { store = store; graph = unbound state.graph at }))
+    cond_both (is_bound state.graph.bindings at) (written state.store at.object at.number shows) state.store
+    (λ store. IsWhole (record state { store = store; graph = unbound state.graph at }))
     (λ bound. by (fitting state.store at.object at.number shows) refl)
     (λ free. whole_without_binding state at whole)
   where
     shows : Value
     shows = (value_in state.store state.graph at).0
 
-    by : (fit : Option Value) → fitting state.store at.object at.number shows ≡ fit → IsWhole (record state { store = option_map_or (λ fit. changed (with_value at.number fit) at.object state.store) fit state.store; graph = unbound state.graph at })
+    by : (fit : Option Value) → fitting state.store at.object at.number shows ≡ fit
+        → IsWhole (record state {
+          store = option_map_or (λ fit. changed (with_value at.number fit) at.object state.store) fit state.store;
+          graph = unbound state.graph at;
+        })
     by None is = whole_without_binding state at whole
     by (Some fit) is =
         whole_without_binding (with_properties state at.object (with_value at.number fit)) at
@@ -166,9 +195,11 @@ whole_with_binding_taken state at whole =
         (fit_sound state.store at.object at.number shows fit (value_short state.store whole.properties state.graph whole.graph at) is) whole)
 
 -- what is written fits its object
-pub whole_with_writing : (state : State) (object : ℕ) (writing : Writing) → IsFit state object writing → IsWhole state → IsWhole (with_writing state object writing)
+pub whole_with_writing : (state : State) (object : ℕ) (writing : Writing) → IsFit state object writing → IsWhole state
+    → IsWhole (with_writing state object writing)
 whole_with_writing state object (Declared number value) fit whole =
-    whole_without_binding (with_properties state object (with_value number value)) (record { object = object; number = number }) (whole_with_properties state object _ (λ of. refl) (λ of. refl) fit whole)
+    whole_without_binding (with_properties state object (with_value number value)) (record { object = object; number = number })
+    (whole_with_properties state object _ (λ of. refl) (λ of. refl) fit whole)
 whole_with_writing state object (Dynamic name value) fit whole = whole_with_properties state object _ (λ of. refl) (λ of. refl) fit whole
 whole_with_writing state object (Removed name) fit whole = whole_with_properties state object _ (λ of. refl) (λ of. refl) fit whole
 whole_with_writing state object Nothing fit whole = whole
@@ -206,7 +237,8 @@ whole_with_blocking state number on whole = record {
 }
 
 -- an object may go that no connection has as an end, no event names, and no publication and no join
-pub whole_without_object : (state : State) (number : ℕ) → Ends (λ end. (end == number) ≡ false) state.connections.rows → All (λ event. (object_of event == number) ≡ false) state.queue.events
+pub whole_without_object : (state : State) (number : ℕ) → Ends (λ end. (end == number) ≡ false) state.connections.rows
+    → All (λ event. (object_of event == number) ≡ false) state.queue.events
     → OfDesk (λ other. (other == number) ≡ false) state.desk → IsWhole state → IsWhole (without_object state number)
 whole_without_object state number loose unnamed bare whole = record {
   forest = keeps_sound.by_removed state.forest number whole.forest;
@@ -223,7 +255,8 @@ whole_without_object state number loose unnamed bare whole = record {
   named = desk_without state (without_object state number) number (keeps_numbers.by_removed state.forest number) state.desk bare whole.named;
 }
 
-pub whole_with_connection : (state : State) (new : NewConnection) → IsAllowed state.connections → is_there state.forest.rows new.sender ≡ true → is_there state.forest.rows new.receiver ≡ true → IsWhole state → IsWhole (with_connection state new)
+pub whole_with_connection : (state : State) (new : NewConnection) → IsAllowed state.connections → is_there state.forest.rows new.sender ≡ true
+    → is_there state.forest.rows new.receiver ≡ true → IsWhole state → IsWhole (with_connection state new)
 whole_with_connection state new allowed sender receiver whole = record {
   forest = whole.forest;
   objects = whole.objects;
@@ -249,7 +282,8 @@ whole_without_connections state test whole = record {
   bound = whole.bound;
   closed = whole.closed;
   connections = IsSound-without test state.connections whole.connections;
-  ends = All-filter (λ row. not (test row)) (IsTied (without_connections state test)) state.connections.rows (tied_same state (without_connections state test) refl state.connections.rows whole.ends);
+  ends = All-filter (λ row. not (test row)) (IsTied (without_connections state test)) state.connections.rows
+      (tied_same state (without_connections state test) refl state.connections.rows whole.ends);
   queue = whole.queue;
   meant = meant_same state (without_connections state test) refl state.queue.events whole.meant;
   desk = whole.desk;
@@ -265,7 +299,8 @@ whole_with_functor_state state number next whole = record {
   bound = whole.bound;
   closed = whole.closed;
   connections = sound_stepped number next state.connections whole.connections;
-  ends = all_stepped number next (IsTied (with_functor_state state number next)) (λ row tied. record { sender = tied.sender; receiver = tied.receiver }) state.connections.rows
+  ends = all_stepped number next (IsTied (with_functor_state state number next))
+      (λ row tied. record { sender = tied.sender; receiver = tied.receiver }) state.connections.rows
       (tied_same state (with_functor_state state number next) refl state.connections.rows whole.ends);
   queue = whole.queue;
   meant = meant_same state (with_functor_state state number next) refl state.queue.events whole.meant;
@@ -295,11 +330,13 @@ whole_with_queue state queue sound meant whole = record {
 
 pub whole_with_event : (state : State) (event : Event) → IsMeant state event → IsWhole state → IsWhole (with_event state event)
 whole_with_event state event there whole =
-    whole_with_queue state (enqueued state.queue event) (sound_posted state.queue event whole.queue) (each_posted (IsMeant state) state.queue event there whole.meant) whole
+    whole_with_queue state (enqueued state.queue event) (sound_posted state.queue event whole.queue)
+    (each_posted (IsMeant state) state.queue event there whole.meant) whole
 
 pub whole_without_events : (state : State) (number : ℕ) → IsWhole state → IsWhole (without_events state number)
 whole_without_events state number whole =
-    whole_with_queue state (dropped number state.queue) (sound_dropped number state.queue whole.queue) (each_dropped (IsMeant state) number state.queue whole.meant) whole
+    whole_with_queue state (dropped number state.queue) (sound_dropped number state.queue whole.queue)
+    (each_dropped (IsMeant state) number state.queue whole.meant) whole
 
 pub whole_without_first : (state : State) → IsWhole state → IsWhole (without_first state)
 whole_without_first state whole =
@@ -309,7 +346,8 @@ pub whole_with_lost : (state : State) → IsWhole state → IsWhole (with_lost s
 whole_with_lost state whole = whole_with_queue state (events.with_lost state.queue) (sound_lost state.queue whole.queue) whole.meant whole
 
 -- another desk: each object that it names stands
-pub whole_with_desk : (state : State) (desk : Desk) → board.IsSound desk → OfDesk (λ number. is_there state.forest.rows number ≡ true) desk → IsWhole state → IsWhole (with_desk state desk)
+pub whole_with_desk : (state : State) (desk : Desk) → board.IsSound desk → OfDesk (λ number. is_there state.forest.rows number ≡ true) desk → IsWhole state
+    → IsWhole (with_desk state desk)
 whole_with_desk state desk sound named whole = record {
   forest = whole.forest;
   objects = whole.objects;
@@ -327,4 +365,5 @@ whole_with_desk state desk sound named whole = record {
 
 pub whole_without_rows_of : (state : State) (number : ℕ) → IsWhole state → IsWhole (without_rows_of state number)
 whole_without_rows_of state number whole =
-    whole_with_desk state (withdrawn number state.desk) (sound_withdrawn number state.desk whole.desk) (of_withdrawn (λ number. is_there state.forest.rows number ≡ true) state.desk whole.named number) whole
+    whole_with_desk state (withdrawn number state.desk) (sound_withdrawn number state.desk whole.desk)
+    (of_withdrawn (λ number. is_there state.forest.rows number ≡ true) state.desk whole.named number) whole

@@ -27,9 +27,12 @@ use Rattle.session_model.specs.declared.post.Post.{Post}
 use Rattle.session_model.specs.Acts.{chosen}
 use Rattle.session_model.specs.Arriving.{posts_of}
 use Rattle.session_model.specs.Operations.{operation_done}
-use Rattle.session_model.specs.Agenda.{binding_line, call_line, callee_called, called, calls_of, connection_of, emitted, event_items, functor_called, functor_line, functor_ran, is_held_back, lives, lives_below, method_called, queued, ran, spun, step, with_turn}
-use Rattle.session_model.specs.Execution.{Execution, dying, first_taken, in_state, lost, enqueued, posting, single_shot_broken, stepped, line_told, turn_taken, used_up, severed}
-use Rattle.session_model.specs.Items.{Act, Call, Detach, Delete, Emit, Remove, Item, DeleteChild, Next, Reply, ReplySpun, Run, RunFunctor, Spin, Warn, WarnOf, puts}
+use Rattle.session_model.specs.Agenda.{binding_line, call_line, callee_called, called, calls_of, connection_of, emitted, event_items, functor_called}
+use Rattle.session_model.specs.Agenda.{functor_line, functor_ran, is_held_back, lives, lives_below, method_called, queued, ran, spun, step, with_turn}
+use Rattle.session_model.specs.Execution.{Execution, dying, first_taken, in_state, lost, enqueued, posting, single_shot_broken, stepped, line_told, turn_taken}
+use Rattle.session_model.specs.Execution.{used_up, severed}
+use Rattle.session_model.specs.Items.{Act, Call, Detach, Delete, Emit, Remove, Item, DeleteChild, Next, Reply, ReplySpun, Run, RunFunctor, Spin, Warn, WarnOf}
+use Rattle.session_model.specs.Items.{puts}
 use Rattle.session_model.specs.Functors.{functor_at}
 use Rattle.session_model.specs.Methods.{Found, method_at}
 use Rattle.session_model.specs.Posting.{is_queued, spin_of}
@@ -63,22 +66,29 @@ module _ (settings : Settings) (R : Execution → Execution → Type 0) (holds :
   abbrev To : Execution → Next → Type 0
   To doing next = R doing next.doing
 
-  emits : (target signal : ℕ) (args : List Value) (depth : ℕ) (doing : Execution) (found : Option Row) → To doing (option_map_or (emitted settings doing target signal args depth) found (puts [] doing))
+  emits : (target signal : ℕ) (args : List Value) (depth : ℕ) (doing : Execution) (found : Option Row)
+      → To doing (option_map_or (emitted settings doing target signal args depth) found (puts [] doing))
   emits target signal args depth doing None = holds.same doing
   emits target signal args depth doing (Some row) =
       let posts = posts_of settings.classes doing.state target signal args in
-      cond_both (is_held_back signal row) (puts [] doing) (if nat_le NESTED_SIGNALS depth then puts (Warn Limit (Some target) ∷ []) doing else puts (calls_of doing target signal args depth) (posting doing posts)) (To doing)
+      cond_both (is_held_back signal row) (puts [] doing)
+      (if nat_le NESTED_SIGNALS depth then puts (Warn Limit (Some target) ∷ []) doing
+      else puts (calls_of doing target signal args depth) (posting doing posts)) (To doing)
       (λ held. holds.same doing)
-      (λ free. cond_both (nat_le NESTED_SIGNALS depth) (puts (Warn Limit (Some target) ∷ []) doing) (puts (calls_of doing target signal args depth) (posting doing posts)) (To doing) (λ deep. holds.same doing) (λ shallow. holds.publishes doing posts))
+      (λ free. cond_both (nat_le NESTED_SIGNALS depth) (puts (Warn Limit (Some target) ∷ []) doing)
+      (puts (calls_of doing target signal args depth) (posting doing posts)) (To doing) (λ deep. holds.same doing) (λ shallow. holds.publishes doing posts))
 
   -- a call is posted or lost, or made at once
-  calls_by : (doing : Execution) (later : Bool) (call : QueuedCall) (items : List Item) → To doing (if later then puts [] (queued doing call) else puts items doing)
+  calls_by : (doing : Execution) (later : Bool) (call : QueuedCall) (items : List Item)
+      → To doing (if later then puts [] (queued doing call) else puts items doing)
   calls_by doing later call items =
       cond_both later (puts [] (queued doing call)) (puts items doing) (To doing)
-      (λ queues. cond_both (has_room doing.state.queue) (enqueued doing (event.Call call)) (lost doing) (R doing) (λ room. holds.posts doing (event.Call call)) (λ full. holds.loses doing))
+      (λ queues. cond_both (has_room doing.state.queue) (enqueued doing (event.Call call)) (lost doing) (R doing) (λ room. holds.posts doing (event.Call call))
+      (λ full. holds.loses doing))
       (λ direct. holds.same doing)
 
-  calls_callee : (connection : Connection) (args : List Value) (depth : ℕ) (doing : Execution) (to : Callee) → To doing (callee_called settings connection args depth doing to)
+  calls_callee : (connection : Connection) (args : List Value) (depth : ℕ) (doing : Execution) (to : Callee)
+      → To doing (callee_called settings connection args depth doing to)
   calls_callee connection args depth doing (callee.Functor index) = by (functor_at settings index)
     where
       by : (found : Option Functor) → To doing (option_map_or (functor_called connection index args depth doing) found (puts [] doing))
@@ -97,27 +107,33 @@ module _ (settings : Settings) (R : Execution → Execution → Type 0) (holds :
       (λ none. holds.uses_up doing)
       (λ some. holds.both doing (turn_taken doing) (next (turn_taken doing)).doing (holds.takes_turn doing) (goes_on (turn_taken doing)))
 
-  calls_found : (args : List Value) (depth : ℕ) (doing : Execution) (found : Option Connection) → To doing (option_map_or (λ connection. with_turn doing (called settings connection args depth)) found (puts [] doing))
+  calls_found : (args : List Value) (depth : ℕ) (doing : Execution) (found : Option Connection)
+      → To doing (option_map_or (λ connection. with_turn doing (called settings connection args depth)) found (puts [] doing))
   calls_found args depth doing None = holds.same doing
   calls_found args depth doing (Some connection) = turns (called settings connection args depth)
-      (λ doing. holds.both doing (single_shot_broken doing connection) (called settings connection args depth doing).doing (holds.shoots doing connection) (calls_callee connection args depth (single_shot_broken doing connection) connection.callee)) doing
+      (λ doing. holds.both doing (single_shot_broken doing connection) (called settings connection args depth doing).doing (holds.shoots doing connection)
+      (calls_callee connection args depth (single_shot_broken doing connection) connection.callee)) doing
 
   spins : (doing : Execution) (events : List Event) → To doing (spun settings doing events)
   spins doing [] = holds.same doing
-  spins doing (first ∷ later) = turns (λ doing. puts (event_items settings doing.state first ++ Spin ∷ []) (first_taken doing)) (λ doing. holds.takes doing) doing
+  spins doing (first ∷ later) = turns (λ doing. puts (event_items settings doing.state first ++ Spin ∷ []) (first_taken doing))
+      (λ doing. holds.takes doing) doing
 
-  runs : (target sender : ℕ) (args : List Value) (depth : ℕ) (doing : Execution) (found : Option Method) → To doing (option_map_or (ran doing target sender args depth) found (puts [] doing))
+  runs : (target sender : ℕ) (args : List Value) (depth : ℕ) (doing : Execution) (found : Option Method)
+      → To doing (option_map_or (ran doing target sender args depth) found (puts [] doing))
   runs target sender args depth doing None = holds.same doing
   runs target sender args depth doing (Some method) = holds.tells doing (call_line method target sender args)
 
-  runs_functor : (target sender connection : ℕ) (args : List Value) (depth : ℕ) (doing : Execution) (found : Option Functor) → To doing (option_map_or (functor_ran doing target sender connection args depth) found (puts [] doing))
+  runs_functor : (target sender connection : ℕ) (args : List Value) (depth : ℕ) (doing : Execution) (found : Option Functor)
+      → To doing (option_map_or (functor_ran doing target sender connection args depth) found (puts [] doing))
   runs_functor target sender connection args depth doing None = holds.same doing
   runs_functor target sender connection args depth doing (Some functor) =
       let new = line_told doing (functor_line functor target sender args) in
       let next = after functor.next (functor_state doing.state connection) args in
       holds.both doing new (stepped new connection next) (holds.tells doing (functor_line functor target sender args)) (holds.steps new connection next)
 
-  chooses : (truth : Found Bool) (held failed : Acts) (args : List Value) (self sender depth : ℕ) (doing : Execution) → To doing (chosen truth held failed args self sender depth doing)
+  chooses : (truth : Found Bool) (held failed : Acts) (args : List Value) (self sender depth : ℕ) (doing : Execution)
+      → To doing (chosen truth held failed args self sender depth doing)
   chooses (Ok truth) held failed args self sender depth doing = holds.same doing
   chooses (Err code) held failed args self sender depth doing = holds.same doing
 
@@ -134,14 +150,17 @@ module _ (settings : Settings) (R : Execution → Execution → Type 0) (holds :
       (λ target name value writing there found. holds.writes doing target writing)
       (λ operation passed. holds.does doing operation)
       plain
-  step_holds (Act (when test held failed) args self sender depth) doing = chooses (truth_evaluated doing.state self sender args test) held failed args self sender depth doing
+  step_holds (Act (when test held failed) args self sender depth) doing =
+      chooses (truth_evaluated doing.state self sender args test) held failed args self sender depth doing
   step_holds (Warn code object) doing = holds.tells doing (line.Warning code object)
   step_holds (WarnOf at error) doing = holds.tells doing (binding_line settings doing.state at error)
   step_holds (Delete target depth) doing =
-      cond_both (lives doing target) (puts (Emit target DESTROYED [] depth ∷ Detach target depth ∷ Remove target depth ∷ []) (dying doing target)) (puts [] doing) (To doing) (λ living. holds.marks doing target) (λ absent. holds.same doing)
+      cond_both (lives doing target) (puts (Emit target DESTROYED [] depth ∷ Detach target depth ∷ Remove target depth ∷ []) (dying doing target))
+      (puts [] doing) (To doing) (λ living. holds.marks doing target) (λ absent. holds.same doing)
   step_holds (Detach target depth) doing = holds.severs doing target
   step_holds (DeleteChild parent child depth) doing =
-      cond_both (lives_below doing parent child) (puts (Delete child depth ∷ []) doing) (puts [] doing) (To doing) (λ living. holds.same doing) (λ other. holds.same doing)
+      cond_both (lives_below doing parent child) (puts (Delete child depth ∷ []) doing) (puts [] doing) (To doing) (λ living. holds.same doing)
+      (λ other. holds.same doing)
   step_holds (Remove target depth) doing = holds.goes doing target
   step_holds Spin doing = spins doing doing.state.queue.events
   step_holds (Reply answer) doing = holds.tells doing (line.Reply answer)

@@ -32,7 +32,8 @@ use Rattle.session_model.specs.declared.line.Answer.TheVariants as a
 use Rattle.session_model.specs.Items as to_do
 
 module _ (settings : Settings) (self : List ℕ) (state : State) where
-  pub refusal_new : (class : List ℕ) (parent : Option ℕ) → refusal settings self state (New class parent) ≡ option_or (parent_refusal state.forest.rows parent) (option_or (class_refusal settings.classes class) (add_refusal state.forest parent))
+  pub refusal_new : (class : List ℕ) (parent : Option ℕ) → refusal settings self state (New class parent)
+      ≡ option_or (parent_refusal state.forest.rows parent) (option_or (class_refusal settings.classes class) (add_refusal state.forest parent))
   unfolding refusal
   refusal_new class parent = refl
 
@@ -50,19 +51,26 @@ module _ (settings : Settings) (self : List ℕ) (state : State) where
 
 module _ (settings : Settings) (state : State) where
   -- a new object of a class that is there leaves the others as they were
-  made_fits : (asked : Asked) (parent : Option ℕ) (class : ℕ) → is_some (slice_get settings.classes class) ≡ true → FitsBefore settings state asked → IsFitting settings (with_object settings.classes state parent class)
+  made_fits : (asked : Asked) (parent : Option ℕ) (class : ℕ) → is_some (slice_get settings.classes class) ≡ true → FitsBefore settings state asked
+      → IsFitting settings (with_object settings.classes state parent class)
   unfolding added
   made_fits asked parent class its fits =
       let rows = state.forest.rows in
       let fit = fits.fit in
       fits_moved settings rows (with_object settings.classes state parent class) (λ number. is_there rows number ≡ true) (more_classes rows _)
-      fits.sound.whole.meant (λ index default within. (let it = fits.sound.whole.ends index default within in record { sender = it.sender; receiver = it.receiver })) fits.sound.whole.named
+      fits.sound.whole.meant (λ index default within.
+      (let it = fits.sound.whole.ends index default within in record { sender = it.sender; receiver = it.receiver })) fits.sound.whole.named
       (All-push (λ (row : Row). is_some (slice_get settings.classes row.class) ≡ true) rows _ fit.objects its)
       (record { events = fit.events; connections = fit.connections; publications = fit.publications; joins = fit.joins })
 
-  pub new_keeps : (class : List ℕ) (parent : Option ℕ) → option_or (parent_refusal state.forest.rows parent) (option_or (class_refusal settings.classes class) (add_refusal state.forest parent)) ≡ None → Keeps settings state (New class parent) (makes settings.classes state class parent)
+  pub new_keeps : (class : List ℕ) (parent : Option ℕ) → option_or (parent_refusal state.forest.rows parent)
+      (option_or (class_refusal settings.classes class) (add_refusal state.forest parent)) ≡ None
+      → Keeps settings state (New class parent) (makes settings.classes state class parent)
   new_keeps class parent passed = replied settings state (New class parent) after _ (record {
-    sound = λ sound. record { whole = whole_with_object settings.classes state parent _ allowed.1 sound.whole; living = each_added (λ number dying. dying ≡ false) state.forest parent _ refl sound.living };
+    sound = λ sound. record {
+      whole = whole_with_object settings.classes state parent _ allowed.1 sound.whole;
+      living = each_added (λ number dying. dying ≡ false) state.forest parent _ refl sound.living;
+    };
     declared = λ sound declared. declared_with_object settings.classes state declared parent _ sound.whole.forest.numbers_given;
     fitting = made_fits (New class parent) parent _ its;
     named = λ are is named. named_with_object state named settings.classes parent _;
@@ -78,7 +86,8 @@ module _ (settings : Settings) (state : State) where
       its : is_some (slice_get settings.classes (class_index settings.classes class)) ≡ true
       its = by (index_of class settings.classes) refl allowed.0
         where
-          by : (found : Option ℕ) → index_of class settings.classes ≡ found → cond (is_some found) None (Some NoSuchClass) ≡ None → is_some (slice_get settings.classes (unwrap_or found 0)) ≡ true
+          by : (found : Option ℕ) → index_of class settings.classes ≡ found → cond (is_some found) None (Some NoSuchClass) ≡ None
+              → is_some (slice_get settings.classes (unwrap_or found 0)) ≡ true
           by None is e = absurd (cc)
           by (Some index) is e = there_within settings.classes index (position_some _ settings.classes index is).1
 

@@ -23,7 +23,8 @@ use Rattle.session_model.specs.Agenda.{queued}
 use Rattle.session_model.specs.declared.operation.Operation.{Operation}
 use Rattle.session_model.specs.declared.operation.Operation.TheVariants as d
 use Rattle.session_model.specs.Operations.{operation_done, operation_refusal}
-use Rattle.session_model.specs.Execution.{Execution, dying, first_taken, in_state, lost, enqueued, single_shot_broken, stepped, line_told, turn_taken, used_up, posting, severed}
+use Rattle.session_model.specs.Execution.{Execution, dying, first_taken, in_state, lost, enqueued, single_shot_broken, stepped, line_told, turn_taken, used_up}
+use Rattle.session_model.specs.Execution.{posting, severed}
 use Rattle.session_model.specs.Items.{Detach, Remove, Item}
 use Rattle.session_model.specs.State.{IsTied, IsWhole, State, without_connections, without_events, without_object}
 use Rattle.session_model.specs.Writing.{Declared, Dynamic, Nothing, Removed, Writing, with_writing}
@@ -33,7 +34,9 @@ use Rattle.session_model.proofs.DyingLemmas.{Stands, each_blocked, each_marked, 
 use Rattle.session_model.proofs.QueueLemmas.{each_posted, each_taken, others_named}
 use Rattle.session_model.proofs.DeskLemmas.{each_of, of_others}
 use Rattle.session_model.proofs.FitLemmas.{IsFit}
-use Rattle.session_model.proofs.StateLemmas.{whole_with_blocking, whole_with_connection, whole_with_dying, whole_with_event, whole_with_functor_state, whole_with_lost, whole_with_parent, whole_with_writing, whole_without_connections, whole_without_events, whole_without_first, whole_without_object, whole_without_rows_of}
+use Rattle.session_model.proofs.StateLemmas.{whole_with_blocking, whole_with_connection, whole_with_dying, whole_with_event, whole_with_functor_state}
+use Rattle.session_model.proofs.StateLemmas.{whole_with_lost, whole_with_parent, whole_with_writing, whole_without_connections, whole_without_events}
+use Rattle.session_model.proofs.StateLemmas.{whole_without_first, whole_without_object, whole_without_rows_of}
 
 -- an object is dying exactly where an agenda is to let it go
 abbrev pub IsGoing : List Item → ℕ → Bool → Type 0
@@ -57,44 +60,52 @@ none_second false b e = e
 pub none_goes : (number : ℕ) (agenda : List Item) → list_any is_gone agenda ≡ false → list_any (lets_go number) agenda ≡ false
 none_goes number [] e = refl
 none_goes number (item ∷ agenda) e =
-    ap (λ b. b || list_any (lets_go number) agenda) (goes_gone number item (none_first (is_gone item) _ e)) ∙ none_goes number agenda (none_second (is_gone item) _ e)
+    ap (λ b. b || list_any (lets_go number) agenda) (goes_gone number item (none_first (is_gone item) _ e))
+    ∙ none_goes number agenda (none_second (is_gone item) _ e)
 
 -- what is not let go need not be untied first
 pub untied_staying : (number : ℕ) (agenda : List Item) → list_any (lets_go number) agenda ≡ false → is_untied_first agenda number ≡ true
 untied_staying number [] e = refl
 untied_staying number (item ∷ agenda) e =
     or_right (unties number item) _
-    (ap (λ b. not b && is_untied_first agenda number) (none_first (lets_go number item) _ e) ∙ untied_staying number agenda (none_second (lets_go number item) _ e))
+    (ap (λ b. not b && is_untied_first agenda number) (none_first (lets_go number item) _ e)
+    ∙ untied_staying number agenda (none_second (lets_go number item) _ e))
 
 -- what is put in front lets nothing go
-untied_behind : (number : ℕ) (items agenda : List Item) → list_any is_gone items ≡ false → is_untied_first agenda number ≡ true → is_untied_first (items ++ agenda) number ≡ true
+untied_behind : (number : ℕ) (items agenda : List Item) → list_any is_gone items ≡ false → is_untied_first agenda number ≡ true
+    → is_untied_first (items ++ agenda) number ≡ true
 untied_behind number [] agenda e untied = untied
 untied_behind number (item ∷ items) agenda e untied =
     or_right (unties number item) _
-    (ap (λ b. not b && is_untied_first (items ++ agenda) number) (goes_gone number item (none_first (is_gone item) _ e)) ∙ untied_behind number items agenda (none_second (is_gone item) _ e) untied)
+    (ap (λ b. not b && is_untied_first (items ++ agenda) number) (goes_gone number item (none_first (is_gone item) _ e))
+    ∙ untied_behind number items agenda (none_second (is_gone item) _ e) untied)
 
 -- a connection that is broken in time in one agenda is so in another
-in_time : (one other : List Item) → ((number : ℕ) → is_untied_first one number ≡ true → is_untied_first other number ≡ true) → (rows : List Connection) → All (IsBrokenInTime one) rows → All (IsBrokenInTime other) rows
+in_time : (one other : List Item) → ((number : ℕ) → is_untied_first one number ≡ true → is_untied_first other number ≡ true) → (rows : List Connection)
+    → All (IsBrokenInTime one) rows → All (IsBrokenInTime other) rows
 in_time one other so rows all index default within =
     let was : IsBrokenInTime one _ = all index default within in
     record { sender = so _ was.sender; receiver = so _ was.receiver }
 
 -- and so is an event that is forgotten in time
-still_forgotten : (one other : List Item) → ((number : ℕ) → is_untied_first one number ≡ true → is_untied_first other number ≡ true) → (events : List Event) → All (IsForgottenInTime one) events → All (IsForgottenInTime other) events
+still_forgotten : (one other : List Item) → ((number : ℕ) → is_untied_first one number ≡ true → is_untied_first other number ≡ true) → (events : List Event)
+    → All (IsForgottenInTime one) events → All (IsForgottenInTime other) events
 still_forgotten one other so events = All-weaker (IsForgottenInTime one) (IsForgottenInTime other) (λ event. so (object_of event)) events
 
 pub in_front : (items agenda : List Item) (state : State) → list_any is_gone items ≡ false → IsUnderWay agenda state → IsUnderWay (items ++ agenda) state
 in_front items agenda state none under = record {
   whole = under.whole;
   going = All-weaker (λ row. IsGoing agenda row.number row.dying) (λ row. IsGoing (items ++ agenda) row.number row.dying)
-      (λ row is. list_any-append (lets_go row.number) items agenda ∙ ap (λ b. b || list_any (lets_go row.number) agenda) (none_goes row.number items none) ∙ is) state.forest.rows under.going;
+      (λ row is. list_any-append (lets_go row.number) items agenda ∙ ap (λ b. b || list_any (lets_go row.number) agenda) (none_goes row.number items none) ∙ is)
+      state.forest.rows under.going;
   in_time = in_time agenda (items ++ agenda) (λ number. untied_behind number items agenda none) state.connections.rows under.in_time;
   forgotten = still_forgotten agenda (items ++ agenda) (λ number. untied_behind number items agenda none) state.queue.events under.forgotten;
   withdrawn = each_of _ _ (λ number. untied_behind number items agenda none) state.desk under.withdrawn;
 }
 
 -- an item may be done that neither lets an object go nor breaks its connections
-pub behind : (item : Item) (agenda : List Item) (state : State) → ((number : ℕ) → lets_go number item ≡ false) → ((number : ℕ) → unties number item ≡ false) → IsUnderWay (item ∷ agenda) state → IsUnderWay agenda state
+pub behind : (item : Item) (agenda : List Item) (state : State) → ((number : ℕ) → lets_go number item ≡ false) → ((number : ℕ) → unties number item ≡ false)
+    → IsUnderWay (item ∷ agenda) state → IsUnderWay agenda state
 behind item agenda state stays ties under = record {
   whole = under.whole;
   going = All-weaker (λ row. IsGoing (item ∷ agenda) row.number row.dying) (λ row. IsGoing agenda row.number row.dying)
@@ -105,7 +116,8 @@ behind item agenda state stays ties under = record {
 }
   where
     rest : (number : ℕ) → is_untied_first (item ∷ agenda) number ≡ true → is_untied_first agenda number ≡ true
-    rest number untied = ap (λ b. b || is_untied_first agenda number) (sym (ties number)) ∙ ap (λ b. unties number item || (not b && is_untied_first agenda number)) (sym (stays number)) ∙ untied
+    rest number untied = ap (λ b. b || is_untied_first agenda number) (sym (ties number))
+        ∙ ap (λ b. unties number item || (not b && is_untied_first agenda number)) (sym (stays number)) ∙ untied
 
 module _ (agenda : List Item) (doing : Execution) (under : IsUnderWay agenda doing.state) where
   pub told_under : (said : Line) → IsUnderWay agenda (line_told doing said).state
@@ -122,7 +134,8 @@ module _ (agenda : List Item) (doing : Execution) (under : IsUnderWay agenda doi
 
   pub used_up_under : IsUnderWay agenda (used_up doing).state
   unfolding used_up
-  used_up_under = cond_both doing.spent doing (record doing { spent = true; lines = doing.lines ++ Warning TurnsUsedUp None ∷ [] }) (λ (new : Execution). IsUnderWay agenda new.state) (λ spent. under) (λ fresh. under)
+  used_up_under = cond_both doing.spent doing (record doing { spent = true; lines = doing.lines ++ Warning TurnsUsedUp None ∷ [] })
+      (λ (new : Execution). IsUnderWay agenda new.state) (λ spent. under) (λ fresh. under)
 
   -- connections may be broken
   without_under : (test : Connection → Bool) → IsUnderWay agenda (without_connections doing.state test)
@@ -140,21 +153,25 @@ module _ (agenda : List Item) (doing : Execution) (under : IsUnderWay agenda doi
   stepped_under number next = record {
     whole = whole_with_functor_state doing.state number next under.whole;
     going = under.going;
-    in_time = all_stepped number next (IsBrokenInTime agenda) (λ row h. record { sender = h.sender; receiver = h.receiver }) doing.state.connections.rows under.in_time;
+    in_time = all_stepped number next (IsBrokenInTime agenda)
+        (λ row h. record { sender = h.sender; receiver = h.receiver }) doing.state.connections.rows under.in_time;
     forgotten = under.forgotten;
     withdrawn = under.withdrawn;
   }
 
   pub shot_under : (row : Connection) → IsUnderWay agenda (single_shot_broken doing row).state
   unfolding single_shot_broken
-  shot_under row = cond_both row.single (in_state doing (without_connections doing.state (has_number row.number))) doing (λ (new : Execution). IsUnderWay agenda new.state) (λ single. without_under (has_number row.number)) (λ lasting. under)
+  shot_under row = cond_both row.single (in_state doing (without_connections doing.state (has_number row.number))) doing
+      (λ (new : Execution). IsUnderWay agenda new.state) (λ single. without_under (has_number row.number)) (λ lasting. under)
 
   -- an end of a new connection lives, and so is not to be let go
   staying : (number : ℕ) → Stands doing.state.forest.rows number → is_untied_first agenda number ≡ true
-  staying number stands = untied_staying number agenda (of_row (IsGoing agenda) doing.state.forest.rows number stands.row stands.found under.going ∙ stands.living)
+  staying number stands = untied_staying number agenda
+      (of_row (IsGoing agenda) doing.state.forest.rows number stands.row stands.found under.going ∙ stands.living)
 
   -- an event may be posted for an object that is not let go before the event is forgotten
-  posted_under : (event : Event) → is_there doing.state.forest.rows (object_of event) ≡ true → is_untied_first agenda (object_of event) ≡ true → IsUnderWay agenda (enqueued doing event).state
+  posted_under : (event : Event) → is_there doing.state.forest.rows (object_of event) ≡ true → is_untied_first agenda (object_of event) ≡ true
+      → IsUnderWay agenda (enqueued doing event).state
   unfolding enqueued
   posted_under event there untied = record {
     whole = whole_with_event doing.state event there under.whole;
@@ -172,11 +189,18 @@ module _ (agenda : List Item) (doing : Execution) (under : IsUnderWay agenda doi
 
   pub lost_under : IsUnderWay agenda (lost doing).state
   unfolding lost
-  lost_under = record { whole = whole_with_lost doing.state under.whole; going = under.going; in_time = under.in_time; forgotten = under.forgotten; withdrawn = under.withdrawn }
+  lost_under = record {
+    whole = whole_with_lost doing.state under.whole;
+    going = under.going;
+    in_time = under.in_time;
+    forgotten = under.forgotten;
+    withdrawn = under.withdrawn;
+  }
 
   -- a connection that stands has a receiver for which a call may be posted, also when the connection is
   -- broken before
-  pub queued_under : (connection : Connection) (call : QueuedCall) → IsTied doing.state connection → IsBrokenInTime agenda connection → call.object ≡ connection.receiver → IsUnderWay agenda (queued doing call).state
+  pub queued_under : (connection : Connection) (call : QueuedCall) → IsTied doing.state connection → IsBrokenInTime agenda connection
+      → call.object ≡ connection.receiver → IsUnderWay agenda (queued doing call).state
   queued_under connection call tied broken same =
       cond_both (has_room doing.state.queue) (enqueued doing (event.Call call)) (lost doing) (λ (new : Execution). IsUnderWay agenda new.state)
       (λ room. posted_under (event.Call call) (ap (is_there doing.state.forest.rows) same ∙ tied.receiver) (ap (is_untied_first agenda) same ∙ broken.receiver))
@@ -197,8 +221,15 @@ module _ (agenda : List Item) (doing : Execution) (under : IsUnderWay agenda doi
   writing_under target writing fit = by writing (whole_with_writing doing.state target writing fit under.whole)
     where
       by : (writing : Writing) → IsWhole (with_writing doing.state target writing) → IsUnderWay agenda (with_writing doing.state target writing)
-      by (Declared number value) whole = record { whole = whole; going = under.going; in_time = under.in_time; forgotten = under.forgotten; withdrawn = under.withdrawn }
-      by (Dynamic name value) whole = record { whole = whole; going = under.going; in_time = under.in_time; forgotten = under.forgotten; withdrawn = under.withdrawn }
+      by (Declared number value) whole = record
+          { whole = whole; going = under.going; in_time = under.in_time; forgotten = under.forgotten; withdrawn = under.withdrawn }
+      by (Dynamic name value) whole = record {
+        whole = whole;
+        going = under.going;
+        in_time = under.in_time;
+        forgotten = under.forgotten;
+        withdrawn = under.withdrawn;
+      }
       by (Removed name) whole = record { whole = whole; going = under.going; in_time = under.in_time; forgotten = under.forgotten; withdrawn = under.withdrawn }
       by Nothing whole = under
 
@@ -212,7 +243,8 @@ module _ (agenda : List Item) (doing : Execution) (under : IsUnderWay agenda doi
       record {
         whole = whole_with_connection doing.state new (allowed doing.state.connections new unique rest.1) one.there other.there under.whole;
         going = under.going;
-        in_time = All-push (IsBrokenInTime agenda) doing.state.connections.rows (numbered (doing.state.connections.last_number + 1) new) under.in_time (record { sender = staying new.sender one; receiver = staying new.receiver other });
+        in_time = All-push (IsBrokenInTime agenda) doing.state.connections.rows (numbered (doing.state.connections.last_number + 1) new) under.in_time
+            (record { sender = staying new.sender one; receiver = staying new.receiver other });
         forgotten = under.forgotten;
         withdrawn = under.withdrawn;
       }
@@ -254,20 +286,25 @@ module _ (agenda : List Item) (doing : Execution) (under : IsUnderWay agenda doi
           by false = untied
 
 -- the connections that do not have an object at either end
-loose_rows : (target : ℕ) (P : Connection → Type 0) (rows : List Connection) → All P rows → All (λ row. P row × (touches target row ≡ false)) (filter (λ row. not (touches target row)) rows)
+loose_rows : (target : ℕ) (P : Connection → Type 0) (rows : List Connection) → All P rows
+    → All (λ row. P row × (touches target row ≡ false)) (filter (λ row. not (touches target row)) rows)
 loose_rows target P rows all = All-from_recursion (λ row. P row × (touches target row ≡ false)) _ (those rows (recursion_from_All P rows all))
   where
-    those : (rows : List Connection) → AllByRecursion P rows → AllByRecursion (λ row. P row × (touches target row ≡ false)) (filter (λ row. not (touches target row)) rows)
+    those : (rows : List Connection) → AllByRecursion P rows →
+        AllByRecursion (λ row. P row × (touches target row ≡ false)) (filter (λ row. not (touches target row)) rows)
     those [] all = tt
     those (row ∷ rest) all = by (touches target row) refl (those rest all.1)
       where
-        by : (touched : Bool) → touches target row ≡ touched → AllByRecursion (λ row. P row × (touches target row ≡ false)) (filter (λ row. not (touches target row)) rest)
-            → AllByRecursion (λ row. P row × (touches target row ≡ false)) (cond (not touched) (row ∷ filter (λ row. not (touches target row)) rest) (filter (λ row. not (touches target row)) rest))
+        by : (touched : Bool) → touches target row ≡ touched →
+            AllByRecursion (λ row. P row × (touches target row ≡ false)) (filter (λ row. not (touches target row)) rest)
+            → AllByRecursion (λ row. P row × (touches target row ≡ false))
+            (cond (not touched) (row ∷ filter (λ row. not (touches target row)) rest) (filter (λ row. not (touches target row)) rest))
         by true is later = later
         by false is later = ((all.0, is), later)
 
 -- what is left when nothing ties an object to others needs its Detach no more
-pub detach_under : (target depth : ℕ) (agenda : List Item) (doing : Execution) → IsUnderWay (Detach target depth ∷ agenda) doing.state → IsUnderWay agenda (severed doing target).state
+pub detach_under : (target depth : ℕ) (agenda : List Item) (doing : Execution) → IsUnderWay (Detach target depth ∷ agenda) doing.state
+    → IsUnderWay agenda (severed doing target).state
 unfolding severed
 detach_under target depth agenda doing under =
     let loose = without_connections doing.state (touches target) in
@@ -275,10 +312,13 @@ detach_under target depth agenda doing under =
     record {
       whole = whole_without_rows_of unnamed target (whole_without_events loose target (whole_without_connections doing.state (touches target) under.whole));
       going = under.going;
-      in_time = All-weaker (λ row. IsBrokenInTime (Detach target depth ∷ agenda) row × (touches target row ≡ false)) (IsBrokenInTime agenda) one _ (loose_rows target (IsBrokenInTime (Detach target depth ∷ agenda)) doing.state.connections.rows under.in_time);
-      forgotten = All-weaker (λ event. IsForgottenInTime (Detach target depth ∷ agenda) event × ((object_of event == target) ≡ false)) (IsForgottenInTime agenda) (λ event held. other (object_of event) held.1 held.0) _
+      in_time = All-weaker (λ row. IsBrokenInTime (Detach target depth ∷ agenda) row × (touches target row ≡ false)) (IsBrokenInTime agenda) one _
+          (loose_rows target (IsBrokenInTime (Detach target depth ∷ agenda)) doing.state.connections.rows under.in_time);
+      forgotten = All-weaker (λ event. IsForgottenInTime (Detach target depth ∷ agenda) event × ((object_of event == target) ≡ false))
+          (IsForgottenInTime agenda) (λ event held. other (object_of event) held.1 held.0) _
           (others_named (IsForgottenInTime (Detach target depth ∷ agenda)) target doing.state.queue.events under.forgotten);
-      withdrawn = each_of _ _ (λ number held. other number held.1 held.0) _ (of_others (λ number. is_untied_first (Detach target depth ∷ agenda) number ≡ true) doing.state.desk target under.withdrawn);
+      withdrawn = each_of _ _ (λ number held. other number held.1 held.0) _
+          (of_others (λ number. is_untied_first (Detach target depth ∷ agenda) number ≡ true) doing.state.desk target under.withdrawn);
     }
   where
     other : (number : ℕ) → (number == target) ≡ false → is_untied_first (Detach target depth ∷ agenda) number ≡ true → is_untied_first agenda number ≡ true
@@ -291,11 +331,15 @@ detach_under target depth agenda doing under =
     }
 
 -- what stays when an object goes needs its Remove no more
-pub gone_under : (target depth : ℕ) (agenda : List Item) (doing : Execution) → IsUnderWay (Remove target depth ∷ agenda) doing.state → IsUnderWay agenda (without_object doing.state target)
+pub gone_under : (target depth : ℕ) (agenda : List Item) (doing : Execution) → IsUnderWay (Remove target depth ∷ agenda) doing.state
+    → IsUnderWay agenda (without_object doing.state target)
 gone_under target depth agenda doing under = record {
   whole = whole_without_object doing.state target
-      (All-weaker (IsBrokenInTime (Remove target depth ∷ agenda)) (OfEnds (λ end. (end == target) ≡ false)) (λ row broken. record { sender = (parts row.sender broken.sender).0; receiver = (parts row.receiver broken.receiver).0 }) doing.state.connections.rows under.in_time)
-      (All-weaker (IsForgottenInTime (Remove target depth ∷ agenda)) (λ event. (object_of event == target) ≡ false) (λ event untied. (parts (object_of event) untied).0) doing.state.queue.events under.forgotten)
+      (All-weaker (IsBrokenInTime (Remove target depth ∷ agenda)) (OfEnds (λ end. (end == target) ≡ false))
+      (λ row broken. record { sender = (parts row.sender broken.sender).0; receiver = (parts row.receiver broken.receiver).0 }) doing.state.connections.rows
+      under.in_time)
+      (All-weaker (IsForgottenInTime (Remove target depth ∷ agenda)) (λ event. (object_of event == target) ≡ false)
+      (λ event untied. (parts (object_of event) untied).0) doing.state.queue.events under.forgotten)
       (each_of _ _ (λ number untied. (parts number untied).0) doing.state.desk under.withdrawn)
       under.whole;
   going = each_removed (IsGoing (Remove target depth ∷ agenda)) (IsGoing agenda) doing.state.forest target
@@ -305,9 +349,11 @@ gone_under target depth agenda doing under = record {
   withdrawn = each_of _ _ (λ number untied. (parts number untied).1) doing.state.desk under.withdrawn;
 }
   where
-    parts : (number : ℕ) → (not (target == number) && is_untied_first agenda number) ≡ true → ((number == target) ≡ false) × (is_untied_first agenda number ≡ true)
+    parts : (number : ℕ) → (not (target == number) && is_untied_first agenda number) ≡ true
+        → ((number == target) ≡ false) × (is_untied_first agenda number ≡ true)
     parts number untied = by (target == number) refl untied
       where
-        by : (same : Bool) → (target == number) ≡ same → (not same && is_untied_first agenda number) ≡ true → ((number == target) ≡ false) × (is_untied_first agenda number ≡ true)
+        by : (same : Bool) → (target == number) ≡ same → (not same && is_untied_first agenda number) ≡ true
+            → ((number == target) ≡ false) × (is_untied_first agenda number ≡ true)
         by true is e = absurd (cc)
         by false is e = (nat_eq_equiv.symm number target ∙ is, e)

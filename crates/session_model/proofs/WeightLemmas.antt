@@ -1,5 +1,6 @@
 -- How many items an agenda weighs.
-use Rattle.std.proofs.Common.{◌≡◌, ◌<◌, ◌≤◌, ◌+◌, ◌*◌, ◌==◌, ℕ, Bool, true, false, cond, List, [], ◌∷◌, ◌++◌, length, map, max, reverse, Option, Some, None, slice_get, refl, subst, ap, arith}
+use Rattle.std.proofs.Common.{◌≡◌, ◌<◌, ◌≤◌, ◌+◌, ◌*◌, ◌==◌, ℕ, Bool, true, false, cond, List, [], ◌∷◌, ◌++◌, length, map, max, reverse, Option, Some, None}
+use Rattle.std.proofs.Common.{slice_get, refl, subst, ap, arith}
 use Rattle.std.specs.List.{All}
 use Rattle.std.specs.Option.{option_map_or}
 use Rattle.std.proofs.Math.Nat.{add-mul, mul-le-mul_left, mul-le-mul_right}
@@ -100,7 +101,8 @@ weight-some n (Reply answer) = omega arith
 weight-some n ReplySpun = omega arith
 
 -- the actions of a body weigh as much as their number says
-pub acts-weight : (n : Most) (body : Acts) (args : List Value) (self sender depth : ℕ) → weights n (acts body args self sender depth) ≡ counts body * action_weight n
+pub acts-weight : (n : Most) (body : Acts) (args : List Value) (self sender depth : ℕ)
+    → weights n (acts body args self sender depth) ≡ counts body * action_weight n
 acts-weight n nothing args self sender depth = omega arith
 acts-weight n (more action rest) args self sender depth =
     let later = acts-weight n rest args self sender depth in
@@ -108,7 +110,8 @@ acts-weight n (more action rest) args self sender depth =
     omega (arith, later, parts)
 
 -- a choice weighs more than either branch, also where what warns takes its place
-pub choice-weight : (n : Most) (held failed : Acts) → (counts held * action_weight n < (counts held + counts failed + 1) * action_weight n) × (counts failed * action_weight n < (counts held + counts failed + 1) * action_weight n)
+pub choice-weight : (n : Most) (held failed : Acts) → (counts held * action_weight n < (counts held + counts failed + 1) * action_weight n)
+    × (counts failed * action_weight n < (counts held + counts failed + 1) * action_weight n)
 choice-weight n held failed =
     let parts = add-mul (counts held + counts failed) 1 (action_weight n) in
     let both = add-mul (counts held) (counts failed) (action_weight n) in
@@ -120,7 +123,8 @@ calls-weight n args depth [] = refl
 calls-weight n args depth (row ∷ rows) = let rest = calls-weight n args depth rows in omega (arith, rest)
 
 -- children that are to be deleted weigh two each
-pub delete_children-weight : (n : Most) (target depth : ℕ) (children : List ℕ) → weights n (map (λ child. DeleteChild target child depth) children) ≡ 2 * length children
+pub delete_children-weight : (n : Most) (target depth : ℕ) (children : List ℕ)
+    → weights n (map (λ child. DeleteChild target child depth) children) ≡ 2 * length children
 delete_children-weight n target depth [] = refl
 delete_children-weight n target depth (child ∷ rest) = let more = delete_children-weight n target depth rest in omega (arith, more)
 
@@ -129,7 +133,8 @@ below_greatest : {X : Type 0} (size : X → ℕ) (xs : List X) → All (λ x. si
 below_greatest size [] = All-nil (λ x. size x ≤ 0)
 below_greatest size (x ∷ xs) =
     All-cons (λ y. size y ≤ max (size x) (greatest (map size xs))) x xs (omega arith)
-    (All-weaker (λ y. size y ≤ greatest (map size xs)) (λ y. size y ≤ max (size x) (greatest (map size xs))) (λ y le. omega (arith, le)) xs (below_greatest size xs))
+    (All-weaker (λ y. size y ≤ greatest (map size xs)) (λ y. size y ≤ max (size x) (greatest (map size xs))) (λ y le. omega (arith, le)) xs
+    (below_greatest size xs))
 
 -- how many actions the body of a method has, and the longest of those that a class declares itself
 abbrev size : Method → ℕ
@@ -139,25 +144,33 @@ abbrev longest : Class → ℕ
 longest class = greatest (map size class.methods)
 
 -- what a class has from all these classes is no longer than what they declare
-gathered-size : (most : ℕ) (classes : List Class) (index : ℕ) → All (λ class. longest class ≤ most) classes → All (λ method. size method ≤ most) (gathered (λ index class. class.methods) classes index)
+gathered-size : (most : ℕ) (classes : List Class) (index : ℕ) → All (λ class. longest class ≤ most) classes
+    → All (λ method. size method ≤ most) (gathered (λ index class. class.methods) classes index)
 unfolding gathered
 gathered-size most [] index few = All-nil (λ method. size method ≤ most)
-gathered-size most (class ∷ earlier) index few = by (gathered-size most earlier index few') (λ above. gathered-size most earlier above few') (index == length earlier)
+gathered-size most (class ∷ earlier) index few = by (gathered-size most earlier index few') (λ above. gathered-size most earlier above few')
+    (index == length earlier)
   where
     few' : All (λ class. longest class ≤ most) earlier
     few' = All-tail (λ class. longest class ≤ most) class earlier few
 
     own : All (λ method. size method ≤ most) class.methods
     own = All-weaker (λ (method : Method). size method ≤ longest class) (λ (method : Method). size method ≤ most)
-        (λ method le. let its : longest class ≤ most = All-head (λ class. longest class ≤ most) class earlier few in omega (arith, le, its)) class.methods (below_greatest size class.methods)
+        (λ method le. let its : longest class ≤ most = All-head (λ class. longest class ≤ most) class earlier few in omega (arith, le, its)) class.methods
+        (below_greatest size class.methods)
 
-    base : ((above : ℕ) → All (λ method. size method ≤ most) (gathered (λ index class. class.methods) earlier above)) → (above : Option ℕ) → All (λ method. size method ≤ most) (option_map_or (λ base. gathered (λ index class. class.methods) earlier base) above [])
+    base : ((above : ℕ) → All (λ method. size method ≤ most) (gathered (λ index class. class.methods) earlier above)) → (above : Option ℕ)
+        → All (λ method. size method ≤ most) (option_map_or (λ base. gathered (λ index class. class.methods) earlier base) above [])
     base others None = All-nil (λ method. size method ≤ most)
     base others (Some above) = others above
 
-    by : All (λ method. size method ≤ most) (gathered (λ index class. class.methods) earlier index) → ((above : ℕ) → All (λ method. size method ≤ most) (gathered (λ index class. class.methods) earlier above)) → (same : Bool)
-        → All (λ method. size method ≤ most) (cond same (option_map_or (λ base. gathered (λ index class. class.methods) earlier base) class.superclass [] ++ class.methods) (gathered (λ index class. class.methods) earlier index))
-    by other others true = All-append (λ method. size method ≤ most) (option_map_or (λ base. gathered (λ index class. class.methods) earlier base) class.superclass []) class.methods (base others class.superclass) own
+    by : All (λ method. size method ≤ most) (gathered (λ index class. class.methods) earlier index)
+        → ((above : ℕ) → All (λ method. size method ≤ most) (gathered (λ index class. class.methods) earlier above)) → (same : Bool)
+        → All (λ method. size method ≤ most) (cond same
+        (option_map_or (λ base. gathered (λ index class. class.methods) earlier base) class.superclass [] ++ class.methods)
+        (gathered (λ index class. class.methods) earlier index))
+    by other others true = All-append (λ method. size method ≤ most)
+        (option_map_or (λ base. gathered (λ index class. class.methods) earlier base) class.superclass []) class.methods (base others class.superclass) own
     by other others false = other
 
 -- what holds of each element of a list holds of the one at an index
@@ -165,23 +178,28 @@ All-slice_get : {X : Type 0} (P : X → Type 0) (xs : List X) (index : ℕ) (x :
 All-slice_get P xs index x e all = subst P (get_or_from_slice_get xs index x x e) (all index x (slice_get_within xs index x e))
 
 -- the body of a method of an object is no longer than the longest one
-pub body-size : (settings : Settings) (state : State) (object index : ℕ) (method : Method) → method_at settings state object index ≡ Some method → counts (acts_of method.body.actions) ≤ longest_body settings.classes
-body-size settings state object index method found = All-slice_get (λ method. size method ≤ most) (methods_of settings state object) index method found (by (row_of state.forest.rows object))
+pub body-size : (settings : Settings) (state : State) (object index : ℕ) (method : Method) → method_at settings state object index ≡ Some method
+    → counts (acts_of method.body.actions) ≤ longest_body settings.classes
+body-size settings state object index method found = All-slice_get (λ method. size method ≤ most) (methods_of settings state object) index method found
+    (by (row_of state.forest.rows object))
   where
     most : ℕ
     most = longest_body settings.classes
 
     classes : All (λ class. longest class ≤ longest_body settings.classes) (reverse settings.classes)
-    classes = All-permutation (λ class. longest class ≤ longest_body settings.classes) settings.classes (reverse settings.classes) (IsPermutation-reverse settings.classes) (below_greatest longest settings.classes)
+    classes = All-permutation (λ class. longest class ≤ longest_body settings.classes) settings.classes (reverse settings.classes)
+        (IsPermutation-reverse settings.classes) (below_greatest longest settings.classes)
 
     by : (row : Option Row) → All (λ method. size method ≤ longest_body settings.classes) (option_map_or (λ row. methods settings.classes row.class) row [])
     by None = All-nil (λ method. size method ≤ longest_body settings.classes)
     by (Some row) = gathered-size (longest_body settings.classes) (reverse settings.classes) row.class classes
 
 -- nor is that of a functor
-pub functor-size : (settings : Settings) (index : ℕ) (functor : Functor) → functor_at settings index ≡ Some functor → counts (acts_of functor.body.actions) ≤ longest_functor settings.functors
+pub functor-size : (settings : Settings) (index : ℕ) (functor : Functor) → functor_at settings index ≡ Some functor
+    → counts (acts_of functor.body.actions) ≤ longest_functor settings.functors
 functor-size settings index functor found =
-    All-slice_get (λ functor. functor_size functor ≤ longest_functor settings.functors) settings.functors index functor found (below_greatest functor_size settings.functors)
+    All-slice_get (λ functor. functor_size functor ≤ longest_functor settings.functors) settings.functors index functor found
+    (below_greatest functor_size settings.functors)
   where
     functor_size : Functor → ℕ
     functor_size functor = counts (acts_of functor.body.actions)

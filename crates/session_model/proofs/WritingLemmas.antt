@@ -42,11 +42,14 @@ unchanged before after written same = by (is_open after.graph)
 
 module _ (settings : Settings) (doing : Execution) (depth : ℕ) where
   -- in a group nothing is told
-  pub told_in_group : (after : State) (written : Option At) → is_open after.graph ≡ true → comes_to_state settings doing depth after written ≡ puts [] (in_state doing after)
-  told_in_group after written deep = ap (λ deep. puts (tells settings after depth (cond deep [] (graph.changes (showing doing.state) (showing after) written))) (in_state doing after)) deep
+  pub told_in_group : (after : State) (written : Option At) → is_open after.graph ≡ true
+      → comes_to_state settings doing depth after written ≡ puts [] (in_state doing after)
+  told_in_group after written deep = ap (λ deep. puts (tells settings after depth (cond deep [] (graph.changes (showing doing.state) (showing after) written)))
+      (in_state doing after)) deep
 
   -- nor where nothing has changed
-  pub told_nothing : (after : State) (written : Option At) → showing after ≡ showing doing.state → comes_to_state settings doing depth after written ≡ puts [] (in_state doing after)
+  pub told_nothing : (after : State) (written : Option At) → showing after ≡ showing doing.state
+      → comes_to_state settings doing depth after written ≡ puts [] (in_state doing after)
   told_nothing after written same = ap (λ changes. puts (tells settings after depth changes) (in_state doing after)) (unchanged doing.state after written same)
 
 module _ (settings : Settings) (doing : Execution) (object depth : ℕ) where
@@ -56,10 +59,12 @@ module _ (settings : Settings) (doing : Execution) (object depth : ℕ) where
 
   -- nothing is told of a dynamic property
   pub dynamic_set : (name : List ℕ) (value : Value) → comes_to (Dynamic name value) ≡ puts [] (after doing object (Dynamic name value))
-  dynamic_set name value = told_nothing settings doing depth (with_writing doing.state object (Dynamic name value)) None (showing_same (with_dynamic name value) object (λ of. refl) (λ of. refl) (λ of. refl) doing.state.store doing.state.graph.bindings)
+  dynamic_set name value = told_nothing settings doing depth (with_writing doing.state object (Dynamic name value)) None
+      (showing_same (with_dynamic name value) object (λ of. refl) (λ of. refl) (λ of. refl) doing.state.store doing.state.graph.bindings)
 
   pub dynamic_removed : (name : List ℕ) → comes_to (Removed name) ≡ puts [] (after doing object (Removed name))
-  dynamic_removed name = told_nothing settings doing depth (with_writing doing.state object (Removed name)) None (showing_same (without_dynamic name) object (λ of. refl) (λ of. refl) (λ of. refl) doing.state.store doing.state.graph.bindings)
+  dynamic_removed name = told_nothing settings doing depth (with_writing doing.state object (Removed name)) None
+      (showing_same (without_dynamic name) object (λ of. refl) (λ of. refl) (λ of. refl) doing.state.store doing.state.graph.bindings)
 
   pub nothing_written : comes_to Nothing ≡ puts [] doing
   nothing_written = told_nothing settings doing depth doing.state None refl
@@ -67,9 +72,15 @@ module _ (settings : Settings) (doing : Execution) (object depth : ℕ) where
   -- where nothing is bound and no group is open a write tells of the written property alone, where its value is
   -- another one
   module _ (none : doing.state.graph.bindings ≡ []) (shut : is_open doing.state.graph ≡ false) (whole : IsWhole doing.state) where
-    pub declared_written : (number : ℕ) (value : Value) → IsFit doing.state object (Declared number value) → (cell : Cell) → cell_in doing.state.store (record { object = object; number = number }) ≡ Some cell
-        → comes_to (Declared number value) ≡ puts (tells settings (after doing object (Declared number value)).state depth (if is_same cell.value value then [] else (let change : Change = record { at = record { object = object; number = number }; told = message.Value value } in change) ∷ [])) (after doing object (Declared number value))
-    declared_written number value fit cell there = ap (λ changes. puts (tells settings (after doing object (Declared number value)).state depth changes) (after doing object (Declared number value))) all
+    pub declared_written : (number : ℕ) (value : Value) → IsFit doing.state object (Declared number value) → (cell : Cell)
+        → cell_in doing.state.store (record { object = object; number = number }) ≡ Some cell
+        → comes_to (Declared number value) ≡ puts
+        (tells settings (after doing object (Declared number value)).state depth
+        (if is_same cell.value value then [] else
+        (let change : Change = record { at = record { object = object; number = number }; told = message.Value value } in change) ∷ []))
+        (after doing object (Declared number value))
+    declared_written number value fit cell there =
+        ap (λ changes. puts (tells settings (after doing object (Declared number value)).state depth changes) (after doing object (Declared number value))) all
       where
         at : At
         at = record { object = object; number = number }
@@ -80,8 +91,10 @@ module _ (settings : Settings) (doing : Execution) (object depth : ℕ) where
         sound : store.IsSound new
         sound = sound_changed (with_value number value) object (λ of. refl) doing.state.store fit whole.properties
 
-        all : changes doing.state (with_writing doing.state object (Declared number value)) (Some at) ≡ (if is_same cell.value value then [] else (let change : Change = record { at = at; told = message.Value value } in change) ∷ [])
+        all : changes doing.state (with_writing doing.state object (Declared number value)) (Some at)
+            ≡ (if is_same cell.value value then [] else (let change : Change = record { at = at; told = message.Value value } in change) ∷ [])
         all =
             ap (λ deep. cond deep [] (graph.changes (showing doing.state) (showing (with_writing doing.state object (Declared number value))) (Some at))) shut
-            ∙ (ap (λ bindings. graph.changes (all_shown doing.state.store bindings) (all_shown new (filter (λ (binding : Binding). not (is_property at binding.at)) bindings)) (Some at)) none
+            ∙ (ap (λ bindings. graph.changes (all_shown doing.state.store bindings)
+            (all_shown new (filter (λ (binding : Binding). not (is_property at binding.at)) bindings)) (Some at)) none
             ∙ write_told doing.state.store at value sound cell there)

@@ -1,5 +1,5 @@
 -- The tables, where the stores and the bindings of one place have changed.
-use Rattle.std.proofs.Common.{◌≡◌, ◌∙◌, ℕ, false, [], Option, refl, sym, ap, subst, arith}
+use Rattle.std.proofs.Common.{◌≡◌, ◌∙◌, ℕ, false, Option, refl, sym, ap, subst, arith}
 use Rattle.std.proofs.lemmas.List.{length-map}
 use Rattle.shared_rows.specs.Table.{IsPlace, Table}
 use Rattle.shared_rows.proofs.ForCallers as column
@@ -23,15 +23,21 @@ use Rattle.session_tables.proofs.TablesLemmas.{columns}
 abbrev pub with_stores : Tables → BoundShelves → Tables
 with_stores tables stores = record tables { stores = stores }
 
-pub state_with_stores : (tables : Tables) (place : ℕ) (store : Store) (graph : Graph) → with_stores tables (with_bound tables.stores place store graph) ≡ with_state tables place (record (state_at tables place) { store = store; graph = graph })
-state_with_stores tables place store graph = sym (columns (with_stores tables (with_bound tables.stores place store graph)) (with_state tables place (record (state_at tables place) { store = store; graph = graph }))
-    (column.with_same empty_forest tables.forests place) refl (column.with_same no_rows tables.connections place) (column.with_same empty_queue tables.queues place) (column.with_same no_desk tables.desks place) refl)
+pub state_with_stores : (tables : Tables) (place : ℕ) (store : Store) (graph : Graph)
+    → with_stores tables (with_bound tables.stores place store graph)
+    ≡ with_state tables place (record (state_at tables place) { store = store; graph = graph })
+state_with_stores tables place store graph =
+    sym (columns (with_stores tables (with_bound tables.stores place store graph))
+    (with_state tables place (record (state_at tables place) { store = store; graph = graph }))
+    (column.with_same empty_forest tables.forests place) refl (column.with_same no_rows tables.connections place)
+    (column.with_same empty_queue tables.queues place) (column.with_same no_desk tables.desks place) refl)
 
 -- a place of what is seen of the graphs is one of these
 pub closed_place : (graphs : Table Graph) (place : ℕ) → IsPlace (all_closed graphs) place → IsPlace graphs place
 closed_place graphs place closed = omega (arith, closed, length-map {A = Graph} {B = Graph})
 
-module _ (tables : Tables) (place : ℕ) (stores : StoreTable) (bindings : Graphs) (is : seen_of stores bindings ≡ tables.stores) (placed : IsPlaced tables place) where
+module _ (tables : Tables) (place : ℕ) (stores : StoreTable) (bindings : Graphs) (is : seen_of stores bindings ≡ tables.stores)
+    (placed : IsPlaced tables place) where
   abbrev seen : BoundShelves
   seen = seen_of stores bindings
 
@@ -65,5 +71,6 @@ module _ (tables : Tables) (place : ℕ) (stores : StoreTable) (bindings : Graph
       }
 
   -- and what is told is told of the states
-  pub told_here : (new : BoundShelves) (written : Option Property) → told_at place seen new written ≡ changes (state_at tables place) (state_at (with_stores tables new) place) written
+  pub told_here : (new : BoundShelves) (written : Option Property)
+      → told_at place seen new written ≡ changes (state_at tables place) (state_at (with_stores tables new) place) written
   told_here new written = ap (λ bound. told_at place bound new written) is

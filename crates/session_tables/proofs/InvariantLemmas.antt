@@ -18,30 +18,37 @@ use Rattle.session_tables.specs.Bound.{all_closed}
 use Rattle.session_tables.specs.Settled.{AllSettled, IsSettled, kept_of, settled_in}
 
 -- what is kept of a place stays with a change of an object that leaves its declared properties
-pub kept_same : (change : Properties → Properties) (object : ℕ) → ((of : Properties) → (change of).object ≡ of.object) → ((of : Properties) → (change of).fields ≡ of.fields) → ((of : Properties) → (change of).values ≡ of.values)
+pub kept_same : (change : Properties → Properties) (object : ℕ) → ((of : Properties) → (change of).object ≡ of.object)
+    → ((of : Properties) → (change of).fields ≡ of.fields) → ((of : Properties) → (change of).values ≡ of.values)
     → (store : Store) (bindings : List Binding) → kept_of (changed change object store) bindings ≡ kept_of store bindings
 kept_same change object same fields values store [] = refl
 kept_same change object same fields values store (first ∷ rest) = showing_same change object same fields values store (first ∷ rest)
 
 -- so all stay settled with it
-pub settled_changed : (change : Properties → Properties) (object : ℕ) → ((of : Properties) → (change of).object ≡ of.object) → ((of : Properties) → (change of).fields ≡ of.fields) → ((of : Properties) → (change of).values ≡ of.values)
-    → (stores new : StoresView) (bindings : Graphs) (place : ℕ) → IsPlace stores.shelves.table place → AllSettled stores bindings → new.shelves ≡ with_store stores.shelves place (changed change object (store_at stores.shelves place)) → InStep new bindings → AllSettled new bindings
-settled_changed change object same fields values stores new bindings place shelf all is step = record { step = step; each = λ at. ⊎_elim (here at) (λ e. elsewhere at (λ same. absurd (grind (arith, same, e)))) (cases_Bool (eqb at place)) }
+pub settled_changed : (change : Properties → Properties) (object : ℕ) → ((of : Properties) → (change of).object ≡ of.object)
+    → ((of : Properties) → (change of).fields ≡ of.fields) → ((of : Properties) → (change of).values ≡ of.values)
+    → (stores new : StoresView) (bindings : Graphs) (place : ℕ) → IsPlace stores.shelves.table place → AllSettled stores bindings
+    → new.shelves ≡ with_store stores.shelves place (changed change object (store_at stores.shelves place)) → InStep new bindings → AllSettled new bindings
+settled_changed change object same fields values stores new bindings place shelf all is step =
+    record { step = step; each = λ at. ⊎_elim (here at) (λ e. elsewhere at (λ same. absurd (grind (arith, same, e)))) (cases_Bool (eqb at place)) }
   where
     at_place : IsSettled (store_at new.shelves place) (graph_at bindings.graphs place)
     at_place shut =
         all.each place shut
         ∙ (sym (kept_same change object same fields values (store_at stores.shelves place) (graph_at bindings.graphs place).bindings)
-        ∙ ap (λ store. kept_of store (graph_at bindings.graphs place).bindings) (sym (ap (λ (stores : StoreTable). store_at stores place) is ∙ column.with_there [] stores.shelves.table place _ shelf)))
+        ∙ ap (λ store. kept_of store (graph_at bindings.graphs place).bindings)
+        (sym (ap (λ (stores : StoreTable). store_at stores place) is ∙ column.with_there [] stores.shelves.table place _ shelf)))
 
     here : (at : ℕ) → eqb at place ≡ true → IsSettled (store_at new.shelves at) (graph_at bindings.graphs at)
     here at e = let same : at ≡ place = grind (arith, e) in subst (λ at. IsSettled (store_at new.shelves at) (graph_at bindings.graphs at)) (sym same) at_place
 
     elsewhere : (at : ℕ) → at ≢ place → IsSettled (store_at new.shelves at) (graph_at bindings.graphs at)
-    elsewhere at differ = subst (λ store. IsSettled store (graph_at bindings.graphs at)) (sym (ap (λ (stores : StoreTable). store_at stores at) is ∙ get_or-set_other stores.shelves.table.places place at _ [] differ)) (all.each at)
+    elsewhere at differ = subst (λ store. IsSettled store (graph_at bindings.graphs at))
+        (sym (ap (λ (stores : StoreTable). store_at stores at) is ∙ get_or-set_other stores.shelves.table.places place at _ [] differ)) (all.each at)
 
 -- what contracts see of a graph that is put
-pub seen_put : (graphs : Table Graph) (place : ℕ) (graph : Graph) → all_closed (with_graph graphs place graph) ≡ with_graph (all_closed graphs) place (closed graph)
+pub seen_put : (graphs : Table Graph) (place : ℕ) (graph : Graph)
+    → all_closed (with_graph graphs place graph) ≡ with_graph (all_closed graphs) place (closed graph)
 seen_put graphs place graph = ap (λ places. let table : Table Graph = record { places = places; room = graphs.room } in table) (by graphs.places place)
   where
     by : (places : List Graph) (place : ℕ) → map closed (set places place graph) ≡ set (map closed places) place (closed graph)
@@ -60,7 +67,8 @@ closed_settled store graph = by (is_open graph) refl
         ∙ sym (ap (λ deep. cond deep graph (record graph { last = [] })) e)
 
 -- other bindings are seen as they are
-pub closed_bound : (graph : Graph) (change : List Binding → List Binding) → closed (record graph { bindings = change graph.bindings }) ≡ record (closed graph) { bindings = change (closed graph).bindings }
+pub closed_bound : (graph : Graph) (change : List Binding → List Binding)
+    → closed (record graph { bindings = change graph.bindings }) ≡ record (closed graph) { bindings = change (closed graph).bindings }
 closed_bound graph change = by (is_open graph)
   where
     after : Graph → Graph
@@ -79,8 +87,11 @@ closed_begun store graph =
     by : (deep : Bool) → is_open graph ≡ deep → begun store graph ≡ begun store (cond deep graph (record graph { last = [] }))
     by true e = refl
     by false e =
-        ap (λ deep. let made : Graph = record { bindings = graph.bindings; last = cond deep graph.last (all_shown store graph.bindings); depth = suc graph.depth } in made) e
-        ∙ sym (ap (λ deep. let made : Graph = record { bindings = graph.bindings; last = cond deep [] (all_shown store graph.bindings); depth = suc graph.depth } in made) e)
+        ap (λ deep.
+        let made : Graph = record { bindings = graph.bindings; last = cond deep graph.last (all_shown store graph.bindings); depth = suc graph.depth } in
+        made) e
+        ∙ sym (ap (λ deep.
+        let made : Graph = record { bindings = graph.bindings; last = cond deep [] (all_shown store graph.bindings); depth = suc graph.depth } in made) e)
 
 -- in a group all is seen
 pub closed_open : (graph : Graph) → is_open graph ≡ true → closed graph ≡ graph
@@ -90,7 +101,8 @@ closed_open graph deep = ap (λ deep. cond deep graph (record graph { last = [] 
 pub closed_ended : (graph : Graph) → closed (ended (closed graph)) ≡ closed (ended graph)
 closed_ended graph = by graph.bindings graph.last graph.depth
   where
-    by : (bindings : List Binding) (last : List Shown) (depth : ℕ) → (let graph : Graph = record { bindings = bindings; last = last; depth = depth } in closed (ended (closed graph)) ≡ closed (ended graph))
+    by : (bindings : List Binding) (last : List Shown) (depth : ℕ)
+        → (let graph : Graph = record { bindings = bindings; last = last; depth = depth } in closed (ended (closed graph)) ≡ closed (ended graph))
     by bindings last zero = refl
     by bindings last (suc depth) =
         let graph : Graph = record { bindings = bindings; last = last; depth = suc depth } in

@@ -1,5 +1,6 @@
 -- Which sessions join another one.
-use Rattle.std.proofs.Common.{◌≡◌, ◌⊎◌, inl, inr, ◌≤◌, ◌<◌, ◌+◌, ◌==◌, ◌||◌, ℕ, Bool, true, false, true≢false, eqb, List, [], ◌∷◌, ◌++◌, length, get_or, refl, sym, ap, subst, ◌∙◌, ⊎_elim, arith}
+use Rattle.std.proofs.Common.{◌≡◌, ◌⊎◌, inl, inr, ◌≤◌, ◌<◌, ◌+◌, ◌==◌, ◌||◌, ℕ, Bool, true, false, true≢false, eqb, List, [], ◌∷◌, ◌++◌, length, get_or, refl}
+use Rattle.std.proofs.Common.{sym, ap, subst, ◌∙◌, ⊎_elim, arith}
 use Rattle.std.specs.List.{list_any}
 use Rattle.std.specs.List.Sorted.{IsStrictlyIncreasing}
 use Rattle.std.proofs.lemmas.Bool.{cases_lt}
@@ -41,11 +42,13 @@ passing_first test places empty = subst (ArePassing test 0) (sym empty)
     (record { rising = λ k within. absurd (omega (arith, within)); below = λ at within. absurd (omega (arith, within)); past = λ at up. refl })
 
 -- the next one that passes goes last
-pub passing_next : (test : ℕ → Bool) (least place : ℕ) (places : List ℕ) → least ≤ place → test place ≡ true → ((other : ℕ) → least ≤ other → other < place → test other ≡ false)
+pub passing_next : (test : ℕ → Bool) (least place : ℕ) (places : List ℕ) → least ≤ place → test place ≡ true
+    → ((other : ℕ) → least ≤ other → other < place → test other ≡ false)
     → ArePassing test least places → ArePassing test (place + 1) (places ++ place ∷ [])
 passing_next test least place places up passes before are = record {
   rising = rises;
-  below = λ at within. ⊎_elim (λ less. lower at less) (λ from_least. ⊎_elim (λ less. between at from_least less) (λ last. here at (omega (arith, last, within))) (cases_lt at place)) (cases_lt at least);
+  below = λ at within. ⊎_elim (λ less. lower at less)
+      (λ from_least. ⊎_elim (λ less. between at from_least less) (λ last. here at (omega (arith, last, within))) (cases_lt at place)) (cases_lt at least);
   past = λ at above. let apart : eqb place at ≡ false = grind (arith, nat_tests, above) in
       among_push places place at ∙ grind (arith, are.past at (omega (arith, above, up)), apart);
 }
@@ -62,10 +65,12 @@ passing_next test least place places up passes before are = record {
         (cases_lt (k + 1) (length places))
 
     lower : (at : ℕ) → at < least → is_among (places ++ place ∷ []) at ≡ test at
-    lower at less = let apart : eqb place at ≡ false = grind (arith, nat_tests, less, up) in among_push places place at ∙ grind (arith, are.below at less, apart)
+    lower at less = let apart : eqb place at ≡ false = grind (arith, nat_tests, less, up) in among_push places place at
+        ∙ grind (arith, are.below at less, apart)
 
     between : (at : ℕ) → least ≤ at → at < place → is_among (places ++ place ∷ []) at ≡ test at
-    between at from_least less = let apart : eqb place at ≡ false = grind (arith, nat_tests, less) in among_push places place at ∙ grind (arith, are.past at from_least, before at from_least less, apart)
+    between at from_least less = let apart : eqb place at ≡ false = grind (arith, nat_tests, less) in among_push places place at
+        ∙ grind (arith, are.past at from_least, before at from_least less, apart)
 
     here : (at : ℕ) → at ≡ place → is_among (places ++ place ∷ []) at ≡ test at
     here at same = let is : eqb place at ≡ true = grind (arith, nat_tests, same) in among_push places place at ∙ grind (arith, is, passes, same)
@@ -75,10 +80,16 @@ abbrev pub joins : Tables → List ℕ → ℕ → Bool
 joins tables from at = names_session from (desk_at tables.desks at)
 
 -- where no place from an end on joins it, the places that do are found
-pub joiners_found : (tables : Tables) (from : List ℕ) (least : ℕ) (places : List ℕ) → ((at : ℕ) → least ≤ at → IsPlace tables.desks at → joins tables from at ≡ false)
+pub joiners_found : (tables : Tables) (from : List ℕ) (least : ℕ) (places : List ℕ)
+    → ((at : ℕ) → least ≤ at → IsPlace tables.desks at → joins tables from at ≡ false)
     → ArePassing (joins tables from) least places → AreJoiners tables from places
 unfolding joins_name
-joiners_found tables from least places none are = record { rising = are.rising; exact = λ at. ⊎_elim (are.below at) (λ up. are.past at up ∙ sym (strange at up (cases_lt at (length tables.desks.places)))) (cases_lt at least) }
+joiners_found tables from least places none are =
+    record {
+      rising = are.rising;
+      exact = λ at. ⊎_elim (are.below at) (λ up. are.past at up ∙ sym (strange at up (cases_lt at (length tables.desks.places))))
+          (cases_lt at least);
+    }
   where
     strange : (at : ℕ) → least ≤ at → (at < length tables.desks.places) ⊎ (length tables.desks.places ≤ at) → joins tables from at ≡ false
     strange at up (inl placed) = none at up placed

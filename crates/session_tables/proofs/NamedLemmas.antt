@@ -1,20 +1,15 @@
 -- A write to the property of a name.
-use Rattle.std.proofs.Common.{◌≡◌, ◌∙◌, ℕ, List, Some, None, refl, sym, ap, subst}
-use Rattle.shared_rows.proofs.ForCallers as column
+use Rattle.std.proofs.Common.{◌≡◌, ◌∙◌, ℕ, List, Some, None, sym, ap, subst}
 use Rattle.signature_core.specs.declared.kind.Kind.{Kind}
 use Rattle.variant_value.specs.declared.value.Value.{Value}
 use Rattle.variant_value.specs.Values.{converted}
 use Rattle.property_store.specs.Named.{declared_at}
-use Rattle.property_store.specs.Store.{Store, with_value}
+use Rattle.property_store.specs.Store.{with_value}
 use Rattle.property_store.specs.Store as store
 use Rattle.property_store.proofs.ForCallers.{mapped, unmapped}
-use Rattle.connection_list.specs.Rows.{no_rows}
-use Rattle.event_queue.specs.Queue.{empty_queue}
-use Rattle.object_tree.specs.Forest.{empty_forest}
-use Rattle.publish_board.specs.Desk.{no_desk}
-use Rattle.binding_graph.specs.Graph.{Graph, unbound}
+use Rattle.binding_graph.specs.Graph.{unbound}
 use Rattle.session_tables.specs.declared.write_changes.WriteChanges.{WriteChanges}
-use Rattle.session_tables.specs.Bound.{BoundShelves, bound_at, stored_at, with_bound}
+use Rattle.session_tables.specs.Bound.{BoundShelves, bound_at, stored_at}
 use Rattle.session_tables.proofs.DeclaredLemmas as bound
 use Rattle.session_model.specs.Writing as writing
 use Rattle.session_model.specs.Writing.{DeclaredField, declared, with_writing}
@@ -41,11 +36,13 @@ module _ (place object : ℕ) (name : List ℕ) (value : Value) (old : Tables) w
   undeclared is = unmapped pair_of (declared (state_at old place) object name) (sym (declared_pair (state_at old place) object name) ∙ is)
 
   -- what was written is written to the state
-  pub writes_declared : (new : BoundShelves) (number : ℕ) (changed : WriteChanges) → bound.WritesDeclared place object name value old.stores number changed new → WritesDeclared place object name value old number changed (with_stores old new)
+  pub writes_declared : (new : BoundShelves) (number : ℕ) (changed : WriteChanges) → bound.WritesDeclared place object name value old.stores number changed new
+      → WritesDeclared place object name value old number changed (with_stores old new)
   writes_declared new number changed its =
       let there = declared_as number its.kind its.named in
       let at_of : BoundShelves = bound.with_written old.stores place (record { object = object; number = there.of.number }) its.fit in
-      let is : new ≡ at_of = its.is ∙ ap (λ number. bound.with_written old.stores place (record { object = object; number = number }) its.fit) (sym there.number_is) in
+      let is : new ≡ at_of = its.is ∙ ap (λ number. bound.with_written old.stores place (record { object = object; number = number }) its.fit)
+      (sym there.number_is) in
       record {
         of = there.of;
         written = its.fit;
@@ -53,13 +50,18 @@ module _ (place object : ℕ) (name : List ℕ) (value : Value) (old : Tables) w
         number = sym there.number_is;
         fits = ap (λ kind. converted kind value) there.kind_is ∙ its.fits;
         new = ap (with_stores old) is
-            ∙ state_with_stores old place (store.changed (with_value there.of.number its.fit) object (stored_at old.stores place)) (unbound (bound_at old.stores place) (record { object = object; number = there.of.number }));
-        told = subst (λ number. Tells (record { object = object; number = number }) (state_at old place) (state_at (with_stores old new) place) changed) (sym there.number_is) its.told;
+            ∙ state_with_stores old place (store.changed (with_value there.of.number its.fit) object (stored_at old.stores place))
+            (unbound (bound_at old.stores place) (record { object = object; number = there.of.number }));
+        told = subst (λ number. Tells (record { object = object; number = number }) (state_at old place) (state_at (with_stores old new) place) changed)
+            (sym there.number_is) its.told;
       }
 
   -- also where it was written by its number
-  pub writes_again : (new : Tables) (number : ℕ) (kind : Kind) (fit : Value) (changed : WriteChanges) → declared_at (stored_at old.stores place) object name ≡ Some (number, kind) → converted kind value ≡ Some fit
-      → new ≡ with_state old place (with_writing (state_at old place) object (writing.Declared number fit)) → Tells (record { object = object; number = number }) (state_at old place) (state_at new place) changed → WritesDeclared place object name value old number changed new
+  pub writes_again : (new : Tables) (number : ℕ) (kind : Kind) (fit : Value) (changed : WriteChanges)
+      → declared_at (stored_at old.stores place) object name ≡ Some (number, kind) → converted kind value ≡ Some fit
+      → new ≡ with_state old place (with_writing (state_at old place) object (writing.Declared number fit))
+      → Tells (record { object = object; number = number }) (state_at old place) (state_at new place) changed
+      → WritesDeclared place object name value old number changed new
   writes_again new number kind fit changed named fits is told =
       let there = declared_as number kind named in
       record {
@@ -69,7 +71,8 @@ module _ (place object : ℕ) (name : List ℕ) (value : Value) (old : Tables) w
         number = sym there.number_is;
         fits = ap (λ kind. converted kind value) there.kind_is ∙ fits;
         new = is ∙ ap (λ number. with_state old place (with_writing (state_at old place) object (writing.Declared number fit))) (sym there.number_is);
-        told = subst (λ number. Tells (record { object = object; number = number }) (state_at old place) (state_at new place) changed) (sym there.number_is) told;
+        told = subst (λ number. Tells (record { object = object; number = number }) (state_at old place) (state_at new place) changed)
+            (sym there.number_is) told;
       }
 
   -- and what does not fit does not

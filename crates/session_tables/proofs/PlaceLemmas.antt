@@ -1,5 +1,6 @@
 -- Graphs of places that are settled.
-use Rattle.std.proofs.Common.{◌≡◌, ◌∙◌, ℕ, zero, suc, Bool, true, false, cond, List, [], ◌∷◌, length, nat_le, nat_lt, Result, Ok, Err, IfOk, IfSome, OnOk, OnErr, Option, None, Some, refl, sym, ap, arith}
+use Rattle.std.proofs.Common.{◌≡◌, ◌∙◌, ℕ, zero, suc, Bool, true, false, cond, List, [], ◌∷◌, length, nat_le, nat_lt, Result, Ok, Err, IfOk, IfSome, OnOk}
+use Rattle.std.proofs.Common.{OnErr, Option, None, Some, refl, sym, ap, arith}
 use Rattle.std.proofs.lemmas.Bool.Decides.{nat_tests}
 use Rattle.plain_types.specs.Answers.{RefusedBy}
 use Rattle.plain_types.specs.declared.code.Code.{Code}
@@ -23,7 +24,8 @@ pub settled_idle : (store : Store) (graph : Graph) → length graph.bindings ≡
 settled_idle store graph none shut = by graph.bindings refl graph.depth refl
   where
     made : List Binding → ℕ → Graph
-    made bindings depth = cond (is_open (record { bindings = bindings; last = graph.last; depth = depth })) (record { bindings = bindings; last = graph.last; depth = depth }) (record { bindings = bindings; last = kept_of store bindings; depth = depth })
+    made bindings depth = cond (is_open (record { bindings = bindings; last = graph.last; depth = depth }))
+        (record { bindings = bindings; last = graph.last; depth = depth }) (record { bindings = bindings; last = kept_of store bindings; depth = depth })
 
     by : (bindings : List Binding) → graph.bindings ≡ bindings → (depth : ℕ) → graph.depth ≡ depth → settled_in store graph ≡ no_graph
     by [] e zero f = ap (λ bindings. made bindings graph.depth) e ∙ ap (made []) f
@@ -39,7 +41,8 @@ settled_bound store graph some = by graph.bindings refl
     by (first ∷ rest) e = ap (λ last. cond (is_open graph) graph (record graph { last = last })) (ap (kept_of store) e ∙ ap (all_shown store) (sym e))
 
 pub settled_deep : (store : Store) (graph : Graph) → is_open graph ≡ true → settled_in store graph ≡ settled_graph store graph
-settled_deep store graph deep = ap (λ deep. cond deep graph (record graph { last = kept_of store graph.bindings })) deep ∙ sym (ap (λ deep. cond deep graph (record graph { last = all_shown store graph.bindings })) deep)
+settled_deep store graph deep = ap (λ deep. cond deep graph (record graph { last = kept_of store graph.bindings })) deep
+    ∙ sym (ap (λ deep. cond deep graph (record graph { last = all_shown store graph.bindings })) deep)
 
 -- what is settled where something is bound keeps what is shown
 pub noted : (store : Store) (graph : Graph) → (length graph.bindings ≡ 0 → ⊥) → IsSettled store graph → settled_graph store graph ≡ graph
@@ -50,7 +53,9 @@ noted store graph some settled = sym (settled_bound store graph some) ∙ by (is
     by false e = ap (λ last. record graph { last = last }) (sym (settled e))
 
 -- what was kept before other bindings are settled is no part of what is kept then
-pub settled_again : (store other : Store) (graph : Graph) (change : List Binding → List Binding) → settled_in other (record (settled_graph store graph) { bindings = change (settled_graph store graph).bindings }) ≡ settled_in other (record graph { bindings = change graph.bindings })
+pub settled_again : (store other : Store) (graph : Graph) (change : List Binding → List Binding)
+    → settled_in other (record (settled_graph store graph) { bindings = change (settled_graph store graph).bindings })
+    ≡ settled_in other (record graph { bindings = change graph.bindings })
 settled_again store other graph change = by (is_open graph) refl
   where
     after : Graph → Graph
@@ -70,49 +75,61 @@ module _ (store other : Store) (old noted changed new : Table Graph) (place : �
   abbrev changes : Graph → Graph
   changes graph = record graph { bindings = change graph.bindings }
 
-  pub changed_at : noted ≡ with_graph old place (settled_graph store (graph_at old place)) → changed ≡ with_graph noted place (changes (graph_at noted place)) → graph_at changed place ≡ changes (settled_graph store (graph_at old place))
+  pub changed_at : noted ≡ with_graph old place (settled_graph store (graph_at old place)) → changed ≡ with_graph noted place (changes (graph_at noted place))
+      → graph_at changed place ≡ changes (settled_graph store (graph_at old place))
   changed_at first second =
       let still = column.changes_open no_graph old noted place (column.changes_with no_graph old noted place _ there first) there in
       ap (λ table. graph_at table place) second ∙ (column.with_there no_graph noted place _ still
       ∙ ap changes (ap (λ table. graph_at table place) first ∙ column.with_there no_graph old place _ there))
 
-  pub settled_after : noted ≡ with_graph old place (settled_graph store (graph_at old place)) → changed ≡ with_graph noted place (changes (graph_at noted place))
-      → new ≡ with_graph changed place (settled_in other (graph_at changed place)) → new ≡ with_graph old place (settled_in other (changes (graph_at old place)))
+  pub settled_after : noted ≡ with_graph old place (settled_graph store (graph_at old place))
+      → changed ≡ with_graph noted place (changes (graph_at noted place))
+      → new ≡ with_graph changed place (settled_in other (graph_at changed place))
+      → new ≡ with_graph old place (settled_in other (changes (graph_at old place)))
   settled_after first second third =
       let one = column.changes_with no_graph old noted place _ there first in
       let still = column.changes_open no_graph old noted place one there in
       let two = column.changes_with no_graph noted changed place _ still second in
-      let at_noted : graph_at noted place ≡ settled_graph store (graph_at old place) = ap (λ table. graph_at table place) first ∙ column.with_there no_graph old place _ there in
-      let at_changed : graph_at changed place ≡ changes (settled_graph store (graph_at old place)) = ap (λ table. graph_at table place) second ∙ (column.with_there no_graph noted place _ still ∙ ap changes at_noted) in
+      let at_noted : graph_at noted place ≡ settled_graph store (graph_at old place) = ap (λ table. graph_at table place) first
+      ∙ column.with_there no_graph old place _ there in
+      let at_changed : graph_at changed place ≡ changes (settled_graph store (graph_at old place)) = ap (λ table. graph_at table place) second
+      ∙ (column.with_there no_graph noted place _ still ∙ ap changes at_noted) in
       third
       ∙ (ap (with_graph changed place) (ap (settled_in other) at_changed ∙ settled_again store other (graph_at old place) change)
       ∙ column.with_after no_graph old changed place _ (column.changes_twice no_graph old noted changed place one two))
 
 -- a place that is noted, and then bound otherwise and settled at once
-module _ (store other : Store) (old noted : Table Graph) (place : ℕ) (change : List Binding → List Binding) (there : IsPlace old place) (is : noted ≡ with_graph old place (settled_graph store (graph_at old place))) where
+module _ (store other : Store) (old noted : Table Graph) (place : ℕ) (change : List Binding → List Binding) (there : IsPlace old place)
+    (is : noted ≡ with_graph old place (settled_graph store (graph_at old place))) where
   pub at_noted : graph_at noted place ≡ settled_graph store (graph_at old place)
   at_noted = ap (λ table. graph_at table place) is ∙ column.with_there no_graph old place _ there
 
   pub place_noted : IsPlace noted place
   place_noted = column.changes_open no_graph old noted place (column.changes_with no_graph old noted place _ there is) there
 
-  pub settled_at_once : (new : Table Graph) → new ≡ with_graph noted place (settled_in other (record (graph_at noted place) { bindings = change (graph_at noted place).bindings })) → new ≡ with_graph old place (settled_in other (record (graph_at old place) { bindings = change (graph_at old place).bindings }))
+  pub settled_at_once : (new : Table Graph) → new ≡ with_graph noted place
+      (settled_in other (record (graph_at noted place) { bindings = change (graph_at noted place).bindings }))
+      → new ≡ with_graph old place (settled_in other (record (graph_at old place) { bindings = change (graph_at old place).bindings }))
   settled_at_once new e =
       e
-      ∙ (ap (with_graph noted place) (ap (λ graph. settled_in other (record graph { bindings = change graph.bindings })) at_noted ∙ settled_again store other (graph_at old place) change)
+      ∙ (ap (with_graph noted place) (ap (λ graph. settled_in other (record graph { bindings = change graph.bindings })) at_noted
+      ∙ settled_again store other (graph_at old place) change)
       ∙ column.with_after no_graph old noted place _ (column.changes_with no_graph old noted place _ there is))
 
 -- a change that may fail
-pub changes_either : {T E : Type 0} (result : Result T E) (old new : Table Graph) (place : ℕ) (graph : Graph) → IsPlace old place → OnOk result (new ≡ with_graph old place graph) → OnErr result (new ≡ old) → ChangesAt no_graph place old new
+pub changes_either : {T E : Type 0} (result : Result T E) (old new : Table Graph) (place : ℕ) (graph : Graph) → IsPlace old place
+    → OnOk result (new ≡ with_graph old place graph) → OnErr result (new ≡ old) → ChangesAt no_graph place old new
 changes_either (Ok value) old new place graph there ok err = column.changes_with no_graph old new place graph there ok
 changes_either (Err error) old new place graph there ok err = column.changes_same no_graph old new place err
 
-pub changes_thrice : (old noted changed new : Table Graph) (place : ℕ) (first second : Graph) → IsPlace old place → noted ≡ with_graph old place first → changed ≡ with_graph noted place second → (IsPlace changed place → ChangesAt no_graph place changed new) → ChangesAt no_graph place old new
+pub changes_thrice : (old noted changed new : Table Graph) (place : ℕ) (first second : Graph) → IsPlace old place → noted ≡ with_graph old place first
+    → changed ≡ with_graph noted place second → (IsPlace changed place → ChangesAt no_graph place changed new) → ChangesAt no_graph place old new
 changes_thrice old noted changed new place first second there one two three =
     let a = column.changes_with no_graph old noted place first there one in
     let still = column.changes_open no_graph old noted place a there in
     let b = column.changes_with no_graph noted changed place second still two in
-    column.changes_twice no_graph old changed new place (column.changes_twice no_graph old noted changed place a b) (three (column.changes_open no_graph noted changed place b still))
+    column.changes_twice no_graph old changed new place (column.changes_twice no_graph old noted changed place a b)
+    (three (column.changes_open no_graph noted changed place b still))
 
 pub where_ok_too : {T E P Q : Type 0} (result : Result T E) → (P → Q) → OnOk result P → OnOk result Q
 where_ok_too (Ok value) so holds = so holds
@@ -137,7 +154,8 @@ module _ (store : Store) (graph : Graph) (now : Table Graph) (place : ℕ) (is :
   stays_as : settled_in store graph ≡ settled_graph store graph → now ≡ with_graph now place (settled_in store graph)
   stays_as same = sym (column.with_same no_graph now place) ∙ ap (with_graph now place) (is ∙ sym same)
 
-  pub left_idle : (new : Table Graph) → length (graph_at now place).bindings ≡ 0 → (graph_at now place).depth ≡ 0 → new ≡ with_graph now place no_graph → new ≡ with_graph now place (settled_in store graph)
+  pub left_idle : (new : Table Graph) → length (graph_at now place).bindings ≡ 0 → (graph_at now place).depth ≡ 0 → new ≡ with_graph now place no_graph
+      → new ≡ with_graph now place (settled_in store graph)
   left_idle new none shut e = e ∙ ap (with_graph now place) (sym (settled_idle store graph (ap length (sym same_bindings) ∙ none) (sym same_depth ∙ shut)))
 
   pub left_bound : (length (graph_at now place).bindings ≡ 0 → ⊥) → now ≡ with_graph now place (settled_in store graph)
@@ -151,12 +169,16 @@ module _ (store : Store) (graph : Graph) (now : Table Graph) (place : ℕ) (is :
       opened (suc depth) e = let positive : nat_lt 0 (suc depth) ≡ true = grind (arith, nat_tests) in ap (λ depth. nat_lt 0 depth) e ∙ positive
 
 -- so after it was settled
-pub settled_then : (store : Store) (graph : Graph) (old now new : Table Graph) (place : ℕ) → IsPlace old place → now ≡ with_graph old place (settled_graph store graph) → (graph_at now place ≡ settled_graph store graph → new ≡ with_graph now place (settled_in store graph)) → new ≡ with_graph old place (settled_in store graph)
+pub settled_then : (store : Store) (graph : Graph) (old now new : Table Graph) (place : ℕ) → IsPlace old place
+    → now ≡ with_graph old place (settled_graph store graph) →
+    (graph_at now place ≡ settled_graph store graph → new ≡ with_graph now place (settled_in store graph)) → new ≡ with_graph old place (settled_in store graph)
 settled_then store graph old now new place there is tidied =
-    tidied (ap (λ table. graph_at table place) is ∙ column.with_there no_graph old place _ there) ∙ column.with_after no_graph old now place _ (column.changes_with no_graph old now place _ there is)
+    tidied (ap (λ table. graph_at table place) is ∙ column.with_there no_graph old place _ there)
+    ∙ column.with_after no_graph old now place _ (column.changes_with no_graph old now place _ there is)
 
 -- what is told after a place was noted and bound otherwise
-pub told_after : (store other : Store) (graph : Graph) (change : List Binding → List Binding) (written : Option Property) → settled_changes other (record (settled_graph store graph) { bindings = change (settled_graph store graph).bindings }) written
+pub told_after : (store other : Store) (graph : Graph) (change : List Binding → List Binding) (written : Option Property)
+    → settled_changes other (record (settled_graph store graph) { bindings = change (settled_graph store graph).bindings }) written
     ≡ cond (is_open graph) [] (graphs.changes (all_shown store graph.bindings) (all_shown other (change graph.bindings)) written)
 told_after store other graph change written = by (is_open graph) refl
   where
@@ -166,12 +188,15 @@ told_after store other graph change written = by (is_open graph) refl
     now : List Shown
     now = all_shown other (change graph.bindings)
 
-    by : (deep : Bool) → is_open graph ≡ deep → told (cond deep graph (record graph { last = all_shown store graph.bindings })) ≡ cond (is_open graph) [] (graphs.changes (all_shown store graph.bindings) now written)
-    by true e = ap (λ deep. cond deep [] (graphs.changes graph.last now written)) e ∙ sym (ap (λ deep. cond deep [] (graphs.changes (all_shown store graph.bindings) now written)) e)
+    by : (deep : Bool) → is_open graph ≡ deep → told (cond deep graph (record graph { last = all_shown store graph.bindings }))
+        ≡ cond (is_open graph) [] (graphs.changes (all_shown store graph.bindings) now written)
+    by true e = ap (λ deep. cond deep [] (graphs.changes graph.last now written)) e
+        ∙ sym (ap (λ deep. cond deep [] (graphs.changes (all_shown store graph.bindings) now written)) e)
     by false e = refl
 
 -- a place that is changed and settled
-pub settled_once : (store : Store) (old changed new : Table Graph) (place : ℕ) (graph : Graph) → IsPlace old place → changed ≡ with_graph old place graph → new ≡ with_graph changed place (settled_in store (graph_at changed place)) → new ≡ with_graph old place (settled_in store graph)
+pub settled_once : (store : Store) (old changed new : Table Graph) (place : ℕ) (graph : Graph) → IsPlace old place → changed ≡ with_graph old place graph
+    → new ≡ with_graph changed place (settled_in store (graph_at changed place)) → new ≡ with_graph old place (settled_in store graph)
 settled_once store old changed new place graph there first second =
     second
     ∙ (ap (with_graph changed place) (ap (settled_in store) (ap (λ table. graph_at table place) first ∙ column.with_there no_graph old place graph there))
@@ -181,7 +206,8 @@ pub if_ok_too : {T E : Type 0} (P Q : T → Type 0) (result : Result T E) → ((
 if_ok_too P Q (Ok value) so holds = so value holds
 if_ok_too P Q (Err error) so holds = tt
 
-pub if_ok_with : {T E P : Type 0} {Q R : T → Type 0} (result : Result T E) → (P → (value : T) → Q value → R value) → OnOk result P → IfOk result Q → IfOk result R
+pub if_ok_with : {T E P : Type 0} {Q R : T → Type 0} (result : Result T E) → (P → (value : T) → Q value → R value) → OnOk result P → IfOk result Q
+    → IfOk result R
 if_ok_with (Ok value) so holds its = so holds value its
 if_ok_with (Err error) so holds its = tt
 
@@ -194,11 +220,15 @@ none_refused graph q none = by (graphs.is_bound graph.bindings q)
     by false = ap (λ count. cond (nat_le 1024 count) (Some Limit) None) none
 
 -- nor does it matter whether the place was noted
-module _ (store : Store) (old now : Table Graph) (place : ℕ) (q : Property) (there : IsPlace old place) (is : now ≡ with_graph old place (settled_graph store (graph_at old place))) where
+module _ (store : Store) (old now : Table Graph) (place : ℕ) (q : Property) (there : IsPlace old place)
+    (is : now ≡ with_graph old place (settled_graph store (graph_at old place))) where
   pub refusal_noted : graphs.bind_refusal (graph_at now place) q ≡ graphs.bind_refusal (graph_at old place) q
-  refusal_noted = ap (λ graph. graphs.bind_refusal graph q) (ap (λ table. graph_at table place) is ∙ column.with_there no_graph old place _ there) ∙ by (is_open (graph_at old place))
+  refusal_noted = ap (λ graph. graphs.bind_refusal graph q) (ap (λ table. graph_at table place) is ∙ column.with_there no_graph old place _ there)
+      ∙ by (is_open (graph_at old place))
     where
-      by : (deep : Bool) → graphs.bind_refusal (cond deep (graph_at old place) (record (graph_at old place) { last = all_shown store (graph_at old place).bindings })) q ≡ graphs.bind_refusal (graph_at old place) q
+      by : (deep : Bool) → graphs.bind_refusal
+          (cond deep (graph_at old place) (record (graph_at old place) { last = all_shown store (graph_at old place).bindings })) q
+          ≡ graphs.bind_refusal (graph_at old place) q
       by true = refl
       by false = refl
 
@@ -206,7 +236,8 @@ module _ (store : Store) (old now : Table Graph) (place : ℕ) (q : Property) (t
   pub refused_noted : IsSettled store (graph_at old place) → (code : Code) → graphs.bind_refusal (graph_at old place) q ≡ Some code → now ≡ old
   refused_noted settled code refused =
       is
-      ∙ (ap (with_graph old place) (noted store (graph_at old place) (λ none. absurd (let never : None ≡ Some code = sym (none_refused (graph_at old place) q none) ∙ refused in cc)) settled)
+      ∙ (ap (with_graph old place) (noted store (graph_at old place)
+      (λ none. absurd (let never : None ≡ Some code = sym (none_refused (graph_at old place) q none) ∙ refused in cc)) settled)
       ∙ column.with_same no_graph old place)
 
 pub if_some_then : {T : Type 0} {P : Type 0} (found : Option T) → ((value : T) → found ≡ Some value → P) → IfSome found (λ value. P)
@@ -214,6 +245,7 @@ if_some_then None so = tt
 if_some_then (Some value) so = so value refl
 
 -- a refusal of what was noted is one of what was there
-pub refused_as : (T U : Type 0) (first second : Option Code) (fault : Fault) → first ≡ second → RefusedBy {T = T} first (Err fault) → RefusedBy {T = U} second (Err fault)
+pub refused_as : (T U : Type 0) (first second : Option Code) (fault : Fault) → first ≡ second → RefusedBy {T = T} first (Err fault)
+    → RefusedBy {T = U} second (Err fault)
 refused_as T U first second (Refused code) same is = sym same ∙ is
 refused_as T U first second Memory same is = sym same ∙ is

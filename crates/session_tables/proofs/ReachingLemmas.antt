@@ -1,5 +1,6 @@
 -- Posts reach other sessions, one after another.
-use Rattle.std.proofs.Common.{◌≡◌, ◌≢◌, inl, inr, ℕ, Bool, true, false, true≢false, cond, eqb, IsFalse, IsTrue, List, [], ◌∷◌, ◌++◌, get_or, refl, sym, ap, subst, ◌∙◌, arith}
+use Rattle.std.proofs.Common.{◌≡◌, ◌≢◌, inl, inr, ℕ, Bool, true, false, true≢false, cond, eqb, IsFalse, IsTrue, List, [], ◌∷◌, ◌++◌, get_or, refl, sym, ap}
+use Rattle.std.proofs.Common.{subst, ◌∙◌, arith}
 use Rattle.std.specs.List.{list_any}
 use Rattle.std.proofs.lemmas.Bool.{cond-true, or_left, or_right}
 use Rattle.std.proofs.lemmas.List.{get_or-set_other}
@@ -56,12 +57,14 @@ pub placed_shaped : (old new : Tables) (at : ℕ) → AreShaped old new → IsPl
 placed_shaped old new at shape placed = placed_by new at (shape.even placed.7) (omega (arith, shape.places, placed.4))
 
 -- what takes one of some posts takes one of more of them
-takes_first : (from : List ℕ) (posts more : List Post) (session : Session) → IsTrue (takes_some from posts session) → IsTrue (takes_some from (posts ++ more) session)
+takes_first : (from : List ℕ) (posts more : List Post) (session : Session) → IsTrue (takes_some from posts session)
+    → IsTrue (takes_some from (posts ++ more) session)
 takes_first from posts more session taken =
     let taking : Post → Bool = λ post. list_any (takes from post) session.state.desk.joins in
     list_any-append taking posts more ∙ or_left (list_any taking posts) (list_any taking more) taken
 
-takes_last : (from : List ℕ) (posts more : List Post) (session : Session) → IsTrue (takes_some from more session) → IsTrue (takes_some from (posts ++ more) session)
+takes_last : (from : List ℕ) (posts more : List Post) (session : Session) → IsTrue (takes_some from more session)
+    → IsTrue (takes_some from (posts ++ more) session)
 takes_last from posts more session taken =
     let taking : Post → Bool = λ post. list_any (takes from post) session.state.desk.joins in
     list_any-append taking posts more ∙ or_right (list_any taking posts) (list_any taking more) taken
@@ -76,14 +79,17 @@ module _ (classes : List Class) (from : List ℕ) where
   after_posts-desk : (posts : List Post) (session : Session) → (after_posts classes from posts session).state.desk ≡ session.state.desk
   after_posts-desk posts session = by session.failed
     where
-      by : (failed : Bool) → (cond failed session (record { state = arrive_all classes session.state from posts; failed = false })).state.desk ≡ session.state.desk
+      by : (failed : Bool) → (cond failed session (record { state = arrive_all classes session.state from posts; failed = false })).state.desk
+          ≡ session.state.desk
       by true = refl
       by false = arrive_all-desk posts session.state
 
   -- so a session takes the same posts after others
-  takes_after_posts : (posts more : List Post) (old middle : Session) → middle ≡ after_posts classes from posts old → IsTrue (takes_some from more middle) → IsTrue (takes_some from more old)
+  takes_after_posts : (posts more : List Post) (old middle : Session) → middle ≡ after_posts classes from posts old → IsTrue (takes_some from more middle)
+      → IsTrue (takes_some from more old)
   takes_after_posts posts more old middle e taken =
-      subst (λ (desk : Desk). IsTrue (list_any (λ post. list_any (takes from post) desk.joins) more)) (ap (λ (session : Session). session.state.desk) e ∙ after_posts-desk posts old) taken
+      subst (λ (desk : Desk). IsTrue (list_any (λ post. list_any (takes from post) desk.joins) more))
+      (ap (λ (session : Session). session.state.desk) e ∙ after_posts-desk posts old) taken
 
   pub after_posts-none : (session : Session) → after_posts classes from [] session ≡ session
   after_posts-none session = by session.failed refl
@@ -92,7 +98,8 @@ module _ (classes : List Class) (from : List ℕ) where
       by true e = refl
       by false e = ap (λ failed. record { state = session.state; failed = failed }) (sym e)
 
-  pub after_posts-append : (posts more : List Post) (session : Session) → after_posts classes from (posts ++ more) session ≡ after_posts classes from more (after_posts classes from posts session)
+  pub after_posts-append : (posts more : List Post) (session : Session)
+      → after_posts classes from (posts ++ more) session ≡ after_posts classes from more (after_posts classes from posts session)
   after_posts-append posts more session = by session.failed refl
     where
       hearing : List Post → Session → Bool → Session
@@ -105,13 +112,20 @@ module _ (classes : List Class) (from : List ℕ) where
   after_posts-failed : (posts : List Post) (session : Session) → (after_posts classes from posts session).failed ≡ session.failed
   after_posts-failed posts session = by session.failed refl
     where
-      by : (failed : Bool) → session.failed ≡ failed → (cond failed session (record { state = arrive_all classes session.state from posts; failed = false })).failed ≡ session.failed
+      by : (failed : Bool) → session.failed ≡ failed
+          → (cond failed session (record { state = arrive_all classes session.state from posts; failed = false })).failed ≡ session.failed
       by true e = refl
       by false e = sym e
 
-  pub hears_twice : (posts more : List Post) (old middle new : Session) → ReceivesPosts classes from posts old middle → ReceivesPosts classes from more middle new → ReceivesPosts classes from (posts ++ more) old new
+  pub hears_twice : (posts more : List Post) (old middle new : Session) → ReceivesPosts classes from posts old middle
+      → ReceivesPosts classes from more middle new → ReceivesPosts classes from (posts ++ more) old new
   hears_twice posts more old middle new (inl e) (inl f) = inl (f ∙ ap (after_posts classes from more) e ∙ sym (after_posts-append posts more old))
-  hears_twice posts more old middle new (inl e) (inr f) = inr ((sym (after_posts-failed posts old) ∙ ap (λ (session : Session). session.failed) (sym e) ∙ f.0, takes_last from posts more old (takes_after_posts posts more old middle e f.1), f.2))
+  hears_twice posts more old middle new (inl e) (inr f) = inr
+      ((
+        sym (after_posts-failed posts old) ∙ ap (λ (session : Session). session.failed) (sym e) ∙ f.0,
+        takes_last from posts more old (takes_after_posts posts more old middle e f.1),
+        f.2,
+      ))
   hears_twice posts more old middle new (inr e) (inl f) = inr ((e.0, takes_first from posts more old e.1, f ∙ ap (after_posts classes from more) e.2))
   hears_twice posts more old middle new (inr e) (inr f) = inr ((e.0, takes_first from posts more old e.1, f.2))
 
@@ -130,7 +144,8 @@ module _ (classes : List Class) (from : List ℕ) where
 
   module _ (place : ℕ) where
     -- what changes the session itself posts nothing
-    pub reaches_changed : (old new : Tables) (flag : Bool) → ChangesOnly place old new → new.failed ≡ old.failed → Reaches classes from place [] old new flag flag
+    pub reaches_changed : (old new : Tables) (flag : Bool) → ChangesOnly place old new → new.failed ≡ old.failed
+        → Reaches classes from place [] old new flag flag
     reaches_changed old new flag changes same =
         let unchanged : (at : ℕ) → IsFalse (eqb at place) → IsPlaced old at → session_at new at ≡ after_posts classes from [] (session_at old at) =
         λ at apart placed. session_unchanged old new place at changes apart ∙ sym (after_posts-none (session_at old at)) in
@@ -142,11 +157,13 @@ module _ (classes : List Class) (from : List ℕ) where
           one = λ none some. absurd (true≢false (sym some ∙ none));
         }
 
-    module _ (posts more : ℕ → List Post) (old middle new : Tables) (before between after : Bool) (placed : IsPlaced old place) (first : ReachesBy classes from place posts old middle before between) (second : ReachesBy classes from place more middle new between after) where
+    module _ (posts more : ℕ → List Post) (old middle new : Tables) (before between after : Bool) (placed : IsPlaced old place)
+        (first : ReachesBy classes from place posts old middle before between) (second : ReachesBy classes from place more middle new between after) where
       still : (at : ℕ) → IsPlaced old at → IsPlaced middle at
       still at placed = placed_shaped old middle at first.shape placed
 
-      one_of : (failed : Bool) → between ≡ failed → before ≡ false → after ≡ true → (at : ℕ) × IsFalse (eqb at place) × IsPlaced old at × IsFalse (failed_at old at) × IsTrue (failed_at new at)
+      one_of : (failed : Bool) → between ≡ failed → before ≡ false → after ≡ true
+          → (at : ℕ) × IsFalse (eqb at place) × IsPlaced old at × IsFalse (failed_at old at) × IsTrue (failed_at new at)
       one_of true e none some =
           let it = first.one none e in
           (it.0, it.1, it.2, it.3, stays_failed (more it.0) (session_at middle it.0) (session_at new it.0) (second.others it.0 it.1 (still it.0 it.2)) it.4)
@@ -162,16 +179,23 @@ module _ (classes : List Class) (from : List ℕ) where
         others = λ at apart placed. hears_twice (posts at) (more at) _ _ _ (first.others at apart placed) (second.others at apart (still at placed));
         all = λ none.
             let then = second.all none in
-            let so = first.all then.0 in
-            (so.0, λ at apart placed. then.1 at apart (still at placed) ∙ ap (after_posts classes from (more at)) (so.1 at apart placed) ∙ sym (after_posts-append (posts at) (more at) (session_at old at)));
+            let so = first.all then.0 in (
+              so.0,
+              λ at apart placed. then.1 at apart (still at placed) ∙ ap (after_posts classes from (more at)) (so.1 at apart placed)
+                  ∙ sym (after_posts-append (posts at) (more at) (session_at old at)),
+            );
         one = one_of between refl;
       }
 
-    pub reaches_twice : (posts more : List Post) (old middle new : Tables) (before between after : Bool) → IsPlaced old place → Reaches classes from place posts old middle before between → Reaches classes from place more middle new between after → Reaches classes from place (posts ++ more) old new before after
-    reaches_twice posts more old middle new before between after placed first second = reaches_by_twice (λ at. posts) (λ at. more) old middle new before between after placed first second
+    pub reaches_twice : (posts more : List Post) (old middle new : Tables) (before between after : Bool) → IsPlaced old place
+        → Reaches classes from place posts old middle before between → Reaches classes from place more middle new between after
+        → Reaches classes from place (posts ++ more) old new before after
+    reaches_twice posts more old middle new before between after placed first second =
+        reaches_by_twice (λ at. posts) (λ at. more) old middle new before between after placed first second
 
 -- a session that does not join another one does not hear it
-pub after_posts_stranger : (classes : List Class) (from : List ℕ) (posts : List Post) (session : Session) → names_session from session.state.desk ≡ false → after_posts classes from posts session ≡ session
+pub after_posts_stranger : (classes : List Class) (from : List ℕ) (posts : List Post) (session : Session) → names_session from session.state.desk ≡ false
+    → after_posts classes from posts session ≡ session
 unfolding joins_name
 after_posts_stranger classes from posts session unnamed = by session.failed refl
   where
@@ -179,6 +203,7 @@ after_posts_stranger classes from posts session unnamed = by session.failed refl
     all [] = refl
     all (post ∷ posts) = ap (λ state. arrive_all classes state from posts) (post_stranger classes session.state from post unnamed) ∙ all posts
 
-    by : (failed : Bool) → session.failed ≡ failed → cond failed session (record { state = arrive_all classes session.state from posts; failed = false }) ≡ session
+    by : (failed : Bool) → session.failed ≡ failed → cond failed session (record { state = arrive_all classes session.state from posts; failed = false })
+        ≡ session
     by true e = refl
     by false e = ap (λ state. record { state = state; failed = false }) (all posts) ∙ ap (λ failed. record { state = session.state; failed = failed }) (sym e)

@@ -18,7 +18,8 @@ use Rattle.session_tables.proofs.SettledLemmas.{closed_at, closed_bindings, clos
 
 -- what is stored at a place, put there again
 pub same_store : (stores : StoreTable) (place : ℕ) → with_store stores place (store_at stores place) ≡ stores
-same_store stores place = ap (λ table. let shelves : StoreTable = record { layouts = stores.layouts; table = table } in shelves) (column.with_same [] stores.table place)
+same_store stores place = ap (λ table. let shelves : StoreTable = record { layouts = stores.layouts; table = table } in shelves)
+    (column.with_same [] stores.table place)
 
 pub settled_store : (stores new : StoreTable) (place : ℕ) → new ≡ stores → new ≡ with_store stores place (store_at stores place)
 settled_store stores new place same = same ∙ sym (same_store stores place)
@@ -28,53 +29,72 @@ abbrev pub with_bindings : (List Binding → List Binding) → Graph → Graph
 with_bindings change graph = record graph { bindings = change graph.bindings }
 
 -- what is told says nothing of what is kept
-pub told_closed : (store : Store) (graph : Graph) (other : Store) (after : Graph) (written : Option Property) → told_of store (closed graph) other (closed after) written ≡ told_of store graph other after written
+pub told_closed : (store : Store) (graph : Graph) (other : Store) (after : Graph) (written : Option Property)
+    → told_of store (closed graph) other (closed after) written ≡ told_of store graph other after written
 told_closed store graph other after written =
-    ap (λ depth. let opened : Graph = record { bindings = (closed after).bindings; last = []; depth = depth } in cond (is_open opened) [] (changes (all_shown store (closed graph).bindings) (all_shown other (closed after).bindings) written)) (closed_depth after)
+    ap (λ depth. let opened : Graph = record { bindings = (closed after).bindings; last = []; depth = depth } in cond (is_open opened) []
+    (changes (all_shown store (closed graph).bindings) (all_shown other (closed after).bindings) written)) (closed_depth after)
     ∙ (ap (λ bindings. cond (is_open after) [] (changes (all_shown store bindings) (all_shown other (closed after).bindings) written)) (closed_bindings graph)
     ∙ ap (λ bindings. cond (is_open after) [] (changes (all_shown store graph.bindings) (all_shown other bindings) written)) (closed_bindings after))
 
 -- only this place has changed where it is seen, too
 pub changes_closed : (old new : Table Graph) (place : ℕ) → ChangesAt no_graph place old new → ChangesAt no_graph place (all_closed old) (all_closed new)
-changes_closed old new place e = ap all_closed e ∙ (seen_put old place (graph_at new place) ∙ ap (with_graph (all_closed old) place) (sym (closed_at new place)))
+changes_closed old new place e = ap all_closed e
+    ∙ (seen_put old place (graph_at new place) ∙ ap (with_graph (all_closed old) place) (sym (closed_at new place)))
 
 module _ (stores new : StoreTable) (bindings after : Graphs) (place : ℕ) where
   -- a store and a graph that are put
-  pub put_seen : (store : Store) (graph other : Graph) → new ≡ with_store stores place store → after.graphs ≡ with_graph bindings.graphs place graph → closed graph ≡ other → seen_of new after ≡ with_bound (seen_of stores bindings) place store other
+  pub put_seen : (store : Store) (graph other : Graph) → new ≡ with_store stores place store → after.graphs ≡ with_graph bindings.graphs place graph
+      → closed graph ≡ other → seen_of new after ≡ with_bound (seen_of stores bindings) place store other
   put_seen store graph other first second is =
       ap (λ shelves. let made : BoundShelves = record { shelves = shelves; graphs = all_closed after.graphs } in made) first
       ∙ ap (λ graphs. let made : BoundShelves = record { shelves = with_store stores place store; graphs = graphs } in made)
       (ap all_closed second ∙ (seen_put bindings.graphs place graph ∙ ap (with_graph (all_closed bindings.graphs) place) is))
 
   -- with other bindings, settled
-  pub settled_seen : (store : Store) (change : List Binding → List Binding) → new ≡ with_store stores place store → after.graphs ≡ with_graph bindings.graphs place (settled_in store (with_bindings change (graph_at bindings.graphs place)))
+  pub settled_seen : (store : Store) (change : List Binding → List Binding) → new ≡ with_store stores place store
+      → after.graphs ≡ with_graph bindings.graphs place (settled_in store (with_bindings change (graph_at bindings.graphs place)))
       → seen_of new after ≡ with_bound (seen_of stores bindings) place store (with_bindings change (bound_at (seen_of stores bindings) place))
   settled_seen store change first second =
-      put_seen store (settled_in store (with_bindings change (graph_at bindings.graphs place))) (with_bindings change (bound_at (seen_of stores bindings) place)) first second
-      (closed_settled store (with_bindings change (graph_at bindings.graphs place)) ∙ (closed_bound (graph_at bindings.graphs place) change ∙ ap (with_bindings change) (sym (closed_at bindings.graphs place))))
+      put_seen store (settled_in store (with_bindings change (graph_at bindings.graphs place)))
+      (with_bindings change (bound_at (seen_of stores bindings) place)) first second
+      (closed_settled store (with_bindings change (graph_at bindings.graphs place))
+      ∙ (closed_bound (graph_at bindings.graphs place) change ∙ ap (with_bindings change) (sym (closed_at bindings.graphs place))))
 
   -- what is told of two states, as it is seen
-  pub told_seen : (written : Option Property) → told_at place (seen_of stores bindings) (seen_of new after) written ≡ told_of (store_at stores place) (graph_at bindings.graphs place) (store_at new place) (graph_at after.graphs place) written
+  pub told_seen : (written : Option Property) → told_at place (seen_of stores bindings) (seen_of new after) written
+      ≡ told_of (store_at stores place) (graph_at bindings.graphs place) (store_at new place) (graph_at after.graphs place) written
   told_seen written =
-      ap (λ graph. told_of (store_at stores place) graph (store_at new place) (graph_at (all_closed after.graphs) place) written) (closed_at bindings.graphs place)
-      ∙ (ap (λ graph. told_of (store_at stores place) (closed (graph_at bindings.graphs place)) (store_at new place) graph written) (closed_at after.graphs place)
+      ap (λ graph. told_of (store_at stores place) graph (store_at new place) (graph_at (all_closed after.graphs) place) written)
+      (closed_at bindings.graphs place)
+      ∙ (ap (λ graph. told_of (store_at stores place) (closed (graph_at bindings.graphs place)) (store_at new place) graph written)
+      (closed_at after.graphs place)
       ∙ told_closed (store_at stores place) (graph_at bindings.graphs place) (store_at new place) (graph_at after.graphs place) written)
 
-  pub changes_seen : new.layouts ≡ stores.layouts → ChangesAt [] place stores.table new.table → ChangesAt no_graph place bindings.graphs after.graphs → ChangesBound place (seen_of stores bindings) (seen_of new after)
+  pub changes_seen : new.layouts ≡ stores.layouts → ChangesAt [] place stores.table new.table → ChangesAt no_graph place bindings.graphs after.graphs
+      → ChangesBound place (seen_of stores bindings) (seen_of new after)
   changes_seen layouts tables graphs = record { layouts = layouts; stores = tables; graphs = changes_closed bindings.graphs after.graphs place graphs }
 
   module _ (shelf : IsPlace stores.table place) (there : IsPlace bindings.graphs place) where
-    pub put_changes : (store : Store) (graph : Graph) → new ≡ with_store stores place store → after.graphs ≡ with_graph bindings.graphs place graph → ChangesBound place (seen_of stores bindings) (seen_of new after)
+    pub put_changes : (store : Store) (graph : Graph) → new ≡ with_store stores place store → after.graphs ≡ with_graph bindings.graphs place graph
+        → ChangesBound place (seen_of stores bindings) (seen_of new after)
     put_changes store graph first second =
-        changes_seen (ap (λ (shelves : StoreTable). shelves.layouts) first) (column.changes_with [] stores.table new.table place store shelf (ap (λ (shelves : StoreTable). shelves.table) first))
+        changes_seen (ap (λ (shelves : StoreTable). shelves.layouts) first)
+        (column.changes_with [] stores.table new.table place store shelf (ap (λ (shelves : StoreTable). shelves.table) first))
         (column.changes_with no_graph bindings.graphs after.graphs place graph there second)
 
-    pub put_told : (store : Store) (change : List Binding → List Binding) (written : Option Property) → new ≡ with_store stores place store → after.graphs ≡ with_graph bindings.graphs place (settled_in store (with_bindings change (graph_at bindings.graphs place)))
-        → told_at place (seen_of stores bindings) (seen_of new after) written ≡ cond (is_open (graph_at bindings.graphs place)) [] (changes (all_shown (store_at stores place) (graph_at bindings.graphs place).bindings) (all_shown store (change (graph_at bindings.graphs place).bindings)) written)
+    pub put_told : (store : Store) (change : List Binding → List Binding) (written : Option Property) → new ≡ with_store stores place store
+        → after.graphs ≡ with_graph bindings.graphs place (settled_in store (with_bindings change (graph_at bindings.graphs place)))
+        → told_at place (seen_of stores bindings) (seen_of new after) written
+        ≡ cond (is_open (graph_at bindings.graphs place)) []
+        (changes (all_shown (store_at stores place) (graph_at bindings.graphs place).bindings)
+        (all_shown store (change (graph_at bindings.graphs place).bindings)) written)
     put_told store change written first second =
         told_seen written
-        ∙ (ap (λ store. told_of (store_at stores place) old store (graph_at after.graphs place) written) (ap (λ (shelves : StoreTable). store_at shelves place) first ∙ column.with_there [] stores.table place store shelf)
-        ∙ (ap (λ graph. told_of (store_at stores place) old store graph written) (ap (λ graphs. graph_at graphs place) second ∙ column.with_there no_graph bindings.graphs place _ there)
+        ∙ (ap (λ store. told_of (store_at stores place) old store (graph_at after.graphs place) written)
+        (ap (λ (shelves : StoreTable). store_at shelves place) first ∙ column.with_there [] stores.table place store shelf)
+        ∙ (ap (λ graph. told_of (store_at stores place) old store graph written)
+        (ap (λ graphs. graph_at graphs place) second ∙ column.with_there no_graph bindings.graphs place _ there)
         ∙ by (is_open old)))
       where
         old : Graph
@@ -83,12 +103,14 @@ module _ (stores new : StoreTable) (bindings after : Graphs) (place : ℕ) where
         told : List Change
         told = cond (is_open old) [] (changes (all_shown (store_at stores place) old.bindings) (all_shown store (change old.bindings)) written)
 
-        by : (deep : Bool) → told_of (store_at stores place) old store (cond deep (with_bindings change old) (record (with_bindings change old) { last = kept_of store (change old.bindings) })) written ≡ told
+        by : (deep : Bool) → told_of (store_at stores place) old store
+            (cond deep (with_bindings change old) (record (with_bindings change old) { last = kept_of store (change old.bindings) })) written ≡ told
         by true = refl
         by false = refl
 
     -- a place whose bindings were forgotten
-    module _ (middle : Table Graph) (layouts : new.layouts ≡ stores.layouts) (tables : ChangesAt [] place stores.table new.table) (changed : ChangesAt no_graph place bindings.graphs middle) (forgotten : after.graphs ≡ with_graph middle place no_graph) where
+    module _ (middle : Table Graph) (layouts : new.layouts ≡ stores.layouts) (tables : ChangesAt [] place stores.table new.table)
+        (changed : ChangesAt no_graph place bindings.graphs middle) (forgotten : after.graphs ≡ with_graph middle place no_graph) where
       left : after.graphs ≡ with_graph bindings.graphs place no_graph
       left = forgotten ∙ column.with_after no_graph bindings.graphs middle place no_graph changed
 

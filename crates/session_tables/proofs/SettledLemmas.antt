@@ -31,7 +31,8 @@ closed_depth graph = by (is_open graph)
     by false = refl
 
 pub depth_seen : (graphs seen : Table Graph) (place : ℕ) → all_closed graphs ≡ seen → (graph_at seen place).depth ≡ (graph_at graphs place).depth
-depth_seen graphs seen place is = ap (λ (graphs : Table Graph). (graph_at graphs place).depth) (sym is) ∙ (ap (λ (graph : Graph). graph.depth) (closed_at graphs place) ∙ closed_depth (graph_at graphs place))
+depth_seen graphs seen place is = ap (λ (graphs : Table Graph). (graph_at graphs place).depth) (sym is)
+    ∙ (ap (λ (graph : Graph). graph.depth) (closed_at graphs place) ∙ closed_depth (graph_at graphs place))
 
 -- what holds holds where all went well
 pub where_ok : {T E P : Type 0} (result : Result T E) → P → OnOk result P

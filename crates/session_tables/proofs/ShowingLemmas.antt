@@ -24,11 +24,15 @@ abbrev pub value_of : Option Shown → Value × Option BindingError
 value_of shown = option_map_or (λ shown. (shown.value, shown.error)) shown (Invalid, None)
 
 -- what is kept is shown in groups alone
-pub value_kept : (store : Store) (graph : Graph) (q : Property) (last : List Shown) → is_open graph ≡ false → value_in store (record graph { last = last }) q ≡ value_in store graph q
-value_kept store graph q last shut = ap (λ deep. value_of (shows (record graph { last = last }) deep (is_bound graph.bindings q))) shut ∙ sym (ap (λ deep. value_of (shows graph deep (is_bound graph.bindings q))) shut)
+pub value_kept : (store : Store) (graph : Graph) (q : Property) (last : List Shown) → is_open graph ≡ false
+    → value_in store (record graph { last = last }) q ≡ value_in store graph q
+value_kept store graph q last shut = ap (λ deep. value_of (shows (record graph { last = last }) deep (is_bound graph.bindings q))) shut
+    ∙ sym (ap (λ deep. value_of (shows graph deep (is_bound graph.bindings q))) shut)
   where
     shows : Graph → Bool → Bool → Option Shown
-    shows graph deep bound = cond (deep && bound) (option_map (λ cell. option_map_or (λ (shown : Shown). shown) (shown_at graph.last q) (fresh q cell.kind)) (cell_in store q)) (shown_now store graph.bindings q)
+    shows graph deep bound = cond (deep && bound)
+        (option_map (λ cell. option_map_or (λ (shown : Shown). shown) (shown_at graph.last q) (fresh q cell.kind)) (cell_in store q))
+        (shown_now store graph.bindings q)
 
 pub value_closed : (store : Store) (graph : Graph) (q : Property) → value_in store (closed graph) q ≡ value_in store graph q
 value_closed store graph q = by (is_open graph) refl
@@ -37,12 +41,16 @@ value_closed store graph q = by (is_open graph) refl
     by true e = refl
     by false e = value_kept store graph q [] e
 
-pub value_seen : (store : Store) (graphs seen : Table Graph) (place : ℕ) (q : Property) → all_closed graphs ≡ seen → value_in store (graph_at seen place) q ≡ value_in store (graph_at graphs place) q
-value_seen store graphs seen place q is = ap (λ graphs. value_in store (graph_at graphs place) q) (sym is) ∙ (ap (λ graph. value_in store graph q) (closed_at graphs place) ∙ value_closed store (graph_at graphs place) q)
+pub value_seen : (store : Store) (graphs seen : Table Graph) (place : ℕ) (q : Property) → all_closed graphs ≡ seen
+    → value_in store (graph_at seen place) q ≡ value_in store (graph_at graphs place) q
+value_seen store graphs seen place q is = ap (λ graphs. value_in store (graph_at graphs place) q) (sym is)
+    ∙ (ap (λ graph. value_in store graph q) (closed_at graphs place) ∙ value_closed store (graph_at graphs place) q)
 
 -- a property that is not bound shows what is stored
-pub unbound_shown : (store : Store) (graph : Graph) (q : Property) → is_bound graph.bindings q ≡ false → value_in store graph q ≡ (option_map_or (λ (cell : Cell). cell.value) (cell_in store q) Invalid, None)
-unbound_shown store graph q unbound = ap value_of (by (is_open graph)) ∙ (ap (λ (outcome : Outcome). value_of (option_map (λ (cell : Cell). shown_as q cell.kind outcome) (cell_in store q))) now ∙ stored (cell_in store q))
+pub unbound_shown : (store : Store) (graph : Graph) (q : Property) → is_bound graph.bindings q ≡ false
+    → value_in store graph q ≡ (option_map_or (λ (cell : Cell). cell.value) (cell_in store q) Invalid, None)
+unbound_shown store graph q unbound = ap value_of (by (is_open graph))
+    ∙ (ap (λ (outcome : Outcome). value_of (option_map (λ (cell : Cell). shown_as q cell.kind outcome) (cell_in store q))) now ∙ stored (cell_in store q))
   where
     kept : Option Shown
     kept = option_map (λ (cell : Cell). option_map_or (λ (shown : Shown). shown) (shown_at graph.last q) (fresh q cell.kind)) (cell_in store q)
@@ -61,14 +69,18 @@ unbound_shown store graph q unbound = ap value_of (by (is_open graph)) ∙ (ap (
 
     now : outcome_in store graph.bindings q ≡ option_map_or (λ (cell : Cell). Ok cell.value) (cell_in store q) (Err EvaluationError)
     now = fresh_unbound (scene_of store graph.bindings) [] q
-        (term_there store q graph.bindings ∙ (ap (λ term. cond (is_some (cell_in store q)) term None) (none (term_at graph.bindings q) unbound) ∙ never (is_some (cell_in store q)))) refl
+        (term_there store q graph.bindings ∙ (ap (λ term. cond (is_some (cell_in store q)) term None) (none (term_at graph.bindings q) unbound)
+        ∙ never (is_some (cell_in store q)))) refl
 
-    stored : (found : Option Cell) → value_of (option_map (λ (cell : Cell). shown_as q cell.kind (option_map_or (λ (cell : Cell). Ok cell.value) found (Err EvaluationError))) found) ≡ (option_map_or (λ (cell : Cell). cell.value) found Invalid, None)
+    stored : (found : Option Cell) → value_of
+        (option_map (λ (cell : Cell). shown_as q cell.kind (option_map_or (λ (cell : Cell). Ok cell.value) found (Err EvaluationError))) found)
+        ≡ (option_map_or (λ (cell : Cell). cell.value) found Invalid, None)
     stored None = refl
     stored (Some cell) = refl
 
 -- what is found in two ways is one value
-pub one_value : {X Y : Type 0} (f : X → Value) (g : Y → Value) (x : Option X) (y : Option Y) → option_map f x ≡ option_map g y → option_map_or f x Invalid ≡ option_map_or g y Invalid
+pub one_value : {X Y : Type 0} (f : X → Value) (g : Y → Value) (x : Option X) (y : Option Y) → option_map f x ≡ option_map g y
+    → option_map_or f x Invalid ≡ option_map_or g y Invalid
 one_value f g None None e = refl
 one_value f g None (Some b) e = absurd (cc)
 one_value f g (Some a) None e = absurd (cc)
@@ -80,9 +92,11 @@ taken_noted store graph q = by (is_open graph) refl
   where
     by : (deep : Bool) → is_open graph ≡ deep → taken store (cond deep graph (record graph { last = all_shown store graph.bindings })) q ≡ taken store graph q
     by true e = refl
-    by false e = ap (λ (value : Value × Option BindingError). cond (is_bound graph.bindings q) (written store q.object q.number value.0) store) (value_kept store graph q (all_shown store graph.bindings) e)
+    by false e = ap (λ (value : Value × Option BindingError). cond (is_bound graph.bindings q) (written store q.object q.number value.0) store)
+        (value_kept store graph q (all_shown store graph.bindings) e)
 
 pub taken_closed : (store : Store) (graph : Graph) (q : Property) → taken store (closed graph) q ≡ taken store graph q
 taken_closed store graph q =
     ap (λ bindings. cond (is_bound bindings q) (written store q.object q.number (value_in store (closed graph) q).0) store) (closed_bindings graph)
-    ∙ ap (λ (value : Value × Option BindingError). cond (is_bound graph.bindings q) (written store q.object q.number value.0) store) (value_closed store graph q)
+    ∙ ap (λ (value : Value × Option BindingError). cond (is_bound graph.bindings q) (written store q.object q.number value.0) store)
+    (value_closed store graph q)

@@ -18,7 +18,8 @@ not_given forest sound = by (row_of forest.rows (forest.last_number + 1)) refl
     by None is = refl
     by (Some row) is =
         let it = found (has_number (forest.last_number + 1)) forest.rows row is in
-        let given : row.number ≤ forest.last_number = subst (λ (row : Row). row.number ≤ forest.last_number) (it.is row) (sound.numbers_given it.at row it.within) in
+        let given : row.number ≤ forest.last_number = subst (λ (row : Row). row.number ≤ forest.last_number) (it.is row)
+        (sound.numbers_given it.at row it.within) in
         let new : row.number ≡ forest.last_number + 1 = eqb-true _ _ it.passes in
         absurd (omega (arith, given, new))
 

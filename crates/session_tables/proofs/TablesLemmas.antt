@@ -19,14 +19,17 @@ use Rattle.session_tables.specs.Tables.{AreEven, AreSame, ChangesOnly, IsPlaced,
 
 -- tables of these columns
 abbrev pub of_columns : Table Forest → BoundShelves → Table Rows → Table Queue → Table Desk → Table Bool → Tables
-of_columns forests stores connections queues desks failed = record { forests = forests; stores = stores; connections = connections; queues = queues; desks = desks; failed = failed }
+of_columns forests stores connections queues desks failed = record
+    { forests = forests; stores = stores; connections = connections; queues = queues; desks = desks; failed = failed }
 
 -- the session that these make
 abbrev made : Forest → Store → Graph → Rows → Queue → Desk → Bool → Session
-made forest store graph connections queue desk failed = record { state = record { forest = forest; store = store; graph = graph; connections = connections; queue = queue; desk = desk }; failed = failed }
+made forest store graph connections queue desk failed = record
+    { state = record { forest = forest; store = store; graph = graph; connections = connections; queue = queue; desk = desk }; failed = failed }
 
 -- equal columns make equal tables
-pub columns : (old new : Tables) → new.forests ≡ old.forests → new.stores ≡ old.stores → new.connections ≡ old.connections → new.queues ≡ old.queues → new.desks ≡ old.desks → new.failed ≡ old.failed → new ≡ old
+pub columns : (old new : Tables) → new.forests ≡ old.forests → new.stores ≡ old.stores → new.connections ≡ old.connections → new.queues ≡ old.queues
+    → new.desks ≡ old.desks → new.failed ≡ old.failed → new ≡ old
 columns old new a b c d f e =
     ap (λ forests. of_columns forests new.stores new.connections new.queues new.desks new.failed) a
     ∙ ap (λ stores. of_columns old.forests stores new.connections new.queues new.desks new.failed) b
@@ -36,7 +39,8 @@ columns old new a b c d f e =
     ∙ ap (λ failed. of_columns old.forests old.stores old.connections old.queues old.desks failed) e
 
 -- equal parts make equal sessions
-pub session_of : {a b : Forest} {c d : Store} {m n : Graph} {e f : Rows} {g h : Queue} {k l : Desk} {i j : Bool} → a ≡ b → c ≡ d → m ≡ n → e ≡ f → g ≡ h → k ≡ l → i ≡ j
+pub session_of : {a b : Forest} {c d : Store} {m n : Graph} {e f : Rows} {g h : Queue} {k l : Desk} {i j : Bool} → a ≡ b → c ≡ d → m ≡ n → e ≡ f → g ≡ h → k ≡ l
+    → i ≡ j
     → made a c m e g k i ≡ made b d n f h l j
 session_of {a} {b} {c} {d} {m} {n} {e} {f} {g} {h} {k} {l} {i} {j} forest store graph connections queue desk failed =
     ap (λ forest. made forest c m e g k i) forest ∙ ap (λ store. made b store m e g k i) store ∙ ap (λ graph. made b d graph e g k i) graph
@@ -47,7 +51,8 @@ session_of {a} {b} {c} {d} {m} {n} {e} {f} {g} {h} {k} {l} {i} {j} forest store 
 pub with_state_there : (tables : Tables) (place : ℕ) (state : State) → IsPlaced tables place → state_at (with_state tables place state) place ≡ state
 with_state_there tables place state placed =
     ap (λ (session : Session). session.state) (session_of {i = false} (column.with_there empty_forest tables.forests place state.forest placed.0)
-    (column.with_there [] tables.stores.shelves.table place state.store placed.1) (column.with_there no_graph tables.stores.graphs place state.graph placed.6) (column.with_there no_rows tables.connections place state.connections placed.2)
+    (column.with_there [] tables.stores.shelves.table place state.store placed.1) (column.with_there no_graph tables.stores.graphs place state.graph placed.6)
+    (column.with_there no_rows tables.connections place state.connections placed.2)
     (column.with_there empty_queue tables.queues place state.queue placed.3) (column.with_there no_desk tables.desks place state.desk placed.5) refl)
 
 -- so where a state was put, it stands
@@ -130,14 +135,18 @@ session_past tables place even past = session_of
 -- so opening a place changes no session
 pub session_opened : (tables : Tables) (place : ℕ) → session_at (opened tables) place ≡ session_at tables place
 session_opened tables place = session_of
-    (column.default_pushed empty_forest tables.forests.places place) (column.default_pushed [] tables.stores.shelves.table.places place) (column.default_pushed no_graph tables.stores.graphs.places place) (column.default_pushed no_rows tables.connections.places place)
-    (column.default_pushed empty_queue tables.queues.places place) (column.default_pushed no_desk tables.desks.places place) (column.default_pushed false tables.failed.places place)
+    (column.default_pushed empty_forest tables.forests.places place) (column.default_pushed [] tables.stores.shelves.table.places place)
+    (column.default_pushed no_graph tables.stores.graphs.places place) (column.default_pushed no_rows tables.connections.places place)
+    (column.default_pushed empty_queue tables.queues.places place) (column.default_pushed no_desk tables.desks.places place)
+    (column.default_pushed false tables.failed.places place)
 
 -- nor does room for it
 pub session_same : (old new : Tables) (place : ℕ) → AreSame old new → session_at new place ≡ session_at old place
 session_same old new place same = session_of
-    (ap (λ places. get_or places place empty_forest) same.forests) (ap (λ places. get_or places place []) same.stores) (ap (λ places. get_or places place no_graph) same.graphs) (ap (λ places. get_or places place no_rows) same.connections)
-    (ap (λ places. get_or places place empty_queue) same.queues) (ap (λ places. get_or places place no_desk) same.desks) (ap (λ places. get_or places place false) same.failed)
+    (ap (λ places. get_or places place empty_forest) same.forests) (ap (λ places. get_or places place []) same.stores)
+    (ap (λ places. get_or places place no_graph) same.graphs) (ap (λ places. get_or places place no_rows) same.connections)
+    (ap (λ places. get_or places place empty_queue) same.queues) (ap (λ places. get_or places place no_desk) same.desks)
+    (ap (λ places. get_or places place false) same.failed)
 
 -- with another session at a place, it stands there
 pub session_there : (tables : Tables) (place : ℕ) (session : Session) → IsPlaced tables place → session_at (with_session tables place session) place ≡ session
@@ -151,7 +160,8 @@ session_there tables place session placed = session_of
     (column.with_there false tables.failed place session.failed placed.4)
 
 -- and every other place has the session that it had
-pub session_elsewhere : (tables : Tables) (place other : ℕ) (session : Session) → other ≢ place → session_at (with_session tables place session) other ≡ session_at tables other
+pub session_elsewhere : (tables : Tables) (place other : ℕ) (session : Session) → other ≢ place
+    → session_at (with_session tables place session) other ≡ session_at tables other
 session_elsewhere tables place other session differ = session_of
     (get_or-set_other tables.forests.places place other session.state.forest empty_forest differ)
     (get_or-set_other tables.stores.shelves.table.places place other session.state.store [] differ)
@@ -173,7 +183,14 @@ even_with tables place session even =
     }
 
 pub even_opened : (tables : Tables) → AreEven tables → AreEven (opened tables)
-even_opened tables even = record { forests = grind (arith, common_steps, even.forests); stores = grind (arith, common_steps, even.stores); graphs = grind (arith, common_steps, even.graphs); connections = grind (arith, common_steps, even.connections); queues = grind (arith, common_steps, even.queues); desks = grind (arith, common_steps, even.desks) }
+even_opened tables even = record {
+  forests = grind (arith, common_steps, even.forests);
+  stores = grind (arith, common_steps, even.stores);
+  graphs = grind (arith, common_steps, even.graphs);
+  connections = grind (arith, common_steps, even.connections);
+  queues = grind (arith, common_steps, even.queues);
+  desks = grind (arith, common_steps, even.desks);
+}
 
 pub even_same : (old new : Tables) → AreSame old new → AreEven old → AreEven new
 even_same old new same even = record {
@@ -187,10 +204,20 @@ even_same old new same even = record {
 
 -- a place of one table is one of all
 pub placed_by : (tables : Tables) (place : ℕ) → AreEven tables → place < length tables.failed.places → IsPlaced tables place
-placed_by tables place even within = (omega (arith, even.forests, within), omega (arith, even.stores, within), omega (arith, even.connections, within), omega (arith, even.queues, within), within, omega (arith, even.desks, within), omega (arith, even.graphs, within), even)
+placed_by tables place even within = (
+  omega (arith, even.forests, within),
+  omega (arith, even.stores, within),
+  omega (arith, even.connections, within),
+  omega (arith, even.queues, within),
+  within,
+  omega (arith, even.desks, within),
+  omega (arith, even.graphs, within),
+  even,
+)
 
 -- what holds of every session still does, where it holds of the one that was put
-pub session_each : (P : Session → Type 0) (tables : Tables) (place : ℕ) (session : Session) → IsPlaced tables place → P session → ((at : ℕ) → P (session_at tables at)) → (at : ℕ) → P (session_at (with_session tables place session) at)
+pub session_each : (P : Session → Type 0) (tables : Tables) (place : ℕ) (session : Session) → IsPlaced tables place → P session
+    → ((at : ℕ) → P (session_at tables at)) → (at : ℕ) → P (session_at (with_session tables place session) at)
 session_each P tables place session placed new old at = ⊎_elim
     (λ here.
     let same : at ≡ place = grind (arith, here) in

@@ -22,19 +22,22 @@ module _ (stores noted took : StoreTable) (old after : Table Graph) (place : ℕ
   took_is =
       second
       ∙ (ap (λ (shelves : StoreTable). with_store shelves place (taken (store_at shelves place) (graph_at after place) q)) same
-      ∙ ap (with_store stores place) (ap (λ graph. taken store graph q) (ap (λ table. graph_at table place) first ∙ column.with_there no_graph old place _ there) ∙ taken_noted store (graph_at old place) q))
+      ∙ ap (with_store stores place) (ap (λ graph. taken store graph q)
+      (ap (λ table. graph_at table place) first ∙ column.with_there no_graph old place _ there) ∙ taken_noted store (graph_at old place) q))
 
   pub took_at : store_at took place ≡ taken store (graph_at old place) q
   took_at = ap (λ (shelves : StoreTable). store_at shelves place) took_is ∙ column.with_there [] stores.table place _ shelf
 
   -- and where it is written then, it is as if it was written alone
-  module _ (wrote : StoreTable) (value : Value) (fits : fitting store q.object q.number value ≡ Some value) (third : wrote ≡ with_store took place (written (store_at took place) q.object q.number value)) where
+  module _ (wrote : StoreTable) (value : Value) (fits : fitting store q.object q.number value ≡ Some value)
+      (third : wrote ≡ with_store took place (written (store_at took place) q.object q.number value)) where
     pub wrote_is : wrote ≡ with_store stores place (written store q.object q.number value)
     wrote_is =
         third
         ∙ (ap (with_store took place) (ap (λ store. written store q.object q.number value) took_at ∙ written_taken store (graph_at old place) q value fits)
         ∙ (ap (λ (shelves : StoreTable). with_store shelves place (written store q.object q.number value)) took_is
-        ∙ ap (λ table. let shelves : StoreTable = record stores { table = table } in shelves) (column.with_twice stores.table place (taken store (graph_at old place) q) (written store q.object q.number value))))
+        ∙ ap (λ table. let shelves : StoreTable = record stores { table = table } in shelves)
+        (column.with_twice stores.table place (taken store (graph_at old place) q) (written store q.object q.number value))))
 
     pub wrote_at : store_at wrote place ≡ written store q.object q.number value
     wrote_at = ap (λ (shelves : StoreTable). store_at shelves place) wrote_is ∙ column.with_there [] stores.table place _ shelf

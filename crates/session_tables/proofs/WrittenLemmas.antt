@@ -11,13 +11,15 @@ use Rattle.property_store.specs.declared.property.Property.{Property}
 use Rattle.binding_graph.specs.Graph.{Graph, is_bound, taken, value_in}
 
 -- of two changes of an object, where the second makes the same without the first
-changed_twice : (first second : Properties → Properties) (object : ℕ) → ((of : Properties) → (first of).object ≡ of.object) → ((of : Properties) → second (first of) ≡ second of) → (store : Store) → changed second object (changed first object store) ≡ changed second object store
+changed_twice : (first second : Properties → Properties) (object : ℕ) → ((of : Properties) → (first of).object ≡ of.object)
+    → ((of : Properties) → second (first of) ≡ second of) → (store : Store) → changed second object (changed first object store) ≡ changed second object store
 changed_twice first second object same once [] = refl
 changed_twice first second object same once (of ∷ rest) =
     ap (λ of. of ∷ changed second object (changed first object rest)) (one (of.object == object) refl)
     ∙ ap (λ rest. cond (of.object == object) (second of) of ∷ rest) (changed_twice first second object same once rest)
   where
-    one : (is : Bool) → (of.object == object) ≡ is → cond ((cond is (first of) of).object == object) (second (cond is (first of) of)) (cond is (first of) of) ≡ cond is (second of) of
+    one : (is : Bool) → (of.object == object) ≡ is → cond ((cond is (first of) of).object == object) (second (cond is (first of) of)) (cond is (first of) of)
+        ≡ cond is (second of) of
     one true e = ap (λ is. cond is (second (first of)) (first of)) (ap (λ number. number == object) (same of) ∙ e) ∙ once of
     one false e = ap (λ is. cond is (second of) of) e
 
@@ -25,31 +27,37 @@ module _ (store : Store) (object number : ℕ) (first second : Value) where
   abbrev after : Store
   after = changed (with_value number first) object store
 
-  by_fields : (store : Store) → field_at store object number ≡ option_and_then (λ fields. slice_get fields number) (option_map (λ (of : Properties). of.fields) (properties_of store object))
+  by_fields : (store : Store) → field_at store object number ≡ option_and_then (λ fields. slice_get fields number)
+      (option_map (λ (of : Properties). of.fields) (properties_of store object))
   by_fields store = by (properties_of store object)
     where
-      by : (found : Option Properties) → option_and_then (λ (of : Properties). slice_get of.fields number) found ≡ option_and_then (λ fields. slice_get fields number) (option_map (λ (of : Properties). of.fields) found)
+      by : (found : Option Properties) → option_and_then (λ (of : Properties). slice_get of.fields number) found
+          ≡ option_and_then (λ fields. slice_get fields number) (option_map (λ (of : Properties). of.fields) found)
       by None = refl
       by (Some of) = refl
 
   fits_still : fitting after object number second ≡ fitting store object number second
   fits_still = ap (option_and_then (λ (field : Field). converted field.kind second))
-      (by_fields after ∙ (ap (option_and_then (λ fields. slice_get fields number)) (changed_fields (with_value number first) object (λ of. refl) (λ of. refl) store object) ∙ sym (by_fields store)))
+      (by_fields after ∙ (ap (option_and_then (λ fields. slice_get fields number))
+      (changed_fields (with_value number first) object (λ of. refl) (λ of. refl) store object) ∙ sym (by_fields store)))
 
   written_over : fitting store object number second ≡ Some second → written after object number second ≡ written store object number second
   written_over fits =
       ap (λ fit. option_map_or (λ fit. changed (with_value number fit) object after) fit after) (fits_still ∙ fits)
-      ∙ (changed_twice (with_value number first) (with_value number second) object (λ of. refl) (λ of. ap (λ values. let values_of : Properties = record of { values = values } in values_of) (set-set of.values number first second)) store
+      ∙ (changed_twice (with_value number first) (with_value number second) object (λ of. refl)
+      (λ of. ap (λ values. let values_of : Properties = record of { values = values } in values_of) (set-set of.values number first second)) store
       ∙ sym (ap (λ fit. option_map_or (λ fit. changed (with_value number fit) object store) fit store) fits))
 
 -- what was taken before a value is written is written over
-pub written_taken : (store : Store) (graph : Graph) (q : Property) (value : Value) → fitting store q.object q.number value ≡ Some value → written (taken store graph q) q.object q.number value ≡ written store q.object q.number value
+pub written_taken : (store : Store) (graph : Graph) (q : Property) (value : Value) → fitting store q.object q.number value ≡ Some value
+    → written (taken store graph q) q.object q.number value ≡ written store q.object q.number value
 written_taken store graph q value fits = by (is_bound graph.bindings q)
   where
     old : Value
     old = (value_in store graph q).0
 
-    over : (fit : Option Value) → written (option_map_or (λ fit. changed (with_value q.number fit) q.object store) fit store) q.object q.number value ≡ written store q.object q.number value
+    over : (fit : Option Value) → written (option_map_or (λ fit. changed (with_value q.number fit) q.object store) fit store) q.object q.number value
+        ≡ written store q.object q.number value
     over None = refl
     over (Some fit) = written_over store q.object q.number fit value fits
 

@@ -1,12 +1,14 @@
 -- Rows and their links: what a link that comes or goes changes, and what the least link tells.
-use Rattle.std.proofs.Common.{◌≡◌, ◌≢◌, ◌∙◌, ◌⊎◌, ℕ, zero, suc, ◌<◌, Bool, true, false, not, cond, List, [], ◌∷◌, ◌++◌, Some, None, length, filter, map, get_or, refl, sym, ap, subst, arith, ⊎_elim, inl, inr}
+use Rattle.std.proofs.Common.{◌≡◌, ◌≢◌, ◌∙◌, ◌⊎◌, ℕ, zero, suc, ◌<◌, Bool, true, false, not, cond, List, [], ◌∷◌, ◌++◌, Some, None, length, filter, map, get_or}
+use Rattle.std.proofs.Common.{refl, sym, ap, subst, arith, ⊎_elim, inl, inr}
 use Rattle.std.specs.Cmp.{IsTotalOrder, tied_itself}
 use Rattle.std.specs.List.{All, Any, Contains}
 use Rattle.std.specs.Ordering.{is_eq, is_lt, ordering_reverse}
 use Rattle.std.specs.declared.cmp.Ordering.{Ordering}
 use Rattle.std.specs.declared.cmp.Ordering.TheVariants.{Less, Equal, Greater}
 use Rattle.std.proofs.lemmas.Bool.{cases_Bool}
-use Rattle.std.proofs.lemmas.List.Elements.{All-contains, All-contains_itself, All-filter, All-map, Contains-append_cases, Contains-append_left, Contains-append_right, Contains-get_or, Contains-push, Contains-push_cases, filter_passes}
+use Rattle.std.proofs.lemmas.List.Elements.{All-contains, All-contains_itself, All-filter, All-map, Contains-append_cases, Contains-append_left}
+use Rattle.std.proofs.lemmas.List.Elements.{Contains-append_right, Contains-get_or, Contains-push, Contains-push_cases, filter_passes}
 use Rattle.std.proofs.lemmas.List.Sums.{length-filter, count_by-le-length}
 use Rattle.shared_rows.specs.Links.{AreLinked, IsInOrder, first_from, with_link, without_link}
 
@@ -29,7 +31,8 @@ module _ {X : Type 0} where
   contains_kept p [] x there passes = absurd (omega (arith, there.1))
   contains_kept p (first ∷ xs) x there passes =
       ⊎_elim
-      (λ (here : first ≡ x). let test : p first ≡ true = ap p here ∙ passes in rw test (subst (Contains (first ∷ filter p xs)) here (contains_first first (filter p xs))))
+      (λ (here : first ≡ x). let test : p first ≡ true = ap p here ∙ passes in rw test
+      (subst (Contains (first ∷ filter p xs)) here (contains_first first (filter p xs))))
       (λ (later : Contains xs x). by (p first) (contains_kept p xs x later passes))
       (contains_cases first x xs there)
     where
@@ -59,14 +62,18 @@ contains_map f (first ∷ xs) x there = ⊎_elim
 
 pub contains_mapped : {X Y : Type 0} (f : X → Y) (xs : List X) (y : Y) → Contains (map f xs) y → (x : X) × Contains xs x × (f x ≡ y)
 contains_mapped {X} {Y} f xs y there =
-    let any : Any (λ x. f x ≡ y) xs = All-contains (λ z. Any (λ x. f x ≡ z) xs) (map f xs) y (All-map (λ z. Any (λ x. f x ≡ z) xs) f xs (all_from (λ x. Any (λ w. f w ≡ f x) xs) xs (λ x stood. any_of (λ w. f w ≡ f x) xs x stood refl))) there in
+    let any : Any (λ x. f x ≡ y) xs = All-contains (λ z. Any (λ x. f x ≡ z) xs) (map f xs) y
+    (All-map (λ z. Any (λ x. f x ≡ z) xs) f xs (all_from (λ x. Any (λ w. f w ≡ f x) xs) xs (λ x stood. any_of (λ w. f w ≡ f x) xs x stood refl)))
+    there in
     (any.1, (any.0, any.2, any.3), any.4)
 
 -- rows and links, each with one of the others
-are_linked : {R K : Type 0} (link_of : R → K) (rows : List R) (links : List K) → ((row : R) → Contains rows row → Contains links (link_of row)) → ((link : K) → Contains links link → (row : R) × Contains rows row × (link_of row ≡ link)) → AreLinked link_of rows links
+are_linked : {R K : Type 0} (link_of : R → K) (rows : List R) (links : List K) → ((row : R) → Contains rows row → Contains links (link_of row))
+    → ((link : K) → Contains links link → (row : R) × Contains rows row × (link_of row ≡ link)) → AreLinked link_of rows links
 are_linked link_of rows links each all = record {
   each = all_from (λ row. Contains links (link_of row)) rows each;
-  all = all_from (λ link. Any (λ row. link_of row ≡ link) rows) links (λ link there. let row = all link there in any_of (λ r. link_of r ≡ link) rows row.0 row.1 row.2);
+  all = all_from (λ link. Any (λ row. link_of row ≡ link) rows) links
+      (λ link there. let row = all link there in any_of (λ r. link_of r ≡ link) rows row.0 row.1 row.2);
 }
 
 module _ {R K : Type 0} {link_of : R → K} (rows : List R) (links : List K) (linked : AreLinked link_of rows links) where
@@ -77,9 +84,11 @@ module _ {R K : Type 0} {link_of : R → K} (rows : List R) (links : List K) (li
   row_there link there = let any = All-contains (λ link. Any (λ r. link_of r ≡ link) rows) links link linked.all there in (any.1, (any.0, any.2, any.3), any.4)
 
 -- a change that keeps each link
-pub linked_same : {R K : Type 0} (link_of : R → K) (change : R → R) → ((row : R) → link_of (change row) ≡ link_of row) → (rows : List R) (links : List K) → AreLinked link_of rows links → AreLinked link_of (map change rows) links
+pub linked_same : {R K : Type 0} (link_of : R → K) (change : R → R) → ((row : R) → link_of (change row) ≡ link_of row) → (rows : List R) (links : List K)
+    → AreLinked link_of rows links → AreLinked link_of (map change rows) links
 linked_same link_of change keeps rows links linked = are_linked link_of (map change rows) links
-    (λ row there. let from = contains_mapped change rows row there in subst (Contains links) (sym (keeps from.0) ∙ ap link_of from.2) (link_there rows links linked from.0 from.1))
+    (λ row there. let from = contains_mapped change rows row there in subst (Contains links) (sym (keeps from.0) ∙ ap link_of from.2)
+    (link_there rows links linked from.0 from.1))
     (λ link there. let row = row_there rows links linked link there in (change row.0, contains_map change rows row.0 row.1, keeps row.0 ∙ row.2))
 
 module _ {K : Type 0} {cmp : K → K → Ordering} (total : IsTotalOrder cmp) where
@@ -92,7 +101,8 @@ module _ {K : Type 0} {cmp : K → K → Ordering} (total : IsTotalOrder cmp) wh
       (λ (later : Contains links link). by (is_eq (cmp first link)) (length-without links link later))
       (contains_cases first link links there)
     where
-      by : (tied : Bool) → length (without_link cmp links link) < length links → length (cond (not tied) (first ∷ without_link cmp links link) (without_link cmp links link)) < length (first ∷ links)
+      by : (tied : Bool) → length (without_link cmp links link) < length links
+          → length (cond (not tied) (first ∷ without_link cmp links link) (without_link cmp links link)) < length (first ∷ links)
       by true less = omega (arith, less)
       by false less = omega (arith, less)
 
@@ -100,14 +110,16 @@ module _ {K : Type 0} {cmp : K → K → Ordering} (total : IsTotalOrder cmp) (s
   above : (x : K) (xs : List K) → IsInOrder cmp (x ∷ xs) → (z : K) → Contains xs z → cmp x z ≡ Less
   above x xs order z there = ap (cmp x) (sym there.2) ∙ order 0 (suc there.0) z (omega arith) (omega (arith, there.1))
 
-  in_rest : (x y : K) (xs ys : List K) → x ≡ y → IsInOrder cmp (x ∷ xs) → ((z : K) → Contains (x ∷ xs) z → Contains (y ∷ ys) z) → (z : K) → Contains xs z → Contains ys z
+  in_rest : (x y : K) (xs ys : List K) → x ≡ y → IsInOrder cmp (x ∷ xs) → ((z : K) → Contains (x ∷ xs) z → Contains (y ∷ ys) z) → (z : K) → Contains xs z
+      → Contains ys z
   in_rest x y xs ys heads order to z there = ⊎_elim
       (λ (here : y ≡ z). let tied : cmp x z ≡ Equal = ap (cmp x) (sym (heads ∙ here)) ∙ tied_itself total x in absurd (cc (tied, above x xs order z there)))
       (λ (later : Contains ys z). later)
       (contains_cases y z ys (to z (contains_later x z xs there)))
 
   -- links in order are known by what they contain
-  pub same_links : (xs ys : List K) → IsInOrder cmp xs → IsInOrder cmp ys → ((x : K) → Contains xs x → Contains ys x) → ((x : K) → Contains ys x → Contains xs x) → xs ≡ ys
+  pub same_links : (xs ys : List K) → IsInOrder cmp xs → IsInOrder cmp ys → ((x : K) → Contains xs x → Contains ys x)
+      → ((x : K) → Contains ys x → Contains xs x) → xs ≡ ys
   same_links [] [] in_xs in_ys to from = refl
   same_links [] (y ∷ ys) in_xs in_ys to from = absurd (omega (arith, (from y (contains_first y ys)).1))
   same_links (x ∷ xs) [] in_xs in_ys to from = absurd (omega (arith, (to x (contains_first x xs)).1))
@@ -136,7 +148,8 @@ module _ {K : Type 0} {cmp : K → K → Ordering} (total : IsTotalOrder cmp) (s
       by : (o : Ordering) → cmp x link ≡ o → Contains (with_link cmp links link) x
       by Less e = Contains-append_left _ _ x (contains_kept (λ other. is_lt (cmp other link)) links x there (ap is_lt e))
       by Equal e = subst (Contains (with_link cmp links link)) (sym (same x link e)) (with_itself links link)
-      by Greater e = Contains-append_right (filter (λ other. is_lt (cmp other link)) links) _ x (contains_later link x _ (contains_kept (λ other. is_lt (cmp link other)) links x there (ap is_lt (total.antisymm link x ∙ ap ordering_reverse e))))
+      by Greater e = Contains-append_right (filter (λ other. is_lt (cmp other link)) links) _ x
+          (contains_later link x _ (contains_kept (λ other. is_lt (cmp link other)) links x there (ap is_lt (total.antisymm link x ∙ ap ordering_reverse e))))
 
   with_cases : (links : List K) (link x : K) → Contains (with_link cmp links link) x → Contains links x ⊎ (link ≡ x)
   with_cases links link x there = ⊎_elim
@@ -158,11 +171,15 @@ module _ {K : Type 0} {cmp : K → K → Ordering} (total : IsTotalOrder cmp) (s
 
   pub without_from : (links : List K) (link x : K) → Contains (without_link cmp links link) x → Contains links x × (x ≢ link)
   without_from links link x there =
-      let kept = contains_from (λ other. not (is_eq (cmp other link))) links x there in
-      (kept.0, λ e. let tied : not (is_eq (cmp x link)) ≡ false = ap (λ o. not (is_eq o)) (ap (λ y. cmp x y) (sym e) ∙ tied_itself total x) in absurd (cc (kept.1, tied)))
+      let kept = contains_from (λ other. not (is_eq (cmp other link))) links x there in (
+        kept.0,
+        λ e. let tied : not (is_eq (cmp x link)) ≡ false = ap (λ o. not (is_eq o)) (ap (λ y. cmp x y) (sym e) ∙ tied_itself total x) in absurd
+            (cc (kept.1, tied)),
+      )
 
   module _ {R : Type 0} (link_of : R → K) where
-    pub linked_push : (rows : List R) (links : List K) (row : R) → AreLinked link_of rows links → AreLinked link_of (rows ++ row ∷ []) (with_link cmp links (link_of row))
+    pub linked_push : (rows : List R) (links : List K) (row : R) → AreLinked link_of rows links
+        → AreLinked link_of (rows ++ row ∷ []) (with_link cmp links (link_of row))
     linked_push rows links row linked = are_linked link_of (rows ++ row ∷ []) (with_link cmp links (link_of row))
         (λ r there. ⊎_elim
         (λ (old : Contains rows r). with_others links (link_of row) (link_of r) (link_there rows links linked r old))
@@ -174,12 +191,14 @@ module _ {K : Type 0} {cmp : K → K → Ordering} (total : IsTotalOrder cmp) (s
         (with_cases links (link_of row) link there))
 
     -- rows go that have one link
-    pub linked_filter : (keep : R → Bool) (rows : List R) (links : List K) (gone : K) → AreLinked link_of rows links → All (λ row. keep row ≡ true → link_of row ≢ gone) rows → All (λ row. keep row ≡ false → link_of row ≡ gone) rows
+    pub linked_filter : (keep : R → Bool) (rows : List R) (links : List K) (gone : K) → AreLinked link_of rows links
+        → All (λ row. keep row ≡ true → link_of row ≢ gone) rows → All (λ row. keep row ≡ false → link_of row ≡ gone) rows
         → AreLinked link_of (filter keep rows) (without_link cmp links gone)
     linked_filter keep rows links gone linked stay go = are_linked link_of (filter keep rows) (without_link cmp links gone)
         (λ row there.
         let kept = contains_from keep rows row there in
-        without_others links gone (link_of row) (link_there rows links linked row kept.0) (All-contains (λ r. keep r ≡ true → link_of r ≢ gone) rows row stay kept.0 kept.1))
+        without_others links gone (link_of row) (link_there rows links linked row kept.0)
+        (All-contains (λ r. keep r ≡ true → link_of r ≢ gone) rows row stay kept.0 kept.1))
         (λ link there.
         let kept = without_from links gone link there in
         let row = row_there rows links linked link kept.0 in
@@ -190,18 +209,21 @@ module _ {K : Type 0} {cmp : K → K → Ordering} (total : IsTotalOrder cmp) (s
 
     -- rows that change keep their links, but for those of one link, which get another one
     pub linked_map : (change : R → R) (rows : List R) (links : List K) (gone come : K) → AreLinked link_of rows links
-        → All (λ row. ((link_of row ≡ gone) × (link_of (change row) ≡ come)) ⊎ ((link_of row ≢ gone) × (link_of (change row) ≡ link_of row))) rows → Any (λ row. link_of row ≡ gone) rows
+        → All (λ row. ((link_of row ≡ gone) × (link_of (change row) ≡ come)) ⊎ ((link_of row ≢ gone) × (link_of (change row) ≡ link_of row))) rows
+        → Any (λ row. link_of row ≡ gone) rows
         → AreLinked link_of (map change rows) (with_link cmp (without_link cmp links gone) come)
     linked_map change rows links gone come linked cases some =
         let rest : List K = without_link cmp links gone in
         let new : List K = with_link cmp rest come in
-        let case = All-contains (λ row. ((link_of row ≡ gone) × (link_of (change row) ≡ come)) ⊎ ((link_of row ≢ gone) × (link_of (change row) ≡ link_of row))) rows in
+        let case = All-contains (λ row. ((link_of row ≡ gone) × (link_of (change row) ≡ come)) ⊎ ((link_of row ≢ gone) × (link_of (change row) ≡ link_of row)))
+        rows in
         are_linked link_of (map change rows) new
         (λ row there.
         let from = contains_mapped change rows row there in
         subst (λ r. Contains new (link_of r)) from.2 (⊎_elim
         (λ moves. subst (Contains new) (sym moves.1) (with_itself rest come))
-        (λ stays. subst (Contains new) (sym stays.1) (with_others rest come (link_of from.0) (without_others links gone (link_of from.0) (link_there rows links linked from.0 from.1) stays.0)))
+        (λ stays. subst (Contains new) (sym stays.1)
+        (with_others rest come (link_of from.0) (without_others links gone (link_of from.0) (link_there rows links linked from.0 from.1) stays.0)))
         (case from.0 cases from.1)))
         (λ link there. ⊎_elim
         (λ (old : Contains rest link).
@@ -221,7 +243,8 @@ module _ {K : Type 0} {cmp : K → K → Ordering} (total : IsTotalOrder cmp) (s
 
   -- the least link from one on: it is there, not below that one, and no other that is not below that one is below it
   pub first_some : (links : List K) → IsInOrder cmp links → (from link : K) → first_from cmp links from ≡ Some link
-      → Contains links link × (is_lt (cmp link from) ≡ false) × ((other : K) → Contains links other → is_lt (cmp other from) ≡ false → is_lt (cmp other link) ≡ false)
+      → Contains links link × (is_lt (cmp link from) ≡ false)
+      × ((other : K) → Contains links other → is_lt (cmp other from) ≡ false → is_lt (cmp other link) ≡ false)
   first_some [] order from link found = absurd (cc)
   first_some (first ∷ links) order from link found = ⊎_elim
       (λ (below : is_lt (cmp first from) ≡ true).

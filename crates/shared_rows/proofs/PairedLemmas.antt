@@ -22,7 +22,8 @@ module _ {P Q T : Type 0} (join : P → Q → T) where
   paired_set [] seconds place p q same = refl
   paired_set (first ∷ firsts) [] place p q same = absurd (omega arith)
   paired_set (first ∷ firsts) (second ∷ seconds) zero p q same = refl
-  paired_set (first ∷ firsts) (second ∷ seconds) (suc place) p q same = ap (λ rest. join first second ∷ rest) (paired_set firsts seconds place p q (omega arith))
+  paired_set (first ∷ firsts) (second ∷ seconds) (suc place) p q same =
+      ap (λ rest. join first second ∷ rest) (paired_set firsts seconds place p q (omega arith))
 
   -- one more place of both
   pub paired_push : (firsts : List P) (seconds : List Q) (p : P) (q : Q) → length firsts ≡ length seconds

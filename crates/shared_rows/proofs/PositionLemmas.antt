@@ -1,5 +1,6 @@
 -- What a search by number finds.
-use Rattle.std.proofs.Common.{◌≡◌, ◌∙◌, ◌⊎◌, ℕ, zero, suc, ◌+◌, ◌<◌, ◌≤◌, true, false, nat_lt, List, ◌∷◌, ◌++◌, filter, length, slice_index_or, take, drop, ◌-◌, min, arith, sym, ap, subst, ⊎_elim}
+use Rattle.std.proofs.Common.{◌≡◌, ◌∙◌, ◌⊎◌, ℕ, zero, suc, ◌+◌, ◌<◌, ◌≤◌, true, false, nat_lt, List, ◌∷◌, ◌++◌, filter, length, slice_index_or, take, drop, ◌-◌}
+use Rattle.std.proofs.Common.{min, arith, sym, ap, subst, ⊎_elim}
 use Rattle.std.specs.List.{AllPairs, AllWithin, insert}
 use Rattle.std.specs.List.Sorted.{IsNonDecreasingBy, IsPartitionPoint, IsPartitionedBy}
 use Rattle.std.proofs.lemmas.Bool.{cases_lt, le-ltb, lt-ltb, ltb-false, ltb-true}
@@ -32,7 +33,8 @@ module _ {N : Type 0} (value : N → ℕ) (entries : List (Entry N)) (rising : I
   spread : (j i : ℕ) (d : Entry N) → i ≤ j → j < length entries → number_at i d + (j - i) ≤ number_at j d
   spread zero i d le within = let same : i ≡ 0 = omega (arith, le) in omega (arith, same, ap (λ k. number_at k d) same)
   spread (suc j) i d le within = ⊎_elim
-      (λ (below : i < suc j). let step : number_at j d < number_at (suc j) d = rising j (suc j) d (omega arith) within in omega (arith, below, step, spread j i d (omega (arith, below)) (omega (arith, within))))
+      (λ (below : i < suc j). let step : number_at j d < number_at (suc j) d = rising j (suc j) d (omega arith) within in
+      omega (arith, below, step, spread j i d (omega (arith, below)) (omega (arith, within))))
       (λ (here : suc j ≤ i). let same : i ≡ suc j = omega (arith, le, here) in omega (arith, same, ap (λ k. number_at k d) same))
       (cases_lt i (suc j))
 
@@ -47,7 +49,8 @@ module _ {N : Type 0} (value : N → ℕ) (entries : List (Entry N)) (rising : I
       (cases_lt i j)
 
   -- what a look at a position sees
-  pub there_at : (at there : ℕ) (entry : Entry N) → entry ≡ slice_index_or entries at entry → at < length entries → there ≡ value entry.number → (d : Entry N) → number_at at d ≡ there
+  pub there_at : (at there : ℕ) (entry : Entry N) → entry ≡ slice_index_or entries at entry → at < length entries → there ≡ value entry.number → (d : Entry N)
+      → number_at at d ≡ there
   there_at at there entry is within same d = sym (same ∙ ap (λ (e : Entry N). value e.number) (is ∙ get_or_default entries at entry d within))
 
   -- at first all positions are left
@@ -62,9 +65,11 @@ module _ {N : Type 0} (value : N → ℕ) (entries : List (Entry N)) (rising : I
   pub none_left : (window : Window) → IsWindow value entries number window → window.high ≤ window.low → HasNot value entries number
   none_left window left empty k d within same = let only = left.only k d within same in omega (arith, empty, only.0, only.1)
 
-  module _ (window : Window) (left : IsWindow value entries number window) (at there : ℕ) (low : window.low ≤ at) (high : at < window.high) (is : (d : Entry N) → number_at at d ≡ there) where
+  module _ (window : Window) (left : IsWindow value entries number window) (at there : ℕ) (low : window.low ≤ at) (high : at < window.high)
+      (is : (d : Entry N) → number_at at d ≡ there) where
     -- an entry below leaves those behind it
-    pub left_behind : (behind : ℕ) → there < number → behind ≡ min (number - there) (window.high - 1 - at) → IsWindow value entries number (record { low = at + 1; high = at + behind + 1; guess = at + behind })
+    pub left_behind : (behind : ℕ) → there < number → behind ≡ min (number - there) (window.high - 1 - at)
+        → IsWindow value entries number (record { low = at + 1; high = at + behind + 1; guess = at + behind })
     left_behind behind below least = record {
       in_range = omega (arith, left.in_range, high, most);
       guess = λ some. (omega (arith, some), omega arith);
@@ -89,7 +94,8 @@ module _ {N : Type 0} (value : N → ℕ) (entries : List (Entry N)) (rising : I
         which = grind (arith, least)
 
     -- and one above those before it
-    pub left_before : (before : ℕ) → number < there → before ≡ min (there - number) (at - window.low) → IsWindow value entries number (record { low = at - before; high = at; guess = at - before })
+    pub left_before : (before : ℕ) → number < there → before ≡ min (there - number) (at - window.low)
+        → IsWindow value entries number (record { low = at - before; high = at; guess = at - before })
     left_before before above least = record {
       in_range = omega (arith, left.in_range, high);
       guess = λ some. (omega arith, some);
@@ -98,7 +104,15 @@ module _ {N : Type 0} (value : N → ℕ) (entries : List (Entry N)) (rising : I
           ⊎_elim
           (λ (earlier : k < at). (
             ⊎_elim
-                (λ (far : k < at - before). absurd (omega (arith, far, only.0, is d, same, spread at k d (omega (arith, earlier)) (omega (arith, high, left.in_range)), which)))
+                (λ (far : k < at - before). absurd (omega (
+                  arith,
+                  far,
+                  only.0,
+                  is d,
+                  same,
+                  spread at k d (omega (arith, earlier)) (omega (arith, high, left.in_range)),
+                  which,
+                )))
                 (λ (near : at - before ≤ k). near)
                 (cases_lt k (at - before)),
             earlier,
@@ -114,7 +128,8 @@ module _ {N : Type 0} (value : N → ℕ) (entries : List (Entry N)) (rising : I
   pub parted : IsPartitionedBy (λ entry. nat_lt (value entry.number) number) entries
   parted = IsPartitionedBy-ltb (λ entry. value entry.number) entries number numbers_rise
 
-  pub counted : (count : ℕ) → count ≤ length entries → IsPartitionPoint (λ entry. nat_lt (value entry.number) number ≡ true) (λ entry. nat_lt (value entry.number) number ≡ false) entries count → IsCountBelow value entries number count
+  pub counted : (count : ℕ) → count ≤ length entries → IsPartitionPoint (λ entry. nat_lt (value entry.number) number ≡ true)
+      (λ entry. nat_lt (value entry.number) number ≡ false) entries count → IsCountBelow value entries number count
   counted count in_range point = record {
     in_range = in_range;
     below = λ k default low high. ltb-true (number_at k default) number (point.0 k default low high);
@@ -122,11 +137,13 @@ module _ {N : Type 0} (value : N → ℕ) (entries : List (Entry N)) (rising : I
   }
 
   -- all are, where the last one is
-  pub counted_all : (count : ℕ) (last : Entry N) → count ≡ length entries → 0 < count → last ≡ slice_index_or entries (count - 1) last → value last.number < number → IsCountBelow value entries number count
+  pub counted_all : (count : ℕ) (last : Entry N) → count ≡ length entries → 0 < count → last ≡ slice_index_or entries (count - 1) last
+      → value last.number < number → IsCountBelow value entries number count
   counted_all count last all some is low = record {
     in_range = omega (arith, all);
     below = λ k default from upto.
-        let at_last : number_at (count - 1) default < number = subst (λ (entry : Entry N). value entry.number < number) (is ∙ get_or_default entries (count - 1) last default (omega (arith, all))) low in
+        let at_last : number_at (count - 1) default < number =
+        subst (λ (entry : Entry N). value entry.number < number) (is ∙ get_or_default entries (count - 1) last default (omega (arith, all))) low in
         let rise : number_at k default ≤ number_at (count - 1) default = numbers_rise k (count - 1) default (omega arith) (omega (arith, all)) in
         omega (arith, rise, at_last);
     above = λ k default from upto. absurd (omega (arith, all));
@@ -141,10 +158,12 @@ module _ {N : Type 0} (value : N → ℕ) (entries : List (Entry N)) (rising : I
 
     -- the entries below and above the number
     pub front_is : filter (λ entry. nat_lt (value entry.number) number) entries ≡ take at entries
-    front_is = filter_front (λ entry. nat_lt (value entry.number) number) entries at (λ k d low high. lt-ltb _ _ (count.below k d low high)) (λ k d low high. le-ltb _ _ (count.above k d low high))
+    front_is = filter_front (λ entry. nat_lt (value entry.number) number) entries at (λ k d low high. lt-ltb _ _ (count.below k d low high))
+        (λ k d low high. le-ltb _ _ (count.above k d low high))
 
     pub back_is : filter (λ entry. nat_lt number (value entry.number)) entries ≡ drop at entries
-    back_is = filter_back (λ entry. nat_lt number (value entry.number)) entries at (λ k d low high. le-ltb _ _ (let below = count.below k d low high in omega (arith, below))) (λ k d low high. lt-ltb _ _ (strictly_above k d low high))
+    back_is = filter_back (λ entry. nat_lt number (value entry.number)) entries at
+        (λ k d low high. le-ltb _ _ (let below = count.below k d low high in omega (arith, below))) (λ k d low high. lt-ltb _ _ (strictly_above k d low high))
 
     -- with an entry of the number between them
     pub inserted_rises : (entry : Entry N) → value entry.number ≡ number → IsRisingIndex value (insert entries at entry)
@@ -154,6 +173,7 @@ module _ {N : Type 0} (value : N → ℕ) (entries : List (Entry N)) (rising : I
         let back = filter (λ entry. nat_lt number (value entry.number)) entries in
         subst (λ xs. AllPairs Rises (xs ++ entry ∷ drop at entries)) front_is (subst (λ ys. AllPairs Rises (front ++ entry ∷ ys)) back_is
         (all_pairs_between Rises (λ x y z low high. omega (arith, low, high)) front back entry
-        (AllPairs-filter Rises (λ entry. nat_lt (value entry.number) number) entries rising) (AllPairs-filter Rises (λ entry. nat_lt number (value entry.number)) entries rising)
+        (AllPairs-filter Rises (λ entry. nat_lt (value entry.number) number) entries rising)
+        (AllPairs-filter Rises (λ entry. nat_lt number (value entry.number)) entries rising)
         (λ k d within. let low = ltb-true _ _ (filter_passes (λ entry. nat_lt (value entry.number) number) entries k d within) in omega (arith, low, is))
         (λ k d within. let high = ltb-true _ _ (filter_passes (λ entry. nat_lt number (value entry.number)) entries k d within) in omega (arith, high, is))))

@@ -1,5 +1,6 @@
 -- Rows with their keys.
-use Rattle.std.proofs.Common.{◌≡◌, ℕ, zero, suc, ◌+◌, ◌∙◌, ◌<◌, ◌≤◌, ◌==◌, Bool, true, false, not, cond, List, [], ◌∷◌, Option, None, Some, IsSome, find, filter, length, get_or, refl, ap, arith, ⊎_elim}
+use Rattle.std.proofs.Common.{◌≡◌, ℕ, zero, suc, ◌+◌, ◌∙◌, ◌<◌, ◌≤◌, ◌==◌, Bool, true, false, not, cond, List, [], ◌∷◌, Option, None, Some, IsSome, find}
+use Rattle.std.proofs.Common.{filter, length, get_or, refl, ap, arith, ⊎_elim}
 use Rattle.std.specs.List.{All}
 use Rattle.std.specs.Option.{option_map}
 use Rattle.std.proofs.lemmas.Bool.{cases_lt, eq-eqb}
@@ -20,7 +21,8 @@ module _ {R : Type 0} where
       rw here refl
   some_at (first ∷ rows) (suc at) key row within is = by (first.key == key) (some_at rows at key row (omega arith) is)
     where
-      by : (here : Bool) → IsSome (row_under rows key) → IsSome (option_map (λ (keyed : Keyed R). keyed.row) (cond here (Some first) (find (λ keyed. keyed.key == key) rows)))
+      by : (here : Bool) → IsSome (row_under rows key) → IsSome
+          (option_map (λ (keyed : Keyed R). keyed.row) (cond here (Some first) (find (λ keyed. keyed.key == key) rows)))
       by true some = refl
       by false some = some
 
@@ -32,16 +34,19 @@ module _ {R : Type 0} where
   length-without [] key some = absurd (cc)
   length-without (first ∷ rows) key some = by (first.key == key) some (length-without rows key)
     where
-      by : (here : Bool) → IsSome (option_map (λ (keyed : Keyed R). keyed.row) (cond here (Some first) (find (λ keyed. keyed.key == key) rows))) → (IsSome (row_under rows key) → length (without rows key) < length rows)
+      by : (here : Bool) → IsSome (option_map (λ (keyed : Keyed R). keyed.row) (cond here (Some first) (find (λ keyed. keyed.key == key) rows)))
+          → (IsSome (row_under rows key) → length (without rows key) < length rows)
           → length (cond (not here) (first ∷ without rows key) (without rows key)) < length (first ∷ rows)
       by true some later = omega (arith, length-filter-le (λ keyed. not (keyed.key == key)) rows)
       by false some later = omega (arith, later some)
 
   -- a number above that of the last row is above all
-  pub below_last : (number : R → ℕ) (rows : List (Keyed R)) → IsSound number rows → (at key n : ℕ) (row : R) → IsAtPosition rows at key row → length rows ≤ at + 1 → at < length rows → number row < n → All (λ keyed. number keyed.row < n) rows
+  pub below_last : (number : R → ℕ) (rows : List (Keyed R)) → IsSound number rows → (at key n : ℕ) (row : R) → IsAtPosition rows at key row
+      → length rows ≤ at + 1 → at < length rows → number row < n → All (λ keyed. number keyed.row < n) rows
   below_last number rows sound at key n row is long within above k d inside =
       let last : number (get_or rows at d).row ≡ number row = ap (λ (keyed : Keyed R). number keyed.row) (is d) in
       ⊎_elim
       (λ (before : k < at). omega (arith, sound.rising k at d before within, last, above))
-      (λ (behind : at ≤ k). let same : k ≡ at = omega arith in let here : number (get_or rows k d).row ≡ number row = ap (λ i. number (get_or rows i d).row) same ∙ last in omega (arith, here, above))
+      (λ (behind : at ≤ k). let same : k ≡ at = omega arith in
+      let here : number (get_or rows k d).row ≡ number row = ap (λ i. number (get_or rows i d).row) same ∙ last in omega (arith, here, above))
       (cases_lt k at)

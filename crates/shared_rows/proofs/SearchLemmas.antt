@@ -19,7 +19,8 @@ module _ {T : Type 0} (p : T → Bool) (xs : List T) where
 
   from_failing : (at low : ℕ) → at ≤ low → HoldsAt (λ y. p y ≡ false) xs at → IsPartitionedBy p xs → AllWithin (λ y. p y ≡ false) xs low (length xs)
   from_failing at low h q first k d a b =
-      not_true (p (get_or xs k d)) (λ passes. let here : p (get_or xs at d) ≡ true = first at k d (omega arith) b passes in let there : p (get_or xs at d) ≡ false = q d in absurd (cc))
+      not_true (p (get_or xs k d)) (λ passes. let here : p (get_or xs at d) ≡ true = first at k d (omega arith) b passes in
+      let there : p (get_or xs at d) ≡ false = q d in absurd (cc))
 
   pub failed : (base size middle left : ℕ) → middle ≤ base + left → Halved base size → HoldsAt (λ y. p y ≡ false) xs middle → Halved base left
   failed base size middle left h n q = search (rules, from_failing)
@@ -27,17 +28,22 @@ module _ {T : Type 0} (p : T → Bool) (xs : List T) where
   pub passed : (base size middle left : ℕ) → base + size ≤ middle + left → Halved base size → HoldsAt (λ y. p y ≡ true) xs middle → Halved middle left
   passed base size middle left h n q = grind (arith, common_steps)
 
-  pub after_passing : (base size : ℕ) → size ≤ 1 → base < length xs → Halved base size → HoldsAt (λ y. p y ≡ true) xs base → IsPartitionedBy p xs → IsPartitionPoint (λ y. p y ≡ true) (λ y. p y ≡ false) xs (base + 1)
+  pub after_passing : (base size : ℕ) → size ≤ 1 → base < length xs → Halved base size → HoldsAt (λ y. p y ≡ true) xs base → IsPartitionedBy p xs
+      → IsPartitionPoint (λ y. p y ≡ true) (λ y. p y ≡ false) xs (base + 1)
   after_passing base size one within n q first = grind (arith, nat_tests, n.high first)
 
-  pub at_failing : (base size : ℕ) → Halved base size → HoldsAt (λ y. p y ≡ false) xs base → IsPartitionedBy p xs → IsPartitionPoint (λ y. p y ≡ true) (λ y. p y ≡ false) xs base
+  pub at_failing : (base size : ℕ) → Halved base size → HoldsAt (λ y. p y ≡ false) xs base → IsPartitionedBy p xs
+      → IsPartitionPoint (λ y. p y ≡ true) (λ y. p y ≡ false) xs base
   at_failing base size n q first = (
-    λ k d a b. ⊎_elim (λ (front : base ≡ 0). absurd (omega arith)) (λ (passes : HoldsAt (λ y. p y ≡ true) xs base). let here : p (get_or xs base d) ≡ true = passes d in let there : p (get_or xs base d) ≡ false = q d in absurd (cc)) n.low,
+    λ k d a b. ⊎_elim (λ (front : base ≡ 0). absurd (omega arith))
+        (λ (passes : HoldsAt (λ y. p y ≡ true) xs base). let here : p (get_or xs base d) ≡ true = passes d in let there : p (get_or xs base d) ≡ false = q d in
+        absurd (cc)) n.low,
     from_failing base base (omega arith) q first,
   )
 
 -- one more call
-pub answers_next : {F X R : Type 0} (g : Mut F X R) (P : X → R → Type 0) (f : F) (a : X) (r : R) (f' : F) → Called g f a r f' → AlwaysReturns g P f → P a r × AlwaysReturns g P f'
+pub answers_next : {F X R : Type 0} (g : Mut F X R) (P : X → R → Type 0) (f : F) (a : X) (r : R) (f' : F) → Called g f a r f' → AlwaysReturns g P f
+    → P a r × AlwaysReturns g P f'
 answers_next g P f a r f' c h = ((h.at (a ∷ []) r f' c).0, record { at = λ xs. (h.at (a ∷ xs) r f' c).1 })
 
 -- what was read holds there

@@ -1,12 +1,14 @@
 -- Each text that the grammar spells is read so.
-use Rattle.std.proofs.Common.{◌≡◌, ◌∙◌, ◌≤◌, ◌==◌, ◌⊎◌, ℕ, zero, suc, true, false, List, [], ◌∷◌, ◌++◌, Some, None, codes, length, bytes_eq, refl, sym, ap, inl, inr, ⊎_elim, append_assoc, arith}
+use Rattle.std.proofs.Common.{◌≡◌, ◌∙◌, ◌≤◌, ◌==◌, ◌⊎◌, ℕ, zero, suc, true, false, List, [], ◌∷◌, ◌++◌, Some, None, codes, length, bytes_eq, refl, sym, ap, inl}
+use Rattle.std.proofs.Common.{inr, ⊎_elim, append_assoc, arith}
 use Rattle.std.specs.List.{list_all}
 use Rattle.std.proofs.lemmas.List.{append-nil}
 use Rattle.std.proofs.lemmas.Bool.{and_parts, true≢false}
 use Rattle.plain_types.specs.Names.{is_name, is_name_byte}
 use Rattle.signature_core.specs.declared.kind.Kind.{Kind}
 use Rattle.signature_core.specs.Kinds.{kind_name}
-use Rattle.signature_core.specs.Grammar.{is_blank, IsBlank, Space, space, Reference, no_reference, reference, Param, plain, const_before, const_behind, Params, last, more, Inside, nothing, void, params, Spells, spells}
+use Rattle.signature_core.specs.Grammar.{is_blank, IsBlank, Space, space, Reference, no_reference, reference, Param, plain, const_before, const_behind, Params}
+use Rattle.signature_core.specs.Grammar.{last, more, Inside, nothing, void, params, Spells, spells}
 use Rattle.signature_core.specs.Reading.{skip, word, behind_word, behind_mark, behind_reference, param_at, params_at, inside_at, is_end, signature_of}
 use Rattle.signature_core.proofs.KindLemmas.{by_kind, kind_named-kind_name}
 use Rattle.signature_core.proofs.ParamsLemmas.{params_last, params_more, with_front}
@@ -42,7 +44,8 @@ IsBlank-space : (gap : List ℕ) → Space gap → IsBlank gap
 IsBlank-space _ (space first rest blank) = blank
 
 -- the last word of a parameter with `const`, and what may stand behind it
-reference_read : (w mark gap x : List ℕ) → list_all is_name_byte w ≡ true → Reference mark → IsBlank gap → Ends x → (word (w ++ (mark ++ (gap ++ x))) ≡ w) × (behind_reference (behind_word (w ++ (mark ++ (gap ++ x)))) ≡ x)
+reference_read : (w mark gap x : List ℕ) → list_all is_name_byte w ≡ true → Reference mark → IsBlank gap → Ends x
+    → (word (w ++ (mark ++ (gap ++ x))) ≡ w) × (behind_reference (behind_word (w ++ (mark ++ (gap ++ x)))) ≡ x)
 reference_read w _ gap x all no_reference blank ends =
     let stops = Stops-gap gap x blank ends.no_word in (
       word-append w (gap ++ x) all stops,
@@ -53,7 +56,9 @@ reference_read w _ gap x all (reference before between) blank ends =
     let same : w ++ ((before ++ codes "&") ++ (gap ++ x)) ≡ w ++ (before ++ rest) = simp append_assoc in
     let stops : Stops is_name_byte (before ++ rest) = Stops-gap before rest between refl in (
       ap word same ∙ word-append w (before ++ rest) all stops,
-      ap (λ s. behind_reference (behind_word s)) same ∙ (ap behind_reference (behind_word-append w before rest all between stops refl) ∙ (behind_a_reference (gap ++ x) ∙ skip-append gap x blank ends.no_blank)),
+      ap (λ s. behind_reference (behind_word s)) same
+          ∙ (ap behind_reference (behind_word-append w before rest all between stops refl)
+          ∙ (behind_a_reference (gap ++ x) ∙ skip-append gap x blank ends.no_blank)),
     )
 
 Stops-kind : (kind : Kind) (x : List ℕ) → Stops is_blank (kind_name kind ++ x)
@@ -74,11 +79,13 @@ param_plain : (s : List ℕ) (kind : Kind) (x : List ℕ) → word s ≡ kind_na
 unfolding param_at
 param_plain s kind x first behind second = rw (first, const-kind kind, kind_named-kind_name kind, behind, second) refl
 
-param_before : (s : List ℕ) (kind : Kind) (x : List ℕ) → word s ≡ codes "const" → word (behind_word s) ≡ kind_name kind → behind_reference (behind_word (behind_word s)) ≡ x → param_at s ≡ Some (kind, x)
+param_before : (s : List ℕ) (kind : Kind) (x : List ℕ) → word s ≡ codes "const" → word (behind_word s) ≡ kind_name kind
+    → behind_reference (behind_word (behind_word s)) ≡ x → param_at s ≡ Some (kind, x)
 unfolding param_at
 param_before s kind x first second behind = rw (first, second, kind_named-kind_name kind, behind) refl
 
-param_behind : (s : List ℕ) (kind : Kind) (x : List ℕ) → word s ≡ kind_name kind → word (behind_word s) ≡ codes "const" → behind_reference (behind_word (behind_word s)) ≡ x → param_at s ≡ Some (kind, x)
+param_behind : (s : List ℕ) (kind : Kind) (x : List ℕ) → word s ≡ kind_name kind → word (behind_word s) ≡ codes "const"
+    → behind_reference (behind_word (behind_word s)) ≡ x → param_at s ≡ Some (kind, x)
 unfolding param_at
 param_behind s kind x first second behind = rw (first, const-kind kind, kind_named-kind_name kind, second, behind) refl
 
@@ -140,11 +147,13 @@ record ReadsAll (n : ℕ) (s : List ℕ) (kinds : List Kind) (x : List ℕ) : Ty
   first : ((kind : Kind) × (word s ≡ kind_name kind)) ⊎ (word s ≡ codes "const")
   params : params_at n s ≡ Some (kinds, x)
 
-first_word : (s : List ℕ) (kind : Kind) → (word s ≡ kind_name kind) ⊎ (word s ≡ codes "const") → ((kind : Kind) × (word s ≡ kind_name kind)) ⊎ (word s ≡ codes "const")
+first_word : (s : List ℕ) (kind : Kind) → (word s ≡ kind_name kind) ⊎ (word s ≡ codes "const")
+    → ((kind : Kind) × (word s ≡ kind_name kind)) ⊎ (word s ≡ codes "const")
 first_word s kind (inl e) = inl (kind, e)
 first_word s kind (inr e) = inr e
 
-params_read : (s : List ℕ) (kinds : List Kind) → Params s kinds → (n : ℕ) → length kinds ≤ n → (gap x : List ℕ) → IsBlank gap → ReadsAll n (s ++ (gap ++ 41 ∷ x)) kinds (41 ∷ x)
+params_read : (s : List ℕ) (kinds : List Kind) → Params s kinds → (n : ℕ) → length kinds ≤ n → (gap x : List ℕ) → IsBlank gap
+    → ReadsAll n (s ++ (gap ++ 41 ∷ x)) kinds (41 ∷ x)
 params_read _ _ (last kind param one) zero few gap x blank = absurd (omega arith)
 params_read _ _ (last kind param one) (suc n) few gap x blank =
     let s : List ℕ = param ++ (gap ++ 41 ∷ x) in
@@ -177,11 +186,14 @@ inside_void s x first behind = rw (first, behind) refl
 inside_params : (s : List ℕ) (kinds : List Kind) (x : List ℕ) → ReadsAll 10 s kinds x → inside_at s ≡ Some (kinds, x)
 unfolding inside_at
 inside_params s kinds x reads =
-    let some : bytes_eq (word s) [] ≡ false = ⊎_elim (λ k. rw k.1 (by_kind (λ kind. bytes_eq (kind_name kind) [] ≡ false) refl refl refl refl refl refl k.0)) (λ e. rw e refl) reads.first in
-    let typed : bytes_eq (word s) (codes "void") ≡ false = ⊎_elim (λ k. rw k.1 (by_kind (λ kind. bytes_eq (kind_name kind) (codes "void") ≡ false) refl refl refl refl refl refl k.0)) (λ e. rw e refl) reads.first in
+    let some : bytes_eq (word s) [] ≡ false = ⊎_elim (λ k. rw k.1 (by_kind (λ kind. bytes_eq (kind_name kind) [] ≡ false) refl refl refl refl refl refl k.0))
+    (λ e. rw e refl) reads.first in
+    let typed : bytes_eq (word s) (codes "void") ≡ false = ⊎_elim
+    (λ k. rw k.1 (by_kind (λ kind. bytes_eq (kind_name kind) (codes "void") ≡ false) refl refl refl refl refl refl k.0)) (λ e. rw e refl) reads.first in
     rw (some, typed) reads.params
 
-inside_read : (s : List ℕ) (kinds : List Kind) → Inside s kinds → (before after x : List ℕ) → IsBlank before → IsBlank after → inside_at (skip (before ++ (s ++ (after ++ 41 ∷ x)))) ≡ Some (kinds, 41 ∷ x)
+inside_read : (s : List ℕ) (kinds : List Kind) → Inside s kinds → (before after x : List ℕ) → IsBlank before → IsBlank after
+    → inside_at (skip (before ++ (s ++ (after ++ 41 ∷ x)))) ≡ Some (kinds, 41 ∷ x)
 inside_read _ _ nothing before after x b a =
     let same : before ++ (after ++ 41 ∷ x) ≡ (before ++ after) ++ 41 ∷ x = sym (append_assoc before after (41 ∷ x)) in
     let opened = ap skip same ∙ skip-append (before ++ after) (41 ∷ x) (IsBlank-append before after b a) refl in
@@ -189,9 +201,11 @@ inside_read _ _ nothing before after x b a =
 inside_read _ _ void before after x b a =
     let s : List ℕ = codes "void" ++ (after ++ 41 ∷ x) in
     let stops = Stops-gap after (41 ∷ x) a refl in
-    ap inside_at (skip-append before s b refl) ∙ inside_void s (41 ∷ x) (word-append (codes "void") (after ++ 41 ∷ x) refl stops) (behind_word-append (codes "void") after (41 ∷ x) refl a stops refl)
+    ap inside_at (skip-append before s b refl) ∙ inside_void s (41 ∷ x) (word-append (codes "void") (after ++ 41 ∷ x) refl stops)
+    (behind_word-append (codes "void") after (41 ∷ x) refl a stops refl)
 inside_read _ _ (params kinds s some few) before after x b a =
-    ap inside_at (skip-append before _ b (Stops-params s kinds some (after ++ 41 ∷ x))) ∙ inside_params _ kinds (41 ∷ x) (params_read s kinds some 10 few after x a)
+    ap inside_at (skip-append before _ b (Stops-params s kinds some (after ++ 41 ∷ x)))
+    ∙ inside_params _ kinds (41 ∷ x) (params_read s kinds some 10 few after x a)
 
 -- ---- a signature
 
@@ -205,7 +219,9 @@ Stops-name (c ∷ name) named x =
     let words = words-name (c ∷ name) named in
     is_blank_word c (and_parts (is_name_byte c) (list_all is_name_byte name) words).0
 
-signature_read : (s name opened rest : List ℕ) (kinds : List Kind) → word (skip s) ≡ name → is_name name ≡ true → behind_mark 40 (behind_word (skip s)) ≡ Some opened → inside_at opened ≡ Some (kinds, rest) → is_end rest ≡ true → signature_of s ≡ Some (record { name = name; kinds = kinds })
+signature_read : (s name opened rest : List ℕ) (kinds : List Kind) → word (skip s) ≡ name → is_name name ≡ true
+    → behind_mark 40 (behind_word (skip s)) ≡ Some opened → inside_at opened ≡ Some (kinds, rest) → is_end rest ≡ true
+    → signature_of s ≡ Some (record { name = name; kinds = kinds })
 unfolding signature_of
 signature_read s name opened rest kinds first named mark inside end = rw (first, named, mark, inside, end) refl
 

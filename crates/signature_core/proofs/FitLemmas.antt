@@ -17,7 +17,8 @@ Decides-eq j k =
     (λ e. same_true the_type (search rules) _ _ e, λ e. let P : Kind → Type 0 = λ kind. eq-value.it j kind ≡ true in subst P e same)
 
 -- a test of kinds that tells them apart tells whether the rest of s completes p
-Decides-starts_with : {E : Kind → Kind → Bool} → ((j k : Kind) → Decides (E j k) (j ≡ k)) → (s p : List Kind) → Decides (starts_with E s p) ((rest : List Kind) × (s ≡ p ++ rest))
+Decides-starts_with : {E : Kind → Kind → Bool} → ((j k : Kind) → Decides (E j k) (j ≡ k)) → (s p : List Kind)
+    → Decides (starts_with E s p) ((rest : List Kind) × (s ≡ p ++ rest))
 Decides-starts_with {E} decides s p =
     let both = starts_is decides s p (starts_with E s p) refl in
     (λ e. (drop (length p) s, both.0 e), λ w. both.1 w.0 w.1)

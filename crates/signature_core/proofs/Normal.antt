@@ -20,14 +20,16 @@ join_inside [] few = nothing
 join_inside (kind ∷ kinds) few = params (kind ∷ kinds) _ (join_params kind kinds) few
 
 pub normal_text_spells : (name : List ℕ) (kinds : List Kind) → is_name name ≡ true → length kinds ≤ 10 → Spells (normal_text name kinds) name kinds
-normal_text_spells name kinds named few = spells name kinds [] [] [] (join_with_byte 44 (map kind_name kinds)) [] [] refl named refl refl (join_inside kinds few) refl refl
+normal_text_spells name kinds named few = spells name kinds [] [] [] (join_with_byte 44 (map kind_name kinds)) [] [] refl named refl refl
+    (join_inside kinds few) refl refl
 
 pub normal_text_read : (s : Signature) → IsNormal s → signature_of (normal_text s.name s.kinds) ≡ Some s
 normal_text_read s normal = spells_read _ s.name s.kinds (normal_text_spells s.name s.kinds normal.0 normal.1)
 
 -- ---- what is read, in the grammar's words
 
-pub read_iff : (text : List ℕ) (s : Signature) → (signature_of text ≡ Some s → Spells text s.name s.kinds) × (Spells text s.name s.kinds → signature_of text ≡ Some s)
+pub read_iff : (text : List ℕ) (s : Signature) → (signature_of text ≡ Some s → Spells text s.name s.kinds)
+    × (Spells text s.name s.kinds → signature_of text ≡ Some s)
 read_iff text s = (signature_spelled text s, spells_read text s.name s.kinds)
 
 pub Spells-normal : (text name : List ℕ) (kinds : List Kind) → Spells text name kinds → (is_name name ≡ true) × (length kinds ≤ 10)
@@ -53,13 +55,16 @@ abbrev pub names_to : List ℕ → List Kind → ℕ → List ℕ
 names_to start kinds i = start ++ join_with_byte 44 (map kind_name (take i kinds))
 
 -- the first kind, and a further one behind a comma: `now` is the text after the step
-pub names_to_first : (start : List ℕ) (kinds : List Kind) (i : ℕ) (d : Kind) (now before word : List ℕ) → i < length kinds → i ≤ 0 → before ≡ names_to start kinds i → word ≡ kind_name (get_or kinds i d) → now ≡ before ++ word → now ≡ names_to start kinds (i + 1)
+pub names_to_first : (start : List ℕ) (kinds : List Kind) (i : ℕ) (d : Kind) (now before word : List ℕ) → i < length kinds → i ≤ 0
+    → before ≡ names_to start kinds i → word ≡ kind_name (get_or kinds i d) → now ≡ before ++ word → now ≡ names_to start kinds (i + 1)
 names_to_first start kinds i d now before word within none kept named pushed =
     let first : i ≡ 0 = omega arith in
     let names = map_more kind_name kinds i d within in
     rw (pushed, kept, named, names, first) (simp append_assoc)
 
-pub names_to_more : (start : List ℕ) (kinds : List Kind) (i : ℕ) (d : Kind) (now before comma word : List ℕ) → i < length kinds → 0 < i → before ≡ names_to start kinds i → comma ≡ codes "," → word ≡ kind_name (get_or kinds i d) → now ≡ (before ++ comma) ++ word → now ≡ names_to start kinds (i + 1)
+pub names_to_more : (start : List ℕ) (kinds : List Kind) (i : ℕ) (d : Kind) (now before comma word : List ℕ) → i < length kinds → 0 < i
+    → before ≡ names_to start kinds i → comma ≡ codes "," → word ≡ kind_name (get_or kinds i d) → now ≡ (before ++ comma) ++ word
+    → now ≡ names_to start kinds (i + 1)
 names_to_more start kinds i d now before comma word within later kept mark named pushed =
     let names = map_more kind_name kinds i d within in
     let some : 0 < length (map kind_name (take i kinds)) = simp (length-map, length-take) (omega arith) in

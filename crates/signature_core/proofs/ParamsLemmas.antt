@@ -21,28 +21,39 @@ params_none : (n m : ℕ) (s : List ℕ) → m ≡ suc n → param_at s ≡ None
 unfolding params_at
 params_none n m s e none = rw (e, none) refl
 
-pub params_last : (n m : ℕ) (s : List ℕ) (kind : Kind) (x : List ℕ) → m ≡ suc n → param_at s ≡ Some (kind, x) → behind_mark 44 x ≡ None → params_at m s ≡ Some (kind ∷ [], x)
+pub params_last : (n m : ℕ) (s : List ℕ) (kind : Kind) (x : List ℕ) → m ≡ suc n → param_at s ≡ Some (kind, x) → behind_mark 44 x ≡ None
+    → params_at m s ≡ Some (kind ∷ [], x)
 unfolding params_at
 params_last n m s kind x e param stop = rw (e, param, stop) refl
 
-pub params_more : (n m : ℕ) (s : List ℕ) (kind : Kind) (x y : List ℕ) → m ≡ suc n → param_at s ≡ Some (kind, x) → behind_mark 44 x ≡ Some y → params_at m s ≡ with_front (kind ∷ []) (params_at n y)
+pub params_more : (n m : ℕ) (s : List ℕ) (kind : Kind) (x y : List ℕ) → m ≡ suc n → param_at s ≡ Some (kind, x) → behind_mark 44 x ≡ Some y
+    → params_at m s ≡ with_front (kind ∷ []) (params_at n y)
 unfolding params_at
 params_more n m s kind x y e param comma = rw (e, param, comma) refl
 
 -- what a loop over the parameters keeps, where it ends and at a further step: `front` was read before s,
 -- in `count` steps, and `whole` is what there is to read
-pub loop_none : (front : List Kind) (count : ℕ) (s : List ℕ) (whole : Read (List Kind)) → count < 10 → with_front front (params_at (10 - count) s) ≡ whole → None ≡ param_at s → None ≡ whole
+pub loop_none : (front : List Kind) (count : ℕ) (s : List ℕ) (whole : Read (List Kind)) → count < 10 → with_front front (params_at (10 - count) s) ≡ whole
+    → None ≡ param_at s → None ≡ whole
 loop_none front count s whole below kept none =
     ap (with_front front) (sym (params_none (10 - (count + 1)) (10 - count) s (omega arith) (sym none))) ∙ kept
 
-pub loop_last : (front new : List Kind) (count : ℕ) (s : List ℕ) (whole : Read (List Kind)) (kind : Kind) (x : List ℕ) → count < 10 → with_front front (params_at (10 - count) s) ≡ whole → Some (kind, x) ≡ param_at s → None ≡ behind_mark 44 x → new ≡ front ++ kind ∷ [] → Some (new, x) ≡ whole
+pub loop_last : (front new : List Kind) (count : ℕ) (s : List ℕ) (whole : Read (List Kind)) (kind : Kind) (x : List ℕ) → count < 10
+    → with_front front (params_at (10 - count) s) ≡ whole → Some (kind, x) ≡ param_at s → None ≡ behind_mark 44 x → new ≡ front ++ kind ∷ []
+    → Some (new, x) ≡ whole
 loop_last front new count s whole kind x below kept param stop pushed =
-    ap (λ (kinds : List Kind). Some (kinds, x)) pushed ∙ (ap (with_front front) (sym (params_last (10 - (count + 1)) (10 - count) s kind x (omega arith) (sym param) (sym stop))) ∙ kept)
+    ap (λ (kinds : List Kind). Some (kinds, x)) pushed
+    ∙ (ap (with_front front) (sym (params_last (10 - (count + 1)) (10 - count) s kind x (omega arith) (sym param) (sym stop))) ∙ kept)
 
-pub loop_more : (front new : List Kind) (count : ℕ) (s : List ℕ) (whole : Read (List Kind)) (kind : Kind) (x y : List ℕ) → count < 10 → with_front front (params_at (10 - count) s) ≡ whole → Some (kind, x) ≡ param_at s → Some y ≡ behind_mark 44 x → new ≡ front ++ kind ∷ [] → with_front new (params_at (10 - (count + 1)) y) ≡ whole
+pub loop_more : (front new : List Kind) (count : ℕ) (s : List ℕ) (whole : Read (List Kind)) (kind : Kind) (x y : List ℕ) → count < 10
+    → with_front front (params_at (10 - count) s) ≡ whole → Some (kind, x) ≡ param_at s → Some y ≡ behind_mark 44 x → new ≡ front ++ kind ∷ []
+    → with_front new (params_at (10 - (count + 1)) y) ≡ whole
 loop_more front new count s whole kind x y below kept param comma pushed =
-    ap (λ (kinds : List Kind). with_front kinds (params_at (10 - (count + 1)) y)) pushed ∙ (sym (with_front-with_front front (kind ∷ []) (params_at (10 - (count + 1)) y)) ∙ (ap (with_front front) (sym (params_more (10 - (count + 1)) (10 - count) s kind x y (omega arith) (sym param) (sym comma))) ∙ kept))
+    ap (λ (kinds : List Kind). with_front kinds (params_at (10 - (count + 1)) y)) pushed
+    ∙ (sym (with_front-with_front front (kind ∷ []) (params_at (10 - (count + 1)) y))
+    ∙ (ap (with_front front) (sym (params_more (10 - (count + 1)) (10 - count) s kind x y (omega arith) (sym param) (sym comma))) ∙ kept))
 
-pub loop_out : (front : List Kind) (count : ℕ) (s : List ℕ) (whole : Read (List Kind)) → 10 ≤ count → with_front front (params_at (10 - count) s) ≡ whole → None ≡ whole
+pub loop_out : (front : List Kind) (count : ℕ) (s : List ℕ) (whole : Read (List Kind)) → 10 ≤ count → with_front front (params_at (10 - count) s) ≡ whole
+    → None ≡ whole
 loop_out front count s whole past kept =
     ap (with_front front) (sym (params_zero (10 - count) s (omega arith))) ∙ kept

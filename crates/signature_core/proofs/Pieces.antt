@@ -1,5 +1,6 @@
 -- A text in two pieces: the bytes at its front that pass a test, and what stands behind them.
-use Rattle.std.proofs.Common.{◌≡◌, ◌∙◌, ◌<◌, ◌+◌, ◌==◌, ◌&&◌, ℕ, suc, Bool, true, false, List, [], ◌∷◌, ◌++◌, Some, length, nat_le, take, drop, refl, sym, ap, subst, cond, ⊎_elim, arith}
+use Rattle.std.proofs.Common.{◌≡◌, ◌∙◌, ◌<◌, ◌+◌, ◌==◌, ◌&&◌, ℕ, suc, Bool, true, false, List, [], ◌∷◌, ◌++◌, Some, length, nat_le, take, drop, refl, sym, ap}
+use Rattle.std.proofs.Common.{subst, cond, ⊎_elim, arith}
 use Rattle.std.specs.List.{list_all, prefix_len}
 use Rattle.std.specs.Str.{IsAscii, IsUtf8}
 use Rattle.std.proofs.lemmas.List.{take_at, drop_at, take-append-drop}
@@ -95,7 +96,8 @@ pub word-append : (w x : List ℕ) → list_all is_name_byte w ≡ true → Stop
 unfolding word
 word-append w x all stops = front_all is_name_byte w x all stops
 
-pub behind_word-append : (w gap x : List ℕ) → list_all is_name_byte w ≡ true → IsBlank gap → Stops is_name_byte (gap ++ x) → Stops is_blank x → behind_word (w ++ (gap ++ x)) ≡ x
+pub behind_word-append : (w gap x : List ℕ) → list_all is_name_byte w ≡ true → IsBlank gap → Stops is_name_byte (gap ++ x) → Stops is_blank x
+    → behind_word (w ++ (gap ++ x)) ≡ x
 unfolding behind_word
 behind_word-append w gap x all blank stops begins =
     ap skip (behind_all is_name_byte w (gap ++ x) all stops) ∙ skip-append gap x blank begins

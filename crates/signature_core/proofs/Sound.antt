@@ -1,5 +1,6 @@
 -- Each signature that is read is spelled so by the grammar.
-use Rattle.std.proofs.Common.{◌≡◌, ◌∙◌, ◌≤◌, ◌==◌, ℕ, zero, suc, Bool, true, false, List, [], ◌∷◌, ◌++◌, Option, Some, None, cond, codes, length, bytes_eq, find, refl, sym, ap, subst, append_assoc, arith}
+use Rattle.std.proofs.Common.{◌≡◌, ◌∙◌, ◌≤◌, ◌==◌, ℕ, zero, suc, Bool, true, false, List, [], ◌∷◌, ◌++◌, Option, Some, None, cond, codes, length, bytes_eq}
+use Rattle.std.proofs.Common.{find, refl, sym, ap, subst, append_assoc, arith}
 use Rattle.std.specs.Option.{option_map, option_and_then, option_map_or}
 use Rattle.std.proofs.lemmas.List.{append-nil, nil_from_length}
 use Rattle.std.proofs.lemmas.Bool.{eqb-true, true≢false}
@@ -8,7 +9,8 @@ use Rattle.plain_types.specs.Names.{is_name, is_name_byte}
 use Rattle.signature_core.specs.declared.kind.Kind.{Kind}
 use Rattle.signature_core.specs.declared.signature.Signature.{Signature}
 use Rattle.signature_core.specs.Kinds.{kind_name, kind_named, every_kind}
-use Rattle.signature_core.specs.Grammar.{IsBlank, Space, space, Reference, no_reference, reference, Param, plain, const_before, const_behind, Params, last, more, Inside, nothing, void, params, Spells, spells}
+use Rattle.signature_core.specs.Grammar.{IsBlank, Space, space, Reference, no_reference, reference, Param, plain, const_before, const_behind, Params, last}
+use Rattle.signature_core.specs.Grammar.{more, Inside, nothing, void, params, Spells, spells}
 use Rattle.signature_core.specs.Reading.{skip, word, behind_word, behind_mark, behind_reference, param_at, params_at, inside_at, is_end, signature_of}
 use Rattle.signature_core.proofs.KindLemmas.{by_kind}
 use Rattle.signature_core.proofs.Pieces.{Stops, skip_split, word_split, mark_split}
@@ -75,12 +77,14 @@ record ParamAt (s : List ℕ) (kind : Kind) (x : List ℕ) : Type 0 where
   is_gap : IsBlank gap
   same : s ≡ param ++ (gap ++ x)
 
-before_split : (s : List ℕ) (kind : Kind) → word s ≡ codes "const" → word (behind_word s) ≡ kind_name kind → ParamAt s kind (behind_reference (behind_word (behind_word s)))
+before_split : (s : List ℕ) (kind : Kind) → word s ≡ codes "const" → word (behind_word s) ≡ kind_name kind
+    → ParamAt s kind (behind_reference (behind_word (behind_word s)))
 before_split s kind first second =
     let one = word_split s in
     let two = word_split (behind_word s) in
     let tail = reference_split two.0 (behind_word (behind_word s)) two.1 in
-    let rest : behind_word s ≡ kind_name kind ++ (two.0 ++ behind_word (behind_word s)) = two.3 ∙ ap (λ w. w ++ (two.0 ++ behind_word (behind_word s))) second in
+    let rest : behind_word s ≡ kind_name kind ++ (two.0 ++ behind_word (behind_word s)) = two.3
+    ∙ ap (λ w. w ++ (two.0 ++ behind_word (behind_word s))) second in
     let P : List ℕ → Type 0 = λ t. Stops is_name_byte (one.0 ++ t) in
     let apart = IsSpace-between one.0 (kind_name kind) _ one.1 (begins-kind kind _) (subst P rest one.2) in
     let s_is : s ≡ codes "const" ++ (one.0 ++ (kind_name kind ++ (tail.mark ++ (tail.gap ++ behind_reference (behind_word (behind_word s)))))) =
@@ -93,7 +97,8 @@ before_split s kind first second =
       same = s_is ∙ simp append_assoc;
     }
 
-behind_split : (s : List ℕ) (kind : Kind) → word s ≡ kind_name kind → word (behind_word s) ≡ codes "const" → ParamAt s kind (behind_reference (behind_word (behind_word s)))
+behind_split : (s : List ℕ) (kind : Kind) → word s ≡ kind_name kind → word (behind_word s) ≡ codes "const"
+    → ParamAt s kind (behind_reference (behind_word (behind_word s)))
 behind_split s kind first second =
     let one = word_split s in
     let two = word_split (behind_word s) in
@@ -132,16 +137,24 @@ param_split s kind x e = step (bytes_eq (word s) (codes "const")) refl e
     found : (k : Kind) (t : List ℕ) → ParamAt s k t → ◌≡◌ {A = Kind × List ℕ} (k, t) (kind, x) → ParamAt s kind x
     found k t at same = let P : Kind × List ℕ → Type 0 = λ p. ParamAt s p.0 p.1 in subst P same at
 
-    typed : (k : Kind) → kind_named (word s) ≡ Some k → (b : Bool) → bytes_eq (word (behind_word s)) (codes "const") ≡ b → ◌≡◌ {A = Kind × List ℕ} (k, cond b (behind_reference (behind_word (behind_word s))) (behind_word s)) (kind, x) → ParamAt s kind x
+    typed : (k : Kind) → kind_named (word s) ≡ Some k → (b : Bool) → bytes_eq (word (behind_word s)) (codes "const") ≡ b
+        → ◌≡◌ {A = Kind × List ℕ} (k, cond b (behind_reference (behind_word (behind_word s))) (behind_word s)) (kind, x) → ParamAt s kind x
     typed k named true second same = found k _ (behind_split s k (kind_named_is (word s) k named) (const_is _ second)) same
     typed k named false second same = found k _ (plain_split s k (kind_named_is (word s) k named)) same
 
-    step : (b : Bool) → bytes_eq (word s) (codes "const") ≡ b → cond b (option_map {U = Kind × List ℕ} (λ (kind : Kind). (kind, behind_reference (behind_word (behind_word s)))) (kind_named (word (behind_word s)))) (option_map {U = Kind × List ℕ} (λ (kind : Kind). (kind, cond (bytes_eq (word (behind_word s)) (codes "const")) (behind_reference (behind_word (behind_word s))) (behind_word s))) (kind_named (word s))) ≡ Some (kind, x) → ParamAt s kind x
+    step : (b : Bool) → bytes_eq (word s) (codes "const") ≡ b
+        → cond b (option_map {U = Kind × List ℕ} (λ (kind : Kind). (kind, behind_reference (behind_word (behind_word s)))) (kind_named (word (behind_word s))))
+        (option_map {U = Kind × List ℕ} (λ (kind : Kind).
+        (kind, cond (bytes_eq (word (behind_word s)) (codes "const")) (behind_reference (behind_word (behind_word s))) (behind_word s))) (kind_named (word s)))
+        ≡ Some (kind, x) → ParamAt s kind x
     step true first answer =
-        let k = map_some {B = Kind × List ℕ} (λ (kind : Kind). (kind, behind_reference (behind_word (behind_word s)))) (kind_named (word (behind_word s))) (kind, x) answer in
+        let k = map_some {B = Kind × List ℕ} (λ (kind : Kind). (kind, behind_reference (behind_word (behind_word s)))) (kind_named (word (behind_word s)))
+        (kind, x) answer in
         found k.0 _ (before_split s k.0 (const_is (word s) first) (kind_named_is _ k.0 k.1)) k.2
     step false first answer =
-        let k = map_some {B = Kind × List ℕ} (λ (kind : Kind). (kind, cond (bytes_eq (word (behind_word s)) (codes "const")) (behind_reference (behind_word (behind_word s))) (behind_word s))) (kind_named (word s)) (kind, x) answer in
+        let k = map_some {B = Kind × List ℕ} (λ (kind : Kind).
+        (kind, cond (bytes_eq (word (behind_word s)) (codes "const")) (behind_reference (behind_word (behind_word s))) (behind_word s)))
+        (kind_named (word s)) (kind, x) answer in
         typed k.0 k.1 (bytes_eq (word (behind_word s)) (codes "const")) refl k.2
 
 -- ---- parameters
@@ -165,15 +178,26 @@ params_split (suc n) s kinds x e =
     found : (ks : List Kind) (t : List ℕ) → ParamsAt (suc n) s ks t → ◌≡◌ {A = List Kind × List ℕ} (ks, t) (kinds, x) → ParamsAt (suc n) s kinds x
     found ks t at same = let P : List Kind × List ℕ → Type 0 = λ p. ParamsAt (suc n) s p.0 p.1 in subst P same at
 
-    step : (kind : Kind) (t : List ℕ) → ParamAt s kind t → (o : Option (List ℕ)) → behind_mark 44 t ≡ o → option_map_or (λ (rest : List ℕ). option_map {U = List Kind × List ℕ} (λ (read : List Kind × List ℕ). (kind ∷ read.0, read.1)) (params_at n rest)) o (Some (kind ∷ [], t)) ≡ Some (kinds, x) → ((s : List ℕ) (kinds : List Kind) (x : List ℕ) → params_at n s ≡ Some (kinds, x) → ParamsAt n s kinds x) → ParamsAt (suc n) s kinds x
+    step : (kind : Kind) (t : List ℕ) → ParamAt s kind t → (o : Option (List ℕ)) → behind_mark 44 t ≡ o
+        → option_map_or (λ (rest : List ℕ). option_map {U = List Kind × List ℕ} (λ (read : List Kind × List ℕ). (kind ∷ read.0, read.1)) (params_at n rest)) o
+        (Some (kind ∷ [], t)) ≡ Some (kinds, x) → ((s : List ℕ) (kinds : List Kind) (x : List ℕ) → params_at n s ≡ Some (kinds, x) → ParamsAt n s kinds x)
+        → ParamsAt (suc n) s kinds x
     step kind t at None stop answer later =
         let same : ◌≡◌ {A = List Kind × List ℕ} (kind ∷ [], t) (kinds, x) = cc in
-        found (kind ∷ []) t (record { params = at.param; gap = at.gap; are_params = last kind at.param at.is_param; few = omega arith; is_gap = at.is_gap; same = at.same }) same
+        found (kind ∷ []) t (record {
+          params = at.param;
+          gap = at.gap;
+          are_params = last kind at.param at.is_param;
+          few = omega arith;
+          is_gap = at.is_gap;
+          same = at.same;
+        }) same
     step kind t at (Some rest) comma answer later =
         let others = map_some {B = List Kind × List ℕ} (λ (read : List Kind × List ℕ). (kind ∷ read.0, read.1)) (params_at n rest) (kinds, x) answer in
         let next = later rest others.0.0 others.0.1 others.1 in
         let cut = mark_split 44 t rest comma in
-        let s_is : s ≡ at.param ++ (at.gap ++ (codes "," ++ (cut.0 ++ (next.params ++ (next.gap ++ others.0.1))))) = at.same ∙ ap (λ t. at.param ++ (at.gap ++ t)) (cut.2 ∙ ap (λ t. codes "," ++ (cut.0 ++ t)) next.same) in
+        let s_is : s ≡ at.param ++ (at.gap ++ (codes "," ++ (cut.0 ++ (next.params ++ (next.gap ++ others.0.1))))) = at.same
+        ∙ ap (λ t. at.param ++ (at.gap ++ t)) (cut.2 ∙ ap (λ t. codes "," ++ (cut.0 ++ t)) next.same) in
         let fewer : length (kind ∷ others.0.0) ≤ suc n = let h = next.few in omega arith in
         found (kind ∷ others.0.0) others.0.1 (record {
           params = at.param ++ (at.gap ++ (codes "," ++ (cut.0 ++ next.params)));
@@ -193,18 +217,28 @@ record InsideAt (s : List ℕ) (kinds : List Kind) (x : List ℕ) : Type 0 where
   is_gap : IsBlank gap
   same : s ≡ inside ++ (gap ++ x)
 
-word_inside : (s w : List ℕ) (kinds : List Kind) (x : List ℕ) → Inside w [] → bytes_eq (word s) w ≡ true → ◌≡◌ {A = Option (List Kind × List ℕ)} (Some ([], behind_word s)) (Some (kinds, x)) → InsideAt s kinds x
+word_inside : (s w : List ℕ) (kinds : List Kind) (x : List ℕ) → Inside w [] → bytes_eq (word s) w ≡ true
+    → ◌≡◌ {A = Option (List Kind × List ℕ)} (Some ([], behind_word s)) (Some (kinds, x)) → InsideAt s kinds x
 word_inside s w kinds x inside first answer =
     let cut = word_split s in
     let P : List Kind × List ℕ → Type 0 = λ p. InsideAt s p.0 p.1 in
     let same : ◌≡◌ {A = List Kind × List ℕ} ([], behind_word s) (kinds, x) = cc in
-    subst P same (record { inside = w; gap = cut.0; is_inside = inside; is_gap = cut.1; same = cut.3 ∙ ap (λ t. t ++ (cut.0 ++ behind_word s)) ((bytes_eq-Decides (word s) w).0 first) })
+    subst P same (record {
+      inside = w;
+      gap = cut.0;
+      is_inside = inside;
+      is_gap = cut.1;
+      same = cut.3
+          ∙ ap (λ t. t ++ (cut.0 ++ behind_word s)) ((bytes_eq-Decides (word s) w).0 first);
+    })
 
 inside_split : (s : List ℕ) (kinds : List Kind) (x : List ℕ) → inside_at s ≡ Some (kinds, x) → InsideAt s kinds x
 unfolding inside_at
 inside_split s kinds x e = step (bytes_eq (word s) []) (bytes_eq (word s) (codes "void")) refl refl e
   where
-    step : (a b : Bool) → bytes_eq (word s) [] ≡ a → bytes_eq (word s) (codes "void") ≡ b → cond {A = Option (List Kind × List ℕ)} a (Some ([], behind_word s)) (cond b (Some ([], behind_word s)) (params_at 10 s)) ≡ Some (kinds, x) → InsideAt s kinds x
+    step : (a b : Bool) → bytes_eq (word s) [] ≡ a → bytes_eq (word s) (codes "void") ≡ b
+        → cond {A = Option (List Kind × List ℕ)} a (Some ([], behind_word s)) (cond b (Some ([], behind_word s)) (params_at 10 s)) ≡ Some (kinds, x)
+        → InsideAt s kinds x
     step true b empty _ answer = word_inside s [] kinds x nothing empty answer
     step false true _ typed answer = word_inside s (codes "void") kinds x void typed answer
     step false false _ _ answer =
@@ -217,7 +251,8 @@ end_split : (s : List ℕ) → is_end s ≡ true → (gap : List ℕ) × IsBlank
 unfolding is_end
 end_split s e = step (behind_mark 41 s) refl e
   where
-    step : (o : Option (List ℕ)) → behind_mark 41 s ≡ o → option_map_or (λ (rest : List ℕ). length rest == 0) o false ≡ true → (gap : List ℕ) × IsBlank gap × (s ≡ codes ")" ++ gap)
+    step : (o : Option (List ℕ)) → behind_mark 41 s ≡ o → option_map_or (λ (rest : List ℕ). length rest == 0) o false ≡ true
+        → (gap : List ℕ) × IsBlank gap × (s ≡ codes ")" ++ gap)
     step None close empty = absurd cc
     step (Some x) close empty =
         let cut = mark_split 41 s x close in
@@ -237,10 +272,15 @@ signature_spelled s signature e =
     let open_cut = mark_split 40 (behind_word (skip s)) opened.0 opened.1 in
     let between = inside_split opened.0 inside.0.0 inside.0.1 inside.1 in
     let close_cut = end_split inside.0.1 ended.0 in
-    let last_is : opened.0 ≡ between.inside ++ (between.gap ++ (codes ")" ++ close_cut.0)) = between.same ∙ ap (λ t. between.inside ++ (between.gap ++ t)) close_cut.2 in
-    let rest_is : behind_word (skip s) ≡ codes "(" ++ (open_cut.0 ++ (between.inside ++ (between.gap ++ (codes ")" ++ close_cut.0)))) = open_cut.2 ∙ ap (λ t. codes "(" ++ (open_cut.0 ++ t)) last_is in
-    let s_is : s ≡ before.0 ++ (word (skip s) ++ (at_name.0 ++ (codes "(" ++ (open_cut.0 ++ (between.inside ++ (between.gap ++ (codes ")" ++ close_cut.0))))))) = before.2 ∙ ap (λ t. before.0 ++ t) (at_name.3 ∙ ap (λ t. word (skip s) ++ (at_name.0 ++ t)) rest_is) in
-    let spelled = spells (word (skip s)) inside.0.0 before.0 at_name.0 open_cut.0 between.inside between.gap close_cut.0 before.1 named.0 at_name.1 open_cut.1 between.is_inside between.is_gap close_cut.1 in
+    let last_is : opened.0 ≡ between.inside ++ (between.gap ++ (codes ")" ++ close_cut.0)) = between.same
+    ∙ ap (λ t. between.inside ++ (between.gap ++ t)) close_cut.2 in
+    let rest_is : behind_word (skip s) ≡ codes "(" ++ (open_cut.0 ++ (between.inside ++ (between.gap ++ (codes ")" ++ close_cut.0)))) = open_cut.2
+    ∙ ap (λ t. codes "(" ++ (open_cut.0 ++ t)) last_is in
+    let s_is : s ≡ before.0 ++ (word (skip s)
+    ++ (at_name.0 ++ (codes "(" ++ (open_cut.0 ++ (between.inside ++ (between.gap ++ (codes ")" ++ close_cut.0))))))) = before.2
+    ∙ ap (λ t. before.0 ++ t) (at_name.3 ∙ ap (λ t. word (skip s) ++ (at_name.0 ++ t)) rest_is) in
+    let spelled = spells (word (skip s)) inside.0.0 before.0 at_name.0 open_cut.0 between.inside between.gap close_cut.0 before.1 named.0 at_name.1 open_cut.1
+    between.is_inside between.is_gap close_cut.1 in
     let P : List ℕ → Type 0 = λ t. Spells t (word (skip s)) inside.0.0 in
     let Q : List ℕ → Type 0 = λ n. Spells s n inside.0.0 in
     let R : Signature → Type 0 = λ g. Spells s g.name g.kinds in

@@ -23,7 +23,8 @@ module _ {A B : Type 0} (part : A → B) where
   all_parts P xs each = All-map P part xs (λ k d within. each (slice_index_or xs k d))
 
   -- what is known of the part at an index, of the element that is read there
-  pub part_at : (P : B → Type 0) (xs : List A) (i : ℕ) (x : A) → IsSomeAnd (slice_get (map part xs) i) P → x ≡ get_or xs i x → P (part x) × (slice_get (map part xs) i ≡ Some (part x))
+  pub part_at : (P : B → Type 0) (xs : List A) (i : ℕ) (x : A) → IsSomeAnd (slice_get (map part xs) i) P → x ≡ get_or xs i x
+      → P (part x) × (slice_get (map part xs) i ≡ Some (part x))
   part_at P [] i x known is = absurd known
   part_at P (y ∷ ys) zero x known is = (subst (λ z. P (part z)) (sym is) known, ap (λ z. Some (part z)) (sym is))
   part_at P (y ∷ ys) (suc i) x known is = part_at P ys i x known is
@@ -46,6 +47,7 @@ if_ok P Q (Ok x) follows holds = follows x holds
 if_ok P Q (Err e) follows holds = holds
 
 -- a call that wants memory after it has found nothing to refuse
-pub refused_by_none : {T : Type 0} (refusal : Option Code) (result : Result T Fault) → IsErrAnd result (λ fault. fault ≡ Memory) → refusal ≡ None → RefusedBy refusal result
+pub refused_by_none : {T : Type 0} (refusal : Option Code) (result : Result T Fault) → IsErrAnd result (λ fault. fault ≡ Memory) → refusal ≡ None
+    → RefusedBy refusal result
 refused_by_none refusal (Ok value) wanted none = absurd wanted
 refused_by_none {T} refusal (Err fault) wanted none = subst (λ fault. RefusedBy {T = T} refusal (Err fault)) (sym wanted) none

@@ -12,7 +12,8 @@ abbrev pub concatenated : {A : Type 0} → List A → Read (List A) → Read (Li
 concatenated done (Ok rest) = Ok (done ++ rest)
 concatenated done (Err code) = Err code
 
-concatenated_more : {A : Type 0} (done : List A) (x : A) (rest : Read (List A)) → concatenated (done ++ x ∷ []) rest ≡ concatenated done (rest >>= λ xs. Ok (x ∷ xs))
+concatenated_more : {A : Type 0} (done : List A) (x : A) (rest : Read (List A))
+    → concatenated (done ++ x ∷ []) rest ≡ concatenated done (rest >>= λ xs. Ok (x ∷ xs))
 concatenated_more done x (Ok rest) = rw append_assoc
 concatenated_more done x (Err code) = refl
 
@@ -20,11 +21,15 @@ concatenated_more done x (Err code) = refl
 abbrev pub ReadsAll : {A : Type 0} → (Data → Read A) → (Items → Read (List A)) → Type 0
 ReadsAll one all = (json : Data) (rest : Items) → all (item json rest) ≡ (one json >>= λ x. all rest >>= λ xs. Ok (x ∷ xs))
 
-pub concatenated_step : {A : Type 0} (one : Data → Read A) (all : Items → Read (List A)) → ReadsAll one all → (done : List A) (x : A) (json : Value) (before after : List Value) → before ≡ json ∷ after → one (view json) ≡ Ok x
+pub concatenated_step : {A : Type 0} (one : Data → Read A) (all : Items → Read (List A)) → ReadsAll one all
+    → (done : List A) (x : A) (json : Value) (before after : List Value) → before ≡ json ∷ after → one (view json) ≡ Ok x
     → concatenated (done ++ x ∷ []) (all (items_view after)) ≡ concatenated done (all (items_view before))
-concatenated_step one all law done x json before after here read = rw (here, law (view json) (items_view after), read) (concatenated_more done x (all (items_view after)))
+concatenated_step one all law done x json before after here read =
+    rw (here, law (view json) (items_view after), read) (concatenated_more done x (all (items_view after)))
 
-pub concatenated_refused : {A : Type 0} (one : Data → Read A) (all : Items → Read (List A)) → ReadsAll one all → (done : List A) (json : Value) (before after : List Value) (whole : Read (List A)) → before ≡ json ∷ after → concatenated done (all (items_view before)) ≡ whole
+pub concatenated_refused : {A : Type 0} (one : Data → Read A) (all : Items → Read (List A)) → ReadsAll one all
+    → (done : List A) (json : Value) (before after : List Value) (whole : Read (List A)) → before ≡ json ∷ after
+    → concatenated done (all (items_view before)) ≡ whole
     → (fault : Fault) → Answers {T = A} (Err fault) (one (view json)) → Answers {T = List A} (Err fault) whole
 concatenated_refused one all law done json before after whole here is (Refused code) read = sym is ∙ rw (here, law (view json) (items_view after), read)
 concatenated_refused one all law done json before after whole here is Memory read = tt

@@ -10,6 +10,8 @@ list_any-map : {A B : Type 0} (p : B → Bool) (f : A → B) (xs : List A) → l
 list_any-map p f [] = refl
 list_any-map p f (x ∷ xs) = ap (λ b. p (f x) || b) (list_any-map p f xs)
 
-pub keys_are_among_entries : (allowed : List (Bor (List ℕ))) (es : List (String Global × Value)) → keys_are_among (map (λ key. key.now) allowed) (members_view es) ≡ list_all (λ key. list_any (λ other. bytes_eq (string_bytes key) other.now) allowed) (keys_of es)
+pub keys_are_among_entries : (allowed : List (Bor (List ℕ))) (es : List (String Global × Value))
+    → keys_are_among (map (λ key. key.now) allowed) (members_view es)
+    ≡ list_all (λ key. list_any (λ other. bytes_eq (string_bytes key) other.now) allowed) (keys_of es)
 keys_are_among_entries allowed [] = refl
 keys_are_among_entries allowed (e ∷ es) = rw (list_any-map, keys_are_among_entries allowed es)

@@ -5,7 +5,8 @@ use Rattle.std.specs.List.{All, list_all}
 use Rattle.std.proofs.lemmas.List.Elements.{All-nil, All-cons, All-head, All-tail}
 use Rattle.term_core.specs.declared.action.SingleAction.{SingleAction}
 use Rattle.term_core.specs.declared.action.SingleAction.TheVariants as e
-use Rattle.term_core.specs.Act.{Act, Acts, single_action, when, nothing, more, acts_of, count, counts, is_effect_limited, is_limited, are_limited, is_effect_named, is_named, are_named}
+use Rattle.term_core.specs.Act.{Act, Acts, single_action, when, nothing, more, acts_of, count, counts, is_effect_limited, is_limited, are_limited}
+use Rattle.term_core.specs.Act.{is_effect_named, is_named, are_named}
 use Rattle.term_core.specs.Arguments.{TakesAtMost, EffectTakesAtMost, ActTakesAtMost, ActsTakeAtMost}
 use Rattle.term_core.specs.Bodies.{is_body_limited}
 use Rattle.term_core.specs.Forms.{is_within_limits}
@@ -28,7 +29,8 @@ module _ (change : Term → Term) where
   module _ (m n : ℕ) (each : (term : Term) → TakesAtMost m term → TakesAtMost n (change term)) where
     terms_take : (terms : List Term) → All (TakesAtMost m) terms → All (TakesAtMost n) (map change terms)
     terms_take [] h = All-nil (TakesAtMost n)
-    terms_take (term ∷ rest) h = All-cons (TakesAtMost n) (change term) (map change rest) (each term (All-head (TakesAtMost m) term rest h)) (terms_take rest (All-tail (TakesAtMost m) term rest h))
+    terms_take (term ∷ rest) h = All-cons (TakesAtMost n) (change term) (map change rest) (each term (All-head (TakesAtMost m) term rest h))
+        (terms_take rest (All-tail (TakesAtMost m) term rest h))
 
     effect_takes : (plain : SingleAction) → EffectTakesAtMost m plain → EffectTakesAtMost n (effect_by change plain)
     effect_takes (e.Set of property value) h = each value h

@@ -1,6 +1,7 @@
 -- The value of an expression: it depends on no property but those that are read, is the same with the
 -- arguments put in, and is short.
-use Rattle.std.proofs.Common.{◌≡◌, ◌∙◌, ℕ, zero, suc, ◌+◌, ◌&&◌, Bool, true, false, ℤ, ◌+ℤ◌, ◌-ℤ◌, List, [], ◌∷◌, ◌++◌, Option, Some, None, Ok, Err, length, nat_le, IsTrue, refl, ap, subst, arith}
+use Rattle.std.proofs.Common.{◌≡◌, ◌∙◌, ℕ, zero, suc, ◌+◌, ◌&&◌, Bool, true, false, ℤ, ◌+ℤ◌, ◌-ℤ◌, List, [], ◌∷◌, ◌++◌, Option, Some, None, Ok, Err, length}
+use Rattle.std.proofs.Common.{nat_le, IsTrue, refl, ap, subst, arith}
 use Rattle.std.specs.Prelude.{IfOk, IfSome, ◌^◌, ◌-◌, pos, neg_ℤ, unsigned_abs, if◌then◌else◌, int_lt, slice_get}
 use Rattle.std.specs.List.{All}
 use Rattle.std.specs.Option.{ok_or, option_map_or, option_or}
@@ -31,7 +32,8 @@ last_part : {X : Type 0} (P : X → Type 0) (xs ys : List X) → All P (xs ++ ys
 last_part P xs ys h k d lt = subst P (get_or-append-add xs ys k d) (h (length xs + k) d (omega (arith, length-append xs ys)))
 
 -- what stands is the value, whatever is read
-pub stands : {O : Type 0} (args : List Value) (read : Target → List ℕ → Answer O) (term : Term) (value : Value) → standing args term ≡ Some value → eval_by args read term ≡ Ok value
+pub stands : {O : Type 0} (args : List Value) (read : Target → List ℕ → Answer O) (term : Term) (value : Value) → standing args term ≡ Some value
+    → eval_by args read term ≡ Ok value
 stands args read (const v) value is = cc
 stands args read (arg place) value is = ap (λ (found : Option Value). answer (ok_or found BadValue)) is
 stands args read state value is = absurd (cc)
@@ -43,7 +45,8 @@ stands args read (choice test a b) value is = absurd (cc)
 abbrev Agreed : {O : Type 0} → (Target → List ℕ → Answer O) → (Target → List ℕ → Answer O) → Read → Type 0
 Agreed one other read = one read.target read.name ≡ other read.target read.name
 
-pub same_value : {O : Type 0} (term : Term) (args : List Value) (one other : Target → List ℕ → Answer O) → AgreeOn (reads_of term) one other → eval_by args one term ≡ eval_by args other term
+pub same_value : {O : Type 0} (term : Term) (args : List Value) (one other : Target → List ℕ → Answer O) → AgreeOn (reads_of term) one other
+    → eval_by args one term ≡ eval_by args other term
 same_value (const value) args one other h = refl
 same_value (arg place) args one other h = refl
 same_value state args one other h = refl
@@ -64,11 +67,13 @@ same_value (choice test a b) args one other h =
 
 -- the same with the arguments put in
 
-given : {O : Type 0} (read : Target → List ℕ → Answer O) (o : Option Value) (place : ℕ) → answer {O = O} (ok_or o BadValue) ≡ eval_by [] read (option_map_or const o (arg place))
+given : {O : Type 0} (read : Target → List ℕ → Answer O) (o : Option Value) (place : ℕ)
+    → answer {O = O} (ok_or o BadValue) ≡ eval_by [] read (option_map_or const o (arg place))
 given read None place = refl
 given read (Some value) place = refl
 
-pub in_place : {O : Type 0} (term : Term) (args : List Value) (read : Target → List ℕ → Answer O) → eval_by args read term ≡ eval_by [] read (unfolded_term args term)
+pub in_place : {O : Type 0} (term : Term) (args : List Value) (read : Target → List ℕ → Answer O)
+    → eval_by args read term ≡ eval_by [] read (unfolded_term args term)
 in_place (const value) args read = refl
 in_place (arg place) args read = given read (slice_get args place) place
 in_place state args read = refl
@@ -105,7 +110,8 @@ number_short O (Some z) =
     let int : IfSome (number_of k.Int z) IsShort = if_short (is_within (neg_ℤ (pos (2 ^ 31))) (pos (2 ^ 31 - 1)) z) (v.Int z) tt in
     let longlong : IfSome (number_of k.Longlong z) IsShort = if_short (is_within (neg_ℤ (pos (2 ^ 63))) (pos (2 ^ 63 - 1)) z) (v.Longlong z) tt in
     let ulonglong : IfSome (number_of k.Ulonglong z) IsShort = if_short (is_within (pos 0) (pos (2 ^ 64 - 1)) z) (v.Ulonglong (unsigned_abs z)) tt in
-    short_answer O (inferred_number z) (or_short (number_of k.Int z) (option_or (number_of k.Longlong z) (number_of k.Ulonglong z)) int (or_short (number_of k.Longlong z) (number_of k.Ulonglong z) longlong ulonglong))
+    short_answer O (inferred_number z) (or_short (number_of k.Int z) (option_or (number_of k.Longlong z) (number_of k.Ulonglong z)) int
+    (or_short (number_of k.Longlong z) (number_of k.Ulonglong z) longlong ulonglong))
 
 truth_short : (O : Type 0) (truth : Option Bool) → IfOk (answer {O = O} (truth_value truth)) IsShort
 truth_short O None = tt
@@ -150,12 +156,14 @@ both true true e = (refl, refl)
 both true false e = absurd (cc)
 both false b e = absurd (cc)
 
-pub short_value : {O : Type 0} (term : Term) (args : List Value) (read : Target → List ℕ → Answer O) → IsTrue (has_short_texts term) → All IsShort args → ((target : Target) (name : List ℕ) → IfOk (read target name) IsShort) → IfOk (eval_by args read term) IsShort
+pub short_value : {O : Type 0} (term : Term) (args : List Value) (read : Target → List ℕ → Answer O) → IsTrue (has_short_texts term) → All IsShort args
+    → ((target : Target) (name : List ℕ) → IfOk (read target name) IsShort) → IfOk (eval_by args read term) IsShort
 short_value (const value) args read h all reads = constant_short value h
 short_value (arg place) args read h all reads = short_answer _ (slice_get args place) (argument_short args place all)
 short_value state args read h all reads = tt
 short_value (prop target name) args read h all reads = reads target name
-short_value (binary operator a b) args read h all reads = always (eval_by args read a) _ (λ x. always (eval_by args read b) _ (λ y. applied_short _ operator x y))
+short_value (binary operator a b) args read h all reads = always (eval_by args read a) _
+    (λ x. always (eval_by args read b) _ (λ y. applied_short _ operator x y))
 short_value (choice test a b) args read h all reads =
     let first = both (has_short_texts test) (has_short_texts a && has_short_texts b) h in
     let each = both (has_short_texts a) (has_short_texts b) first.1 in

@@ -42,7 +42,8 @@ both_true true false e = absurd (cc)
 both_true false b e = absurd (cc)
 
 -- the row is about the property of its read, and about no other
-about_itself : {O : Type 0} (read : Target → List ℕ → Answer O) (target : Target) (name : List ℕ) → is_about target name (known_by read (record { target = target; name = name })) ≡ true
+about_itself : {O : Type 0} (read : Target → List ℕ → Answer O) (target : Target) (name : List ℕ)
+    → is_about target name (known_by read (record { target = target; name = name })) ≡ true
 about_itself read target name = by (is_target target target) (bytes_eq name name) ((target_decides target target).1 refl) ((bytes_eq-Decides name name).1 refl)
   where
     by : (a b : Bool) → a ≡ true → b ≡ true → (a && b) ≡ true
@@ -50,16 +51,20 @@ about_itself read target name = by (is_target target target) (bytes_eq name name
     by true false e f = absurd (cc)
     by false b e f = absurd (cc)
 
-about : {O : Type 0} (read : Target → List ℕ → Answer O) (target : Target) (name : List ℕ) (r : Read) → is_about target name (known_by read r) ≡ true → (target ≡ r.target) × (name ≡ r.name)
+about : {O : Type 0} (read : Target → List ℕ → Answer O) (target : Target) (name : List ℕ) (r : Read) → is_about target name (known_by read r) ≡ true
+    → (target ≡ r.target) × (name ≡ r.name)
 about read target name r e =
     let both = both_true (is_target target r.target) (bytes_eq name r.name) e in
     ((target_decides target r.target).0 both.0, (bytes_eq-Decides name r.name).0 both.1)
 
-found : {O : Type 0} (read : Target → List ℕ → Answer O) (otherwise : Answer O) (reads : List Read) (k : ℕ) (d : Read) → k < length reads → option_map_or (λ known. known.answer) (find (is_about (get_or reads k d).target (get_or reads k d).name) (map (known_by read) reads)) otherwise ≡ read (get_or reads k d).target (get_or reads k d).name
+found : {O : Type 0} (read : Target → List ℕ → Answer O) (otherwise : Answer O) (reads : List Read) (k : ℕ) (d : Read) → k < length reads
+    → option_map_or (λ known. known.answer) (find (is_about (get_or reads k d).target (get_or reads k d).name) (map (known_by read) reads)) otherwise
+    ≡ read (get_or reads k d).target (get_or reads k d).name
 found read otherwise [] k d lt = absurd (omega arith)
 found {O} read otherwise (r ∷ rs) zero d lt = by (is_about r.target r.name (known_by read r)) (about_itself read r.target r.name)
   where
-    by : (t : Bool) → t ≡ true → option_map_or (λ (known : Known O). known.answer) (cond t (Some (known_by read r)) (find (is_about r.target r.name) (map (known_by read) rs))) otherwise ≡ read r.target r.name
+    by : (t : Bool) → t ≡ true → option_map_or (λ (known : Known O). known.answer)
+        (cond t (Some (known_by read r)) (find (is_about r.target r.name) (map (known_by read) rs))) otherwise ≡ read r.target r.name
     by true e = refl
     by false e = absurd (cc)
 found {O} read otherwise (r ∷ rs) (suc k) d lt = by (is_about wanted.target wanted.name (known_by read r)) refl (found read otherwise rs k d (omega arith))
@@ -67,9 +72,13 @@ found {O} read otherwise (r ∷ rs) (suc k) d lt = by (is_about wanted.target wa
     wanted : Read
     wanted = get_or rs k d
 
-    by : (t : Bool) → is_about wanted.target wanted.name (known_by read r) ≡ t → option_map_or (λ (known : Known O). known.answer) (find (is_about wanted.target wanted.name) (map (known_by read) rs)) otherwise ≡ read wanted.target wanted.name → option_map_or (λ (known : Known O). known.answer) (cond t (Some (known_by read r)) (find (is_about wanted.target wanted.name) (map (known_by read) rs))) otherwise ≡ read wanted.target wanted.name
+    by : (t : Bool) → is_about wanted.target wanted.name (known_by read r) ≡ t
+        → option_map_or (λ (known : Known O). known.answer) (find (is_about wanted.target wanted.name) (map (known_by read) rs)) otherwise
+        ≡ read wanted.target wanted.name → option_map_or (λ (known : Known O). known.answer)
+        (cond t (Some (known_by read r)) (find (is_about wanted.target wanted.name) (map (known_by read) rs))) otherwise ≡ read wanted.target wanted.name
     by true e rest = let same = about read wanted.target wanted.name r e in ap₂ read (sym same.0) (sym same.1)
     by false e rest = rest
 
-pub same_over_known : {O : Type 0} (term : Term) (args : List Value) (read : Target → List ℕ → Answer O) → eval_by args (read_of (map (known_by read) (reads_of term))) term ≡ eval_by args read term
+pub same_over_known : {O : Type 0} (term : Term) (args : List Value) (read : Target → List ℕ → Answer O)
+    → eval_by args (read_of (map (known_by read) (reads_of term))) term ≡ eval_by args read term
 same_over_known term args read = same_value term args (read_of (map (known_by read) (reads_of term))) read (λ k d lt. found read _ (reads_of term) k d lt)

@@ -43,9 +43,12 @@ state_named body n = body_named (stated_term (Some n)) body.actions
 
 -- a state is no text
 short_state : (n : ℕ) → IsTrue (is_short (state_value n))
-short_state n = by (is_within (neg_ℤ (pos (2 ^ 31))) (pos (2 ^ 31 - 1)) (pos n)) (is_within (neg_ℤ (pos (2 ^ 63))) (pos (2 ^ 63 - 1)) (pos n)) (is_within (pos 0) (pos (2 ^ 64 - 1)) (pos n))
+short_state n = by (is_within (neg_ℤ (pos (2 ^ 31))) (pos (2 ^ 31 - 1)) (pos n)) (is_within (neg_ℤ (pos (2 ^ 63))) (pos (2 ^ 63 - 1)) (pos n))
+    (is_within (pos 0) (pos (2 ^ 64 - 1)) (pos n))
   where
-    by : (a b c : Bool) → IsTrue (is_short (unwrap_or (option_or (if a then Some (v.Int (pos n)) else None) (option_or (if b then Some (v.Longlong (pos n)) else None) (if c then Some (v.Ulonglong (unsigned_abs (pos n))) else None))) (v.Ulonglong n)))
+    by : (a b c : Bool) → IsTrue (is_short (unwrap_or
+        (option_or (if a then Some (v.Int (pos n)) else None)
+        (option_or (if b then Some (v.Longlong (pos n)) else None) (if c then Some (v.Ulonglong (unsigned_abs (pos n))) else None))) (v.Ulonglong n)))
     by true b c = refl
     by false true c = refl
     by false false true = refl
@@ -92,5 +95,7 @@ term_same (choice test a b) =
     ap (λ test. choice test (put_in None [] a) (put_in None [] b)) (term_same test)
     ∙ ap₂ (choice test) (term_same a) (term_same b)
 
-pub body_copied : (body : Body) (actions : List Act) → actions ≡ map (act_by (put_in None [])) body.actions → record { params = body.params; actions = actions } ≡ body
-body_copied body actions is = ap (λ (actions : List Act). record { params = body.params; actions = actions }) (is ∙ body_same (put_in None []) term_same body.actions)
+pub body_copied : (body : Body) (actions : List Act) → actions ≡ map (act_by (put_in None [])) body.actions
+    → record { params = body.params; actions = actions } ≡ body
+body_copied body actions is = ap (λ (actions : List Act). record { params = body.params; actions = actions })
+    (is ∙ body_same (put_in None []) term_same body.actions)

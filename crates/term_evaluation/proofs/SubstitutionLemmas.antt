@@ -29,9 +29,11 @@ term_unfolded n args enough (arg place) h = given args place (arg place) (omega 
 term_unfolded n args enough state h = tt
 term_unfolded n args enough (prop target name) h = tt
 term_unfolded n args enough (binary operator a b) h = (term_unfolded n args enough a h.0, term_unfolded n args enough b h.1)
-term_unfolded n args enough (choice test a b) h = (term_unfolded n args enough test h.0, (term_unfolded n args enough a h.1.0, term_unfolded n args enough b h.1.1))
+term_unfolded n args enough (choice test a b) h =
+    (term_unfolded n args enough test h.0, (term_unfolded n args enough a h.1.0, term_unfolded n args enough b h.1.1))
 
-pub no_argument_left : (body : Body) (args : List Value) → ActsTakeAtMost body.params (acts_of body.actions) → body.params ≤ length args → ActsTakeAtMost 0 (acts_of (unfolded_body args body))
+pub no_argument_left : (body : Body) (args : List Value) → ActsTakeAtMost body.params (acts_of body.actions) → body.params ≤ length args
+    → ActsTakeAtMost 0 (acts_of (unfolded_body args body))
 no_argument_left body args within enough = body_takes (unfolded_term args) body.params 0 (term_unfolded body.params args enough) body.actions within
 
 -- how much there is
@@ -62,7 +64,8 @@ short (v.Longlong z) h = refl
 short (v.Ulonglong n) h = refl
 short (v.Text text) h = le-leb (length text) 4096 h
 
-short_given : (args : List Value) (place : ℕ) (other : Term) → All IsShort args → IsTrue (has_short_texts other) → IsTrue (has_short_texts (option_map_or const (slice_get args place) other))
+short_given : (args : List Value) (place : ℕ) (other : Term) → All IsShort args → IsTrue (has_short_texts other)
+    → IsTrue (has_short_texts (option_map_or const (slice_get args place) other))
 short_given [] place other all h = h
 short_given (value ∷ rest) zero other all h = short value (All-head IsShort value rest all)
 short_given (value ∷ rest) (suc place) other all h = short_given rest place other (All-tail IsShort value rest all) h
@@ -85,5 +88,6 @@ term_within args all term h =
     let each = both (nat_le (nodes term) 64) (has_short_texts term) h in
     pair _ _ (ap (λ n. nat_le n 64) (nodes_unfolded term args) ∙ each.0) (texts_unfolded term args all each.1)
 
-pub limits_kept : (body : Body) (args : List Value) → All IsShort args → IsTrue (is_body_limited body.actions) → IsTrue (is_body_limited (unfolded_body args body))
+pub limits_kept : (body : Body) (args : List Value) → All IsShort args → IsTrue (is_body_limited body.actions)
+    → IsTrue (is_body_limited (unfolded_body args body))
 limits_kept body args all h = body_within (unfolded_term args) (term_within args all) body.actions h

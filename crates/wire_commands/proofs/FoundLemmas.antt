@@ -1,5 +1,6 @@
 -- What is found at the keys of a command, one member after another.
-use Rattle.std.proofs.Common.{◌≡◌, ◌≢◌, ℕ, zero, suc, ◌+◌, ◌<◌, drop, ◌≤◌, ◌&&◌, ◌||◌, Bool, true, false, List, [], ◌∷◌, ◌++◌, Option, Some, None, get_or, set, length, map, codes, bytes_eq, option_map, true≢false, take, subst, refl, sym, ap, ◌∙◌, arith, ⊎_elim}
+use Rattle.std.proofs.Common.{◌≡◌, ◌≢◌, ℕ, zero, suc, ◌+◌, ◌<◌, drop, ◌≤◌, ◌&&◌, ◌||◌, Bool, true, false, List, [], ◌∷◌, ◌++◌, Option, Some, None, get_or, set}
+use Rattle.std.proofs.Common.{length, map, codes, bytes_eq, option_map, true≢false, take, subst, refl, sym, ap, ◌∙◌, arith, ⊎_elim}
 use Rattle.std.specs.List.{list_all, list_any}
 use Rattle.std.proofs.lemmas.Bool.{and_parts, cases_eq, false_from_ne_true, not-true}
 use Rattle.std.proofs.lemmas.Grind.{common_steps, get_or-set_at}
@@ -30,19 +31,27 @@ same_place : (ws : List (List ℕ)) (i j : ℕ) → are_distinct ws ≡ true →
 same_place [] i j distinct here there same = absurd (omega (arith, here))
 same_place (w ∷ ws) zero zero distinct here there same = refl
 same_place (w ∷ ws) zero (suc j) distinct here there same = absurd (first_differs w ws j (not-true _ (and_parts _ _ distinct).0) (omega (arith, there)) same)
-same_place (w ∷ ws) (suc i) zero distinct here there same = absurd (first_differs w ws i (not-true _ (and_parts _ _ distinct).0) (omega (arith, here)) (sym same))
-same_place (w ∷ ws) (suc i) (suc j) distinct here there same = ap suc (same_place ws i j (and_parts _ _ distinct).1 (omega (arith, here)) (omega (arith, there)) same)
+same_place (w ∷ ws) (suc i) zero distinct here there same = absurd
+    (first_differs w ws i (not-true _ (and_parts _ _ distinct).0) (omega (arith, here)) (sym same))
+same_place (w ∷ ws) (suc i) (suc j) distinct here there same =
+    ap suc (same_place ws i j (and_parts _ _ distinct).1 (omega (arith, here)) (omega (arith, there)) same)
 
 -- a word at one place is no word at another
-differs : (ws : List (List ℕ)) (i j : ℕ) (w : List ℕ) → are_distinct ws ≡ true → i < length ws → j < length ws → i ≢ j → get_or ws i [] ≡ w → bytes_eq w (get_or ws j []) ≡ false
-differs ws i j w distinct here there other is = false_from_ne_true _ (λ e. other (same_place ws i j distinct here there (is ∙ (bytes_eq-Decides w (get_or ws j [])).0 e)))
+differs : (ws : List (List ℕ)) (i j : ℕ) (w : List ℕ) → are_distinct ws ≡ true → i < length ws → j < length ws → i ≢ j → get_or ws i [] ≡ w
+    → bytes_eq w (get_or ws j []) ≡ false
+differs ws i j w distinct here there other is = false_from_ne_true _
+    (λ e. other (same_place ws i j distinct here there (is ∙ (bytes_eq-Decides w (get_or ws j [])).0 e)))
 
-common_by : (words : List (List ℕ)) (at : ℕ) (w : List ℕ) → are_distinct (with_common words) ≡ true → at < length words → (b : Bool) → b ≡ bytes_eq w (codes "do") → (b || bytes_eq w (codes "session")) ≡ true → bytes_eq w (get_or words at []) ≡ false
-common_by words at w distinct within true is common = differs (with_common words) 0 (suc (suc at)) w distinct (omega arith) (omega (arith, within)) (λ e. absurd (omega (arith, e))) (sym ((bytes_eq-Decides w (codes "do")).0 (sym is)))
-common_by words at w distinct within false is common = differs (with_common words) 1 (suc (suc at)) w distinct (omega arith) (omega (arith, within)) (λ e. absurd (omega (arith, e))) (sym ((bytes_eq-Decides w (codes "session")).0 common))
+common_by : (words : List (List ℕ)) (at : ℕ) (w : List ℕ) → are_distinct (with_common words) ≡ true → at < length words → (b : Bool)
+    → b ≡ bytes_eq w (codes "do") → (b || bytes_eq w (codes "session")) ≡ true → bytes_eq w (get_or words at []) ≡ false
+common_by words at w distinct within true is common = differs (with_common words) 0 (suc (suc at)) w distinct (omega arith) (omega (arith, within))
+    (λ e. absurd (omega (arith, e))) (sym ((bytes_eq-Decides w (codes "do")).0 (sym is)))
+common_by words at w distinct within false is common = differs (with_common words) 1 (suc (suc at)) w distinct (omega arith) (omega (arith, within))
+    (λ e. absurd (omega (arith, e))) (sym ((bytes_eq-Decides w (codes "session")).0 common))
 
 -- a word that every command has is none of the words
-common_differs : (words : List (List ℕ)) (at : ℕ) (w : List ℕ) → are_distinct (with_common words) ≡ true → at < length words → (bytes_eq w (codes "do") || bytes_eq w (codes "session")) ≡ true → bytes_eq w (get_or words at []) ≡ false
+common_differs : (words : List (List ℕ)) (at : ℕ) (w : List ℕ) → are_distinct (with_common words) ≡ true → at < length words
+    → (bytes_eq w (codes "do") || bytes_eq w (codes "session")) ≡ true → bytes_eq w (get_or words at []) ≡ false
 common_differs words at w distinct within common = common_by words at w distinct within (bytes_eq w (codes "do")) refl common
 
 -- the keys of each command are distinct
@@ -81,19 +90,25 @@ taken : (ms : List Member) (at : ℕ) (none m : Member) → m ≡ get_or ms at n
 taken ms at none m is within = take_more ms at none within ∙ ap (λ last. take at ms ++ last ∷ []) (sym is)
 
 -- its key is one of the words
-pub found_more : {A : Type 0} (seen : A → Data) (words : List (List ℕ)) (ms : List Member) (m : Member) (found : List (Option A)) (at : ℕ) (a : A) → are_distinct (with_common words) ≡ true → at < length words → length words ≤ length found → get_or words at [] ≡ m.key.now → seen a ≡ data_of m.value
+pub found_more : {A : Type 0} (seen : A → Data) (words : List (List ℕ)) (ms : List Member) (m : Member) (found : List (Option A)) (at : ℕ) (a : A)
+    → are_distinct (with_common words) ≡ true → at < length words → length words ≤ length found → get_or words at [] ≡ m.key.now → seen a ≡ data_of m.value
     → AreFound seen words ms found → AreFound seen words (ms ++ m ∷ []) (set found at (Some a))
 found_more seen words ms m found at a distinct within room key value so_far = λ place inside. ⊎_elim
     (λ (same : place ≡ at).
-    let equal : bytes_eq m.key.now (get_or words place []) ≡ true = (bytes_eq-Decides m.key.now (get_or words place [])).1 (sym key ∙ ap (λ p. get_or words p []) (sym same)) in
-    ap (option_map seen) (get_or-set_at found at place (Some a) None same (omega (arith, within, room))) ∙ ap Some value ∙ sym (found_at_last (get_or words place []) ms m equal))
+    let equal : bytes_eq m.key.now (get_or words place []) ≡ true =
+    (bytes_eq-Decides m.key.now (get_or words place [])).1 (sym key ∙ ap (λ p. get_or words p []) (sym same)) in
+    ap (option_map seen) (get_or-set_at found at place (Some a) None same (omega (arith, within, room))) ∙ ap Some value
+    ∙ sym (found_at_last (get_or words place []) ms m equal))
     (λ (other : place ≢ at).
     ap (option_map seen) (get_or-set_other found at place (Some a) None other) ∙ so_far place inside
-    ∙ sym (found_before_last (get_or words place []) ms m (differs (with_common words) (suc (suc at)) (suc (suc place)) m.key.now distinct (omega (arith, within)) (omega (arith, inside)) (λ e. other (omega (arith, e))) key)))
+    ∙ sym (found_before_last (get_or words place []) ms m
+    (differs (with_common words) (suc (suc at)) (suc (suc place)) m.key.now distinct (omega (arith, within)) (omega (arith, inside))
+    (λ e. other (omega (arith, e))) key)))
     (cases_eq place at)
 
 -- or one that every command has
-pub found_common : {A : Type 0} (seen : A → Data) (words : List (List ℕ)) (ms : List Member) (m : Member) (found : List (Option A)) → are_distinct (with_common words) ≡ true → (bytes_eq m.key.now (codes "do") || bytes_eq m.key.now (codes "session")) ≡ true
+pub found_common : {A : Type 0} (seen : A → Data) (words : List (List ℕ)) (ms : List Member) (m : Member) (found : List (Option A))
+    → are_distinct (with_common words) ≡ true → (bytes_eq m.key.now (codes "do") || bytes_eq m.key.now (codes "session")) ≡ true
     → AreFound seen words ms found → AreFound seen words (ms ++ m ∷ []) found
 found_common seen words ms m found distinct common so_far = λ place inside.
     so_far place inside ∙ sym (found_before_last (get_or words place []) ms m (common_differs words place m.key.now distinct inside common))
@@ -104,17 +119,20 @@ pub held_there : (json : Data) (key : Key) → held_as (get (key_word key) json)
 held_there json (needed w holds) = refl
 held_there json (optional w holds) = refl
 
-pub word_there : (keys : List KeyInCode) (at : ℕ) (none : KeyInCode) → at < length keys → get_or (words_of keys) at [] ≡ key_word (key_seen (get_or keys at none))
+pub word_there : (keys : List KeyInCode) (at : ℕ) (none : KeyInCode) → at < length keys
+    → get_or (words_of keys) at [] ≡ key_word (key_seen (get_or keys at none))
 word_there (k ∷ keys) zero none within = refl
 word_there (k ∷ keys) (suc at) none within = word_there keys at none (omega (arith, within))
 word_there [] at none within = absurd (omega (arith, within))
 
 -- ---- where a word is among those of keys
 
-pub is_there : (keys : List KeyInCode) (at : ℕ) (none : KeyInCode) (text w : List ℕ) → text ≡ key_word (key_seen (get_or keys at none)) → at < length keys → bytes_eq w text ≡ true → get_or (words_of keys) at [] ≡ w
+pub is_there : (keys : List KeyInCode) (at : ℕ) (none : KeyInCode) (text w : List ℕ) → text ≡ key_word (key_seen (get_or keys at none)) → at < length keys
+    → bytes_eq w text ≡ true → get_or (words_of keys) at [] ≡ w
 is_there keys at none text w is within same = word_there keys at none within ∙ sym is ∙ sym ((bytes_eq-Decides w text).0 same)
 
-pub is_further : (keys : List KeyInCode) (at : ℕ) (none : KeyInCode) (text w : List ℕ) → text ≡ key_word (key_seen (get_or keys at none)) → at < length keys → bytes_eq w text ≡ false → list_any (bytes_eq w) (words_of (drop at keys)) ≡ list_any (bytes_eq w) (words_of (drop (at + 1) keys))
+pub is_further : (keys : List KeyInCode) (at : ℕ) (none : KeyInCode) (text w : List ℕ) → text ≡ key_word (key_seen (get_or keys at none)) → at < length keys
+    → bytes_eq w text ≡ false → list_any (bytes_eq w) (words_of (drop at keys)) ≡ list_any (bytes_eq w) (words_of (drop (at + 1) keys))
 is_further keys at none text w is within other =
     ap (λ ks. list_any (bytes_eq w) (words_of ks)) (drop_more keys at none within)
     ∙ ap (λ b. b || list_any (bytes_eq w) (words_of (drop (at + 1) keys))) (ap (bytes_eq w) (sym is) ∙ other)
@@ -127,15 +145,18 @@ knows words member = is_known words member.key.now
 common_known : (words : List (List ℕ)) (w : List ℕ) → (bytes_eq w (codes "do") || bytes_eq w (codes "session")) ≡ true → is_known words w ≡ true
 common_known words w common = grind (arith, common_steps)
 
-neither_known : (words : List (List ℕ)) (w : List ℕ) → (bytes_eq w (codes "do") || bytes_eq w (codes "session")) ≡ false → list_any (bytes_eq w) words ≡ false → is_known words w ≡ false
+neither_known : (words : List (List ℕ)) (w : List ℕ) → (bytes_eq w (codes "do") || bytes_eq w (codes "session")) ≡ false → list_any (bytes_eq w) words ≡ false
+    → is_known words w ≡ false
 neither_known words w common other = grind (arith, common_steps)
 
-word_known : (words : List (List ℕ)) (at : ℕ) (w : List ℕ) → (bytes_eq w (codes "do") || bytes_eq w (codes "session")) ≡ false → at < length words → get_or words at [] ≡ w → is_known words w ≡ true
+word_known : (words : List (List ℕ)) (at : ℕ) (w : List ℕ) → (bytes_eq w (codes "do") || bytes_eq w (codes "session")) ≡ false → at < length words
+    → get_or words at [] ≡ w → is_known words w ≡ true
 word_known words at w common within is =
     let among : list_any (bytes_eq w) words ≡ true = list_any_at (bytes_eq w) words at [] within ((bytes_eq-Decides w (get_or words at [])).1 (sym is)) in
     grind (arith, common_steps)
 
-from_here : (words : List (List ℕ)) (ms : List Member) (at : ℕ) (none m : Member) → m ≡ get_or ms at none → at < length ms → list_all (knows words) (drop at ms) ≡ (knows words m && list_all (knows words) (drop (at + 1) ms))
+from_here : (words : List (List ℕ)) (ms : List Member) (at : ℕ) (none m : Member) → m ≡ get_or ms at none → at < length ms
+    → list_all (knows words) (drop at ms) ≡ (knows words m && list_all (knows words) (drop (at + 1) ms))
 from_here words ms at none m is within = ap (list_all (knows words)) (drop_more ms at none within ∙ ap (λ first. first ∷ drop (at + 1) ms) (sym is))
 
 -- the keys of the members so far are known, and each is found
@@ -143,30 +164,42 @@ pub record SoFar {A : Type 0} (seen : A → Data) (words : List (List ℕ)) (ms 
   pub known : list_all (knows words) ms ≡ list_all (knows words) (drop at ms)
   pub there : AreFound seen words (take at ms) found
 
-pub passes_common : {A : Type 0} (seen : A → Data) (words : List (List ℕ)) (ms : List Member) (at : ℕ) (none m : Member) (found : List (Option A)) → are_distinct (with_common words) ≡ true → m ≡ get_or ms at none → at < length ms
+pub passes_common : {A : Type 0} (seen : A → Data) (words : List (List ℕ)) (ms : List Member) (at : ℕ) (none m : Member) (found : List (Option A))
+    → are_distinct (with_common words) ≡ true → m ≡ get_or ms at none → at < length ms
     → (bytes_eq m.key.now (codes "do") || bytes_eq m.key.now (codes "session")) ≡ true → SoFar seen words ms at found → SoFar seen words ms (at + 1) found
 passes_common seen words ms at none m found distinct is within common so_far = record {
-  known = so_far.known ∙ from_here words ms at none m is within ∙ ap (λ b. b && list_all (knows words) (drop (at + 1) ms)) (common_known words m.key.now common);
-  there = subst (λ those. AreFound seen words those found) (sym (taken ms at none m is within)) (found_common seen words (take at ms) m found distinct common so_far.there);
+  known = so_far.known ∙ from_here words ms at none m is within
+      ∙ ap (λ b. b && list_all (knows words) (drop (at + 1) ms)) (common_known words m.key.now common);
+  there = subst (λ those. AreFound seen words those found) (sym (taken ms at none m is within))
+      (found_common seen words (take at ms) m found distinct common so_far.there);
 }
 
-pub passes_word : {A : Type 0} (seen : A → Data) (words : List (List ℕ)) (ms : List Member) (at : ℕ) (none m : Member) (found : List (Option A)) (place : ℕ) (a : A) → are_distinct (with_common words) ≡ true → m ≡ get_or ms at none → at < length ms
-    → (bytes_eq m.key.now (codes "do") || bytes_eq m.key.now (codes "session")) ≡ false → place < length words → length words ≤ length found → get_or words place [] ≡ m.key.now → seen a ≡ data_of m.value
+pub passes_word : {A : Type 0} (seen : A → Data) (words : List (List ℕ)) (ms : List Member) (at : ℕ) (none m : Member) (found : List (Option A)) (place : ℕ)
+    (a : A) → are_distinct (with_common words) ≡ true → m ≡ get_or ms at none → at < length ms
+    → (bytes_eq m.key.now (codes "do") || bytes_eq m.key.now (codes "session")) ≡ false → place < length words → length words ≤ length found
+    → get_or words place [] ≡ m.key.now → seen a ≡ data_of m.value
     → SoFar seen words ms at found → SoFar seen words ms (at + 1) (set found place (Some a))
 passes_word seen words ms at none m found place a distinct is within common inside room key value so_far = record {
-  known = so_far.known ∙ from_here words ms at none m is within ∙ ap (λ b. b && list_all (knows words) (drop (at + 1) ms)) (word_known words place m.key.now common inside key);
-  there = subst (λ those. AreFound seen words those (set found place (Some a))) (sym (taken ms at none m is within)) (found_more seen words (take at ms) m found place a distinct inside room key value so_far.there);
+  known = so_far.known ∙ from_here words ms at none m is within
+      ∙ ap (λ b. b && list_all (knows words) (drop (at + 1) ms)) (word_known words place m.key.now common inside key);
+  there = subst (λ those. AreFound seen words those (set found place (Some a))) (sym (taken ms at none m is within))
+      (found_more seen words (take at ms) m found place a distinct inside room key value so_far.there);
 }
 
-pub knows_not : {A : Type 0} (seen : A → Data) (words : List (List ℕ)) (ms : List Member) (at : ℕ) (none m : Member) (found : List (Option A)) → m ≡ get_or ms at none → at < length ms
-    → (bytes_eq m.key.now (codes "do") || bytes_eq m.key.now (codes "session")) ≡ false → list_any (bytes_eq m.key.now) words ≡ false → SoFar seen words ms at found → false ≡ has_only words (object (members_in ms))
+pub knows_not : {A : Type 0} (seen : A → Data) (words : List (List ℕ)) (ms : List Member) (at : ℕ) (none m : Member) (found : List (Option A))
+    → m ≡ get_or ms at none → at < length ms
+    → (bytes_eq m.key.now (codes "do") || bytes_eq m.key.now (codes "session")) ≡ false → list_any (bytes_eq m.key.now) words ≡ false
+    → SoFar seen words ms at found → false ≡ has_only words (object (members_in ms))
 knows_not seen words ms at none m found is within common other so_far =
-    sym (only_known words ms ∙ so_far.known ∙ from_here words ms at none m is within ∙ ap (λ b. b && list_all (knows words) (drop (at + 1) ms)) (neither_known words m.key.now common other))
+    sym (only_known words ms ∙ so_far.known ∙ from_here words ms at none m is within
+    ∙ ap (λ b. b && list_all (knows words) (drop (at + 1) ms)) (neither_known words m.key.now common other))
 
-pub knows_all : {A : Type 0} (seen : A → Data) (words : List (List ℕ)) (ms : List Member) (at : ℕ) (found : List (Option A)) → length ms ≤ at → SoFar seen words ms at found → true ≡ has_only words (object (members_in ms))
+pub knows_all : {A : Type 0} (seen : A → Data) (words : List (List ℕ)) (ms : List Member) (at : ℕ) (found : List (Option A)) → length ms ≤ at
+    → SoFar seen words ms at found → true ≡ has_only words (object (members_in ms))
 knows_all seen words ms at found end so_far = sym (only_known words ms ∙ so_far.known ∙ ap (list_all (knows words)) (drop_all at ms end))
 
-pub finds_all : {A : Type 0} (seen : A → Data) (words : List (List ℕ)) (ms : List Member) (at : ℕ) (found : List (Option A)) → length ms ≤ at → SoFar seen words ms at found → AreFound seen words ms found
+pub finds_all : {A : Type 0} (seen : A → Data) (words : List (List ℕ)) (ms : List Member) (at : ℕ) (found : List (Option A)) → length ms ≤ at
+    → SoFar seen words ms at found → AreFound seen words ms found
 finds_all seen words ms at found end so_far = subst (λ those. AreFound seen words those found) (take_all at ms end) so_far.there
 
 pub length_words : (keys : List KeyInCode) → length (words_of keys) ≡ length keys
@@ -178,7 +211,8 @@ same_within [] at d e within = absurd (omega (arith, within))
 same_within (x ∷ xs) zero d e within = refl
 same_within (x ∷ xs) (suc at) d e within = same_within xs at d e (omega (arith, within))
 
-pub held_found : {A : Type 0} (seen : A → Data) (keys : List KeyInCode) (ms : List Member) (found : List (Option A)) (at : ℕ) (none : KeyInCode) (other : Option A) → at < length keys → length keys ≤ length found → AreFound seen (words_of keys) ms found
+pub held_found : {A : Type 0} (seen : A → Data) (keys : List KeyInCode) (ms : List Member) (found : List (Option A)) (at : ℕ) (none : KeyInCode)
+    (other : Option A) → at < length keys → length keys ≤ length found → AreFound seen (words_of keys) ms found
     → held_as (option_map seen (get_or found at other)) (key_seen (get_or keys at none)) ≡ held_at (object (members_in ms)) (key_seen (get_or keys at none))
 held_found seen keys ms found at none other within room are =
     let key = key_seen (get_or keys at none) in

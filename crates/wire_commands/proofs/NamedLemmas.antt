@@ -12,7 +12,8 @@ use Rattle.wire_commands.specs.declared.commands.Word.TheVariants as w
 use Rattle.wire_commands.specs.declared.keys.Holds.{Holds}
 use Rattle.wire_commands.specs.declared.keys.Holds.TheVariants as h
 use Rattle.wire_commands.specs.Commands.{asked_of, form_of, word_named}
-use Rattle.wire_commands.specs.Held.{Held, absent, number, text, all_held, has_only, held_at, held_by, json_of, list_of, mode_of, number_of, priority_for, reads, text_of}
+use Rattle.wire_commands.specs.Held.{Held, absent, number, text, all_held, has_only, held_at, held_by, json_of, list_of, mode_of, number_of, priority_for}
+use Rattle.wire_commands.specs.Held.{reads, text_of}
 use Rattle.wire_commands.specs.Keys.{Key, key_word, needed, optional}
 use Rattle.wire_commands.specs.Sharing.{texts_of}
 use Rattle.wire_commands.specs.Signals.{disconnect_of}
@@ -75,16 +76,19 @@ all_named : (json : Data) (keys : List Key) (asks : List Held → Option Asked) 
 all_named json [] asks each = each
 all_named json (key ∷ keys) asks each = by (held_at json key) (at_key json key) (λ first is. all_named json keys (λ rest. asks (first ∷ rest)) (each first is))
   where
-    behind : (first : Held) (rest : Option (List Held)) → IsNamed (rest >>= λ rest. asks (first ∷ rest)) → IsNamed ((rest >>= λ rest. Some (first ∷ rest)) >>= asks)
+    behind : (first : Held) (rest : Option (List Held)) → IsNamed (rest >>= λ rest. asks (first ∷ rest))
+        → IsNamed ((rest >>= λ rest. Some (first ∷ rest)) >>= asks)
     behind first None named = tt
     behind first (Some rest) named = named
 
-    by : (first : Option Held) → IfSome first (IsAt key) → ((first : Held) → IsAt key first → IsNamed (all_held json keys >>= λ rest. asks (first ∷ rest))) → IsNamed ((first >>= λ first. all_held json keys >>= λ rest. Some (first ∷ rest)) >>= asks)
+    by : (first : Option Held) → IfSome first (IsAt key) → ((first : Held) → IsAt key first → IsNamed (all_held json keys >>= λ rest. asks (first ∷ rest)))
+        → IsNamed ((first >>= λ first. all_held json keys >>= λ rest. Some (first ∷ rest)) >>= asks)
     by None is later = tt
     by (Some first) is later = behind first (all_held json keys) (later first is)
 
 -- what is asked with a text that was read as a name
-names : (held : Held) → HoldsName h.Name held → (next : List ℕ → Option Asked) → ((name : List ℕ) → IsTrue (is_name name) → IsNamed (next name)) → IsNamed (text_of held >>= next)
+names : (held : Held) → HoldsName h.Name held → (next : List ℕ → Option Asked) → ((name : List ℕ) → IsTrue (is_name name) → IsNamed (next name))
+    → IsNamed (text_of held >>= next)
 names (text name) is next each = each name is
 names _ is next each = tt
 
@@ -116,7 +120,8 @@ form_named w.ConnectFunctor = λ sender a signal b context c functor d calls e u
     asks (number_of sender) _ (λ from. asks (text_of signal) _ (λ sent. asks (number_of context) _ (λ to. asks (text_of functor) _ (λ called. tt))))
 form_named w.Disconnect = λ connection a sender b signal c receiver d method e. disconnects connection sender signal receiver method
 form_named w.Invoke = λ target a method b args c calls d soon e.
-    asks (number_of target) _ (λ to. asks (priority_for (mode_of calls) soon) _ (λ priority. asks (text_of method) _ (λ called. asks (list_of args) _ (λ given. tt))))
+    asks (number_of target) _ (λ to. asks (priority_for (mode_of calls) soon) _
+    (λ priority. asks (text_of method) _ (λ called. asks (list_of args) _ (λ given. tt))))
 form_named w.Spin = tt
 form_named w.DeleteLater = λ target a. mapped _ (number_of target) (λ number. tt)
 form_named w.Block = λ target a on b. mapped _ (number_of target) (λ number. tt)
@@ -124,7 +129,9 @@ form_named w.Status = tt
 form_named w.Publish = λ target a signal b name is. asks (number_of target) _ (λ of. asks (text_of signal) _ (λ sent. names name is _ (λ called named. named)))
 form_named w.Unpublish = λ name a. mapped _ (text_of name) (λ name. tt)
 form_named w.Join = λ from own name other types c target d method e.
-    names from own _ (λ whose session. names name other _ (λ published named. asks (list_of types) _ (λ elements. asks (texts_of elements) _ (λ kinds. asks (number_of target) _ (λ of. asks (text_of method) _ (λ called. (session, named)))))))
+    names from own _ (λ whose session. names name other _
+    (λ published named. asks (list_of types) _
+    (λ elements. asks (texts_of elements) _ (λ kinds. asks (number_of target) _ (λ of. asks (text_of method) _ (λ called. (session, named)))))))
 form_named w.Leave = λ from a name b target c method d.
     asks (text_of from) _ (λ whose. asks (text_of name) _ (λ named. asks (number_of target) _ (λ of. asks (text_of method) _ (λ called. tt))))
 form_named w.Reset = tt

@@ -14,19 +14,24 @@ four_behind a b c d e f k1 v1 k2 v2 k3 v3 k4 v4 h i j k l = rw (l, k, j, i, h) (
 
 -- nine of them
 pub nine_behind : (a b c d e f g h i j k k1 v1 k2 v2 k3 v3 k4 v4 k5 v5 k6 v6 k7 v7 k8 v8 k9 v9 : List ℕ)
-    → b ≡ a ++ (k1 ++ v1) → c ≡ b ++ (k2 ++ v2) → d ≡ c ++ (k3 ++ v3) → e ≡ d ++ (k4 ++ v4) → f ≡ e ++ (k5 ++ v5) → g ≡ f ++ (k6 ++ v6) → h ≡ g ++ (k7 ++ v7) → i ≡ h ++ (k8 ++ v8) → j ≡ i ++ (k9 ++ v9) → k ≡ j ++ 125 ∷ []
-    → k ≡ a ++ (k1 ++ (v1 ++ (k2 ++ (v2 ++ (k3 ++ (v3 ++ (k4 ++ (v4 ++ (k5 ++ (v5 ++ (k6 ++ (v6 ++ (k7 ++ (v7 ++ (k8 ++ (v8 ++ (k9 ++ (v9 ++ 125 ∷ []))))))))))))))))))
-nine_behind a b c d e f g h i j k k1 v1 k2 v2 k3 v3 k4 v4 k5 v5 k6 v6 k7 v7 k8 v8 k9 v9 e1 e2 e3 e4 e5 e6 e7 e8 e9 e10 = rw (e10, e9, e8, e7, e6, e5, e4, e3, e2, e1) (simp append_assoc)
+    → b ≡ a ++ (k1 ++ v1) → c ≡ b ++ (k2 ++ v2) → d ≡ c ++ (k3 ++ v3) → e ≡ d ++ (k4 ++ v4) → f ≡ e ++ (k5 ++ v5) → g ≡ f ++ (k6 ++ v6) → h ≡ g ++ (k7 ++ v7)
+    → i ≡ h ++ (k8 ++ v8) → j ≡ i ++ (k9 ++ v9) → k ≡ j ++ 125 ∷ []
+    → k ≡ a ++ (k1 ++ (v1 ++ (k2 ++ (v2 ++ (k3
+    ++ (v3 ++ (k4 ++ (v4 ++ (k5 ++ (v5 ++ (k6 ++ (v6 ++ (k7 ++ (v7 ++ (k8 ++ (v8 ++ (k9 ++ (v9 ++ 125 ∷ []))))))))))))))))))
+nine_behind a b c d e f g h i j k k1 v1 k2 v2 k3 v3 k4 v4 k5 v5 k6 v6 k7 v7 k8 v8 k9 v9 e1 e2 e3 e4 e5 e6 e7 e8 e9 e10 =
+    rw (e10, e9, e8, e7, e6, e5, e4, e3, e2, e1) (simp append_assoc)
 
 pub spin_text : (spin : Spin) (events left : ℕ) → events ≡ spin.events → left ≡ spin.left →
     codes "{\"events\":" ++ (compact_text (json_of_number events) ++ (codes ",\"left\":" ++ (compact_text (json_of_number left)
-    ++ (codes ",\"lost\":" ++ (compact_text (json_of_number spin.lost) ++ (codes ",\"mismatched\":" ++ (compact_text (json_of_number spin.mismatched) ++ 125 ∷ [])))))))
+    ++ (codes ",\"lost\":" ++ (compact_text (json_of_number spin.lost)
+    ++ (codes ",\"mismatched\":" ++ (compact_text (json_of_number spin.mismatched) ++ 125 ∷ [])))))))
     ≡ compact_text (json_of_spin spin)
 unfolding serde_json_on_literals
 spin_text spin events left e f = rw (e, f) refl
 
 pub status_text : (status : Status) (bindings connections group joins objects publications queued : ℕ)
-    → bindings ≡ status.bindings → connections ≡ status.connections → group ≡ status.group → joins ≡ status.joins → objects ≡ status.objects → publications ≡ status.publications → queued ≡ status.queued →
+    → bindings ≡ status.bindings → connections ≡ status.connections → group ≡ status.group → joins ≡ status.joins → objects ≡ status.objects
+    → publications ≡ status.publications → queued ≡ status.queued →
     codes "{\"bindings\":" ++ (compact_text (json_of_number bindings)
     ++ (codes ",\"connections\":" ++ (compact_text (json_of_number connections)
     ++ (codes ",\"group\":" ++ (compact_text (json_of_number group)

@@ -1,5 +1,6 @@
 -- Leaving lines out of an input.
-use Rattle.std.proofs.Common.{◌≡◌, ◌⊎◌, ◌==◌, ℕ, zero, suc, Bool, true, false, cond, List, [], ◌∷◌, ◌++◌, map, filter, bytes_eq, Option, Some, None, refl, sym, ap, ◌∙◌, ⊎_elim, inl, inr, append_assoc, append-nil, arith}
+use Rattle.std.proofs.Common.{◌≡◌, ◌⊎◌, ◌==◌, ℕ, zero, suc, Bool, true, false, cond, List, [], ◌∷◌, ◌++◌, map, filter, bytes_eq, Option, Some, None, refl, sym}
+use Rattle.std.proofs.Common.{ap, ◌∙◌, ⊎_elim, inl, inr, append_assoc, append-nil, arith}
 use Rattle.std.specs.List.{flat_map, filter_map, cons_option}
 use Rattle.std.specs.Option.{option_map_or}
 use Rattle.std.proofs.lemmas.Bool.{cases_Bool, both_ways, false_from_ne_true, eqb-true}
@@ -38,14 +39,24 @@ IsCut [] = Unit {0}
 IsCut (line ∷ lines) = (Ended line × IsCut lines) ⊎ (Open line × (lines ≡ []))
 
 in_front-Ended : (byte : ℕ) (line : List ℕ) → (byte == 10) ≡ false → Ended line → Ended (byte ∷ line)
-in_front-Ended byte line other ended = record { front = byte ∷ ended.front; whole = no_end_more byte ended.front other ended.whole; is = ap (λ rest. byte ∷ rest) ended.is }
+in_front-Ended byte line other ended = record
+    { front = byte ∷ ended.front; whole = no_end_more byte ended.front other ended.whole; is = ap (λ rest. byte ∷ rest) ended.is }
 
 in_front-Open : (byte : ℕ) (line : List ℕ) → (byte == 10) ≡ false → Open line → Open (byte ∷ line)
-in_front-Open byte line other open_line = record { first = byte; rest = open_line.first ∷ open_line.rest; whole = no_end_more byte (open_line.first ∷ open_line.rest) other open_line.whole; is = ap (λ rest. byte ∷ rest) open_line.is }
+in_front-Open byte line other open_line =
+    record {
+      first = byte;
+      rest = open_line.first ∷ open_line.rest;
+      whole = no_end_more byte (open_line.first ∷ open_line.rest) other open_line.whole;
+      is = ap (λ rest. byte ∷ rest) open_line.is;
+    }
 
 IsCut-in_front : (byte : ℕ) (lines : List (List ℕ)) → (byte == 10) ≡ false → IsCut lines → IsCut (in_front byte lines)
 unfolding IsCut
-IsCut-in_front byte [] other cut = inr (record { first = byte; rest = []; whole = no_end_more byte [] other (λ k within. absurd (omega arith)); is = refl }, refl)
+IsCut-in_front byte [] other cut = inr (
+  record { first = byte; rest = []; whole = no_end_more byte [] other (λ k within. absurd (omega arith)); is = refl },
+  refl,
+)
 IsCut-in_front byte (line ∷ lines) other cut =
     ⊎_elim
     (λ ended. inl (in_front-Ended byte line other ended.0, ended.1))
@@ -112,11 +123,13 @@ whole_lines-joined (line ∷ lines) cut =
     ∙ ap (λ rest. line ∷ rest) (whole_lines-joined lines ended.1))
     (λ last.
     let only_line = last.0 in
-    rw (last.1, only_line.is) (ap whole_lines (append-nil (only_line.first ∷ only_line.rest)) ∙ whole_lines-last only_line.first only_line.rest only_line.whole))
+    rw (last.1, only_line.is) (ap whole_lines (append-nil (only_line.first ∷ only_line.rest))
+    ∙ whole_lines-last only_line.first only_line.rest only_line.whole))
     cut
 
 -- the lines that are left
-pub whole_lines-without : (keep : List ℕ → Bool) (bytes : List ℕ) → whole_lines (without keep bytes) ≡ filter (λ line. line_passes keep (bare line)) (whole_lines bytes)
+pub whole_lines-without : (keep : List ℕ → Bool) (bytes : List ℕ)
+    → whole_lines (without keep bytes) ≡ filter (λ line. line_passes keep (bare line)) (whole_lines bytes)
 unfolding without
 whole_lines-without keep bytes =
     let test = λ (line : List ℕ). line_passes keep (bare line) in
@@ -130,7 +143,8 @@ lines_of-kept marks bytes =
     ∙ sym (kept-map bare marks (whole_lines bytes))
 
 -- one more line, where it is a piece
-filter-cons_option : (test : Piece → Bool) (found : Option Piece) (pieces : List Piece) → filter test (cons_option found pieces) ≡ cond (option_map_or test found true) (cons_option found (filter test pieces)) (filter test pieces)
+filter-cons_option : (test : Piece → Bool) (found : Option Piece) (pieces : List Piece)
+    → filter test (cons_option found pieces) ≡ cond (option_map_or test found true) (cons_option found (filter test pieces)) (filter test pieces)
 filter-cons_option test None pieces = refl
 filter-cons_option test (Some piece) pieces = refl
 
@@ -141,14 +155,17 @@ unfolding line_passes
 filter-piece keep line pieces = filter-cons_option (piece_passes keep (λ fault. true)) (piece_of line) pieces
 
 pieces_of-filter : (keep : List ℕ → Bool) (lines : List (List ℕ)) →
-    filter_map piece_of (map bare (filter (λ line. line_passes keep (bare line)) lines)) ≡ only_pieces keep (λ fault. true) (filter_map piece_of (map bare lines))
+    filter_map piece_of (map bare (filter (λ line. line_passes keep (bare line)) lines))
+    ≡ only_pieces keep (λ fault. true) (filter_map piece_of (map bare lines))
 pieces_of-filter keep [] = refl
 pieces_of-filter keep (line ∷ lines) =
     let later = pieces_of-filter keep lines in
     let kept = only_pieces {Fault = LineFault} keep (λ fault. true) (filter_map piece_of (map bare lines)) in
     ⊎_elim
-    (λ e. rw e (ap (cons_option (piece_of (bare line))) later ∙ ap (λ passes. cond passes (cons_option (piece_of (bare line)) kept) kept) (sym e) ∙ sym (filter-piece keep (bare line) (filter_map piece_of (map bare lines)))))
-    (λ e. rw e (later ∙ ap (λ passes. cond passes (cons_option (piece_of (bare line)) kept) kept) (sym e) ∙ sym (filter-piece keep (bare line) (filter_map piece_of (map bare lines)))))
+    (λ e. rw e (ap (cons_option (piece_of (bare line))) later ∙ ap (λ passes. cond passes (cons_option (piece_of (bare line)) kept) kept) (sym e)
+    ∙ sym (filter-piece keep (bare line) (filter_map piece_of (map bare lines)))))
+    (λ e. rw e (later ∙ ap (λ passes. cond passes (cons_option (piece_of (bare line)) kept) kept) (sym e)
+    ∙ sym (filter-piece keep (bare line) (filter_map piece_of (map bare lines)))))
     (cases_Bool (line_passes keep (bare line)))
 
 -- the pieces that are left
@@ -169,7 +186,8 @@ nothing_said s session [] other = refl
 nothing_said s session (line ∷ lines) other = rw other (nothing_said s session lines other)
 
 -- leaving out the answers to sessions that do not pass leaves out nothing that is said to one that does
-said_to_kept : (keep : List ℕ → Bool) (s : List ℕ) → keep s ≡ true → (answers : List Answer) → lines_said_to s (flat_map said_in (only_answers keep (λ fault. true) answers)) ≡ lines_said_to s (flat_map said_in answers)
+said_to_kept : (keep : List ℕ → Bool) (s : List ℕ) → keep s ≡ true → (answers : List Answer)
+    → lines_said_to s (flat_map said_in (only_answers keep (λ fault. true) answers)) ≡ lines_said_to s (flat_map said_in answers)
 said_to_kept keep s passes [] = refl
 said_to_kept keep s passes (Told session lines ∷ answers) =
     let rest = said_to_kept keep s passes answers in
@@ -177,8 +195,10 @@ said_to_kept keep s passes (Told session lines ∷ answers) =
     ⊎_elim
     (λ kept. rw kept (lines_said_to-append s here _ ∙ ap (λ said. lines_said_to s here ++ said) rest ∙ sym (lines_said_to-append s here _)))
     (λ left_out.
-    let other : bytes_eq s session ≡ false = false_from_ne_true _ (λ same. both_ways (keep session) left_out (ap keep (sym ((bytes_eq-Decides s session).0 same)) ∙ passes)) in
-    rw left_out (rest ∙ sym (lines_said_to-append s here (flat_map said_in answers) ∙ ap (λ said. said ++ lines_said_to s (flat_map said_in answers)) (nothing_said s session lines other))))
+    let other : bytes_eq s session ≡ false = false_from_ne_true _
+    (λ same. both_ways (keep session) left_out (ap keep (sym ((bytes_eq-Decides s session).0 same)) ∙ passes)) in
+    rw left_out (rest ∙ sym (lines_said_to-append s here (flat_map said_in answers)
+    ∙ ap (λ said. said ++ lines_said_to s (flat_map said_in answers)) (nothing_said s session lines other))))
     (cases_Bool (keep session))
 said_to_kept keep s passes (Blamed fault ∷ answers) =
     let rest = said_to_kept keep s passes answers in
@@ -190,11 +210,13 @@ unfolding said_all
 leaving_out_lines settings keep world bytes closed s passes =
     let said = λ (pieces : List Piece). lines_said_to s (flat_map said_in (piece_answers (machine settings) world pieces)) in
     ap said (pieces_of-without keep bytes)
-    ∙ ap (λ (answers : List Answer). lines_said_to s (flat_map said_in answers)) (leaving_out_pieces LineFault (machine settings) (lawful settings) keep (λ fault. true) world world (pieces_of bytes) closed (λ name kept. refl))
+    ∙ ap (λ (answers : List Answer). lines_said_to s (flat_map said_in answers))
+    (leaving_out_pieces LineFault (machine settings) (lawful settings) keep (λ fault. true) world world (pieces_of bytes) closed (λ name kept. refl))
     ∙ said_to_kept keep s passes (piece_answers (machine settings) world (pieces_of bytes))
 
 pub leaving_out_strangers : LeavingOutStrangers
 leaving_out_strangers settings world known bytes knows s =
     let m = machine settings in
     let ts = commands_of (pieces_of bytes) in
-    leaving_out_lines settings (influences m world known ts s) world bytes (IsClosed-influences m (lawful settings) world known ts knows s) s (influences-self m (lawful settings) world known ts s)
+    leaving_out_lines settings (influences m world known ts s) world bytes (IsClosed-influences m (lawful settings) world known ts knows s) s
+    (influences-self m (lawful settings) world known ts s)

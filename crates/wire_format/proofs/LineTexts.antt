@@ -30,18 +30,22 @@ around opening told session = opening ++ (told ++ (codes ",\"session\":" ++ (ses
 with_end : (a b c d : List ℕ) → (a ++ (b ++ (c ++ (d ++ 125 ∷ [])))) ++ 10 ∷ [] ≡ a ++ (b ++ (c ++ (d ++ codes "}\n")))
 with_end a b c d = simp append_assoc
 
-pub error_line : (code : Code) (session : List ℕ) → text_of_line session (Error code) ≡ around (codes "{\"error\":") (compact_text (string (code_text code))) (compact_text (string session))
+pub error_line : (code : Code) (session : List ℕ) → text_of_line session (Error code)
+    ≡ around (codes "{\"error\":") (compact_text (string (code_text code))) (compact_text (string session))
 unfolding text_of_line serde_json_on_literals
 error_line code session = with_end (codes "{\"error\":") (compact_text (string (code_text code))) (codes ",\"session\":") (compact_text (string session))
 
-pub reply_line : (answer : Answer) (session : List ℕ) → text_of_line session (Reply answer) ≡ around (codes "{\"reply\":") (compact_text (json_of_answer answer)) (compact_text (string session))
+pub reply_line : (answer : Answer) (session : List ℕ) → text_of_line session (Reply answer)
+    ≡ around (codes "{\"reply\":") (compact_text (json_of_answer answer)) (compact_text (string session))
 unfolding text_of_line serde_json_on_literals
 reply_line answer session = with_end (codes "{\"reply\":") (compact_text (json_of_answer answer)) (codes ",\"session\":") (compact_text (string session))
 
-call_ended : (a b c d e f g h i j : List ℕ) → (a ++ (b ++ (c ++ (d ++ (e ++ (f ++ (g ++ (h ++ (i ++ (j ++ 125 ∷ [])))))))))) ++ 10 ∷ [] ≡ a ++ (b ++ (c ++ (d ++ (e ++ (f ++ (g ++ (h ++ (i ++ (j ++ codes "}\n")))))))))
+call_ended : (a b c d e f g h i j : List ℕ) → (a ++ (b ++ (c ++ (d ++ (e ++ (f ++ (g ++ (h ++ (i ++ (j ++ 125 ∷ [])))))))))) ++ 10 ∷ [] ≡ a
+    ++ (b ++ (c ++ (d ++ (e ++ (f ++ (g ++ (h ++ (i ++ (j ++ codes "}\n")))))))))
 call_ended a b c d e f g h i j = simp append_assoc
 
-pub call_line : (call : Call) (session : List ℕ) → text_of_line session (a_line.Call call) ≡ codes "{\"args\":" ++ (compact_text (array_of json_of call.args) ++ (codes ",\"call\":" ++ (compact_text (string call.method)
+pub call_line : (call : Call) (session : List ℕ) → text_of_line session (a_line.Call call) ≡ codes "{\"args\":"
+    ++ (compact_text (array_of json_of call.args) ++ (codes ",\"call\":" ++ (compact_text (string call.method)
     ++ (codes ",\"object\":" ++ (compact_text (json_of_number call.object) ++ (codes ",\"sender\":" ++ (compact_text (json_of_number call.sender)
     ++ (codes ",\"session\":" ++ (compact_text (string session) ++ codes "}\n")))))))))
 unfolding text_of_line serde_json_on_literals
@@ -65,16 +69,20 @@ warning_opening (Some n) = codes "{\"object\":" ++ (compact_text (json_of_number
 pub warning_line : (code : Code) (object : Option ℕ) (session : List ℕ) → text_of_line session (a_line.Warning code object)
     ≡ warning_opening object ++ warned session (code_text code)
 unfolding text_of_line serde_json_on_literals
-warning_line code None session = with_end (codes "{\"session\":") (compact_text (string session)) (codes ",\"warning\":") (compact_text (string (code_text code)))
+warning_line code None session = with_end (codes "{\"session\":") (compact_text (string session)) (codes ",\"warning\":")
+    (compact_text (string (code_text code)))
 warning_line code (Some n) session =
-    warning_ended (codes "{\"object\":") (compact_text (json_of_number n)) (codes ",\"session\":") (compact_text (string session)) (codes ",\"warning\":") (compact_text (string (code_text code)))
+    warning_ended (codes "{\"object\":") (compact_text (json_of_number n)) (codes ",\"session\":") (compact_text (string session)) (codes ",\"warning\":")
+    (compact_text (string (code_text code)))
 
-binding_ended : (a b c d e f g h : List ℕ) → (a ++ (b ++ (c ++ (d ++ (e ++ (f ++ (g ++ (h ++ 125 ∷ [])))))))) ++ 10 ∷ [] ≡ (a ++ (b ++ (c ++ (d ++ e)))) ++ (f ++ (g ++ (h ++ codes "}\n")))
+binding_ended : (a b c d e f g h : List ℕ) → (a ++ (b ++ (c ++ (d ++ (e ++ (f ++ (g ++ (h ++ 125 ∷ [])))))))) ++ 10 ∷ [] ≡ (a ++ (b ++ (c ++ (d ++ e))))
+    ++ (f ++ (g ++ (h ++ codes "}\n")))
 binding_ended a b c d e f g h = simp append_assoc
 
 -- what stands before it, where a property is warned of
 abbrev pub binding_opening : ℕ → List ℕ → List ℕ
-binding_opening n property = codes "{\"object\":" ++ (compact_text (json_of_number n) ++ (codes ",\"property\":" ++ (compact_text (string property) ++ codes ",\"session\":")))
+binding_opening n property = codes "{\"object\":"
+    ++ (compact_text (json_of_number n) ++ (codes ",\"property\":" ++ (compact_text (string property) ++ codes ",\"session\":")))
 
 pub binding_warning_line : (n : ℕ) (property : List ℕ) (error : BindingError) (session : List ℕ) → text_of_line session (a_line.BindingWarning n property error)
     ≡ binding_opening n property ++ warned session (error_name error)
@@ -84,32 +92,39 @@ binding_warning_line n property error session =
     (codes ",\"session\":") (compact_text (string session)) (codes ",\"warning\":") (compact_text (string (error_name error)))
 
 -- a text in which JSON escapes nothing, with the text around it, which brings its quotes
-pub text_between : (before s after : List ℕ) → list_all is_plain_byte s ≡ true → (before ++ 34 ∷ []) ++ (s ++ (34 ∷ after)) ≡ before ++ (compact_text (string s) ++ after)
+pub text_between : (before s after : List ℕ) → list_all is_plain_byte s ≡ true
+    → (before ++ 34 ∷ []) ++ (s ++ (34 ∷ after)) ≡ before ++ (compact_text (string s) ++ after)
 text_between before s after plain =
     let quoted : (before ++ 34 ∷ []) ++ (s ++ (34 ∷ after)) ≡ before ++ ((34 ∷ (s ++ 34 ∷ [])) ++ after) = simp append_assoc in
     quoted ∙ ap (λ text. before ++ (text ++ after)) (sym (text_of_plain s plain))
 
-around_word : (opening told session : List ℕ) → around opening told (34 ∷ (session ++ 34 ∷ [])) ≡ opening ++ (told ++ (codes ",\"session\":\"" ++ (session ++ codes "\"}\n")))
+around_word : (opening told session : List ℕ) → around opening told (34 ∷ (session ++ 34 ∷ [])) ≡ opening
+    ++ (told ++ (codes ",\"session\":\"" ++ (session ++ codes "\"}\n")))
 around_word opening told session = simp append_assoc
 
-around_text : (opening told session : List ℕ) → around opening (34 ∷ (told ++ 34 ∷ [])) (34 ∷ (session ++ 34 ∷ [])) ≡ (opening ++ 34 ∷ []) ++ (told ++ (codes "\",\"session\":\"" ++ (session ++ codes "\"}\n")))
+around_text : (opening told session : List ℕ) → around opening (34 ∷ (told ++ 34 ∷ [])) (34 ∷ (session ++ 34 ∷ [])) ≡ (opening ++ 34 ∷ [])
+    ++ (told ++ (codes "\",\"session\":\"" ++ (session ++ codes "\"}\n")))
 around_text opening told session = simp append_assoc
 
-pub text_of_error : (code : Code) (session : List ℕ) → IsTrue (is_session_text session) → text_of_line session (Error code) ≡ codes "{\"error\":\"" ++ (code_text code ++ (codes "\",\"session\":\"" ++ (session ++ codes "\"}\n")))
+pub text_of_error : (code : Code) (session : List ℕ) → IsTrue (is_session_text session)
+    → text_of_line session (Error code) ≡ codes "{\"error\":\"" ++ (code_text code ++ (codes "\",\"session\":\"" ++ (session ++ codes "\"}\n")))
 text_of_error code session named =
     error_line code session
     ∙ ap₂ (around (codes "{\"error\":")) (text_of_plain (code_text code) (code_is_plain code)) (text_of_plain session (session_is_plain session named))
     ∙ around_text (codes "{\"error\":") (code_text code) session
 
 -- a reply's line, whose answer is written as a word
-pub text_of_word : (answer : Answer) (told session : List ℕ) → IsTrue (is_session_text session) → told ≡ compact_text (json_of_answer answer) → codes "{\"reply\":" ++ (told ++ (codes ",\"session\":\"" ++ (session ++ codes "\"}\n"))) ≡ text_of_line session (Reply answer)
+pub text_of_word : (answer : Answer) (told session : List ℕ) → IsTrue (is_session_text session) → told ≡ compact_text (json_of_answer answer)
+    → codes "{\"reply\":" ++ (told ++ (codes ",\"session\":\"" ++ (session ++ codes "\"}\n"))) ≡ text_of_line session (Reply answer)
 text_of_word answer told session named shown =
     sym (reply_line answer session
     ∙ ap₂ (around (codes "{\"reply\":")) (sym shown) (text_of_plain session (session_is_plain session named))
     ∙ around_word (codes "{\"reply\":") told session)
 
 -- and as a text in which JSON escapes nothing
-pub text_of_text : (answer : Answer) (told session : List ℕ) → IsTrue (is_session_text session) → list_all is_plain_byte told ≡ true → compact_text (string told) ≡ compact_text (json_of_answer answer) → codes "{\"reply\":\"" ++ (told ++ (codes "\",\"session\":\"" ++ (session ++ codes "\"}\n"))) ≡ text_of_line session (Reply answer)
+pub text_of_text : (answer : Answer) (told session : List ℕ) → IsTrue (is_session_text session) → list_all is_plain_byte told ≡ true
+    → compact_text (string told) ≡ compact_text (json_of_answer answer)
+    → codes "{\"reply\":\"" ++ (told ++ (codes "\",\"session\":\"" ++ (session ++ codes "\"}\n"))) ≡ text_of_line session (Reply answer)
 text_of_text answer told session named plain shown =
     sym (reply_line answer session
     ∙ ap₂ (around (codes "{\"reply\":")) (sym shown ∙ text_of_plain told plain) (text_of_plain session (session_is_plain session named))
@@ -117,15 +132,21 @@ text_of_text answer told session named plain shown =
 
 -- a call's line around the texts of its parts
 abbrev call_around : List ℕ → List ℕ → List ℕ → List ℕ → List ℕ → List ℕ
-call_around args method object sender session = codes "{\"args\":" ++ (args ++ (codes ",\"call\":" ++ (method ++ (codes ",\"object\":" ++ (object ++ (codes ",\"sender\":" ++ (sender ++ (codes ",\"session\":" ++ (session ++ codes "}\n")))))))))
+call_around args method object sender session = codes "{\"args\":"
+    ++ (args ++ (codes ",\"call\":" ++ (method
+    ++ (codes ",\"object\":" ++ (object ++ (codes ",\"sender\":" ++ (sender ++ (codes ",\"session\":" ++ (session ++ codes "}\n")))))))))
 
-around_call : (word method object sender session : List ℕ) → call_around (91 ∷ (word ++ 93 ∷ [])) (34 ∷ (method ++ 34 ∷ [])) object sender (34 ∷ (session ++ 34 ∷ []))
-    ≡ (codes "{\"args\":[" ++ (word ++ (codes "],\"call\":\"" ++ (method ++ codes "\",\"object\":")))) ++ (object ++ (codes ",\"sender\":" ++ (sender ++ (codes ",\"session\":\"" ++ (session ++ codes "\"}\n")))))
+around_call : (word method object sender session : List ℕ) → call_around (91 ∷ (word ++ 93 ∷ [])) (34 ∷ (method ++ 34 ∷ [])) object sender
+    (34 ∷ (session ++ 34 ∷ []))
+    ≡ (codes "{\"args\":[" ++ (word ++ (codes "],\"call\":\"" ++ (method ++ codes "\",\"object\":"))))
+    ++ (object ++ (codes ",\"sender\":" ++ (sender ++ (codes ",\"session\":\"" ++ (session ++ codes "\"}\n")))))
 around_call word method object sender session = simp append_assoc
 
 -- the line where its values are written as one word or as nothing
-pub text_of_call : (call : Call) (word method session : List ℕ) → IsTrue (is_session_text session) → list_all is_plain_byte method ≡ true → method ≡ call.method → 91 ∷ (word ++ 93 ∷ []) ≡ compact_text (array_of json_of call.args)
-    → (codes "{\"args\":[" ++ (word ++ (codes "],\"call\":\"" ++ (method ++ codes "\",\"object\":")))) ++ (decimal call.object ++ (codes ",\"sender\":" ++ (decimal call.sender ++ (codes ",\"session\":\"" ++ (session ++ codes "\"}\n")))))
+pub text_of_call : (call : Call) (word method session : List ℕ) → IsTrue (is_session_text session) → list_all is_plain_byte method ≡ true → method ≡ call.method
+    → 91 ∷ (word ++ 93 ∷ []) ≡ compact_text (array_of json_of call.args)
+    → (codes "{\"args\":[" ++ (word ++ (codes "],\"call\":\"" ++ (method ++ codes "\",\"object\":"))))
+    ++ (decimal call.object ++ (codes ",\"sender\":" ++ (decimal call.sender ++ (codes ",\"session\":\"" ++ (session ++ codes "\"}\n")))))
     ≡ text_of_line session (a_line.Call call)
 text_of_call call word method session named plain same values =
     let args = sym values in

@@ -25,11 +25,14 @@ pub line_named : (line : List ℕ) → IfOk (command_of line) IsNamed
 unfolding command_of command_in
 line_named line = by (json_in line)
   where
-    asks : (session : List ℕ) (asked : Option Asked) → IfSome asked IsNamedAsked → IfOk (option_map_or (λ command. Ok (record { session = session; command = command })) asked (Err (not_a_command (Some session)))) IsNamed
+    asks : (session : List ℕ) (asked : Option Asked) → IfSome asked IsNamedAsked
+        → IfOk (option_map_or (λ command. Ok (record { session = session; command = command })) asked (Err (not_a_command (Some session)))) IsNamed
     asks session None is = tt
     asks session (Some asked) is = is
 
-    names : (json : Data) (session : Option (List ℕ)) → IfOk (option_map_or (λ session. option_map_or (λ command. Ok (record { session = session; command = command })) (asked_of json) (Err (not_a_command (Some session)))) session (Err (not_a_command None))) IsNamed
+    names : (json : Data) (session : Option (List ℕ))
+        → IfOk (option_map_or (λ session. option_map_or (λ command. Ok (record { session = session; command = command })) (asked_of json)
+        (Err (not_a_command (Some session)))) session (Err (not_a_command None))) IsNamed
     names json None = tt
     names json (Some session) = asks session (asked_of json) (asked_named json)
 
@@ -38,7 +41,8 @@ line_named line = by (json_in line)
     by (Ok json) = names json (name_at (codes "session") json)
 
 -- so is what is read of it
-pub read_named : (line : List ℕ) (result : Result Command ReadError) → Gives tag result (command_of line) → IfOk result (λ given. IsNamedAsked (tag given).command)
+pub read_named : (line : List ℕ) (result : Result Command ReadError) → Gives tag result (command_of line)
+    → IfOk result (λ given. IsNamedAsked (tag given).command)
 read_named line (Ok given) gives = subst (λ read. IfOk read IsNamed) gives (line_named line)
 read_named line (Err (Fault fault)) gives = tt
 read_named line (Err Memory) gives = tt
@@ -50,7 +54,8 @@ IsNamedPiece (Faulty fault) = Unit {0}
 
 pub piece_named : (line : List ℕ) → IfSome (piece_of line) IsNamedPiece
 unfolding piece_of
-piece_named line = cond_both (is_blank line) None (Some (piece_from (command_of line))) (λ piece. IfSome piece IsNamedPiece) (λ blank. tt) (λ not_blank. by (command_of line) (line_named line))
+piece_named line = cond_both (is_blank line) None (Some (piece_from (command_of line))) (λ piece. IfSome piece IsNamedPiece) (λ blank. tt)
+    (λ not_blank. by (command_of line) (line_named line))
   where
     by : (read : Result (Tagged (List ℕ) Asked) LineFault) → IfOk read IsNamed → IsNamedPiece (piece_from read)
     by (Ok given) is = is

@@ -24,21 +24,25 @@ text_of_pieces settings world pieces = text_of_said (flat_map said_in (piece_ans
 pub world_after_pieces : Settings → World → List Piece → World
 world_after_pieces settings world pieces = world_after (machine settings) world (commands_of pieces)
 
-pub text_of_pieces-cons : (settings : Settings) (world : World) (piece : Option Piece) (pieces : List Piece) → text_of_pieces settings world (cons_option piece pieces) ≡ text_of_piece settings world piece ++ text_of_pieces settings (world_after_piece settings world piece) pieces
+pub text_of_pieces-cons : (settings : Settings) (world : World) (piece : Option Piece) (pieces : List Piece)
+    → text_of_pieces settings world (cons_option piece pieces) ≡ text_of_piece settings world piece
+    ++ text_of_pieces settings (world_after_piece settings world piece) pieces
 unfolding text_of_pieces text_of_piece world_after_piece
 text_of_pieces-cons settings world None pieces = refl
 text_of_pieces-cons settings world (Some (Given given)) pieces =
     let answer = map (said_by given.session) (effect (machine settings) world given).lines in
     let later = flat_map said_in (piece_answers (machine settings) (world_after_piece settings world (Some (Given given))) pieces) in
     flat_map-append (λ (said : Said). said.text) answer later
-    ∙ ap (λ first. first ++ text_of_pieces settings (world_after_piece settings world (Some (Given given))) pieces) (text_of_said-said_by given.session (effect (machine settings) world given).lines)
+    ∙ ap (λ first. first ++ text_of_pieces settings (world_after_piece settings world (Some (Given given))) pieces)
+    (text_of_said-said_by given.session (effect (machine settings) world given).lines)
 text_of_pieces-cons settings world (Some (Faulty fault)) pieces = refl
 
 pub text_of_pieces-nothing : (settings : Settings) (world : World) → text_of_pieces settings world [] ≡ []
 unfolding text_of_pieces
 text_of_pieces-nothing settings world = refl
 
-pub world_after_pieces-cons : (settings : Settings) (world : World) (piece : Option Piece) (pieces : List Piece) → world_after_pieces settings world (cons_option piece pieces) ≡ world_after_pieces settings (world_after_piece settings world piece) pieces
+pub world_after_pieces-cons : (settings : Settings) (world : World) (piece : Option Piece) (pieces : List Piece)
+    → world_after_pieces settings world (cons_option piece pieces) ≡ world_after_pieces settings (world_after_piece settings world piece) pieces
 unfolding world_after_pieces world_after_piece
 world_after_pieces-cons settings world None pieces = refl
 world_after_pieces-cons settings world (Some (Given given)) pieces = refl
@@ -52,7 +56,8 @@ pub by_pieces : (settings : Settings) (world : World) (bytes : List ℕ) → out
 unfolding output said_all text_of_pieces
 by_pieces settings world bytes = refl
 
-pub world_by_pieces : (settings : Settings) (world : World) (bytes : List ℕ) → world_of settings world bytes ≡ world_after_pieces settings world (pieces_of bytes)
+pub world_by_pieces : (settings : Settings) (world : World) (bytes : List ℕ)
+    → world_of settings world bytes ≡ world_after_pieces settings world (pieces_of bytes)
 unfolding world_of world_after_pieces
 world_by_pieces settings world bytes = refl
 
@@ -61,7 +66,9 @@ pub output-empty : (settings : Settings) (world : World) → output settings wor
 output-empty settings world = by_pieces settings world [] ∙ ap (text_of_pieces settings world) pieces_of-empty ∙ text_of_pieces-nothing settings world
 
 -- for a line and what stands behind it: what is written for the line, and then for the rest, in the states after the line
-pub output-line : (settings : Settings) (world : World) (line rest : List ℕ) → NoEnd line → output settings world (line ++ 10 ∷ rest) ≡ text_of_piece settings world (piece_of line) ++ output settings (world_after_piece settings world (piece_of line)) rest
+pub output-line : (settings : Settings) (world : World) (line rest : List ℕ) → NoEnd line
+    → output settings world (line ++ 10 ∷ rest) ≡ text_of_piece settings world (piece_of line)
+    ++ output settings (world_after_piece settings world (piece_of line)) rest
 output-line settings world line rest whole =
     by_pieces settings world (line ++ 10 ∷ rest)
     ∙ ap (text_of_pieces settings world) (pieces_of-line line rest whole)
@@ -79,16 +86,19 @@ output-last settings world line whole =
 
 -- the states after nothing, after a line and what stands behind it, and after a last line without a line feed
 pub world_of-empty : (settings : Settings) (world : World) → world_of settings world [] ≡ world
-world_of-empty settings world = world_by_pieces settings world [] ∙ ap (world_after_pieces settings world) pieces_of-empty ∙ world_after_pieces-nothing settings world
+world_of-empty settings world = world_by_pieces settings world [] ∙ ap (world_after_pieces settings world) pieces_of-empty
+    ∙ world_after_pieces-nothing settings world
 
-pub world_of-line : (settings : Settings) (world : World) (line rest : List ℕ) → NoEnd line → world_of settings world (line ++ 10 ∷ rest) ≡ world_of settings (world_after_piece settings world (piece_of line)) rest
+pub world_of-line : (settings : Settings) (world : World) (line rest : List ℕ) → NoEnd line
+    → world_of settings world (line ++ 10 ∷ rest) ≡ world_of settings (world_after_piece settings world (piece_of line)) rest
 world_of-line settings world line rest whole =
     world_by_pieces settings world (line ++ 10 ∷ rest)
     ∙ ap (world_after_pieces settings world) (pieces_of-line line rest whole)
     ∙ world_after_pieces-cons settings world (piece_of line) (pieces_of rest)
     ∙ sym (world_by_pieces settings (world_after_piece settings world (piece_of line)) rest)
 
-pub world_of-last : (settings : Settings) (world : World) (line : List ℕ) → NoEnd line → world_of settings world line ≡ world_after_piece settings world (piece_of line)
+pub world_of-last : (settings : Settings) (world : World) (line : List ℕ) → NoEnd line
+    → world_of settings world line ≡ world_after_piece settings world (piece_of line)
 world_of-last settings world line whole =
     world_by_pieces settings world line
     ∙ ap (world_after_pieces settings world) (pieces_of-last line whole)

@@ -1,5 +1,6 @@
 -- Texts in which JSON escapes nothing.
-use Rattle.std.proofs.Common.{◌≡◌, ◌<◌, ◌≤◌, ◌==◌, ◌&&◌, not, ℕ, suc, Bool, true, false, List, [], ◌∷◌, ◌++◌, IsTrue, bytes_eq, codes, leb, ltb, drop, refl, sym, ap, ◌∙◌, ⊎_elim, lit<, arith}
+use Rattle.std.proofs.Common.{◌≡◌, ◌<◌, ◌≤◌, ◌==◌, ◌&&◌, not, ℕ, suc, Bool, true, false, List, [], ◌∷◌, ◌++◌, IsTrue, bytes_eq, codes, leb, ltb, drop, refl}
+use Rattle.std.proofs.Common.{sym, ap, ◌∙◌, ⊎_elim, lit<, arith}
 use Rattle.std.specs.List.{list_all}
 use Rattle.std.proofs.lemmas.Bool.{and_parts, and_from, or_left, or_cases, leb-true, lt-leb}
 use Rattle.std.proofs.lemmas.Bool.Decides.{nat_tests}
@@ -9,7 +10,9 @@ use Rattle.serde_json.specs.Written.{compact_text}
 use Rattle.serde_json.proofs.OnLiterals.{serde_json_on_literals}
 use Rattle.plain_types.specs.Names.{is_name_start, is_name_byte, is_name}
 use Rattle.plain_types.specs.declared.code.Code.{Code}
-use Rattle.plain_types.specs.declared.code.Code.TheVariants.{UnreadableLine, NotACommand, NoSuchClass, NoSuchObject, NoSuchMethod, BadSignature, DoesNotFit, ConnectedAlready, UniqueFunctor, NoSuchFunctor, NoSuchProperty, Cycle, Dying, Limit, NameTaken, OwnSession, NoGroup, NotBindable, NumbersUsedUp, SessionFailed, OutOfMemory, BadValue, TurnsUsedUp}
+use Rattle.plain_types.specs.declared.code.Code.TheVariants.{UnreadableLine, NotACommand, NoSuchClass, NoSuchObject, NoSuchMethod, BadSignature, DoesNotFit}
+use Rattle.plain_types.specs.declared.code.Code.TheVariants.{ConnectedAlready, UniqueFunctor, NoSuchFunctor, NoSuchProperty, Cycle, Dying, Limit, NameTaken}
+use Rattle.plain_types.specs.declared.code.Code.TheVariants.{OwnSession, NoGroup, NotBindable, NumbersUsedUp, SessionFailed, OutOfMemory, BadValue, TurnsUsedUp}
 use Rattle.plain_types.specs.Codes.{code_text}
 use Rattle.binding_values.specs.declared.property.BindingError.{BindingError}
 use Rattle.binding_values.specs.declared.property.BindingError.TheVariants.{BindingLoop, EvaluationError}
@@ -125,4 +128,5 @@ name_is_plain (x ∷ s) h =
 
 -- and what a line names as its session
 pub session_is_plain : (s : List ℕ) → IsTrue (is_session_text s) → list_all is_plain_byte s ≡ true
-session_is_plain s h = ⊎_elim (λ named. name_is_plain s named) (λ none. ap (list_all is_plain_byte) ((bytes_eq-Decides s (codes "-")).0 none)) (or_cases (is_name s) (bytes_eq s (codes "-")) h)
+session_is_plain s h = ⊎_elim (λ named. name_is_plain s named) (λ none. ap (list_all is_plain_byte) ((bytes_eq-Decides s (codes "-")).0 none))
+    (or_cases (is_name s) (bytes_eq s (codes "-")) h)

@@ -34,12 +34,14 @@ named_at : (key : List ℕ) (json : Data) (name : List ℕ) → name_at key json
 unfolding name_at
 named_at key json name e = named_text (text_at key json) name e
 
-IsNamed-asked : (session : List ℕ) (command : Option Asked) → is_name session ≡ true → IsNamed (option_map_or (λ c. Ok (record { session = session; command = c })) command (Err (not_a_command (Some session))))
+IsNamed-asked : (session : List ℕ) (command : Option Asked) → is_name session ≡ true
+    → IsNamed (option_map_or (λ c. Ok (record { session = session; command = c })) command (Err (not_a_command (Some session))))
 unfolding IsNamed
 IsNamed-asked session None named = or_left _ _ named
 IsNamed-asked session (Some command) named = named
 
-IsNamed-session : (json : Data) (session : Option (List ℕ)) → ((name : List ℕ) → session ≡ Some name → is_name name ≡ true) → IsNamed (option_map_or (λ name. given_by name json) session (Err (not_a_command None)))
+IsNamed-session : (json : Data) (session : Option (List ℕ)) → ((name : List ℕ) → session ≡ Some name → is_name name ≡ true)
+    → IsNamed (option_map_or (λ name. given_by name json) session (Err (not_a_command None)))
 unfolding IsNamed
 IsNamed-session json None named = refl
 IsNamed-session json (Some name) named = IsNamed-asked name (asked_of json) (named name refl)

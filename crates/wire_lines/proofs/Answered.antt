@@ -31,7 +31,8 @@ first_read : (line rest : List ℕ) → NoEnd line → read_lines ((line ++ 10 �
 first_read line rest no_end = ap read_lines (append_assoc line (10 ∷ []) rest) ∙ ap (map piece_of) (lines_of-line line rest no_end)
 
 module _ (old new : Server) (before after : Out) (lines : ℕ) (line : List ℕ) (no_end : NoEnd line) where
-  pub Fed-line : (text : List ℕ) → IsAnswered old (piece_of line) text new → Sent before after text → Fed (before_line old before lines line) (after_line new after lines)
+  pub Fed-line : (text : List ℕ) → IsAnswered old (piece_of line) text new → Sent before after text
+      → Fed (before_line old before lines line) (after_line new after lines)
   Fed-line text answered sent = record {
     lines = piece_of line ∷ [];
     text = text;
@@ -41,7 +42,8 @@ module _ (old new : Server) (before after : Out) (lines : ℕ) (line : List ℕ)
     counted = omega arith;
   }
 
-  pub Cut-line : (fault : RunFault) (text : List ℕ) → IsAnswered old (piece_of line) text new → SentUntil fault before after text → StuckIn fault old (piece_of line ∷ []) new before after → (rest : List ℕ)
+  pub Cut-line : (fault : RunFault) (text : List ℕ) → IsAnswered old (piece_of line) text new → SentUntil fault before after text
+      → StuckIn fault old (piece_of line ∷ []) new before after → (rest : List ℕ)
       → Cut fault (before_line old before lines line) (after_line new after lines) rest
   Cut-line fault text answered sent stuck rest = record {
     lines = piece_of line ∷ [];
@@ -65,13 +67,16 @@ module _ (old new : Server) (before after : Out) (lines : ℕ) (line : List ℕ)
       Feeds most (before_line old before lines line) (after_line new after lines) r
   Feeds-served most f f' r text more answered sent fails stuck = by r sent fails stuck
     where
-      stuck_here : IsStuckBy [] (λ text. IsAnswered old (Some (piece_from (command_of line))) text new) before after → IsStuck old (piece_of line ∷ []) new before after
-      stuck_here stuck = subst (λ p. IsStuck old (p ∷ []) new before after) (sym (piece_of-read line more)) (stuck_line (Some (piece_from (command_of line))) stuck)
+      stuck_here : IsStuckBy [] (λ text. IsAnswered old (Some (piece_from (command_of line))) text new) before after
+          → IsStuck old (piece_of line ∷ []) new before after
+      stuck_here stuck = subst (λ p. IsStuck old (p ∷ []) new before after) (sym (piece_of-read line more))
+          (stuck_line (Some (piece_from (command_of line))) stuck)
 
       read : IsAnswered old (piece_of line) text new
       read = subst (λ p. IsAnswered old p text new) (sym (piece_of-read line more)) answered
 
-      by : {T : Type 0} (r : Result T RunFault) → SentAll before after r text → SendFails f f' r → (r ≡ Err Memory → IsStuckBy [] (λ text. IsAnswered old (Some (piece_from (command_of line))) text new) before after)
+      by : {T : Type 0} (r : Result T RunFault) → SentAll before after r text → SendFails f f' r
+          → (r ≡ Err Memory → IsStuckBy [] (λ text. IsAnswered old (Some (piece_from (command_of line))) text new) before after)
           → Feeds most (before_line old before lines line) (after_line new after lines) r
       by (Ok done) sent fails stuck = Fed-line text read sent
       by (Err Read) sent fails stuck = absurd fails
@@ -80,15 +85,18 @@ module _ (old new : Server) (before after : Out) (lines : ℕ) (line : List ℕ)
       by (Err Memory) sent fails stuck = Cut-line Memory text read sent (stuck_here (stuck refl))
 
 -- a blank line is only counted
-pub Fed-blank : (server : Server) (out : Out) (lines : ℕ) (line : List ℕ) → NoEnd line → is_blank line ≡ true → Fed (before_line server out lines line) (after_line server out lines)
+pub Fed-blank : (server : Server) (out : Out) (lines : ℕ) (line : List ℕ) → NoEnd line → is_blank line ≡ true
+    → Fed (before_line server out lines line) (after_line server out lines)
 Fed-blank server out lines line no_end blank =
     Fed-line server server out out lines line no_end []
     (subst (λ p. IsAnswered server p [] server) (sym (piece_of-blank line blank)) (refl, refl)) (Sent-nothing out)
 
 -- a line above the bound is not answered
-pub Cut-nothing : (server : Server) (out : Out) (lines : ℕ) (begun rest : List ℕ) → Cut Endless (record { server = server; out = out; lines = lines; begun = begun }) (record { server = server; out = out; lines = lines; begun = [] }) rest
+pub Cut-nothing : (server : Server) (out : Out) (lines : ℕ) (begun rest : List ℕ)
+    → Cut Endless (record { server = server; out = out; lines = lines; begun = begun }) (record { server = server; out = out; lines = lines; begun = [] }) rest
 Cut-nothing server out lines begun rest =
-    Cut-silent Endless (record { server = server; out = out; lines = lines; begun = begun }) (record { server = server; out = out; lines = lines; begun = [] }) rest refl refl
+    Cut-silent Endless (record { server = server; out = out; lines = lines; begun = begun })
+    (record { server = server; out = out; lines = lines; begun = [] }) rest refl refl
     (Sent-nothing out) tt
 
 pub IsOver-line : (most lines : ℕ) (server : Server) (out : Out) (line rest : List ℕ) → NoEnd line → lines ≤ most → most ≤ lines →

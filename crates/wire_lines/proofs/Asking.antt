@@ -9,7 +9,8 @@ use Rattle.wire_lines.specs.Run.{AsksSource, HasAsked, ReadFails, Reads, UsesDev
 use Rattle.wire_lines.proofs.SliceEnds.{WriteFails-other}
 
 -- where a run stops, at most one call gave nothing
-pub AsksSource-stopped : {T : Type 0} (most : ℕ) (old new : Reads) (gave others : ℕ) → new.calls ≤ old.calls + most → HasAsked (gave + others) gave old new → others ≤ 1
+pub AsksSource-stopped : {T : Type 0} (most : ℕ) (old new : Reads) (gave others : ℕ) → new.calls ≤ old.calls + most → HasAsked (gave + others) gave old new
+    → others ≤ 1
     → (fault : RunFault) (r : Result T RunFault) → r ≡ Err fault → AsksSource most old new r
 AsksSource-stopped most old new gave others within counted once fault r is = record {
   within = within;
@@ -46,7 +47,8 @@ ReadFails-other {T = T} old new fault r is other same = subst (ReadFails old new
     by Memory other = same
 
 -- all was read, and then no device failed
-pub UsesDevices-spared : {T : Type 0} (most : ℕ) (calls calls_after : Reads) (source source_after sink : ℕ) (bytes : T) (fault : RunFault) (r : Result Summary RunFault)
+pub UsesDevices-spared : {T : Type 0} (most : ℕ) (calls calls_after : Reads) (source source_after sink : ℕ) (bytes : T) (fault : RunFault)
+    (r : Result Summary RunFault)
     → r ≡ Err fault → fault ≢ Read → fault ≢ Write → AsksSource {T = T} most calls calls_after (Ok bytes) → source_after ≡ source
     → UsesDevices most calls calls_after source source_after sink sink r
 UsesDevices-spared most calls calls_after source source_after sink bytes fault r is unread unwritten asks same = record {
@@ -56,7 +58,8 @@ UsesDevices-spared most calls calls_after source source_after sink bytes fault r
 }
 
 -- or the sink did
-pub UsesDevices-unwritten : {T : Type 0} (most : ℕ) (calls calls_after : Reads) (source source_after sink sink_after : ℕ) (bytes : T) (r : Result Summary RunFault)
+pub UsesDevices-unwritten : {T : Type 0} (most : ℕ) (calls calls_after : Reads) (source source_after sink sink_after : ℕ) (bytes : T)
+    (r : Result Summary RunFault)
     → r ≡ Err Write → AsksSource {T = T} most calls calls_after (Ok bytes) → source_after ≡ source → FailsOnce sink sink_after
     → UsesDevices most calls calls_after source source_after sink sink_after r
 UsesDevices-unwritten most calls calls_after source source_after sink sink_after bytes r is asks same once = record {

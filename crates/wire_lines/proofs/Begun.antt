@@ -23,7 +23,8 @@ lines_of-byte byte rest other =
     ap (λ b. map bare (cond b ((byte ∷ []) ∷ whole_lines rest) (in_front byte (whole_lines rest)))) (ne_eqb byte 10 other)
     ∙ bare-in_front byte (whole_lines rest) other
 
-in_front-with_front : (byte next : ℕ) (front : List ℕ) (lines : List (List ℕ)) → in_front byte (with_front (next ∷ front) lines) ≡ with_front (byte ∷ next ∷ front) lines
+in_front-with_front : (byte next : ℕ) (front : List ℕ) (lines : List (List ℕ))
+    → in_front byte (with_front (next ∷ front) lines) ≡ with_front (byte ∷ next ∷ front) lines
 in_front-with_front byte next front [] = refl
 in_front-with_front byte next front (line ∷ lines) = refl
 

@@ -23,7 +23,8 @@ lines-ended [] = ap length (lines_of-line [] [] NoEnd-nothing) ∙ ap (λ l. len
 lines-ended (byte ∷ bytes) = ⊎_elim
     (λ (is : byte ≡ 10).
     let more = lines-ended bytes in
-    let first : lines_of (byte ∷ (bytes ++ 10 ∷ [])) ≡ [] ∷ lines_of (bytes ++ 10 ∷ []) = ap (λ b. lines_of (b ∷ (bytes ++ 10 ∷ []))) is ∙ lines_of-line [] (bytes ++ 10 ∷ []) NoEnd-nothing in
+    let first : lines_of (byte ∷ (bytes ++ 10 ∷ [])) ≡ [] ∷ lines_of (bytes ++ 10 ∷ []) = ap (λ b. lines_of (b ∷ (bytes ++ 10 ∷ []))) is
+    ∙ lines_of-line [] (bytes ++ 10 ∷ []) NoEnd-nothing in
     let counts = ap length first in
     let ends : line_ends (byte ∷ bytes) ≡ length (10 ∷ filter (λ byte. byte == 10) bytes) = ap (λ b. line_ends (b ∷ bytes)) is in
     omega (arith, counts, more, ends))

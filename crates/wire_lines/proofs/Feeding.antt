@@ -1,5 +1,6 @@
 -- Steps of a run, one after another.
-use Rattle.std.proofs.Common.{◌≡◌, ℕ, ◌+◌, ◌<◌, List, [], ◌∷◌, ◌++◌, length, Option, Result, Ok, Err, refl, sym, ap, ◌∙◌, subst, arith, append-nil, append_assoc, length-append}
+use Rattle.std.proofs.Common.{◌≡◌, ℕ, ◌+◌, ◌<◌, List, [], ◌∷◌, ◌++◌, length, Option, Result, Ok, Err, refl, sym, ap, ◌∙◌, subst, arith, append-nil}
+use Rattle.std.proofs.Common.{append_assoc, length-append}
 use Rattle.wire_lines.specs.declared.fault.RunFault.{RunFault}
 use Rattle.wire_lines.specs.declared.fault.RunFault.TheVariants.{Read, Write, Endless, Memory}
 use Rattle.server_world.specs.Server.{Server}
@@ -38,7 +39,8 @@ pub Fed-more : (a b : Point) (bytes : List ℕ) → Fed a b → Fed (and_then a 
 Fed-more a b bytes fed = record {
   lines = fed.lines;
   text = fed.text;
-  reads = λ rest. ap read_lines (append_assoc a.begun bytes rest) ∙ fed.reads (bytes ++ rest) ∙ ap (λ l. fed.lines ++ read_lines l) (sym (append_assoc b.begun bytes rest));
+  reads = λ rest. ap read_lines (append_assoc a.begun bytes rest) ∙ fed.reads (bytes ++ rest)
+      ∙ ap (λ l. fed.lines ++ read_lines l) (sym (append_assoc b.begun bytes rest));
   answered = fed.answered;
   sent = fed.sent;
   counted = fed.counted;
@@ -59,14 +61,16 @@ SentUntil-front Write a b text sent = sent
 SentUntil-front Memory a b text sent = sent
 
 -- and behind a text that is sent, enough of both is
-pub SentUntil-after : (fault : RunFault) (a b c : Out) (text behind : List ℕ) → Sent a b text → SentUntil fault b c behind → SentUntil fault a c (text ++ behind)
+pub SentUntil-after : (fault : RunFault) (a b c : Out) (text behind : List ℕ) → Sent a b text → SentUntil fault b c behind
+    → SentUntil fault a c (text ++ behind)
 SentUntil-after Read a b c text behind first second = Sent-trans a b c text behind first second
 SentUntil-after Endless a b c text behind first second = Sent-trans a b c text behind first second
 SentUntil-after Write a b c text behind first second = SentFront-after a b c text behind first second
 SentUntil-after Memory a b c text behind first second = SentFront-after a b c text behind first second
 
 -- a line that found no memory for its text, after others
-pub IsStuck-after : (a b c : Server) (before between after : Out) (lines more : List (Option Piece)) (text : List ℕ) → AreAnswered a lines text b → Sent before between text
+pub IsStuck-after : (a b c : Server) (before between after : Out) (lines more : List (Option Piece)) (text : List ℕ) → AreAnswered a lines text b
+    → Sent before between text
     → IsStuck b more c between after → IsStuck a (lines ++ more) c before after
 IsStuck-after a b c before between after lines more text answered sent it = record {
   first = lines ++ it.first;
@@ -82,11 +86,13 @@ IsStuck-after a b c before between after lines more text answered sent it = reco
     rest = it.stuck.rest;
     text = it.stuck.text;
     long = it.stuck.long;
-    sent = subst (Sent before after) (sym (append_assoc text it.said it.stuck.told)) (Sent-trans before between after text (it.said ++ it.stuck.told) sent it.stuck.sent);
+    sent = subst (Sent before after) (sym (append_assoc text it.said it.stuck.told))
+        (Sent-trans before between after text (it.said ++ it.stuck.told) sent it.stuck.sent);
   };
 }
 
-pub StuckIn-after : (fault : RunFault) (a b c : Server) (before between after : Out) (lines more : List (Option Piece)) (text : List ℕ) → AreAnswered a lines text b → Sent before between text
+pub StuckIn-after : (fault : RunFault) (a b c : Server) (before between after : Out) (lines more : List (Option Piece)) (text : List ℕ)
+    → AreAnswered a lines text b → Sent before between text
     → StuckIn fault b more c between after → StuckIn fault a (lines ++ more) c before after
 StuckIn-after Read a b c before between after lines more text answered sent it = tt
 StuckIn-after Endless a b c before between after lines more text answered sent it = tt
@@ -94,7 +100,8 @@ StuckIn-after Write a b c before between after lines more text answered sent it 
 StuckIn-after Memory a b c before between after lines more text answered sent it = IsStuck-after a b c before between after lines more text answered sent it
 
 -- an end that comes too early, where other bytes are read alike,
-pub Cut-alike : (fault : RunFault) (a b : Point) (begun rest other : List ℕ) → read_lines (begun ++ other) ≡ read_lines (a.begun ++ rest) → Cut fault a b rest → Cut fault (record { server = a.server; out = a.out; lines = a.lines; begun = begun }) b other
+pub Cut-alike : (fault : RunFault) (a b : Point) (begun rest other : List ℕ) → read_lines (begun ++ other) ≡ read_lines (a.begun ++ rest) → Cut fault a b rest
+    → Cut fault (record { server = a.server; out = a.out; lines = a.lines; begun = begun }) b other
 Cut-alike fault a b begun rest other alike cut = record {
   lines = cut.lines;
   behind = cut.behind;
@@ -107,8 +114,10 @@ Cut-alike fault a b begun rest other alike cut = record {
 }
 
 -- where more of what was said is written behind it,
-pub Cut-sent : (fault other : RunFault) (a b c : Point) (rest : List ℕ) → c.server ≡ b.server → c.lines ≡ b.lines → ((text : List ℕ) → SentUntil fault a.out b.out text → SentUntil other a.out c.out text)
-    → ((lines : List (Option Piece)) (new : Server) → StuckIn fault a.server lines new a.out b.out → StuckIn other a.server lines new a.out c.out) → Cut fault a b rest → Cut other a c rest
+pub Cut-sent : (fault other : RunFault) (a b c : Point) (rest : List ℕ) → c.server ≡ b.server → c.lines ≡ b.lines
+    → ((text : List ℕ) → SentUntil fault a.out b.out text → SentUntil other a.out c.out text)
+    → ((lines : List (Option Piece)) (new : Server) → StuckIn fault a.server lines new a.out b.out → StuckIn other a.server lines new a.out c.out)
+    → Cut fault a b rest → Cut other a c rest
 Cut-sent fault other a b c rest same count more stuck cut = record {
   lines = cut.lines;
   behind = cut.behind;
@@ -121,7 +130,8 @@ Cut-sent fault other a b c rest same count more stuck cut = record {
 }
 
 -- and where nothing more is said
-pub Cut-silent : (fault : RunFault) (a b : Point) (rest : List ℕ) → b.server ≡ a.server → b.lines ≡ a.lines → SentUntil fault a.out b.out [] → StuckIn fault a.server [] b.server a.out b.out → Cut fault a b rest
+pub Cut-silent : (fault : RunFault) (a b : Point) (rest : List ℕ) → b.server ≡ a.server → b.lines ≡ a.lines → SentUntil fault a.out b.out []
+    → StuckIn fault a.server [] b.server a.out b.out → Cut fault a b rest
 Cut-silent fault a b rest same count sent stuck = record {
   lines = [];
   behind = read_lines (a.begun ++ rest);
@@ -157,7 +167,8 @@ IsOver-after most a b c rest fed over =
 -- a step, and then the last
 pub Done-after : (a b c : Point) → Fed a b → Done b c → Done a c
 Done-after a b c fed done =
-    let whole : read_lines a.begun ≡ fed.lines ++ read_lines b.begun = ap read_lines (sym (append-nil a.begun)) ∙ fed.reads [] ∙ ap (λ l. fed.lines ++ read_lines l) (append-nil b.begun) in
+    let whole : read_lines a.begun ≡ fed.lines ++ read_lines b.begun = ap read_lines (sym (append-nil a.begun)) ∙ fed.reads []
+    ∙ ap (λ l. fed.lines ++ read_lines l) (append-nil b.begun) in
     let lines = ap length whole ∙ length-append fed.lines (read_lines b.begun) in
     record {
       text = fed.text ++ done.text;
@@ -168,7 +179,8 @@ Done-after a b c fed done =
     }
 
 -- how a run stops, from one point and from another
-pub Stops-along : (most : ℕ) (fault : RunFault) (a b c d : Point) (rest other : List ℕ) → (Cut fault a b rest → Cut fault c d other) → (IsOver most a b rest → IsOver most c d other) → Stops most fault a b rest → Stops most fault c d other
+pub Stops-along : (most : ℕ) (fault : RunFault) (a b c d : Point) (rest other : List ℕ) → (Cut fault a b rest → Cut fault c d other)
+    → (IsOver most a b rest → IsOver most c d other) → Stops most fault a b rest → Stops most fault c d other
 Stops-along most Read a b c d rest other cut over stops = cut stops
 Stops-along most Write a b c d rest other cut over stops = cut stops
 Stops-along most Memory a b c d rest other cut over stops = cut stops
@@ -181,23 +193,27 @@ Stops-cut most Memory a b rest stops = stops
 Stops-cut most Endless a b rest stops = stops.0
 
 pub Finishes-later : {T : Type 0} (most : ℕ) (a b : Point) (r : Result T RunFault) → Finishes most a b r → Later a.server b.server
-Finishes-later most a b (Ok done) finishes = AreAnswered-later a.server b.server a.begun (read_lines a.begun) [] finishes.text (sym (append-nil (read_lines a.begun))) finishes.answered
+Finishes-later most a b (Ok done) finishes = AreAnswered-later a.server b.server a.begun (read_lines a.begun) [] finishes.text
+    (sym (append-nil (read_lines a.begun))) finishes.answered
 Finishes-later most a b (Err fault) finishes = Cut-later fault a b [] (Stops-cut most fault a b [] finishes)
 
 pub Stops-after : (most : ℕ) (fault : RunFault) (a b c : Point) (rest : List ℕ) → Fed a b → Stops most fault b c rest → Stops most fault a c rest
 Stops-after most fault a b c rest fed stops = Stops-along most fault b c a c rest rest (Cut-after fault a b c rest fed) (IsOver-after most a b c rest fed) stops
 
-pub Stops-more : (most : ℕ) (fault : RunFault) (a b : Point) (bytes rest : List ℕ) → Stops most fault a b (bytes ++ rest) → Stops most fault (and_then a bytes) b rest
+pub Stops-more : (most : ℕ) (fault : RunFault) (a b : Point) (bytes rest : List ℕ) → Stops most fault a b (bytes ++ rest)
+    → Stops most fault (and_then a bytes) b rest
 Stops-more most fault a b bytes rest stops =
     let same : a.begun ++ (bytes ++ rest) ≡ (a.begun ++ bytes) ++ rest = sym (append_assoc a.begun bytes rest) in
     Stops-along most fault a b (and_then a bytes) b (bytes ++ rest) rest (Cut-more fault a b bytes rest)
     (λ over. (over.0, subst (λ l. most < a.lines + length (read_lines l)) same over.1)) stops
 
 -- where a run has stopped, nothing is said of what has begun
-pub Stops-anywhere : (most : ℕ) (fault : RunFault) (a b : Point) (begun rest : List ℕ) → Stops most fault a b rest → Stops most fault a (record { server = b.server; out = b.out; lines = b.lines; begun = begun }) rest
+pub Stops-anywhere : (most : ℕ) (fault : RunFault) (a b : Point) (begun rest : List ℕ) → Stops most fault a b rest
+    → Stops most fault a (record { server = b.server; out = b.out; lines = b.lines; begun = begun }) rest
 Stops-anywhere most fault a b begun rest stops =
     Stops-along most fault a b a (record { server = b.server; out = b.out; lines = b.lines; begun = begun }) rest rest
-    (Cut-sent fault fault a b (record { server = b.server; out = b.out; lines = b.lines; begun = begun }) rest refl refl (λ text sent. sent) (λ lines new stuck. stuck)) (λ over. over) stops
+    (Cut-sent fault fault a b (record { server = b.server; out = b.out; lines = b.lines; begun = begun }) rest refl refl (λ text sent. sent)
+    (λ lines new stuck. stuck)) (λ over. over) stops
 
 pub Feeds-after : {T : Type 0} (most : ℕ) (a b c : Point) (r : Result T RunFault) → Fed a b → Feeds most b c r → Feeds most a c r
 Feeds-after most a b c (Ok done) fed feeds = Fed-trans a b c fed feeds
@@ -205,10 +221,12 @@ Feeds-after most a b c (Err fault) fed feeds = λ rest. Stops-after most fault a
 
 -- a step to a point with more bytes behind it, and then a stop before them
 pub Feeds-stopped : {T : Type 0} (most : ℕ) (fault : RunFault) (a b c : Point) (bytes begun : List ℕ) (r : Result T RunFault) →
-    Fed a (and_then b bytes) → ((rest : List ℕ) → Stops most fault b c rest) → r ≡ Err fault → Feeds most a (record { server = c.server; out = c.out; lines = c.lines; begun = begun }) r
+    Fed a (and_then b bytes) → ((rest : List ℕ) → Stops most fault b c rest) → r ≡ Err fault
+    → Feeds most a (record { server = c.server; out = c.out; lines = c.lines; begun = begun }) r
 Feeds-stopped {T} most fault a b c bytes begun r fed stops is =
     subst (Feeds most a (record { server = c.server; out = c.out; lines = c.lines; begun = begun })) (sym is)
-    (λ (rest : List ℕ). Stops-anywhere most fault a c begun rest (Stops-after most fault a (and_then b bytes) c rest fed (Stops-more most fault b c bytes rest (stops (bytes ++ rest)))))
+    (λ (rest : List ℕ). Stops-anywhere most fault a c begun rest
+    (Stops-after most fault a (and_then b bytes) c rest fed (Stops-more most fault b c bytes rest (stops (bytes ++ rest)))))
 
 -- what feeds a run does not read
 pub SinkFails-unread : (T : Type 0) (old new : ℕ) (fault : RunFault) → SinkFails {T = T} old new (Err fault) → fault ≡ Read → ⊥

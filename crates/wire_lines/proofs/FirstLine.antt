@@ -40,6 +40,8 @@ only_line [] whole some = absurd (omega arith)
 only_line (byte ∷ bytes) whole some = lines_of-last byte bytes whole ∙ ap (λ lines. (byte ∷ bytes) ∷ lines) (sym lines_of-empty)
 
 -- the line of a command by its number
-pub line-numbered : (input starts : List ℕ) (at number : ℕ) (line : List ℕ) → line ≡ first_line (take (length input - at) (drop at input)) → at ≡ get_or starts number at → number < length starts → ended line ≡ numbered input starts number
+pub line-numbered : (input starts : List ℕ) (at number : ℕ) (line : List ℕ) → line ≡ first_line (take (length input - at) (drop at input))
+    → at ≡ get_or starts number at → number < length starts → ended line ≡ numbered input starts number
 line-numbered input starts at number line first is below =
-    ap ended (first ∙ ap first_line (take_all (length input - at) (drop at input) (omega (arith, length-drop at input))) ∙ ap (λ place. first_line (drop place input)) (get_or_read starts number at below is 0))
+    ap ended (first ∙ ap first_line (take_all (length input - at) (drop at input) (omega (arith, length-drop at input)))
+    ∙ ap (λ place. first_line (drop place input)) (get_or_read starts number at below is 0))

@@ -1,5 +1,6 @@
 -- Steps of a run that keep the front of a line, and that come to the end of the input.
-use Rattle.std.proofs.Common.{◌≡◌, ℕ, ◌<◌, List, [], ◌∷◌, ◌++◌, length, map, take, Result, Ok, Err, refl, sym, ap, ◌∙◌, subst, arith, append-nil, append_assoc, IsErrAnd}
+use Rattle.std.proofs.Common.{◌≡◌, ℕ, ◌<◌, List, [], ◌∷◌, ◌++◌, length, map, take, Result, Ok, Err, refl, sym, ap, ◌∙◌, subst, arith, append-nil, append_assoc}
+use Rattle.std.proofs.Common.{IsErrAnd}
 use Rattle.server_world.specs.Server.{Server}
 use Rattle.wire_format.specs.declared.line.TheConstants.{LINE_BYTES}
 use Rattle.wire_format.specs.Input.{NoEnd, lines_of, piece_of}
@@ -16,7 +17,8 @@ abbrev pub point : Server → Out → ℕ → List ℕ → Point
 point server out lines begun = record { server = server; out = out; lines = lines; begun = begun }
 
 -- only the front of what has begun is kept
-pub Fed-kept : (server : Server) (out : Out) (lines n : ℕ) (begun : List ℕ) → NoEnd begun → LINE_BYTES < n → Fed (point server out lines begun) (point server out lines (take n begun))
+pub Fed-kept : (server : Server) (out : Out) (lines n : ℕ) (begun : List ℕ) → NoEnd begun → LINE_BYTES < n
+    → Fed (point server out lines begun) (point server out lines (take n begun))
 Fed-kept server out lines n begun no_end large = record {
   lines = [];
   text = [];
@@ -51,7 +53,8 @@ module _ (a b : List ℕ) (same : read_lines a ≡ read_lines b) where
     counted = let counts = ap length same in omega (arith, counts, done.counted);
   }
 
-  Stops-by_lines : (most : ℕ) (fault : RunFault) (server : Server) (out : Out) (lines : ℕ) (end : Point) → Stops most fault (point server out lines a) end [] → Stops most fault (point server out lines b) end []
+  Stops-by_lines : (most : ℕ) (fault : RunFault) (server : Server) (out : Out) (lines : ℕ) (end : Point) → Stops most fault (point server out lines a) end []
+      → Stops most fault (point server out lines b) end []
   Stops-by_lines most fault server out lines end stops =
       let all : read_lines (b ++ []) ≡ read_lines (a ++ []) = ap read_lines (append-nil b) ∙ sym same ∙ ap read_lines (sym (append-nil a)) in
       let counts = ap length all in
@@ -60,8 +63,10 @@ module _ (a b : List ℕ) (same : read_lines a ≡ read_lines b) where
       (λ over. (over.0, omega (arith, counts, over.1))) stops
 
 -- a last line is answered as if it had its end
-pub Finishes-last : {T : Type 0} (most : ℕ) (old new : Server) (before after : Out) (lines count : ℕ) (line : List ℕ) (r : Result T RunFault) → NoEnd line → 0 < length line →
-    Feeds most (point old before lines (line ++ 10 ∷ [])) (point new after count []) r → Finishes most (point old before lines line) (point new after count []) r
+pub Finishes-last : {T : Type 0} (most : ℕ) (old new : Server) (before after : Out) (lines count : ℕ) (line : List ℕ) (r : Result T RunFault) → NoEnd line
+    → 0 < length line →
+    Feeds most (point old before lines (line ++ 10 ∷ [])) (point new after count []) r
+    → Finishes most (point old before lines line) (point new after count []) r
 Finishes-last most old new before after lines count line (Ok done) no_end some feeds =
     Done-by_lines (line ++ 10 ∷ []) line (ap (map piece_of) (same_lines line no_end some)) old before lines (point new after count [])
     (Done-after (point old before lines (line ++ 10 ∷ [])) (point new after count []) (point new after count []) feeds (Done-nothing new after count))

@@ -14,7 +14,8 @@ pub piece_of-long : (a b : List ℕ) → LINE_BYTES < length a → LINE_BYTES < 
 piece_of-long a b long_a long_b = piece_of-too_long a long_a ∙ sym (piece_of-too_long b long_b)
 
 -- lines as pieces, where the first begins with too many bytes
-pieces-long : (a b : List ℕ) (lines : List (List ℕ)) → LINE_BYTES < length a → LINE_BYTES < length b → map piece_of (with_front a lines) ≡ map piece_of (with_front b lines)
+pieces-long : (a b : List ℕ) (lines : List (List ℕ)) → LINE_BYTES < length a → LINE_BYTES < length b
+    → map piece_of (with_front a lines) ≡ map piece_of (with_front b lines)
 pieces-long a b [] long_a long_b = ap (λ p. p ∷ []) (piece_of-long a b long_a long_b)
 pieces-long a b (line ∷ lines) long_a long_b =
     ap (λ p. p ∷ map piece_of lines)

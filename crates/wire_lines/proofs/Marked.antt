@@ -1,5 +1,6 @@
 -- Entries that marks keep, and the places of the marks.
-use Rattle.std.proofs.Common.{◌≡◌, ℕ, ◌+◌, ◌<◌, ◌≤◌, Bool, true, false, List, [], ◌∷◌, ◌++◌, length, map, refl, sym, ap, ap₂, ◌∙◌, arith, append_assoc, length-append, get_or}
+use Rattle.std.proofs.Common.{◌≡◌, ℕ, ◌+◌, ◌<◌, ◌≤◌, Bool, true, false, List, [], ◌∷◌, ◌++◌, length, map, refl, sym, ap, ap₂, ◌∙◌, arith, append_assoc}
+use Rattle.std.proofs.Common.{length-append, get_or}
 use Rattle.std.specs.Prelude.{All}
 use Rattle.std.proofs.lemmas.List.{get_or_at}
 use Rattle.std.proofs.lemmas.List.Elements.{All-nil, All-cons, All-head, All-tail}
@@ -15,10 +16,12 @@ marked-kept {A = A} f d (mark ∷ marks) front (x ∷ xs) within =
     let count : length front + 1 ≡ length (front ++ x ∷ []) = sym (length-append front (x ∷ [])) in
     let same : front ++ x ∷ xs ≡ (front ++ x ∷ []) ++ xs = sym (append_assoc front (x ∷ []) xs) in
     let rest : map (λ i. f (get_or (front ++ x ∷ xs) i d)) (marked_from (length front + 1) marks) ≡ kept marks (map f xs) =
-    ap₂ (λ (first : ℕ) (l : List A). map (λ i. f (get_or l i d)) (marked_from first marks)) count same ∙ marked-kept f d marks (front ++ x ∷ []) xs (omega arith) in
+    ap₂ (λ (first : ℕ) (l : List A). map (λ i. f (get_or l i d)) (marked_from first marks)) count same
+    ∙ marked-kept f d marks (front ++ x ∷ []) xs (omega arith) in
     by mark (ap f (get_or_at front x xs d (length front) refl)) rest
   where
-    by : (mark : Bool) → f (get_or (front ++ x ∷ xs) (length front) d) ≡ f x → map (λ i. f (get_or (front ++ x ∷ xs) i d)) (marked_from (length front + 1) marks) ≡ kept marks (map f xs) →
+    by : (mark : Bool) → f (get_or (front ++ x ∷ xs) (length front) d) ≡ f x
+        → map (λ i. f (get_or (front ++ x ∷ xs) i d)) (marked_from (length front + 1) marks) ≡ kept marks (map f xs) →
         map (λ i. f (get_or (front ++ x ∷ xs) i d)) (marked_from (length front) (mark ∷ marks)) ≡ kept (mark ∷ marks) (map f (x ∷ xs))
     by true here rest = ap₂ (λ y ys. y ∷ ys) here rest
     by false here rest = rest
@@ -26,7 +29,8 @@ marked-kept {A = A} f d (mark ∷ marks) front (x ∷ xs) within =
 -- and there are as many of these places as marks
 pub marked-within : (first most : ℕ) (marks : List Bool) → first + length marks ≤ most → All (λ place. place < most) (marked_from first marks)
 marked-within first most [] within = All-nil (λ place. place < most)
-marked-within first most (true ∷ marks) within = All-cons (λ place. place < most) first (marked_from (first + 1) marks) (omega arith) (marked-within (first + 1) most marks (omega arith))
+marked-within first most (true ∷ marks) within = All-cons (λ place. place < most) first (marked_from (first + 1) marks) (omega arith)
+    (marked-within (first + 1) most marks (omega arith))
 marked-within first most (false ∷ marks) within = marked-within (first + 1) most marks (omega arith)
 
 -- what holds of all entries holds of those that are kept

@@ -1,5 +1,6 @@
 -- Texts that are sent one after another.
-use Rattle.std.proofs.Common.{◌≡◌, ℕ, ◌<◌, List, [], ◌++◌, length, take, drop, Option, Result, Ok, Err, refl, sym, ap, ◌∙◌, subst, arith, append-nil, append_assoc, take-append-drop, ◌+◌, ◌∷◌, get_or, min, IsErr}
+use Rattle.std.proofs.Common.{◌≡◌, ℕ, ◌<◌, List, [], ◌++◌, length, take, drop, Option, Result, Ok, Err, refl, sym, ap, ◌∙◌, subst, arith, append-nil}
+use Rattle.std.proofs.Common.{append_assoc, take-append-drop, ◌+◌, ◌∷◌, get_or, min, IsErr}
 use Rattle.std.proofs.Math.Seq.{take-append-add}
 use Rattle.std.specs.List.{flat_map}
 use Rattle.std.proofs.lemmas.Grind.{flat_map-append}
@@ -10,34 +11,44 @@ use Rattle.wire_format.specs.Bytes.{AppendsFront, AppendsAll}
 use Rattle.wire_lines.specs.Sending.{Out, out, Sent, SentFront, SentAll}
 
 -- what is gathered is written, and then the text is gathered
-pub Sent-flushed : (old new : Option (List ℕ)) (gathered text : List ℕ) → Appends old new gathered → Sent (record { received = old; gathered = gathered }) (record { received = new; gathered = text }) text
+pub Sent-flushed : (old new : Option (List ℕ)) (gathered text : List ℕ) → Appends old new gathered
+    → Sent (record { received = old; gathered = gathered }) (record { received = new; gathered = text }) text
 Sent-flushed old new gathered text bytes = (gathered, bytes, refl)
 
 -- a sink that failed took a front of what was gathered
-pub SentFront-flushed : (old new : Option (List ℕ)) (gathered text : List ℕ) → AppendsFront old new gathered → SentFront (record { received = old; gathered = gathered }) (record { received = new; gathered = [] }) text
+pub SentFront-flushed : (old new : Option (List ℕ)) (gathered text : List ℕ) → AppendsFront old new gathered
+    → SentFront (record { received = old; gathered = gathered }) (record { received = new; gathered = [] }) text
 SentFront-flushed old new gathered text front =
     let (n, below, bytes) = front in
     let whole : gathered ++ text ≡ (take n gathered ++ []) ++ (drop n gathered ++ text) =
-    ap (λ l. l ++ text) (sym (take-append-drop n gathered)) ∙ append_assoc (take n gathered) (drop n gathered) text ∙ ap (λ l. l ++ (drop n gathered ++ text)) (sym (append-nil (take n gathered))) in
+    ap (λ l. l ++ text) (sym (take-append-drop n gathered)) ∙ append_assoc (take n gathered) (drop n gathered) text
+    ∙ ap (λ l. l ++ (drop n gathered ++ text)) (sym (append-nil (take n gathered))) in
     (take n gathered, bytes, (drop n gathered ++ text, whole))
 
 -- what is gathered is written, and then the text itself, as far as the sink takes it
-pub SentAll-written : {T E : Type 0} (old mid new : Option (List ℕ)) (gathered text : List ℕ) (r : Result T E) → Appends old mid gathered → AppendsAll mid new r text → SentAll (record { received = old; gathered = gathered }) (record { received = new; gathered = [] }) r text
-SentAll-written old mid new gathered text (Ok v) before now = (gathered ++ text, Appends-trans old mid new gathered text before now, sym (append-nil (gathered ++ text)))
+pub SentAll-written : {T E : Type 0} (old mid new : Option (List ℕ)) (gathered text : List ℕ) (r : Result T E) → Appends old mid gathered
+    → AppendsAll mid new r text → SentAll (record { received = old; gathered = gathered }) (record { received = new; gathered = [] }) r text
+SentAll-written old mid new gathered text (Ok v) before now =
+    (gathered ++ text, Appends-trans old mid new gathered text before now, sym (append-nil (gathered ++ text)))
 SentAll-written old mid new gathered text (Err e) before now =
     let (n, below, bytes) = now in
     let whole : gathered ++ text ≡ ((gathered ++ take n text) ++ []) ++ drop n text =
-    ap (λ l. gathered ++ l) (sym (take-append-drop n text)) ∙ sym (append_assoc gathered (take n text) (drop n text)) ∙ ap (λ l. l ++ drop n text) (sym (append-nil (gathered ++ take n text))) in
+    ap (λ l. gathered ++ l) (sym (take-append-drop n text)) ∙ sym (append_assoc gathered (take n text) (drop n text))
+    ∙ ap (λ l. l ++ drop n text) (sym (append-nil (gathered ++ take n text))) in
     (gathered ++ take n text, Appends-trans old mid new gathered (take n text) before bytes, (drop n text, whole))
 
 -- the same where it is known that nothing is gathered afterwards
-pub SentFront-emptied : (old new : Option (List ℕ)) (gathered left text : List ℕ) → left ≡ [] → AppendsFront old new gathered → SentFront (record { received = old; gathered = gathered }) (record { received = new; gathered = left }) text
+pub SentFront-emptied : (old new : Option (List ℕ)) (gathered left text : List ℕ) → left ≡ [] → AppendsFront old new gathered
+    → SentFront (record { received = old; gathered = gathered }) (record { received = new; gathered = left }) text
 SentFront-emptied old new gathered left text none front =
-    subst (λ l. SentFront (record { received = old; gathered = gathered }) (record { received = new; gathered = l }) text) (sym none) (SentFront-flushed old new gathered text front)
+    subst (λ l. SentFront (record { received = old; gathered = gathered }) (record { received = new; gathered = l }) text) (sym none)
+    (SentFront-flushed old new gathered text front)
 
-pub SentAll-passed : {T E : Type 0} (old mid new : Option (List ℕ)) (gathered left text : List ℕ) (r : Result T E) → left ≡ [] → Appends old mid gathered → AppendsAll mid new r text → SentAll (record { received = old; gathered = gathered }) (record { received = new; gathered = left }) r text
+pub SentAll-passed : {T E : Type 0} (old mid new : Option (List ℕ)) (gathered left text : List ℕ) (r : Result T E) → left ≡ [] → Appends old mid gathered
+    → AppendsAll mid new r text → SentAll (record { received = old; gathered = gathered }) (record { received = new; gathered = left }) r text
 SentAll-passed old mid new gathered left text r none before now =
-    subst (λ l. SentAll (record { received = old; gathered = gathered }) (record { received = new; gathered = l }) r text) (sym none) (SentAll-written old mid new gathered text r before now)
+    subst (λ l. SentAll (record { received = old; gathered = gathered }) (record { received = new; gathered = l }) r text) (sym none)
+    (SentAll-written old mid new gathered text r before now)
 
 -- at an `Err` a front is sent
 pub SentAll-failed : {T E : Type 0} (a b : Out) (r : Result T E) (text : List ℕ) → IsErr r → SentFront a b text → SentAll a b r text
@@ -61,7 +72,8 @@ Sent-trans a b c xs ys before now =
     let (w, held, sent) = before in
     let (v, more, then_sent) = now in
     let whole : a.gathered ++ (xs ++ ys) ≡ (w ++ v) ++ c.gathered =
-    sym (append_assoc a.gathered xs ys) ∙ ap (λ l. l ++ ys) sent ∙ append_assoc w b.gathered ys ∙ ap (λ l. w ++ l) then_sent ∙ sym (append_assoc w v c.gathered) in
+    sym (append_assoc a.gathered xs ys) ∙ ap (λ l. l ++ ys) sent ∙ append_assoc w b.gathered ys ∙ ap (λ l. w ++ l) then_sent
+    ∙ sym (append_assoc w v c.gathered) in
     (w ++ v, Appends-trans a.received b.received c.received w v held more, whole)
 
 -- a text, and then a front of the next
@@ -104,13 +116,16 @@ module _ {X : Type 0} (f : X → List ℕ) (xs : List X) (i : ℕ) where
       ∙ ap (λ l. flat_map f (take i xs) ++ l) (append-nil (f (get_or xs i d)) ∙ sym is)
 
   -- the text of the next element is sent
-  pub Sent-next : (a b c : Out) (d : X) (text : List ℕ) → i < length xs → text ≡ f (get_or xs i d) → Sent a b (flat_map f (take i xs)) → Sent b c text → Sent a c (flat_map f (take (i + 1) xs))
+  pub Sent-next : (a b c : Out) (d : X) (text : List ℕ) → i < length xs → text ≡ f (get_or xs i d) → Sent a b (flat_map f (take i xs)) → Sent b c text
+      → Sent a c (flat_map f (take (i + 1) xs))
   Sent-next a b c d text within is before now = subst (Sent a c) (sym (next-flat_map d text within is)) (Sent-trans a b c _ _ before now)
 
   -- a front of it is
-  pub SentFront-next : (a b c : Out) (d : X) (text : List ℕ) → i < length xs → text ≡ f (get_or xs i d) → Sent a b (flat_map f (take i xs)) → SentFront b c text → SentFront a c (flat_map f xs)
+  pub SentFront-next : (a b c : Out) (d : X) (text : List ℕ) → i < length xs → text ≡ f (get_or xs i d) → Sent a b (flat_map f (take i xs)) → SentFront b c text
+      → SentFront a c (flat_map f xs)
   SentFront-next a b c d text within is before now =
-      let so_far : SentFront a c (flat_map f (take (i + 1) xs)) = subst (SentFront a c) (sym (next-flat_map d text within is)) (SentFront-after a b c _ _ before now) in
+      let so_far : SentFront a c (flat_map f (take (i + 1) xs)) =
+      subst (SentFront a c) (sym (next-flat_map d text within is)) (SentFront-after a b c _ _ before now) in
       let whole : flat_map f xs ≡ flat_map f (take (i + 1) xs) ++ flat_map f (drop (i + 1) xs) =
       ap (flat_map f) (sym (take-append-drop (i + 1) xs)) ∙ flat_map-append f (take (i + 1) xs) (drop (i + 1) xs) in
       subst (SentFront a c) (sym whole) (SentFront-more a c _ _ so_far)
@@ -120,13 +135,16 @@ pub SentAll-one : {X T E : Type 0} (f : X → List ℕ) (x : X) (a b : Out) (r :
 SentAll-one f x a b r sent = subst (SentAll a b r) (sym (append-nil (f x))) sent
 
 -- what is gathered behind a front is written, or a front of it
-pub SentFront-then : (a : Out) (old new : Option (List ℕ)) (gathered left text : List ℕ) → left ≡ [] → SentFront a (out old gathered) text → Appends old new gathered → SentFront a (out new left) text
+pub SentFront-then : (a : Out) (old new : Option (List ℕ)) (gathered left text : List ℕ) → left ≡ [] → SentFront a (out old gathered) text
+    → Appends old new gathered → SentFront a (out new left) text
 SentFront-then a old new gathered left text none front bytes =
     let (w, held, (rest, sent)) = front in
-    let whole : a.gathered ++ text ≡ ((w ++ gathered) ++ left) ++ rest = sent ∙ ap (λ l. l ++ rest) (sym (append-nil (w ++ gathered)) ∙ ap (λ l. (w ++ gathered) ++ l) (sym none)) in
+    let whole : a.gathered ++ text ≡ ((w ++ gathered) ++ left) ++ rest = sent
+    ∙ ap (λ l. l ++ rest) (sym (append-nil (w ++ gathered)) ∙ ap (λ l. (w ++ gathered) ++ l) (sym none)) in
     (w ++ gathered, Appends-trans a.received old new w gathered held bytes, (rest, whole))
 
-pub SentFront-then_front : (a : Out) (old new : Option (List ℕ)) (gathered left text : List ℕ) → left ≡ [] → SentFront a (out old gathered) text → AppendsFront old new gathered → SentFront a (out new left) text
+pub SentFront-then_front : (a : Out) (old new : Option (List ℕ)) (gathered left text : List ℕ) → left ≡ [] → SentFront a (out old gathered) text
+    → AppendsFront old new gathered → SentFront a (out new left) text
 SentFront-then_front a old new gathered left text none front bytes =
     let (w, held, (rest, sent)) = front in
     let (n, below, taken) = bytes in
@@ -137,13 +155,16 @@ SentFront-then_front a old new gathered left text none front bytes =
     (w ++ take n gathered, Appends-trans a.received old new w (take n gathered) held taken, (drop n gathered ++ rest, whole))
 
 -- a text is sent, and what is gathered is written
-pub Sent-then : (a : Out) (old new : Option (List ℕ)) (gathered left text : List ℕ) → left ≡ [] → Sent a (out old gathered) text → Appends old new gathered → Sent a (out new left) text
+pub Sent-then : (a : Out) (old new : Option (List ℕ)) (gathered left text : List ℕ) → left ≡ [] → Sent a (out old gathered) text → Appends old new gathered
+    → Sent a (out new left) text
 Sent-then a old new gathered left text none sent bytes =
     let (w, held, is) = sent in
     let whole : a.gathered ++ text ≡ (w ++ gathered) ++ left = is ∙ sym (append-nil (w ++ gathered)) ∙ ap (λ l. (w ++ gathered) ++ l) (sym none) in
     (w ++ gathered, Appends-trans a.received old new w gathered held bytes, whole)
 
 -- the same, as far as the sink takes it
-pub SentAll-then : {T E : Type 0} (a : Out) (old new : Option (List ℕ)) (gathered left text : List ℕ) (r : Result T E) → left ≡ [] → Sent a (out old gathered) text → AppendsAll old new r gathered → SentAll a (out new left) r text
+pub SentAll-then : {T E : Type 0} (a : Out) (old new : Option (List ℕ)) (gathered left text : List ℕ) (r : Result T E) → left ≡ []
+    → Sent a (out old gathered) text → AppendsAll old new r gathered → SentAll a (out new left) r text
 SentAll-then a old new gathered left text (Ok v) none sent bytes = Sent-then a old new gathered left text none sent bytes
-SentAll-then a old new gathered left text (Err e) none sent bytes = SentFront-then_front a old new gathered left text none (SentFront-whole a (out old gathered) text sent) bytes
+SentAll-then a old new gathered left text (Err e) none sent bytes =
+    SentFront-then_front a old new gathered left text none (SentFront-whole a (out old gathered) text sent) bytes

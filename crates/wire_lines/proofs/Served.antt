@@ -15,6 +15,7 @@ module _ (old new : Server) (read : Result (Tagged (List ℕ) Asked) LineFault) 
   pub answered-faulty : (fault : LineFault) → read ≡ Err fault → IsFaultSaid old fault text new → IsAnswered old (Some (piece_from read)) text new
   answered-faulty fault is said = subst (λ read. IsAnswered old (Some (piece_from read)) text new) (sym is) (inl said)
 
-pub answered-unread : (old new : Server) (read : Result (Tagged (List ℕ) Asked) LineFault) (text : List ℕ) → IsUnread old text new → IsAnswered old (Some (piece_from read)) text new
+pub answered-unread : (old new : Server) (read : Result (Tagged (List ℕ) Asked) LineFault) (text : List ℕ) → IsUnread old text new
+    → IsAnswered old (Some (piece_from read)) text new
 answered-unread old new (Ok given) text unread = inr unread
 answered-unread old new (Err fault) text unread = inr unread

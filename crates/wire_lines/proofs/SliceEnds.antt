@@ -1,5 +1,6 @@
 -- How a run for a slice ends.
-use Rattle.std.proofs.Common.{◌≡◌, ◌⊎◌, inl, ℕ, ◌<◌, ◌≤◌, ◌^◌, List, [], ◌++◌, length, map, filter, Option, Some, Result, Ok, Err, IsFalse, refl, sym, ap, ap₂, ◌∙◌, subst, append-nil, ⊎_elim}
+use Rattle.std.proofs.Common.{◌≡◌, ◌⊎◌, inl, ℕ, ◌<◌, ◌≤◌, ◌^◌, List, [], ◌++◌, length, map, filter, Option, Some, Result, Ok, Err, IsFalse, refl, sym, ap, ap₂}
+use Rattle.std.proofs.Common.{◌∙◌, subst, append-nil, ⊎_elim}
 use Rattle.std.specs.Prelude.{◌≢◌, All}
 use Rattle.std.specs.Io.KnownBytes.{Appends}
 use Rattle.std.specs.List.{flat_map}
@@ -38,7 +39,8 @@ HasStopped-run Write bytes old new stopped = absurd stopped
 HasStopped-run Endless bytes old new stopped = stopped.0
 HasStopped-run Memory bytes old new stopped = stopped
 
-pub HasStopped-endless : (fault : RunFault) (bytes : List ℕ) (old new : Server) → HasStopped fault bytes old new → fault ≡ Endless → 2 ^ 32 < length (lines_of bytes)
+pub HasStopped-endless : (fault : RunFault) (bytes : List ℕ) (old new : Server) → HasStopped fault bytes old new → fault ≡ Endless
+    → 2 ^ 32 < length (lines_of bytes)
 HasStopped-endless Read bytes old new stopped is = absurd stopped
 HasStopped-endless Write bytes old new stopped is = absurd stopped
 HasStopped-endless Endless bytes old new stopped is = stopped.1
@@ -52,7 +54,8 @@ HasStopped-unwritten fault bytes old new stopped is = subst (λ f. HasStopped f 
 
 module _ (s bytes : List ℕ) (old new : Server) (runs : HasRun bytes old new) (held held_after left_after : Option (List ℕ)) (calls calls_after : Reads) where
   -- a run that stops before anything is written
-  unwritten_run : (fault : RunFault) → fault ≢ Write → Appends held held_after [] → (fault ≡ Endless → (2 ^ 32 < length (lines_of bytes)) ⊎ (IsPastReads (2 ^ 40) bytes calls calls_after × (new ≡ old))) → (fault ≡ Read → new ≡ old) →
+  unwritten_run : (fault : RunFault) → fault ≢ Write → Appends held held_after []
+      → (fault ≡ Endless → (2 ^ 32 < length (lines_of bytes)) ⊎ (IsPastReads (2 ^ 40) bytes calls calls_after × (new ≡ old))) → (fault ≡ Read → new ≡ old) →
       SlicesOver s bytes old new held held_after left_after calls calls_after (Err fault)
   unwritten_run fault other nothing endless unread = record {
     runs = runs;
@@ -68,14 +71,16 @@ module _ (s bytes : List ℕ) (old new : Server) (runs : HasRun bytes old new) (
     counted = tt;
   }
 
-  pub SlicesOver-unwritten : (fault : RunFault) (result : Result Summary RunFault) → result ≡ Err fault → fault ≢ Write → held_after ≡ held → (fault ≡ Endless → (2 ^ 32 < length (lines_of bytes)) ⊎ (IsPastReads (2 ^ 40) bytes calls calls_after × (new ≡ old))) → (fault ≡ Read → new ≡ old) →
+  pub SlicesOver-unwritten : (fault : RunFault) (result : Result Summary RunFault) → result ≡ Err fault → fault ≢ Write → held_after ≡ held
+      → (fault ≡ Endless → (2 ^ 32 < length (lines_of bytes)) ⊎ (IsPastReads (2 ^ 40) bytes calls calls_after × (new ≡ old))) → (fault ≡ Read → new ≡ old) →
       SlicesOver s bytes old new held held_after left_after calls calls_after result
   SlicesOver-unwritten fault result is other same endless unread =
       subst (SlicesOver s bytes old new held held_after left_after calls calls_after) (sym is)
       (unwritten_run fault other (subst (λ h. Appends held h []) (sym same) (Appends-nil held)) endless unread)
 
   -- one whose sink failed
-  pub SlicesOver-write : (result : Result Summary RunFault) → result ≡ Err Write → AppendsSome held held_after (sliced (settings old) (states old) s bytes) → states new ≡ world_of (settings old) (states old) bytes → IsFalse (was_refused new) →
+  pub SlicesOver-write : (result : Result Summary RunFault) → result ≡ Err Write → AppendsSome held held_after (sliced (settings old) (states old) s bytes)
+      → states new ≡ world_of (settings old) (states old) bytes → IsFalse (was_refused new) →
       SlicesOver s bytes old new held held_after left_after calls calls_after result
   SlicesOver-write result is some behind found = subst (SlicesOver s bytes old new held held_after left_after calls calls_after) (sym is) (record {
     runs = runs;
@@ -92,7 +97,9 @@ module _ (s bytes : List ℕ) (old new : Server) (runs : HasRun bytes old new) (
   })
 
   -- and one that came to its end
-  pub SlicesOver-done : (summary : Summary) → Appends held held_after (sliced (settings old) (states old) s bytes) → states new ≡ world_of (settings old) (states old) bytes → IsFalse (was_refused new) → left_after ≡ Some [] → summary.lines ≡ length (lines_of bytes) → summary.lines ≤ 2 ^ 32 →
+  pub SlicesOver-done : (summary : Summary) → Appends held held_after (sliced (settings old) (states old) s bytes)
+      → states new ≡ world_of (settings old) (states old) bytes → IsFalse (was_refused new) → left_after ≡ Some [] → summary.lines ≡ length (lines_of bytes)
+      → summary.lines ≤ 2 ^ 32 →
       SlicesOver s bytes old new held held_after left_after calls calls_after (Ok summary)
   SlicesOver-done summary written behind found left lines most = record {
     runs = runs;
@@ -124,20 +131,25 @@ module _ (bytes : List ℕ) (old : Server) (now : Noted) (count : ℕ) (taken : 
 
   pub HasTaken-world : IsFalse (was_refused now.server) → states now.server ≡ world_of (settings old) (states old) bytes
   unfolding world_of
-  HasTaken-world found = let steps = subst (λ ts. AreSteps old ts taken.entries now.server) all_commands taken.steps in (steps_world old now.server (commands_of (pieces_of bytes)) taken.entries steps found).states
+  HasTaken-world found = let steps = subst (λ ts. AreSteps old ts taken.entries now.server) all_commands taken.steps in
+      (steps_world old now.server (commands_of (pieces_of bytes)) taken.entries steps found).states
 
   started : map (line_at bytes) now.starts ≡ command_lines bytes
   started = taken.begins ∙ ap (filter is_command) (sym all_lines)
 
   -- and the numbers that the notes give are those of the slice
-  module _ (s numbers : List ℕ) (found : IsFalse (was_refused now.server)) (kept : numbers ≡ marked_from 0 (back (machine (settings now.server)) s (map (named (names now.server)) now.notes)).marks) where
+  module _ (s numbers : List ℕ) (found : IsFalse (was_refused now.server))
+      (kept : numbers ≡ marked_from 0 (back (machine (settings now.server)) s (map (named (names now.server)) now.notes)).marks) where
     of_slice : numbers ≡ marked_from 0 (slice (machine (settings old)) s (states old) (commands_of (pieces_of bytes))).marks
     of_slice =
-        let gives : back (machine (settings now.server)) s (map (named (names now.server)) now.notes) ≡ slice (machine (settings now.server)) s (states old) (commands_in taken.lines) =
-        notes_give_slice (machine (settings now.server)) (lawful (settings now.server)) s (states old) (commands_in taken.lines) (map (named (names now.server)) now.notes) (taken.right found).right in
+        let gives : back (machine (settings now.server)) s (map (named (names now.server)) now.notes)
+        ≡ slice (machine (settings now.server)) s (states old) (commands_in taken.lines) =
+        notes_give_slice (machine (settings now.server)) (lawful (settings now.server)) s (states old) (commands_in taken.lines)
+        (map (named (names now.server)) now.notes) (taken.right found).right in
         kept
         ∙ ap (λ (found : Slice (List ℕ)). marked_from 0 found.marks) gives
-        ∙ ap₂ (λ (settings : Settings) (ts : List (Tagged (List ℕ) Asked)). marked_from 0 (slice (machine settings) s (states old) ts).marks) HasTaken-settings all_commands
+        ∙ ap₂ (λ (settings : Settings) (ts : List (Tagged (List ℕ) Asked)). marked_from 0 (slice (machine settings) s (states old) ts).marks) HasTaken-settings
+        all_commands
 
     pub HasTaken-within : All (λ number. number < length now.starts) numbers
     HasTaken-within = numbers-within (settings old) (states old) s bytes now.starts started numbers of_slice

@@ -1,5 +1,6 @@
 -- The slice of an input as an input.
-use Rattle.std.proofs.Common.{◌≡◌, ℕ, ◌<◌, Bool, false, cond, List, [], ◌∷◌, ◌++◌, length, map, filter, Option, Some, None, refl, sym, ap, ap₂, ◌∙◌, arith, append_assoc}
+use Rattle.std.proofs.Common.{◌≡◌, ℕ, ◌<◌, Bool, false, cond, List, [], ◌∷◌, ◌++◌, length, map, filter, Option, Some, None, refl, sym, ap, ap₂, ◌∙◌, arith}
+use Rattle.std.proofs.Common.{append_assoc}
 use Rattle.std.specs.Prelude.{All, slice_index}
 use Rattle.std.specs.List.{flat_map, filter_map, cons_option}
 use Rattle.std.specs.Option.{option_map_or}
@@ -29,14 +30,17 @@ unfolding pieces_of
 commands_in-lines bytes = refl
 
 pub commands_in-append : (lines more : List (List ℕ)) → commands_in (lines ++ more) ≡ commands_in lines ++ commands_in more
-commands_in-append lines more = ap commands_of (filter_map-append piece_of lines more) ∙ commands_of-append (filter_map piece_of lines) (filter_map piece_of more)
+commands_in-append lines more = ap commands_of (filter_map-append piece_of lines more)
+    ∙ commands_of-append (filter_map piece_of lines) (filter_map piece_of more)
 
 -- the piece of a line that is a command
 abbrev as_piece : Tagged (List ℕ) Asked → Option Piece
 as_piece t = Some (Given t)
 
-by_piece : (line : List ℕ) (lines : List (List ℕ)) (piece : Option Piece) → piece_of line ≡ piece → map piece_of (filter is_command lines) ≡ map as_piece (commands_in lines) →
-    map piece_of (cond (option_map_or is_given piece false) (line ∷ filter is_command lines) (filter is_command lines)) ≡ map as_piece (commands_of (cons_option piece (filter_map piece_of lines)))
+by_piece : (line : List ℕ) (lines : List (List ℕ)) (piece : Option Piece) → piece_of line ≡ piece
+    → map piece_of (filter is_command lines) ≡ map as_piece (commands_in lines) →
+    map piece_of (cond (option_map_or is_given piece false) (line ∷ filter is_command lines) (filter is_command lines))
+    ≡ map as_piece (commands_of (cons_option piece (filter_map piece_of lines)))
 by_piece line lines None is rest = rest
 by_piece line lines (Some (Given t)) is rest = ap₂ (λ x xs. x ∷ xs) is rest
 by_piece line lines (Some (Faulty fault)) is rest = rest
@@ -89,7 +93,8 @@ lines-whole bytes = lines-bare (whole_lines bytes)
 
 -- so the commands of the slice as an input are those that the slice keeps
 commands-sliced : (settings : Settings) (world : World) (s bytes : List ℕ) →
-    commands_of (pieces_of (sliced settings world s bytes)) ≡ kept (slice (machine settings) s world (commands_of (pieces_of bytes))).marks (commands_of (pieces_of bytes))
+    commands_of (pieces_of (sliced settings world s bytes)) ≡ kept (slice (machine settings) s world (commands_of (pieces_of bytes))).marks
+    (commands_of (pieces_of bytes))
 unfolding sliced
 commands-sliced settings world s bytes =
     let marks = (slice (machine settings) s world (commands_of (pieces_of bytes))).marks in
@@ -126,11 +131,13 @@ module _ (settings : Settings) (world : World) (s bytes starts : List ℕ) (begi
       let started = sym (length-map starts (line_at bytes)) ∙ ap length begins in
       omega (arith, all, lines, started)
 
-  pub numbers-within : (numbers : List ℕ) → numbers ≡ marked_from 0 (slice (machine settings) s world (commands_of (pieces_of bytes))).marks → All (λ number. number < length starts) numbers
+  pub numbers-within : (numbers : List ℕ) → numbers ≡ marked_from 0 (slice (machine settings) s world (commands_of (pieces_of bytes))).marks
+      → All (λ number. number < length starts) numbers
   unfolding marks
   numbers-within numbers is = rw is (marked-within 0 (length starts) marks (omega (arith, as_many)))
 
-  pub numbers-text : (numbers : List ℕ) → numbers ≡ marked_from 0 (slice (machine settings) s world (commands_of (pieces_of bytes))).marks → flat_map (numbered bytes starts) numbers ≡ sliced settings world s bytes
+  pub numbers-text : (numbers : List ℕ) → numbers ≡ marked_from 0 (slice (machine settings) s world (commands_of (pieces_of bytes))).marks
+      → flat_map (numbered bytes starts) numbers ≡ sliced settings world s bytes
   unfolding marks sliced
   numbers-text numbers is =
       ap (flat_map (numbered bytes starts)) is

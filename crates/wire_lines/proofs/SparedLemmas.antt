@@ -1,5 +1,6 @@
 -- Lines that are answered one after another, whatever memory is refused, and what spared sessions are told of them.
-use Rattle.std.proofs.Common.{◌≡◌, ℕ, Bool, true, false, List, [], ◌∷◌, ◌++◌, length, map, take, codes, Option, Some, None, Result, Ok, Err, IsOk, suc, refl, sym, ap, ap₂, subst, ◌∙◌, ⊎_elim, append-nil}
+use Rattle.std.proofs.Common.{◌≡◌, ℕ, Bool, true, false, List, [], ◌∷◌, ◌++◌, length, map, take, codes, Option, Some, None, Result, Ok, Err, IsOk, suc, refl}
+use Rattle.std.proofs.Common.{sym, ap, ap₂, subst, ◌∙◌, ⊎_elim, append-nil}
 use Rattle.std.specs.Prelude.{MatchResult}
 use Rattle.std.specs.List.{flat_map}
 use Rattle.std.proofs.lemmas.Bool.{cases_Bool}
@@ -37,7 +38,8 @@ use Rattle.wire_lines.specs.Run.{WritesAll}
 use Rattle.wire_lines.specs.Spared.{AreSpared, IsApart, IsSparing, Spares, SparesAll, first_lines, influencing, said_by_entry, said_for, without_unread}
 use Rattle.wire_lines.specs.Steps.{AreAnswered, IsAnswered, IsDone, IsFaultSaid, IsUnread, entry_text, read_lines}
 use Rattle.wire_lines.proofs.Isolated.{told_as_alone, told_as_without, told_between, told_interleaved}
-use Rattle.wire_lines.proofs.SparedLines.{are_of_world, commands_read, pieces_of-without_unread, pieces_read, read_lines-first_lines, spared_behind, spared_said}
+use Rattle.wire_lines.proofs.SparedLines.{are_of_world, commands_read, pieces_of-without_unread, pieces_read, read_lines-first_lines, spared_behind}
+use Rattle.wire_lines.proofs.SparedLines.{spared_said}
 
 -- the text of the lines of an entry
 text_of_entry : (session : List ℕ) (entry : Entry) → text_of_said (said_by_entry session entry) ≡ entry_text session entry
@@ -45,7 +47,8 @@ text_of_entry session (Lines lines) = text_of_said-said_by session lines
 text_of_entry session OutOfMemory = append-nil _
 
 -- a command whose session was spared was answered by its lines
-fine_entry : (keep : List ℕ → Bool) (session : List ℕ) (entry : Entry) (rest : List Said) → keep session ≡ true → AreSpared keep (said_by_entry session entry ++ rest) → IsFine entry
+fine_entry : (keep : List ℕ → Bool) (session : List ℕ) (entry : Entry) (rest : List Said) → keep session ≡ true
+    → AreSpared keep (said_by_entry session entry ++ rest) → IsFine entry
 fine_entry keep session (Lines lines) rest passes spared = λ e.
     let found = subst (λ lines. AreSpared keep (map (said_by session) lines ++ rest)) e spared in
     (All-head (λ (line : Said). keep line.session ≡ true → IsSparing line) (said_by session (Error code.SessionFailed)) rest found passes).well refl
@@ -54,7 +57,8 @@ fine_entry keep session OutOfMemory rest passes spared =
 
 -- where only memory was refused, no session has changed
 mortal_stays : (old new : Server) → OnlyRefused old new → mortal new ≡ mortal old
-mortal_stays old new only = ap {B = List ℕ → Mortal State} (λ (sessions : List ℕ → Session) (name : List ℕ). record { state = (sessions name).state; failed = (sessions name).failed }) only.sessions
+mortal_stays old new only = ap {B = List ℕ → Mortal State}
+    (λ (sessions : List ℕ → Session) (name : List ℕ). record { state = (sessions name).state; failed = (sessions name).failed }) only.sessions
 
 -- lines that were answered: which of them were read, what came of each command that was, and the steps that the
 -- sessions made
@@ -67,7 +71,8 @@ record Answered (s : Settings) (old new : Server) (lines : List (Option Piece)) 
   says : text ≡ text_of_said (said_for lines read entries)
   steps : AreLossy (machine s) is_reset (mortal old) (commands_read lines read) told (mortal new)
   -- the entries are what the steps tell, and where a session was spared its commands were done
-  same : (keep : List ℕ → Bool) → map (λ (one : Told Line). one.lines) (entries_of keep (commands_read lines read) told) ≡ map entry_lines (entries_of keep (commands_read lines read) entries)
+  same : (keep : List ℕ → Bool) → map (λ (one : Told Line). one.lines) (entries_of keep (commands_read lines read) told)
+      ≡ map entry_lines (entries_of keep (commands_read lines read) entries)
   done : (keep : List ℕ → Bool) → AreSpared keep (said_for lines read entries) → AreDone keep (commands_read lines read) told
 
 answered_nothing : (s : Settings) (old new : Server) (text : List ℕ) → new ≡ old → text ≡ [] → Answered s old new [] text
@@ -93,7 +98,8 @@ module _ (s : Settings) (old between new : Server) (lines : List (Option Piece))
     marked = ap suc later.marked;
     counted = later.counted;
     says = ap (λ l. l ++ rest) none ∙ later.says;
-    steps = subst (λ (sessions : List ℕ → Mortal State). AreLossy (machine s) is_reset sessions (commands_read lines later.read) later.told (mortal new)) (ap mortal stays) later.steps;
+    steps = subst (λ (sessions : List ℕ → Mortal State). AreLossy (machine s) is_reset sessions (commands_read lines later.read) later.told (mortal new))
+        (ap mortal stays) later.steps;
     same = later.same;
     done = later.done;
   }
@@ -107,9 +113,11 @@ module _ (s : Settings) (old between new : Server) (lines : List (Option Piece))
     marked = ap suc later.marked;
     counted = later.counted;
     says = ap₂ (λ a b. a ++ b) unread.says later.says;
-    steps = subst (λ (sessions : List ℕ → Mortal State). AreLossy (machine s) is_reset sessions (commands_read lines later.read) later.told (mortal new)) (mortal_stays old between unread.only) later.steps;
+    steps = subst (λ (sessions : List ℕ → Mortal State). AreLossy (machine s) is_reset sessions (commands_read lines later.read) later.told (mortal new))
+        (mortal_stays old between unread.only) later.steps;
     same = later.same;
-    done = λ keep spared. later.done keep (All-tail (λ (line : Said). keep line.session ≡ true → IsSparing line) (said_by (codes "-") (Error code.OutOfMemory)) (said_for lines later.read later.entries) spared);
+    done = λ keep spared. later.done keep (All-tail (λ (line : Said). keep line.session ≡ true → IsSparing line) (said_by (codes "-") (Error code.OutOfMemory))
+        (said_for lines later.read later.entries) spared);
   }
 
   -- one that is no command,
@@ -121,9 +129,11 @@ module _ (s : Settings) (old between new : Server) (lines : List (Option Piece))
     marked = ap suc later.marked;
     counted = later.counted;
     says = ap₂ (λ a b. a ++ b) said.says later.says;
-    steps = subst (λ (sessions : List ℕ → Mortal State). AreLossy (machine s) is_reset sessions (commands_read lines later.read) later.told (mortal new)) (ap mortal said.stays) later.steps;
+    steps = subst (λ (sessions : List ℕ → Mortal State). AreLossy (machine s) is_reset sessions (commands_read lines later.read) later.told (mortal new))
+        (ap mortal said.stays) later.steps;
     same = later.same;
-    done = λ keep spared. later.done keep (All-tail (λ (line : Said). keep line.session ≡ true → IsSparing line) (said_by (blamed fault) (Error fault.code)) (said_for lines later.read later.entries) spared);
+    done = λ keep spared. later.done keep (All-tail (λ (line : Said). keep line.session ≡ true → IsSparing line) (said_by (blamed fault) (Error fault.code))
+        (said_for lines later.read later.entries) spared);
   }
 
   -- and a command
@@ -138,7 +148,8 @@ module _ (s : Settings) (old between new : Server) (lines : List (Option Piece))
         ∙ sym (flat_map-append (λ (said : Said). said.text) (said_by_entry t.session done.entry) (said_for lines later.read later.entries));
     steps = (
       mortal between,
-      subst (λ settings. IsLossy (machine settings) is_reset (mortal old) (mortal between) t (told_of old t done.entry)) fixed (is_lossy old between t done.entry done.does),
+      subst (λ settings. IsLossy (machine settings) is_reset (mortal old) (mortal between) t (told_of old t done.entry)) fixed
+          (is_lossy old between t done.entry done.does),
       later.steps,
     );
     same = λ keep. ⊎_elim
@@ -152,9 +163,11 @@ module _ (s : Settings) (old between new : Server) (lines : List (Option Piece))
   }
 
 -- so lines are answered one after another
-answered_line : (s : Settings) (old between new : Server) (line : Option Piece) (lines : List (Option Piece)) (first rest : List ℕ) → settings old ≡ s → IsAnswered old line first between →
+answered_line : (s : Settings) (old between new : Server) (line : Option Piece) (lines : List (Option Piece)) (first rest : List ℕ) → settings old ≡ s
+    → IsAnswered old line first between →
     (settings between ≡ s → Answered s between new lines rest) → Answered s old new (line ∷ lines) (first ++ rest)
-answered_line s old between new None lines first rest fixed here later = answered_blank s old between new lines first rest (later (ap settings here.0 ∙ fixed)) here.0 here.1
+answered_line s old between new None lines first rest fixed here later =
+    answered_blank s old between new lines first rest (later (ap settings here.0 ∙ fixed)) here.0 here.1
 answered_line s old between new (Some (Given t)) lines first rest fixed here later = ⊎_elim
     (λ done. answered_done s old between new lines first rest (later (done.does.step.settings ∙ fixed)) t fixed done)
     (λ unread. answered_unread s old between new lines first rest (later (unread.settings ∙ fixed)) (Given t) unread)
@@ -164,11 +177,13 @@ answered_line s old between new (Some (Faulty fault)) lines first rest fixed her
     (λ unread. answered_unread s old between new lines first rest (later (unread.settings ∙ fixed)) (Faulty fault) unread)
     here
 
-answered_all : (s : Settings) (old new : Server) (lines : List (Option Piece)) (text : List ℕ) → settings old ≡ s → AreAnswered old lines text new → Answered s old new lines text
+answered_all : (s : Settings) (old new : Server) (lines : List (Option Piece)) (text : List ℕ) → settings old ≡ s → AreAnswered old lines text new
+    → Answered s old new lines text
 answered_all s old new [] text fixed answered = answered_nothing s old new text answered.0 answered.1
 answered_all s old new (line ∷ lines) text fixed answered =
     subst (Answered s old new (line ∷ lines)) (sym answered.5)
-    (answered_line s old answered.0 new line lines answered.1 answered.2 fixed answered.3 (λ same. answered_all s answered.0 new lines answered.2 same answered.4))
+    (answered_line s old answered.0 new line lines answered.1 answered.2 fixed answered.3
+    (λ same. answered_all s answered.0 new lines answered.2 same answered.4))
 
 count_lines : (input : List ℕ) → length (read_lines input) ≡ length (whole_lines input)
 unfolding lines_of
@@ -215,12 +230,14 @@ spares old new input text answered =
     }
 
 -- in a whole run,
-pub spares_all : {T E : Type 0} (result : Result T E) (F : E → Type 0) (input : List ℕ) (held : Option (List ℕ)) (old : Server) (held_after : Option (List ℕ)) (new : Server) →
+pub spares_all : {T E : Type 0} (result : Result T E) (F : E → Type 0) (input : List ℕ) (held : Option (List ℕ)) (old : Server) (held_after : Option (List ℕ))
+    (new : Server) →
     MatchResult result (λ _. WritesAll input held old held_after new) F → IsOk result → SparesAll input held old held_after new
 spares_all (Ok done) F input held old held_after new writes ok = (writes.0, spares old new input writes.0 writes.1, writes.2)
 spares_all (Err fault) F input held old held_after new writes ok = absurd (cc ok)
 
 -- and in the first lines of one
-pub spares_first : (old new : Server) (input : List ℕ) (count : ℕ) (text : List ℕ) → AreAnswered old (take count (read_lines input)) text new → Spares (first_lines count input) old new text
+pub spares_first : (old new : Server) (input : List ℕ) (count : ℕ) (text : List ℕ) → AreAnswered old (take count (read_lines input)) text new
+    → Spares (first_lines count input) old new text
 spares_first old new input count text answered =
     spares old new (first_lines count input) text (subst (λ lines. AreAnswered old lines text new) (sym (read_lines-first_lines count input)) answered)

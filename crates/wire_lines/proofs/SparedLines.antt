@@ -1,5 +1,6 @@
 -- What is said to lines of which some were not read.
-use Rattle.std.proofs.Common.{◌≡◌, ℕ, Bool, true, false, List, [], ◌∷◌, ◌++◌, length, map, take, bytes_eq, codes, Option, Some, None, refl, sym, ap, ap₂, ◌∙◌, ⊎_elim, arith, zero, suc, replicate}
+use Rattle.std.proofs.Common.{◌≡◌, ℕ, Bool, true, false, List, [], ◌∷◌, ◌++◌, length, map, take, bytes_eq, codes, Option, Some, None, refl, sym, ap, ap₂, ◌∙◌}
+use Rattle.std.proofs.Common.{⊎_elim, arith, zero, suc, replicate}
 use Rattle.std.specs.List.{flat_map}
 use Rattle.std.proofs.lemmas.Bool.{cases_Bool, both_ways, false_from_ne_true}
 use Rattle.std.proofs.lemmas.List.Elements.{All-head, All-tail}
@@ -54,20 +55,24 @@ read_lines-first_lines count bytes =
     ∙ kept-all count (read_lines bytes)
 
 -- what is said to s for a line of another session
-not_said : (s session : List ℕ) (line : Line) (rest : List Said) → bytes_eq s session ≡ false → lines_said_to s (said_by session line ∷ rest) ≡ lines_said_to s rest
+not_said : (s session : List ℕ) (line : Line) (rest : List Said) → bytes_eq s session ≡ false
+    → lines_said_to s (said_by session line ∷ rest) ≡ lines_said_to s rest
 not_said s session line rest other = rw other refl
 
 entry_not_said : (s session : List ℕ) (entry : Entry) → bytes_eq s session ≡ false → lines_said_to s (said_by_entry session entry) ≡ []
 entry_not_said s session (Lines lines) other = nothing_said s session lines other
 entry_not_said s session OutOfMemory other = not_said s session (Error code.OutOfMemory) [] other
 
-same_first : (s : List ℕ) (line : Said) (xs ys : List Said) → lines_said_to s xs ≡ lines_said_to s ys → lines_said_to s (line ∷ xs) ≡ lines_said_to s (line ∷ ys)
-same_first s line xs ys rest = lines_said_to-append s (line ∷ []) xs ∙ ap (λ more. lines_said_to s (line ∷ []) ++ more) rest ∙ sym (lines_said_to-append s (line ∷ []) ys)
+same_first : (s : List ℕ) (line : Said) (xs ys : List Said) → lines_said_to s xs ≡ lines_said_to s ys
+    → lines_said_to s (line ∷ xs) ≡ lines_said_to s (line ∷ ys)
+same_first s line xs ys rest = lines_said_to-append s (line ∷ []) xs ∙ ap (λ more. lines_said_to s (line ∷ []) ++ more) rest
+    ∙ sym (lines_said_to-append s (line ∷ []) ys)
 
 -- what holds of some lines holds of those behind
 pub spared_behind : (keep : List ℕ → Bool) (front rest : List Said) → AreSpared keep (front ++ rest) → AreSpared keep rest
 spared_behind keep [] rest spared = spared
-spared_behind keep (line ∷ front) rest spared = spared_behind keep front rest (All-tail (λ (line : Said). keep line.session ≡ true → IsSparing line) line (front ++ rest) spared)
+spared_behind keep (line ∷ front) rest spared = spared_behind keep front rest
+    (All-tail (λ (line : Said). keep line.session ≡ true → IsSparing line) line (front ++ rest) spared)
 
 module _ (settings : Settings) (keep : List ℕ → Bool) (s : List ℕ) (passes : keep s ≡ true) where
   -- the entries of commands whose sessions pass are the lines of the world
@@ -87,7 +92,8 @@ module _ (settings : Settings) (keep : List ℕ → Bool) (s : List ℕ) (passes
       (λ kept.
       let found = rw kept at same in
       let here : entry_lines entry ≡ Some (effect (machine settings) world t).lines = cc in
-      let rest : map entry_lines (entries_of keep ts entries) ≡ map Some (entries_of keep ts (world_lines (machine settings) (after (machine settings) world t) ts)) = cc in
+      let rest : map entry_lines (entries_of keep ts entries)
+      ≡ map Some (entries_of keep ts (world_lines (machine settings) (after (machine settings) world t) ts)) = cc in
       ((λ is. entry_is entry _ here), are_of_world (after (machine settings) world t) ts entries (omega arith) rest))
       (λ left_out.
       let rest = rw left_out at same in
@@ -99,7 +105,8 @@ module _ (settings : Settings) (keep : List ℕ → Bool) (s : List ℕ) (passes
   other_than session left_out = false_from_ne_true _ (λ same. both_ways (keep session) left_out (ap keep (sym ((bytes_eq-Decides s session).0 same)) ∙ passes))
 
   -- so the lines of an entry are those of the world for s
-  entry_said : (session : List ℕ) (entry : Entry) (lines : List Line) → (keep session ≡ true → entry ≡ Lines lines) → lines_said_to s (said_by_entry session entry) ≡ lines_said_to s (map (said_by session) lines)
+  entry_said : (session : List ℕ) (entry : Entry) (lines : List Line) → (keep session ≡ true → entry ≡ Lines lines)
+      → lines_said_to s (said_by_entry session entry) ≡ lines_said_to s (map (said_by session) lines)
   entry_said session entry lines told = ⊎_elim
       (λ kept. ap (λ entry. lines_said_to s (said_by_entry session entry)) (told kept))
       (λ left_out. entry_not_said s session entry (other_than session left_out) ∙ sym (nothing_said s session lines (other_than session left_out)))
@@ -126,11 +133,13 @@ module _ (settings : Settings) (keep : List ℕ → Bool) (s : List ℕ) (passes
   spared_said world (Some (Given t) ∷ lines) (false ∷ read) entries told spared =
       let rest = said_for lines read entries in
       not_said s (codes "-") (Error code.OutOfMemory) rest (not_unnamed rest spared)
-      ∙ spared_said world lines read entries told (All-tail (λ (line : Said). keep line.session ≡ true → IsSparing line) (said_by (codes "-") (Error code.OutOfMemory)) rest spared)
+      ∙ spared_said world lines read entries told
+      (All-tail (λ (line : Said). keep line.session ≡ true → IsSparing line) (said_by (codes "-") (Error code.OutOfMemory)) rest spared)
   spared_said world (Some (Faulty fault) ∷ lines) (false ∷ read) entries told spared =
       let rest = said_for lines read entries in
       not_said s (codes "-") (Error code.OutOfMemory) rest (not_unnamed rest spared)
-      ∙ spared_said world lines read entries told (All-tail (λ (line : Said). keep line.session ≡ true → IsSparing line) (said_by (codes "-") (Error code.OutOfMemory)) rest spared)
+      ∙ spared_said world lines read entries told
+      (All-tail (λ (line : Said). keep line.session ≡ true → IsSparing line) (said_by (codes "-") (Error code.OutOfMemory)) rest spared)
   spared_said world (Some (Faulty fault) ∷ lines) (true ∷ read) entries told spared =
       let rest = said_for lines read entries in
       same_first s _ rest _ (spared_said world lines read entries told (All-tail (λ (line : Said). keep line.session ≡ true → IsSparing line) _ rest spared))

@@ -1,5 +1,6 @@
 -- What a run answers where only its sink may fail, and lines that are said one after another up to one that finds no memory.
-use Rattle.std.proofs.Common.{◌≡◌, ℕ, ◌+◌, ◌<◌, false, List, [], ◌∷◌, ◌++◌, length, take, drop, get_or, Result, Ok, Err, sym, ap, ◌∙◌, subst, append-nil, take-append-drop, append_assoc}
+use Rattle.std.proofs.Common.{◌≡◌, ℕ, ◌+◌, ◌<◌, false, List, [], ◌∷◌, ◌++◌, length, take, drop, get_or, Result, Ok, Err, sym, ap, ◌∙◌, subst, append-nil}
+use Rattle.std.proofs.Common.{take-append-drop, append_assoc}
 use Rattle.std.specs.List.{flat_map}
 use Rattle.std.proofs.lemmas.Grind.{flat_map-append}
 use Rattle.std.proofs.lemmas.List.{take_more}
@@ -14,14 +15,16 @@ use Rattle.wire_lines.specs.Sending.{Out, Sent, SentAll}
 use Rattle.wire_lines.specs.Stream.{IsStuckBy, SendFails, by_sink}
 use Rattle.wire_lines.proofs.Sent.{Sent-trans}
 
-pub SentAll-by_sink : (a b : Out) (r : Result (Unit {0}) Failed) (text : List ℕ) (answer : Result (Unit {0}) RunFault) → answer ≡ by_sink r → SentAll a b r text → SentAll a b answer text
+pub SentAll-by_sink : (a b : Out) (r : Result (Unit {0}) Failed) (text : List ℕ) (answer : Result (Unit {0}) RunFault) → answer ≡ by_sink r → SentAll a b r text
+    → SentAll a b answer text
 SentAll-by_sink a b r text answer is sent = subst (λ (q : Result (Unit {0}) RunFault). SentAll a b q text) (sym is) (by r sent)
   where
     by : (r : Result (Unit {0}) Failed) → SentAll a b r text → SentAll a b (by_sink r) text
     by (Ok done) sent = sent
     by (Err failed) sent = sent
 
-pub SendFails-by_sink : (f f' : ℕ) (r : Result (Unit {0}) Failed) (answer : Result (Unit {0}) RunFault) → answer ≡ by_sink r → CountsErrors f f' r → SendFails f f' answer
+pub SendFails-by_sink : (f f' : ℕ) (r : Result (Unit {0}) Failed) (answer : Result (Unit {0}) RunFault) → answer ≡ by_sink r → CountsErrors f f' r
+    → SendFails f f' answer
 SendFails-by_sink f f' r answer is counts = subst (λ (q : Result (Unit {0}) RunFault). SendFails f f' q) (sym is) (by r counts)
   where
     by : (r : Result (Unit {0}) Failed) → CountsErrors f f' r → SendFails f f' (by_sink r)

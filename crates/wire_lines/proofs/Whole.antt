@@ -1,5 +1,6 @@
 -- How a whole run ends, and what it has written.
-use Rattle.std.proofs.Common.{IfOk, ⊎_elim, ◌≡◌, ◌⊎◌, ◌≤◌, ℕ, ◌+◌, ◌<◌, true, List, [], ◌∷◌, ◌++◌, length, take, drop, Option, Some, Result, Ok, Err, IsOk, IsErr, IsFalse, inl, inr, refl, sym, ap, ap₂, ◌∙◌, subst, arith, append-nil, append_assoc, take-append-drop}
+use Rattle.std.proofs.Common.{IfOk, ⊎_elim, ◌≡◌, ◌⊎◌, ◌≤◌, ℕ, ◌+◌, ◌<◌, true, List, [], ◌∷◌, ◌++◌, length, take, drop, Option, Some, Result, Ok, Err, IsOk}
+use Rattle.std.proofs.Common.{IsErr, IsFalse, inl, inr, refl, sym, ap, ap₂, ◌∙◌, subst, arith, append-nil, append_assoc, take-append-drop}
 use Rattle.std.specs.Prelude.{MatchResult}
 use Rattle.std.specs.Io.KnownBytes.{Appends}
 use Rattle.std.proofs.lemmas.List.{length-map, take_all, take-append-le}
@@ -13,7 +14,8 @@ use Rattle.wire_lines.specs.declared.stream.Summary.{Summary}
 use Rattle.wire_lines.specs.Sending.{Out, out, Sent, SentFront}
 use Rattle.wire_lines.specs.Steps.{AreAnswered, read_lines}
 use Rattle.wire_lines.specs.Stream.{Point, Done, SentUntil, Cut, IsStuck, StuckIn}
-use Rattle.wire_lines.specs.Run.{AppendsSome, AppendsUntil, WritesAll, WritesUntil, WritesFirst, HasAnsweredRead, HasCountedRead, HasStuck, IsUnbegun, IsPastLines, IsPastReads, Reads, line_ends, IsWrittenOut, device_failed, ReadFails, WriteFails, Ends, Runs}
+use Rattle.wire_lines.specs.Run.{AppendsSome, AppendsUntil, WritesAll, WritesUntil, WritesFirst, HasAnsweredRead, HasCountedRead, HasStuck, IsUnbegun}
+use Rattle.wire_lines.specs.Run.{IsPastLines, IsPastReads, Reads, line_ends, IsWrittenOut, device_failed, ReadFails, WriteFails, Ends, Runs}
 use Rattle.wire_lines.proofs.Answering.{front_found, output_found, world_found}
 use Rattle.wire_lines.proofs.Feeding.{SentUntil-front, SentUntil-whole, Cut-sent}
 use Rattle.wire_lines.proofs.Sent.{Sent-then, SentFront-then, SentFront-then_front}
@@ -21,7 +23,8 @@ use Rattle.wire_lines.proofs.Kept.{point}
 use Rattle.wire_lines.proofs.Reading.{Cut-here}
 
 -- what is gathered at the end is written
-pub Done-flushed : (a : Point) (server : Server) (old new : Option (List ℕ)) (gathered left : List ℕ) (lines count : ℕ) → left ≡ [] → count ≡ lines → Appends old new gathered →
+pub Done-flushed : (a : Point) (server : Server) (old new : Option (List ℕ)) (gathered left : List ℕ) (lines count : ℕ) → left ≡ [] → count ≡ lines
+    → Appends old new gathered →
     Done a (point server (out old gathered) lines []) → Done a (point server (out new left) count [])
 Done-flushed a server old new gathered left lines count none same bytes done = record {
   text = done.text;
@@ -30,14 +33,16 @@ Done-flushed a server old new gathered left lines count none same bytes done = r
   counted = same ∙ done.counted;
 }
 
-SentUntil-then : (fault : RunFault) (a : Out) (old new : Option (List ℕ)) (gathered left text : List ℕ) → left ≡ [] → Appends old new gathered → SentUntil fault a (out old gathered) text → SentUntil fault a (out new left) text
+SentUntil-then : (fault : RunFault) (a : Out) (old new : Option (List ℕ)) (gathered left text : List ℕ) → left ≡ [] → Appends old new gathered
+    → SentUntil fault a (out old gathered) text → SentUntil fault a (out new left) text
 SentUntil-then Read a old new gathered left text none bytes sent = Sent-then a old new gathered left text none sent bytes
 SentUntil-then Endless a old new gathered left text none bytes sent = Sent-then a old new gathered left text none sent bytes
 SentUntil-then Write a old new gathered left text none bytes sent = SentFront-then a old new gathered left text none sent bytes
 SentUntil-then Memory a old new gathered left text none bytes sent = SentFront-then a old new gathered left text none sent bytes
 
 -- what is gathered is written behind what was said before a text that found no memory
-IsStuck-then : (old_server new_server : Server) (a : Out) (lines : List (Option Piece)) (old new : Option (List ℕ)) (gathered left : List ℕ) → left ≡ [] → Appends old new gathered
+IsStuck-then : (old_server new_server : Server) (a : Out) (lines : List (Option Piece)) (old new : Option (List ℕ)) (gathered left : List ℕ) → left ≡ []
+    → Appends old new gathered
     → IsStuck old_server lines new_server a (out old gathered) → IsStuck old_server lines new_server a (out new left)
 IsStuck-then old_server new_server a lines old new gathered left none bytes it = record {
   first = it.first;
@@ -57,21 +62,25 @@ IsStuck-then old_server new_server a lines old new gathered left none bytes it =
   };
 }
 
-StuckIn-then : (fault : RunFault) (old_server new_server : Server) (a : Out) (lines : List (Option Piece)) (old new : Option (List ℕ)) (gathered left : List ℕ) → left ≡ [] → Appends old new gathered
+StuckIn-then : (fault : RunFault) (old_server new_server : Server) (a : Out) (lines : List (Option Piece)) (old new : Option (List ℕ)) (gathered left : List ℕ)
+    → left ≡ [] → Appends old new gathered
     → StuckIn fault old_server lines new_server a (out old gathered) → StuckIn fault old_server lines new_server a (out new left)
 StuckIn-then Read old_server new_server a lines old new gathered left none bytes it = tt
 StuckIn-then Endless old_server new_server a lines old new gathered left none bytes it = tt
 StuckIn-then Write old_server new_server a lines old new gathered left none bytes it = tt
-StuckIn-then Memory old_server new_server a lines old new gathered left none bytes it = IsStuck-then old_server new_server a lines old new gathered left none bytes it
+StuckIn-then Memory old_server new_server a lines old new gathered left none bytes it =
+    IsStuck-then old_server new_server a lines old new gathered left none bytes it
 
-Cut-then : (fault : RunFault) (a : Point) (server : Server) (old new : Option (List ℕ)) (gathered left rest : List ℕ) (lines count : ℕ) → left ≡ [] → count ≡ lines → Appends old new gathered →
+Cut-then : (fault : RunFault) (a : Point) (server : Server) (old new : Option (List ℕ)) (gathered left rest : List ℕ) (lines count : ℕ) → left ≡ []
+    → count ≡ lines → Appends old new gathered →
     Cut fault a (point server (out old gathered) lines []) rest → Cut fault a (point server (out new left) count []) rest
 Cut-then fault a server old new gathered left rest lines count none same bytes cut =
     Cut-sent fault fault a (point server (out old gathered) lines []) (point server (out new left) count []) rest refl same
     (λ text sent. SentUntil-then fault a.out old new gathered left text none bytes sent)
     (λ lines end stuck. StuckIn-then fault a.server end a.out lines old new gathered left none bytes stuck) cut
 
-Cut-then_front : (fault : RunFault) (a : Point) (server : Server) (old new : Option (List ℕ)) (gathered left rest : List ℕ) (lines count : ℕ) → left ≡ [] → count ≡ lines → AppendsFront old new gathered →
+Cut-then_front : (fault : RunFault) (a : Point) (server : Server) (old new : Option (List ℕ)) (gathered left rest : List ℕ) (lines count : ℕ) → left ≡ []
+    → count ≡ lines → AppendsFront old new gathered →
     Cut fault a (point server (out old gathered) lines []) rest → Cut Write a (point server (out new left) count []) rest
 Cut-then_front fault a server old new gathered left rest lines count none same bytes cut =
     Cut-sent fault Write a (point server (out old gathered) lines []) (point server (out new left) count []) rest refl same
@@ -90,34 +99,48 @@ Cut-done a b done = record {
   stuck = tt;
 }
 
-counted_alike : (left_after : Option (List ℕ)) (a : Point) (server : Server) (old new : Option (List ℕ)) (gathered left : List ℕ) (lines count : ℕ) → count ≡ lines → HasCountedRead left_after a (point server (out old gathered) lines []) → HasCountedRead left_after a (point server (out new left) count [])
+counted_alike : (left_after : Option (List ℕ)) (a : Point) (server : Server) (old new : Option (List ℕ)) (gathered left : List ℕ) (lines count : ℕ)
+    → count ≡ lines → HasCountedRead left_after a (point server (out old gathered) lines [])
+    → HasCountedRead left_after a (point server (out new left) count [])
 counted_alike left_after a server old new gathered left lines count same counts = (counts.0, counts.1, counts.2, counts.3, same ∙ counts.4)
 
-pub Ends-flushed : {T : Type 0} (most reads : ℕ) (calls calls_after : Reads) (left_after : Option (List ℕ)) (a : Point) (server : Server) (old new : Option (List ℕ)) (gathered left : List ℕ) (lines count : ℕ) (r : Result T RunFault) → left ≡ [] → count ≡ lines → Appends old new gathered →
-    Ends most reads calls calls_after left_after a (point server (out old gathered) lines []) r → Ends most reads calls calls_after left_after a (point server (out new left) count []) r
-Ends-flushed most reads calls calls_after left_after a server old new gathered left lines count (Ok done) none same bytes ends = Done-flushed a server old new gathered left lines count none same bytes ends
+pub Ends-flushed : {T : Type 0} (most reads : ℕ) (calls calls_after : Reads) (left_after : Option (List ℕ)) (a : Point) (server : Server)
+    (old new : Option (List ℕ)) (gathered left : List ℕ) (lines count : ℕ) (r : Result T RunFault) → left ≡ [] → count ≡ lines → Appends old new gathered →
+    Ends most reads calls calls_after left_after a (point server (out old gathered) lines []) r
+    → Ends most reads calls calls_after left_after a (point server (out new left) count []) r
+Ends-flushed most reads calls calls_after left_after a server old new gathered left lines count (Ok done) none same bytes ends =
+    Done-flushed a server old new gathered left lines count none same bytes ends
 Ends-flushed most reads calls calls_after left_after a server old new gathered left lines count (Err Read) none same bytes ends = (
   Cut-then Read a server old new gathered left [] lines count none same bytes ends.0,
   counted_alike left_after a server old new gathered left lines count same ends.1,
 )
-Ends-flushed most reads calls calls_after left_after a server old new gathered left lines count (Err Write) none same bytes ends = Cut-then Write a server old new gathered left [] lines count none same bytes ends
-Ends-flushed most reads calls calls_after left_after a server old new gathered left lines count (Err Memory) none same bytes ends = Cut-then Memory a server old new gathered left [] lines count none same bytes ends
+Ends-flushed most reads calls calls_after left_after a server old new gathered left lines count (Err Write) none same bytes ends =
+    Cut-then Write a server old new gathered left [] lines count none same bytes ends
+Ends-flushed most reads calls calls_after left_after a server old new gathered left lines count (Err Memory) none same bytes ends =
+    Cut-then Memory a server old new gathered left [] lines count none same bytes ends
 Ends-flushed most reads calls calls_after left_after a server old new gathered left lines count (Err Endless) none same bytes ends = (
   Cut-then Endless a server old new gathered left [] lines count none same bytes ends.0,
   ⊎_elim (λ over. inl (same ∙ over.0, over.1)) (λ past. inr (past.0, counted_alike left_after a server old new gathered left lines count same past.1)) ends.1,
 )
 
 -- or a front of it
-pub Ends-flush_failed : {T : Type 0} (most reads : ℕ) (calls calls_after : Reads) (left_after : Option (List ℕ)) (a : Point) (server : Server) (old new : Option (List ℕ)) (gathered left : List ℕ) (lines count : ℕ) (r : Result T RunFault) → left ≡ [] → count ≡ lines → AppendsFront old new gathered →
+pub Ends-flush_failed : {T : Type 0} (most reads : ℕ) (calls calls_after : Reads) (left_after : Option (List ℕ)) (a : Point) (server : Server)
+    (old new : Option (List ℕ)) (gathered left : List ℕ) (lines count : ℕ) (r : Result T RunFault) → left ≡ [] → count ≡ lines → AppendsFront old new gathered →
     Ends most reads calls calls_after left_after a (point server (out old gathered) lines []) r → Cut Write a (point server (out new left) count []) []
-Ends-flush_failed most reads calls calls_after left_after a server old new gathered left lines count (Ok done) none same bytes ends = Cut-then_front Write a server old new gathered left [] lines count none same bytes (Cut-done a _ ends)
-Ends-flush_failed most reads calls calls_after left_after a server old new gathered left lines count (Err Read) none same bytes ends = Cut-then_front Read a server old new gathered left [] lines count none same bytes ends.0
-Ends-flush_failed most reads calls calls_after left_after a server old new gathered left lines count (Err Write) none same bytes ends = Cut-then_front Write a server old new gathered left [] lines count none same bytes ends
-Ends-flush_failed most reads calls calls_after left_after a server old new gathered left lines count (Err Memory) none same bytes ends = Cut-then_front Memory a server old new gathered left [] lines count none same bytes ends
-Ends-flush_failed most reads calls calls_after left_after a server old new gathered left lines count (Err Endless) none same bytes ends = Cut-then_front Endless a server old new gathered left [] lines count none same bytes ends.0
+Ends-flush_failed most reads calls calls_after left_after a server old new gathered left lines count (Ok done) none same bytes ends =
+    Cut-then_front Write a server old new gathered left [] lines count none same bytes (Cut-done a _ ends)
+Ends-flush_failed most reads calls calls_after left_after a server old new gathered left lines count (Err Read) none same bytes ends =
+    Cut-then_front Read a server old new gathered left [] lines count none same bytes ends.0
+Ends-flush_failed most reads calls calls_after left_after a server old new gathered left lines count (Err Write) none same bytes ends =
+    Cut-then_front Write a server old new gathered left [] lines count none same bytes ends
+Ends-flush_failed most reads calls calls_after left_after a server old new gathered left lines count (Err Memory) none same bytes ends =
+    Cut-then_front Memory a server old new gathered left [] lines count none same bytes ends
+Ends-flush_failed most reads calls calls_after left_after a server old new gathered left lines count (Err Endless) none same bytes ends =
+    Cut-then_front Endless a server old new gathered left [] lines count none same bytes ends.0
 
 -- what a run has written out where a device has failed, and where nothing is gathered
-pub IsWrittenOut-failed : {T : Type 0} (r : Result T RunFault) (gathered : List ℕ) → device_failed r ≡ true → (r ≡ Err Read → gathered ≡ []) → IsWrittenOut r gathered
+pub IsWrittenOut-failed : {T : Type 0} (r : Result T RunFault) (gathered : List ℕ) → device_failed r ≡ true → (r ≡ Err Read → gathered ≡ [])
+    → IsWrittenOut r gathered
 IsWrittenOut-failed (Ok done) gathered failed none = absurd (cc failed)
 IsWrittenOut-failed (Err Read) gathered failed none = none refl
 IsWrittenOut-failed (Err Write) gathered failed none = tt
@@ -135,24 +158,28 @@ IsWrittenOut-empty (Err Memory) gathered none = none
 abbrev pub beginning : Server → Option (List ℕ) → List ℕ → Point
 beginning server held input = point server (out held []) 0 input
 
-pub front_written : (held held_after : Option (List ℕ)) (left text : List ℕ) → SentFront (out held []) (out held_after left) text → AppendsSome held held_after text
+pub front_written : (held held_after : Option (List ℕ)) (left text : List ℕ) → SentFront (out held []) (out held_after left) text
+    → AppendsSome held held_after text
 front_written held held_after left text front =
     let (w, bytes, (rest, sent)) = front in
     (w, (left ++ rest, sent ∙ append_assoc w left rest), bytes)
 
-pub all_written : (held held_after : Option (List ℕ)) (left text : List ℕ) → left ≡ [] → Sent (out held []) (out held_after left) text → Appends held held_after text
+pub all_written : (held held_after : Option (List ℕ)) (left text : List ℕ) → left ≡ [] → Sent (out held []) (out held_after left) text
+    → Appends held held_after text
 all_written held held_after left text none sent =
     let (w, bytes, is) = sent in
     subst (Appends held held_after) (sym (is ∙ ap (λ l. w ++ l) none ∙ append-nil w)) bytes
 
 -- what is written of a text that was sent, where nothing is gathered any more unless the sink failed
-until_written : (T : Type 0) (fault : RunFault) (held held_after : Option (List ℕ)) (left text : List ℕ) → IsWrittenOut {T = T} (Err fault) left → SentUntil fault (out held []) (out held_after left) text → AppendsUntil fault held held_after text
+until_written : (T : Type 0) (fault : RunFault) (held held_after : Option (List ℕ)) (left text : List ℕ) → IsWrittenOut {T = T} (Err fault) left
+    → SentUntil fault (out held []) (out held_after left) text → AppendsUntil fault held held_after text
 until_written T Read held held_after left text none sent = all_written held held_after left text none sent
 until_written T Endless held held_after left text none sent = all_written held held_after left text none sent
 until_written T Write held held_after left text none sent = front_written held held_after left text sent
 until_written T Memory held held_after left text none sent = front_written held held_after left text sent
 
-some_written : (fault : RunFault) (held held_after : Option (List ℕ)) (text : List ℕ) → AppendsUntil fault held held_after text → AppendsSome held held_after text
+some_written : (fault : RunFault) (held held_after : Option (List ℕ)) (text : List ℕ) → AppendsUntil fault held held_after text
+    → AppendsSome held held_after text
 some_written Read held held_after text bytes = (text, ([], sym (append-nil text)), bytes)
 some_written Endless held held_after text bytes = (text, ([], sym (append-nil text)), bytes)
 some_written Write held held_after text bytes = bytes
@@ -163,8 +190,10 @@ counted_lines : (input : List ℕ) → length (read_lines input) ≡ length (lin
 counted_lines input = length-map (lines_of input) piece_of
 
 -- what was answered where a run has stopped
-module _ (T : Type 0) (fault : RunFault) (input : List ℕ) (held held_after : Option (List ℕ)) (old new : Server) (left : List ℕ) (count : ℕ) (none : IsWrittenOut {T = T} (Err fault) left) where
-  pub WritesUntil-cut : Cut fault (beginning old held input) (point new (out held_after left) count []) [] → WritesUntil fault count input held old held_after new
+module _ (T : Type 0) (fault : RunFault) (input : List ℕ) (held held_after : Option (List ℕ)) (old new : Server) (left : List ℕ) (count : ℕ)
+    (none : IsWrittenOut {T = T} (Err fault) left) where
+  pub WritesUntil-cut : Cut fault (beginning old held input) (point new (out held_after left) count []) []
+      → WritesUntil fault count input held old held_after new
   WritesUntil-cut cut =
       let all : read_lines input ≡ cut.lines ++ cut.behind = ap read_lines (sym (append-nil input)) ∙ cut.reads in
       let same : count ≡ length cut.lines = omega (arith, cut.counted) in
@@ -175,12 +204,14 @@ module _ (T : Type 0) (fault : RunFault) (input : List ℕ) (held held_after : O
         until_written T fault held held_after left cut.text none cut.sent,
       )
 
-  pub HasAnsweredRead-cut : (left_after : Option (List ℕ)) → HasCountedRead left_after (beginning old held input) (point new (out held_after left) count []) → Cut fault (beginning old held input) (point new (out held_after left) count []) [] → HasAnsweredRead fault input left_after held old held_after new
+  pub HasAnsweredRead-cut : (left_after : Option (List ℕ)) → HasCountedRead left_after (beginning old held input) (point new (out held_after left) count [])
+      → Cut fault (beginning old held input) (point new (out held_after left) count []) [] → HasAnsweredRead fault input left_after held old held_after new
   HasAnsweredRead-cut left_after counts cut =
       let same : count ≡ line_ends counts.0 = omega (arith, counts.4) in
       (counts.0, counts.1, counts.2, counts.3, subst (λ n. WritesUntil fault n input held old held_after new) same (WritesUntil-cut cut))
 
-  pub HasStuck-cut : left ≡ [] → (cut : Cut fault (beginning old held input) (point new (out held_after left) count []) []) → IsStuck old cut.lines new (out held []) (out held_after left) → HasStuck input held old held_after new
+  pub HasStuck-cut : left ≡ [] → (cut : Cut fault (beginning old held input) (point new (out held_after left) count []) [])
+      → IsStuck old cut.lines new (out held []) (out held_after left) → HasStuck input held old held_after new
   HasStuck-cut nothing cut it =
       let all : read_lines input ≡ cut.lines ++ cut.behind = ap read_lines (sym (append-nil input)) ∙ cut.reads in
       record {
@@ -200,16 +231,20 @@ module _ (T : Type 0) (fault : RunFault) (input : List ℕ) (held held_after : O
         written = all_written held held_after left (it.said ++ it.stuck.told) nothing it.stuck.sent;
       }
 
-  pub WritesFirst-cut : (most : ℕ) → count ≤ most → Cut fault (beginning old held input) (point new (out held_after left) count []) [] → WritesFirst fault most input held old held_after new
+  pub WritesFirst-cut : (most : ℕ) → count ≤ most → Cut fault (beginning old held input) (point new (out held_after left) count []) []
+      → WritesFirst fault most input held old held_after new
   WritesFirst-cut most within cut = (count, within, WritesUntil-cut cut)
 
-pub Runs-stopped : (max_lines max_reads : ℕ) (calls calls_after : Reads) (input : List ℕ) (left_after : Option (List ℕ)) (held held_after : Option (List ℕ)) (old new : Server) (left : List ℕ) (count : ℕ) (T : Type 0) (fault : RunFault) → IsWrittenOut {T = T} (Err fault) left → count ≤ max_lines →
-    Ends {T = T} max_lines max_reads calls calls_after left_after (beginning old held input) (point new (out held_after left) count []) (Err fault) → Runs max_lines max_reads calls calls_after input left_after held old held_after new (Err fault)
+pub Runs-stopped : (max_lines max_reads : ℕ) (calls calls_after : Reads) (input : List ℕ) (left_after : Option (List ℕ)) (held held_after : Option (List ℕ))
+    (old new : Server) (left : List ℕ) (count : ℕ) (T : Type 0) (fault : RunFault) → IsWrittenOut {T = T} (Err fault) left → count ≤ max_lines →
+    Ends {T = T} max_lines max_reads calls calls_after left_after (beginning old held input) (point new (out held_after left) count []) (Err fault)
+    → Runs max_lines max_reads calls calls_after input left_after held old held_after new (Err fault)
 Runs-stopped max_lines max_reads calls calls_after input left_after held held_after old new left count T Read none within ends = (
   WritesFirst-cut T Read input held held_after old new left count none max_lines within ends.0,
   HasAnsweredRead-cut T Read input held held_after old new left count none left_after ends.1 ends.0,
 )
-Runs-stopped max_lines max_reads calls calls_after input left_after held held_after old new left count T Write none within ends = WritesFirst-cut T Write input held held_after old new left count none max_lines within ends
+Runs-stopped max_lines max_reads calls calls_after input left_after held held_after old new left count T Write none within ends =
+    WritesFirst-cut T Write input held held_after old new left count none max_lines within ends
 Runs-stopped max_lines max_reads calls calls_after input left_after held held_after old new left count T Memory none within ends = (
   WritesFirst-cut T Memory input held held_after old new left count none max_lines within ends,
   inr (HasStuck-cut T Memory input held held_after old new left count none none ends ends.stuck),
@@ -220,74 +255,100 @@ Runs-stopped max_lines max_reads calls calls_after input left_after held held_af
       (λ (over : (count ≡ max_lines) × (max_lines < 0 + length (read_lines (input ++ [])))).
       let same = ap (λ l. length (read_lines l)) (append-nil input) in
       let counts = counted_lines input in
-      inl (omega (arith, same, counts, over.1), subst (λ n. WritesUntil Endless n input held old held_after new) over.0 (WritesUntil-cut T Endless input held held_after old new left count none ends.0)))
-      (λ (past : IsPastReads max_reads input calls calls_after × HasCountedRead left_after (beginning old held input) (point new (out held_after left) count [])).
+      inl (
+        omega (arith, same, counts, over.1),
+        subst (λ n. WritesUntil Endless n input held old held_after new) over.0
+            (WritesUntil-cut T Endless input held held_after old new left count none ends.0),
+      ))
+      (λ (past : IsPastReads max_reads input calls calls_after
+      × HasCountedRead left_after (beginning old held input) (point new (out held_after left) count [])).
       inr (past.0, HasAnsweredRead-cut T Endless input held held_after old new left count none left_after past.1 ends.0))
       ends.1,
 )
 
 -- where a run has not begun, it has answered and written nothing
-pub Runs-unbegun : (max_lines max_reads : ℕ) (calls : Reads) (input : List ℕ) (held : Option (List ℕ)) (server : Server) → Runs max_lines max_reads calls calls input (Some input) held server held server (Err Memory)
+pub Runs-unbegun : (max_lines max_reads : ℕ) (calls : Reads) (input : List ℕ) (held : Option (List ℕ)) (server : Server)
+    → Runs max_lines max_reads calls calls input (Some input) held server held server (Err Memory)
 Runs-unbegun max_lines max_reads calls input held server = (
   WritesFirst-cut (Unit {0}) Write input held held server server [] 0 tt max_lines (omega arith) (Cut-here Write (beginning server held input) [] [] tt),
   inl (record { server = refl; written = refl; asked = refl; left = refl }),
 )
 
-pub Runs-done : (max_lines max_reads : ℕ) (calls calls_after : Reads) (input : List ℕ) (left_after : Option (List ℕ)) (held held_after : Option (List ℕ)) (old new : Server) (left : List ℕ) (summary : Summary) → left ≡ [] → summary.lines ≤ max_lines →
-    Done (beginning old held input) (point new (out held_after left) summary.lines []) → Runs max_lines max_reads calls calls_after input left_after held old held_after new (Ok summary)
+pub Runs-done : (max_lines max_reads : ℕ) (calls calls_after : Reads) (input : List ℕ) (left_after : Option (List ℕ)) (held held_after : Option (List ℕ))
+    (old new : Server) (left : List ℕ) (summary : Summary) → left ≡ [] → summary.lines ≤ max_lines →
+    Done (beginning old held input) (point new (out held_after left) summary.lines [])
+    → Runs max_lines max_reads calls calls_after input left_after held old held_after new (Ok summary)
 Runs-done max_lines max_reads calls calls_after input left_after held held_after old new left summary none within done =
     let counts = counted_lines input in
     ((done.text, done.answered, all_written held held_after left done.text none done.sent), omega (arith, counts, done.counted), within)
 
 -- what follows of a run
-module _ (max_lines max_reads : ℕ) (calls calls_after : Reads) (input : List ℕ) (left_after : Option (List ℕ)) (held held_after : Option (List ℕ)) (old new : Server) where
-  pub Runs-answered : (r : Result Summary RunFault) → Runs max_lines max_reads calls calls_after input left_after held old held_after new r → MatchResult r (λ _. WritesAll input held old held_after new) (λ fault. WritesFirst fault max_lines input held old held_after new)
+module _ (max_lines max_reads : ℕ) (calls calls_after : Reads) (input : List ℕ) (left_after : Option (List ℕ)) (held held_after : Option (List ℕ))
+    (old new : Server) where
+  pub Runs-answered : (r : Result Summary RunFault) → Runs max_lines max_reads calls calls_after input left_after held old held_after new r
+      → MatchResult r (λ _. WritesAll input held old held_after new) (λ fault. WritesFirst fault max_lines input held old held_after new)
   Runs-answered (Ok summary) runs = runs.0
   Runs-answered (Err Read) runs = runs.0
   Runs-answered (Err Write) runs = runs
   Runs-answered (Err Memory) runs = runs.0
   Runs-answered (Err Endless) runs = runs.0
 
-  pub Runs-well : (r : Result Summary RunFault) → Runs max_lines max_reads calls calls_after input left_after held old held_after new r → IsOk r → IsFalse (was_refused new) →
+  pub Runs-well : (r : Result Summary RunFault) → Runs max_lines max_reads calls calls_after input left_after held old held_after new r → IsOk r
+      → IsFalse (was_refused new) →
       Appends held held_after (output (settings old) (states old) input) × (states new ≡ world_of (settings old) (states old) input)
   Runs-well (Ok summary) runs ok found =
       let (text, answered, written) = runs.0 in
       (subst (Appends held held_after) (output_found old new input text answered found) written, world_found old new input text answered found)
   Runs-well (Err fault) runs ok found = absurd (cc ok)
 
-  pub Runs-lines : (r : Result Summary RunFault) → Runs max_lines max_reads calls calls_after input left_after held old held_after new r → IfOk r (λ summary. (summary.lines ≡ length (lines_of input)) × (summary.lines ≤ max_lines))
+  pub Runs-lines : (r : Result Summary RunFault) → Runs max_lines max_reads calls calls_after input left_after held old held_after new r
+      → IfOk r (λ summary. (summary.lines ≡ length (lines_of input)) × (summary.lines ≤ max_lines))
   Runs-lines (Ok summary) runs = (runs.1, runs.2)
   Runs-lines (Err fault) runs = tt
 
-  first_written : (fault : RunFault) → WritesFirst fault max_lines input held old held_after new → IsFalse (was_refused new) → AppendsSome held held_after (output (settings old) (states old) input)
+  first_written : (fault : RunFault) → WritesFirst fault max_lines input held old held_after new → IsFalse (was_refused new)
+      → AppendsSome held held_after (output (settings old) (states old) input)
   first_written fault writes found =
       let (count, within, until) = writes in
       let (text, answered, some) = until in
       let (front, (more, is), written) = some_written fault held held_after text some in
-      let (rest, all) = front_found old new input (take count (read_lines input)) (drop count (read_lines input)) text (sym (take-append-drop count (read_lines input))) answered found in
+      let (rest, all) = front_found old new input (take count (read_lines input)) (drop count (read_lines input)) text
+      (sym (take-append-drop count (read_lines input))) answered found in
       (front, (more ++ rest, all ∙ ap (λ l. l ++ rest) is ∙ append_assoc front more rest), written)
 
-  pub Runs-prefix : (r : Result Summary RunFault) → Runs max_lines max_reads calls calls_after input left_after held old held_after new r → IsErr r → IsFalse (was_refused new) → AppendsSome held held_after (output (settings old) (states old) input)
+  pub Runs-prefix : (r : Result Summary RunFault) → Runs max_lines max_reads calls calls_after input left_after held old held_after new r → IsErr r
+      → IsFalse (was_refused new) → AppendsSome held held_after (output (settings old) (states old) input)
   Runs-prefix (Ok summary) runs failed found = absurd (cc failed)
   Runs-prefix (Err Read) runs failed found = first_written Read runs.0 found
   Runs-prefix (Err Write) runs failed found = first_written Write runs found
   Runs-prefix (Err Memory) runs failed found = first_written Memory runs.0 found
   Runs-prefix (Err Endless) runs failed found = first_written Endless runs.0 found
 
-  pub Runs-endless : (r : Result Summary RunFault) → Runs max_lines max_reads calls calls_after input left_after held old held_after new r → r ≡ Err Endless → IsPastLines max_lines input held old held_after new ⊎ IsPastReads max_reads input calls calls_after × HasAnsweredRead Endless input left_after held old held_after new
-  Runs-endless r runs is = let ended : Runs max_lines max_reads calls calls_after input left_after held old held_after new (Err Endless) = subst (Runs max_lines max_reads calls calls_after input left_after held old held_after new) is runs in ended.1
+  pub Runs-endless : (r : Result Summary RunFault) → Runs max_lines max_reads calls calls_after input left_after held old held_after new r → r ≡ Err Endless
+      → IsPastLines max_lines input held old held_after new ⊎ IsPastReads max_reads input calls calls_after
+      × HasAnsweredRead Endless input left_after held old held_after new
+  Runs-endless r runs is =
+      let ended : Runs max_lines max_reads calls calls_after input left_after held old held_after new (Err Endless) =
+      subst (Runs max_lines max_reads calls calls_after input left_after held old held_after new) is runs in ended.1
 
-  pub Runs-unread : (r : Result Summary RunFault) → Runs max_lines max_reads calls calls_after input left_after held old held_after new r → r ≡ Err Read → HasAnsweredRead Read input left_after held old held_after new
-  Runs-unread r runs is = let ended : Runs max_lines max_reads calls calls_after input left_after held old held_after new (Err Read) = subst (Runs max_lines max_reads calls calls_after input left_after held old held_after new) is runs in ended.1
+  pub Runs-unread : (r : Result Summary RunFault) → Runs max_lines max_reads calls calls_after input left_after held old held_after new r → r ≡ Err Read
+      → HasAnsweredRead Read input left_after held old held_after new
+  Runs-unread r runs is =
+      let ended : Runs max_lines max_reads calls calls_after input left_after held old held_after new (Err Read) =
+      subst (Runs max_lines max_reads calls calls_after input left_after held old held_after new) is runs in ended.1
 
   pub Runs-memory : (r : Result Summary RunFault) → Runs max_lines max_reads calls calls_after input left_after held old held_after new r → r ≡ Err Memory
       → IsUnbegun calls calls_after input left_after held old held_after new ⊎ HasStuck input held old held_after new
-  Runs-memory r runs is = let ended : Runs max_lines max_reads calls calls_after input left_after held old held_after new (Err Memory) = subst (Runs max_lines max_reads calls calls_after input left_after held old held_after new) is runs in ended.1
+  Runs-memory r runs is =
+      let ended : Runs max_lines max_reads calls calls_after input left_after held old held_after new (Err Memory) =
+      subst (Runs max_lines max_reads calls calls_after input left_after held old held_after new) is runs in ended.1
 
 -- a run with nothing gathered and nothing begun stands at the beginning
-pub Ends-beginning : {T : Type 0} (max_lines max_reads : ℕ) (calls calls_after : Reads) (left_after : Option (List ℕ)) (most lines : ℕ) (gathered begun input : List ℕ) (held : Option (List ℕ)) (old : Server) (end : Point) (r : Result T RunFault) →
+pub Ends-beginning : {T : Type 0} (max_lines max_reads : ℕ) (calls calls_after : Reads) (left_after : Option (List ℕ)) (most lines : ℕ)
+    (gathered begun input : List ℕ) (held : Option (List ℕ)) (old : Server) (end : Point) (r : Result T RunFault) →
     most ≡ max_lines → gathered ≡ [] → lines ≡ 0 → begun ≡ [] →
-    Ends most max_reads calls calls_after left_after (point old (out held gathered) lines (begun ++ input)) end r → Ends max_lines max_reads calls calls_after left_after (beginning old held input) end r
+    Ends most max_reads calls calls_after left_after (point old (out held gathered) lines (begun ++ input)) end r
+    → Ends max_lines max_reads calls calls_after left_after (beginning old held input) end r
 Ends-beginning max_lines max_reads calls calls_after left_after most lines gathered begun input held old end r same nothing zero_lines none ends =
     subst (λ m. Ends m max_reads calls calls_after left_after (beginning old held input) end r) same
     (subst (λ g. Ends most max_reads calls calls_after left_after (point old (out held g) 0 input) end r) nothing
@@ -307,8 +368,10 @@ write_fault T U old new Write fails = fails
 write_fault T U old new Endless fails = fails
 write_fault T U old new Memory fails = fails
 
-pub ReadFails-fault : (T : Type 0) {U : Type 0} (old new : ℕ) (fault : RunFault) (r : Result U RunFault) → ReadFails {T = T} old new (Err fault) → r ≡ Err fault → ReadFails old new r
+pub ReadFails-fault : (T : Type 0) {U : Type 0} (old new : ℕ) (fault : RunFault) (r : Result U RunFault) → ReadFails {T = T} old new (Err fault) → r ≡ Err fault
+    → ReadFails old new r
 ReadFails-fault T {U = U} old new fault r fails is = subst (ReadFails old new) (sym is) (read_fault T U old new fault fails)
 
-pub WriteFails-fault : (T : Type 0) {U : Type 0} (old new : ℕ) (fault : RunFault) (r : Result U RunFault) → WriteFails {T = T} old new (Err fault) → r ≡ Err fault → WriteFails old new r
+pub WriteFails-fault : (T : Type 0) {U : Type 0} (old new : ℕ) (fault : RunFault) (r : Result U RunFault) → WriteFails {T = T} old new (Err fault)
+    → r ≡ Err fault → WriteFails old new r
 WriteFails-fault T {U = U} old new fault r fails is = subst (WriteFails old new) (sym is) (write_fault T U old new fault fails)

@@ -34,7 +34,8 @@ decreases-notifying::notify g l = left_to_do l.actor.now.caller l.tables.now l.o
 abbrev pub invariant-notifying::tell-told : goal.invariant-notifying::tell-told
 invariant-notifying::tell-told g l = record {
   so : SoFar l.actor.caller
-      (here l.actor.caller (told_items (settings_of l.actor.caller.setup.now) (state_at l.fn.tables l.actor.caller.place) l.depth l.fn.changes) l.fn.tables l.fn.output)
+      (here l.actor.caller (told_items (settings_of l.actor.caller.setup.now) (state_at l.fn.tables l.actor.caller.place) l.depth l.fn.changes) l.fn.tables
+      l.fn.output)
       (here l.actor.caller (told_from (settings_of l.actor.caller.setup.now) l.depth (drop l.announcement-index l.announcement-items)) l.tables l.output)
       l.fn.tables l.tables l.fn.output l.output;
   placed : IsPlaced l.tables l.actor.caller.place;
@@ -77,7 +78,8 @@ abbrev pub invariant-agenda::emit-calls : goal.invariant-agenda::emit-calls
 invariant-agenda::emit-calls g l = record {
   so : SoFar l.actor.caller
       (here l.actor.caller (Emit l.target l.signal l.args l.depth ∷ []) l.fn.tables l.fn.output)
-      (here l.actor.caller (calls_to (settings_of l.actor.caller.setup.now) l.args l.depth (remaining l.target l.signal l.up_to l.after (state_at l.tables l.actor.caller.place).connections.rows)) l.tables l.output)
+      (here l.actor.caller (calls_to (settings_of l.actor.caller.setup.now) l.args l.depth
+      (remaining l.target l.signal l.up_to l.after (state_at l.tables l.actor.caller.place).connections.rows)) l.tables l.output)
       l.fn.tables l.tables l.fn.output l.output;
   placed : IsPlaced l.tables l.actor.caller.place;
   left : left_at l.actor.caller.place l.tables l.output ≤ left_at l.actor.caller.place l.fn.tables l.fn.output;

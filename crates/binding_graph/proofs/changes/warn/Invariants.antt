@@ -3,4 +3,5 @@ use Rattle.binding_graph.specs.Graph.{has_turn, warning}
 use Rattle.binding_graph.proofs.changes.warn.Given as goal
 
 abbrev pub invariant-loop-shown : goal.invariant-loop-shown
-invariant-loop-shown l = l.told.items ++ filter_map (warning l.last) (filter (has_turn l.written l.first) (drop l.shown-index l.now)) ≡ l.initial.told.items ++ filter_map (warning l.last) (filter (has_turn l.written l.first) l.now)
+invariant-loop-shown l = l.told.items ++ filter_map (warning l.last) (filter (has_turn l.written l.first) (drop l.shown-index l.now)) ≡ l.initial.told.items
+    ++ filter_map (warning l.last) (filter (has_turn l.written l.first) l.now)

@@ -1,4 +1,5 @@
-use Rattle.binding_graph.proofs.StepLemmas.{addition_in_step, clearing_in_step, dynamic_in_step, named_write_in_step, no_dynamic_in_step, removal_in_step, write_in_step}
+use Rattle.binding_graph.proofs.StepLemmas.{addition_in_step, clearing_in_step, dynamic_in_step, named_write_in_step, no_dynamic_in_step, removal_in_step}
+use Rattle.binding_graph.proofs.StepLemmas.{write_in_step}
 use Rattle.binding_graph.proofs.laws.law_steps.Goals as goal
 
 pub returns : goal.returns

@@ -13,10 +13,12 @@ abbrev first : Property
 first = record { object = 0; number = 0 }
 
 pub put-requires : goal.put-requires
-put-requires c = (shown_now_fits (store_at c.args.stores.now.shelves c.args.place) c.count.ensures.sound c.args.bindings.now c.len.ensures.sound.limited (get_or c.args.touched.now c.loop-at.at-index first) c.in-Some.shown (sym c.in_ok-shown.ensures ∙ c.in-Some.is)).0
+put-requires c = (shown_now_fits (store_at c.args.stores.now.shelves c.args.place) c.count.ensures.sound c.args.bindings.now c.len.ensures.sound.limited
+    (get_or c.args.touched.now c.loop-at.at-index first) c.in-Some.shown (sym c.in_ok-shown.ensures ∙ c.in-Some.is)).0
 
 pub loop-at-preserved : goal.loop-at-preserved
-loop-at-preserved c = λ q. step q ∙ ap (λ t. cond t (shown_now (store_at c.args.stores.now.shelves c.args.place) c.args.bindings.now q) None) (sym (list_any_more (is_property q) c.args.touched.now c.loop-at.at-index first c.loop-at-test.true))
+loop-at-preserved c = λ q. step q ∙ ap (λ t. cond t (shown_now (store_at c.args.stores.now.shelves c.args.place) c.args.bindings.now q) None)
+    (sym (list_any_more (is_property q) c.args.touched.now c.loop-at.at-index first c.loop-at-test.true))
   where
     before : Property → Bool
     before q = among q (take c.loop-at.at-index c.args.touched.now)
@@ -24,8 +26,13 @@ loop-at-preserved c = λ q. step q ∙ ap (λ t. cond t (shown_now (store_at c.a
     at : Property
     at = get_or c.args.touched.now c.loop-at.at-index first
 
-    step : (q : Property) → shown_at c.match-branch-2.now q ≡ cond (before q || is_property q at) (shown_now (store_at c.args.stores.now.shelves c.args.place) c.args.bindings.now q) None
+    step : (q : Property) → shown_at c.match-branch-2.now q ≡ cond (before q || is_property q at)
+        (shown_now (store_at c.args.stores.now.shelves c.args.place) c.args.bindings.now q) None
     step q = elim c.match-branch-2.branch [
-      | in-Some+in_ok-put w ↦ ap (λ now. shown_at now q) w.now-is ∙ touched_put (store_at c.args.stores.now.shelves c.args.place) c.args.bindings.now c.loop-at.now before c.loop-at.invariant at w.put.new.self w.in-Some.shown (sym c.in_ok-shown.ensures ∙ w.in-Some.is) w.in_ok-put.ensures q
-      | in_default w ↦ ap (λ now. shown_at now q) w.now-is ∙ touched_gone (store_at c.args.stores.now.shelves c.args.place) c.args.bindings.now c.loop-at.now before c.loop-at.invariant at (sym c.in_ok-shown.ensures ∙ w.in_default.is) q
+      | in-Some+in_ok-put w ↦ ap (λ now. shown_at now q) w.now-is
+          ∙ touched_put (store_at c.args.stores.now.shelves c.args.place) c.args.bindings.now c.loop-at.now before c.loop-at.invariant at w.put.new.self
+          w.in-Some.shown (sym c.in_ok-shown.ensures ∙ w.in-Some.is) w.in_ok-put.ensures q
+      | in_default w ↦ ap (λ now. shown_at now q) w.now-is ∙ touched_gone
+          (store_at c.args.stores.now.shelves c.args.place) c.args.bindings.now c.loop-at.now before c.loop-at.invariant at
+          (sym c.in_ok-shown.ensures ∙ w.in_default.is) q
     ]

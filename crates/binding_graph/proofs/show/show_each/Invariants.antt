@@ -6,4 +6,5 @@ use Rattle.binding_graph.specs.Graph.{shown_at, shown_now}
 use Rattle.binding_graph.proofs.show.show_each.Given as goal
 
 abbrev pub invariant-loop-at : goal.invariant-loop-at
-invariant-loop-at l = (q : Property) → shown_at l.now q ≡ (if among q (take l.at-index l.touched) then shown_now (store_at l.stores.shelves l.place) l.bindings q else None)
+invariant-loop-at l = (q : Property) → shown_at l.now q
+    ≡ (if among q (take l.at-index l.touched) then shown_now (store_at l.stores.shelves l.place) l.bindings q else None)

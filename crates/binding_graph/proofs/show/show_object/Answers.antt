@@ -19,7 +19,10 @@ loop-number-preserved c = rw (add-one, c.in_ok-put_shown.ensures) rows
     rest : List Property
     rest = numbered c.object_at-object.result.0 (suc c.loop-number.number) (drop (suc c.loop-number.number) c.object_at-object.result.1.now)
 
-    rows : (c.loop-number.rows.items ++ filter_map f (at ∷ [])) ++ filter_map f rest ≡ c.args.rows.now.items ++ filter_map f (numbered c.object_at-object.result.0 0 c.object_at-object.result.1.now)
+    rows : (c.loop-number.rows.items ++ filter_map f (at ∷ [])) ++ filter_map f rest ≡ c.args.rows.now.items
+        ++ filter_map f (numbered c.object_at-object.result.0 0 c.object_at-object.result.1.now)
     rows =
         append_assoc c.loop-number.rows.items (filter_map f (at ∷ [])) (filter_map f rest)
-        ∙ (ap (λ ys. c.loop-number.rows.items ++ ys) (sym (next_numbered f c.object_at-object.result.0 c.loop-number.number c.loop-number.number c.object_at-object.result.1.now c.loop-number-test.true)) ∙ c.loop-number.invariant)
+        ∙ (ap (λ ys. c.loop-number.rows.items ++ ys)
+        (sym (next_numbered f c.object_at-object.result.0 c.loop-number.number c.loop-number.number c.object_at-object.result.1.now
+        c.loop-number-test.true)) ∙ c.loop-number.invariant)

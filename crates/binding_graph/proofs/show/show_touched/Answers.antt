@@ -14,11 +14,13 @@ module _ (store : Store) (bindings : List Binding) where
   abbrev AreShownOf : (Property → Bool) → List Shown → Type 0
   AreShownOf touches showing = (q : Property) → shown_at showing q ≡ (if touches q then shown_now store bindings q else None)
 
-  as_touched : (one other : List Property) → ((q : Property) → among q one ≡ among q other) → (showing : List Shown) → AreShownOf (λ q. among q one) showing → AreShownOf (λ q. among q other) showing
+  as_touched : (one other : List Property) → ((q : Property) → among q one ≡ among q other) → (showing : List Shown) → AreShownOf (λ q. among q one) showing
+      → AreShownOf (λ q. among q other) showing
   as_touched one other same showing are q = are q ∙ ap (λ t. if t then shown_now store bindings q else None) (same q)
 
 pub returns : goal.returns
 returns c =
     let store = store_at c.args.stores.now.shelves c.args.place in
-    IfOk-weaker c.show_each.result (AreShownOf store c.args.bindings.now (λ q. among q c.put_in_order.new.properties)) (AreShownOf store c.args.bindings.now (λ q. among q c.args.touched.now))
+    IfOk-weaker c.show_each.result (AreShownOf store c.args.bindings.now (λ q. among q c.put_in_order.new.properties))
+    (AreShownOf store c.args.bindings.now (λ q. among q c.args.touched.now))
     (as_touched store c.args.bindings.now c.put_in_order.new.properties c.args.touched.now c.put_in_order.ensures) c.show_each.ensures

@@ -13,4 +13,5 @@ invariant-loop-row l =
     (goal.iterator-loop-row).is_finite l.row-iterator ×
     (AreShown l.rows.items × AreShown (into_iter_items l.row-iterator) ×
     (vec_len l.rows + into_iter_len l.row-iterator ≤ vec_capacity l.rows) ×
-    ((q : Property) → option_map_or Some (shown_at (into_iter_items l.row-iterator) q) (shown_at l.rows.items q) ≡ option_map_or Some (shown_at l.fn.rest.items q) (shown_at l.fn.rows.items q)))
+    ((q : Property) → option_map_or Some (shown_at (into_iter_items l.row-iterator) q) (shown_at l.rows.items q)
+    ≡ option_map_or Some (shown_at l.fn.rest.items q) (shown_at l.fn.rows.items q)))

@@ -7,10 +7,13 @@ use Rattle.binding_values.proofs.ReachedLemmas.{by_result, kept_already, kept_pu
 use Rattle.binding_values.proofs.kept_index.keep.Goals as goal
 
 pub returns-then-is_some-clause-kept : goal.returns-then-is_some-clause-kept
-returns-then-is_some-clause-kept c = kept_already c.args.row c.args.rows.now (some_there _ c.at.result (kept_of c.args.rows.now c.args.row.at) c.at.ensures (sym c.is_some.ensures ∙ c.if-is_some.true))
+returns-then-is_some-clause-kept c = kept_already c.args.row c.args.rows.now
+    (some_there _ c.at.result (kept_of c.args.rows.now c.args.row.at) c.at.ensures (sym c.is_some.ensures ∙ c.if-is_some.true))
 
 pub returns-clause-kept : goal.returns-clause-kept
-returns-clause-kept c = on_ok_weaker c.put.result (λ put. kept_put c.args.row c.args.rows.now c.put.new.self put (none_there _ c.at.result (kept_of c.args.rows.now c.args.row.at) c.at.ensures (sym c.is_some.ensures ∙ c.if-is_some.false))) c.put.ensures.ok
+returns-clause-kept c = on_ok_weaker c.put.result
+    (λ put. kept_put c.args.row c.args.rows.now c.put.new.self put
+    (none_there _ c.at.result (kept_of c.args.rows.now c.args.row.at) c.at.ensures (sym c.is_some.ensures ∙ c.if-is_some.false))) c.put.ensures.ok
 
 pub returns-clause-readers : goal.returns-clause-readers
 returns-clause-readers c =

@@ -7,5 +7,12 @@ use Rattle.binding_values.proofs.kept_index.keep_all.Goals as goal
 pub loop-row-preserved : goal.loop-row-preserved
 loop-row-preserved c =
     let rest = into_iter_items c.next.new.self in
-    let left : into_iter_items c.loop-row.row-iterator ≡ c.in-Some.row ∷ rest = search rules in
-    (tt, tt, (kept_next c.loop-row.rows c.keep.new.rows c.in-Some.row rest (c.args.rows.now ++ c.args.found.items) c.in_ok-keep.ensures.kept (λ q. ap (λ l. kept_of (c.loop-row.rows ++ l) q) (sym left) ∙ c.loop-row.invariant.2.0 q), c.in_ok-keep.ensures.readers))
+    let left : into_iter_items c.loop-row.row-iterator ≡ c.in-Some.row ∷ rest = search rules in (
+      tt,
+      tt,
+      (
+        kept_next c.loop-row.rows c.keep.new.rows c.in-Some.row rest (c.args.rows.now ++ c.args.found.items) c.in_ok-keep.ensures.kept
+            (λ q. ap (λ l. kept_of (c.loop-row.rows ++ l) q) (sym left) ∙ c.loop-row.invariant.2.0 q),
+        c.in_ok-keep.ensures.readers,
+      ),
+    )

@@ -10,9 +10,12 @@ let_go-requires c = readers_without _ c.loop-at.rows c.loop-at.readers c.loop-at
 
 pub loop-at-preserved : goal.loop-at-preserved
 loop-at-preserved c = record {
-  gone = subst (AreLetGo (kept_of c.args.rows.now) (take (c.loop-at.at-index + 1) c.args.touched.now)) (sym c.let_go.ensures.rows) (gone_more (kept_of c.args.rows.now) c.args.touched.now c.loop-at.at-index (record { object = 0; number = 0 }) c.loop-at.rows c.loop-at-test.true c.loop-at.invariant.gone);
+  gone = subst (AreLetGo (kept_of c.args.rows.now) (take (c.loop-at.at-index + 1) c.args.touched.now)) (sym c.let_go.ensures.rows)
+      (gone_more (kept_of c.args.rows.now) c.args.touched.now c.loop-at.at-index
+      (record { object = 0; number = 0 }) c.loop-at.rows c.loop-at-test.true c.loop-at.invariant.gone);
   readers = c.let_go.ensures.readers;
 }
 
 pub returns-clause-gone : goal.returns-clause-gone
-returns-clause-gone c = subst (λ some. AreLetGo (kept_of c.args.rows.now) some c.loop-at.rows) (take_all c.loop-at.at-index c.args.touched.now c.loop-at-test.false) c.loop-at.invariant.gone
+returns-clause-gone c = subst (λ some. AreLetGo (kept_of c.args.rows.now) some c.loop-at.rows)
+    (take_all c.loop-at.at-index c.args.touched.now c.loop-at-test.false) c.loop-at.invariant.gone

@@ -13,7 +13,9 @@ loop-at-preserved c =
       within = omega (arith, length_rises, c.loop-at-test.true);
       gone = c.in_ok-touch_readers.ensures.gone (kept_of c.args.rows.now) c.loop-at.invariant.gone;
       known = c.in_ok-touch_readers.ensures.readers;
-      unread = unread_more c.loop-at.touched.items c.touch_readers.new.touched.items c.loop-at.readers c.touch_readers.new.readers c.loop-at.at c.index.result.now (omega (arith, c.loop-at-test.true)) longer c.in_ok-touch_readers.ensures.within c.loop-at.invariant.unread (subst (IsUnread c.touch_readers.new.readers) c.index.ensures c.in_ok-touch_readers.ensures.unread);
+      unread = unread_more c.loop-at.touched.items c.touch_readers.new.touched.items c.loop-at.readers c.touch_readers.new.readers c.loop-at.at
+          c.index.result.now (omega (arith, c.loop-at-test.true)) longer c.in_ok-touch_readers.ensures.within c.loop-at.invariant.unread
+          (subst (IsUnread c.touch_readers.new.readers) c.index.ensures c.in_ok-touch_readers.ensures.unread);
       longer = longer_then c.args.touched.now.items c.loop-at.touched.items c.touch_readers.new.touched.items c.loop-at.invariant.longer longer;
     }
 

@@ -14,7 +14,9 @@ nothing false o e = refl
 pub returns-in_err-expr : goal.returns-in_err-expr
 returns-in_err-expr c =
     ap (option_map (λ expr. expr.now)) c.from_residual.ensures
-    ∙ sym (term_there (store_at c.args.stores.now.shelves c.args.place) c.args.at c.args.bindings.now ∙ nothing (is_some (cell_in (store_at c.args.stores.now.shelves c.args.place) c.args.at)) (term_at c.args.bindings.now c.args.at) (sym c.in_err-expr.ensures))
+    ∙ sym (term_there (store_at c.args.stores.now.shelves c.args.place) c.args.at c.args.bindings.now
+    ∙ nothing (is_some (cell_in (store_at c.args.stores.now.shelves c.args.place) c.args.at)) (term_at c.args.bindings.now c.args.at)
+    (sym c.in_err-expr.ensures))
 
 pub returns-then-is_none : goal.returns-then-is_none
 returns-then-is_none c =
@@ -24,4 +26,5 @@ returns-then-is_none c =
 pub returns : goal.returns
 returns c =
     sym (term_there (store_at c.args.stores.now.shelves c.args.place) c.args.at c.args.bindings.now
-    ∙ (ap (λ t. cond t (term_at c.args.bindings.now c.args.at) None) (sym (some_kept _ c.cell_at.result _ c.cell_at.ensures) ∙ c.if-is_none.ensures) ∙ sym c.in_ok-expr.ensures))
+    ∙ (ap (λ t. cond t (term_at c.args.bindings.now c.args.at) None) (sym (some_kept _ c.cell_at.result _ c.cell_at.ensures) ∙ c.if-is_none.ensures)
+    ∙ sym c.in_ok-expr.ensures))

@@ -12,12 +12,15 @@ use Rattle.binding_values.proofs.MapLemmas.{some_kept}
 use Rattle.binding_values.proofs.StoredLemmas.{bound_there}
 use Rattle.binding_values.proofs.run.tried.Goals as goal
 
-carried : {E : Type 0} (P : Property → Type 0) (reads : List Property) (r : Result EvalResult E) → EachButLast P reads → IfOk r (λ kept. kept.reads ≡ reads) → IfOk r (λ kept. EachButLast P kept.reads)
+carried : {E : Type 0} (P : Property → Type 0) (reads : List Property) (r : Result EvalResult E) → EachButLast P reads → IfOk r (λ kept. kept.reads ≡ reads)
+    → IfOk r (λ kept. EachButLast P kept.reads)
 carried P reads (Ok kept) h e = subst (EachButLast P) (sym e) h
 carried P reads (Err error) h e = tt
 
 pub returns-clause-but_last : goal.returns-clause-but_last
-returns-clause-but_last c = carried (IsSettled (scene_in c.args.known.now) (kept_of c.args.known.now.done.now)) (met (scene_in c.args.known.now) (values_in c.args.known.now) c.args.at.object c.expr_of-expr.result.now) c.attempt.result (settled_but_last (scene_in c.args.known.now) (kept_of c.args.known.now.done.now) c.args.at.object c.expr_of-expr.result.now) c.attempt.ensures.reads
+returns-clause-but_last c = carried (IsSettled (scene_in c.args.known.now) (kept_of c.args.known.now.done.now))
+    (met (scene_in c.args.known.now) (values_in c.args.known.now) c.args.at.object c.expr_of-expr.result.now) c.attempt.result
+    (settled_but_last (scene_in c.args.known.now) (kept_of c.args.known.now.done.now) c.args.at.object c.expr_of-expr.result.now) c.attempt.ensures.reads
 
 pub unwrap-kind-requires : goal.unwrap-kind-requires
 unwrap-kind-requires c =

@@ -1,4 +1,5 @@
-use Rattle.std.proofs.Common.{◌≡◌, ◌∙◌, suc, ◌-◌, ◌<◌, ◌≤◌, List, Some, None, All, length, get_or, take, sym, ap, subst, inl, inr, ⊎_elim, take-suc, length-take, get_or-take, arith}
+use Rattle.std.proofs.Common.{◌≡◌, ◌∙◌, suc, ◌-◌, ◌<◌, ◌≤◌, List, Some, None, All, length, get_or, take, sym, ap, subst, inl, inr, ⊎_elim, take-suc}
+use Rattle.std.proofs.Common.{length-take, get_or-take, arith}
 use Rattle.std.proofs.lemmas.Bool.{cases_lt}
 use Rattle.std.proofs.lemmas.List.{get_or_default, take_all}
 use Rattle.term_core.specs.Term.{Term}
@@ -17,11 +18,14 @@ all_from_last P xs x h but k d lt = ⊎_elim (λ less. but k d less) (λ more. s
     last : length xs ≤ suc k → get_or xs (length xs - 1) x ≡ get_or xs k d
     last more = get_or_default xs (length xs - 1) x d (omega arith) ∙ ap (λ n. get_or xs n d) (let same : length xs - 1 ≡ k = omega arith in same)
 
-waits : (scene : Scene) (keeping : Keeping) (xs : List Property) (x : Property) → 0 < length xs → EachButLast (IsSettled scene keeping) xs → (term : Term) → term_at scene.bindings (get_or xs (length xs - 1) x) ≡ Some term → keeping (get_or xs (length xs - 1) x) ≡ None → WaitsFor scene keeping xs (get_or xs (length xs - 1) x)
+waits : (scene : Scene) (keeping : Keeping) (xs : List Property) (x : Property) → 0 < length xs → EachButLast (IsSettled scene keeping) xs → (term : Term)
+    → term_at scene.bindings (get_or xs (length xs - 1) x) ≡ Some term → keeping (get_or xs (length xs - 1) x) ≡ None
+    → WaitsFor scene keeping xs (get_or xs (length xs - 1) x)
 waits scene keeping xs x some but term bound absent = record {
   front = take (length xs - 1) xs;
   last = sym (take_all (suc (length xs - 1)) xs (omega arith)) ∙ take-suc xs (length xs - 1) x (omega arith);
-  settled = λ k d lt. (let less : k < length xs - 1 = omega (arith, length-take (length xs - 1) xs) in subst (IsSettled scene keeping) (sym (get_or-take (length xs - 1) xs k d less)) (but k d (omega arith)));
+  settled = λ k d lt. (let less : k < length xs - 1 = omega (arith, length-take (length xs - 1) xs) in subst (IsSettled scene keeping)
+      (sym (get_or-take (length xs - 1) xs k d less)) (but k d (omega arith)));
   term = term;
   bound = bound;
   absent = absent;
@@ -40,4 +44,5 @@ returns-then-is_none-clause-settled c =
 pub returns-clause-next : goal.returns-clause-next
 returns-clause-next c =
     let found = there _ c.expr_at.result _ c.expr_at.ensures c.if-is_none.ensures in
-    waits (scene_in c.args.known.now) (kept_of c.args.known.now.done.now) c.args.reads.now (record { object = 0; number = 0 }) (grind arith) c.requires.but_last found.0 found.1 (not_there _ c.at.result _ c.at.ensures (sym c.is_some.ensures ∙ c.if-is_some.false))
+    waits (scene_in c.args.known.now) (kept_of c.args.known.now.done.now) c.args.reads.now (record { object = 0; number = 0 })
+    (grind arith) c.requires.but_last found.0 found.1 (not_there _ c.at.result _ c.at.ensures (sym c.is_some.ensures ∙ c.if-is_some.false))

@@ -15,10 +15,14 @@ loop-at-preserved c =
       right = c.in_ok-evaluate.ensures.right;
       closed = c.in_ok-evaluate.ensures.closed;
       within = λ q kept is. c.in_ok-evaluate.ensures.within q kept (c.loop-at.invariant.within q kept is);
-      settled = All-more (IsSettled scene (kept_of c.evaluate.new.memory)) c.args.touched.now c.loop-at.at-index (record { object = 0; number = 0 }) c.loop-at-test.true
-          (All-weaker (IsSettled scene (kept_of c.loop-at.memory)) (IsSettled scene (kept_of c.evaluate.new.memory)) (still_settled scene (kept_of c.loop-at.memory) (kept_of c.evaluate.new.memory) c.in_ok-evaluate.ensures.within) (take c.loop-at.at-index c.args.touched.now) c.loop-at.invariant.settled)
+      settled = All-more (IsSettled scene (kept_of c.evaluate.new.memory)) c.args.touched.now c.loop-at.at-index
+          (record { object = 0; number = 0 }) c.loop-at-test.true
+          (All-weaker (IsSettled scene (kept_of c.loop-at.memory)) (IsSettled scene (kept_of c.evaluate.new.memory))
+          (still_settled scene (kept_of c.loop-at.memory) (kept_of c.evaluate.new.memory) c.in_ok-evaluate.ensures.within)
+          (take c.loop-at.at-index c.args.touched.now) c.loop-at.invariant.settled)
           c.in_ok-evaluate.ensures.settled;
     }
 
 pub returns-clause-settled : goal.returns-clause-settled
-returns-clause-settled c = subst (All (IsSettled (scene_of (store_at c.args.stores.now.shelves c.args.place) c.args.bindings.now) (kept_of c.loop-at.memory))) (take_all c.loop-at.at-index c.args.touched.now c.loop-at-test.false) c.loop-at.invariant.settled
+returns-clause-settled c = subst (All (IsSettled (scene_of (store_at c.args.stores.now.shelves c.args.place) c.args.bindings.now) (kept_of c.loop-at.memory)))
+    (take_all c.loop-at.at-index c.args.touched.now c.loop-at-test.false) c.loop-at.invariant.settled

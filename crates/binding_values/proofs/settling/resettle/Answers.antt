@@ -34,7 +34,8 @@ returns-clause-complete c =
     let scene = scene_of (store_at c.args.stores.now.shelves c.args.place) c.args.bindings.now in
     let whole = whole_more scene c.args.touched.now.items c.reach.new.touched.items (kept_of c.args.kept.now) c.in_ok-reach.ensures.longer c.requires.whole in
     all_four c.refresh.result
-    (λ right within closed settled. is_complete scene (kept_of c.args.kept.now) c.reach.new.touched.items c.reach.new.self c.in_ok-reach.ensures.reached whole (kept_of c.refresh.new.kept) right within closed (subst (All (IsSettled scene (kept_of c.refresh.new.kept))) c.as_slice.ensures.value settled))
+    (λ right within closed settled. is_complete scene (kept_of c.args.kept.now) c.reach.new.touched.items c.reach.new.self c.in_ok-reach.ensures.reached whole
+    (kept_of c.refresh.new.kept) right within closed (subst (All (IsSettled scene (kept_of c.refresh.new.kept))) c.as_slice.ensures.value settled))
     c.refresh.ensures.right c.refresh.ensures.within c.refresh.ensures.closed c.refresh.ensures.settled
 
 pub returns-clause-same : goal.returns-clause-same
@@ -42,5 +43,6 @@ returns-clause-same c =
     let scene = scene_of (store_at c.args.stores.now.shelves c.args.place) c.args.bindings.now in
     let whole = whole_more scene c.args.touched.now.items c.reach.new.touched.items (kept_of c.args.kept.now) c.in_ok-reach.ensures.longer c.requires.whole in
     both c.refresh.result
-    (λ right within. is_same scene (kept_of c.args.kept.now) c.reach.new.touched.items c.reach.new.self c.in_ok-reach.ensures.reached whole (kept_of c.refresh.new.kept) right within)
+    (λ right within. is_same scene (kept_of c.args.kept.now) c.reach.new.touched.items c.reach.new.self c.in_ok-reach.ensures.reached whole
+    (kept_of c.refresh.new.kept) right within)
     c.refresh.ensures.right c.refresh.ensures.within

@@ -14,8 +14,11 @@ returns c =
     let texts = c.as_slice.result.now in
     let same : given ≡ texts = search rules in
     let free = sym c.are_not_inherited.ensures ∙ c.if-not-are_not_inherited.false in
-    let listed : map (λ n. text_of n.signature) new ≡ texts = same_value (map (λ n. text_of n.signature) new) given (Ok (map (λ n. text_of n.signature) new)) refl c.in_ok-texts.ensures ∙ same in
+    let listed : map (λ n. text_of n.signature) new ≡ texts =
+    same_value (map (λ n. text_of n.signature) new) given (Ok (map (λ n. text_of n.signature) new)) refl c.in_ok-texts.ensures ∙ same in
     let is : are_distinct_methods (signatures base ++ new_signatures (map signed_seen new)) ≡ is_distinct bytes_eq texts =
-    new_methods_once base new c.requires.once ∙ (ap (λ b. b && are_distinct_methods (new_signatures (map signed_seen new))) free ∙ (methods_by_text new c.requires.normal ∙ ap (is_distinct bytes_eq) listed)) in
+    new_methods_once base new c.requires.once
+    ∙ (ap (λ b. b && are_distinct_methods (new_signatures (map signed_seen new))) free
+    ∙ (methods_by_text new c.requires.normal ∙ ap (is_distinct bytes_eq) listed)) in
     let P : Bool → Type 0 = λ b. Gives (λ b. b) c.are_distinct.result (Ok b) in
     subst P (sym is) c.are_distinct.ensures

@@ -8,7 +8,8 @@ pub returns-in-Some-get : goal.returns-in-Some-get
 returns-in-Some-get c =
     let behind = signal_behind (methods c.args.table.now c.args.base) c.args.signed.now c.args.number (omega (arith, c.method_count-count.ensures.value)) in
     let found = c.in-Some-get.ensures.lookup in
-    let at = slice_get_read c.args.signed.now (length c.args.signed.now) (c.args.number - c.method_count-count.result) c.in-Some-get.new.now refl found.3.0 found.1 in
+    let at = slice_get_read c.args.signed.now (length c.args.signed.now)
+    (c.args.number - c.method_count-count.result) c.in-Some-get.new.now refl found.3.0 found.1 in
     rw (behind, ← c.method_count-count.ensures.value, at) (sym (ap not c.is_none.ensures ∙ not_not c.is_none.result))
 
 pub returns-in-None-get : goal.returns-in-None-get

@@ -15,24 +15,29 @@ pub returns-in_err-matches-clause-asked : goal.returns-in_err-matches-clause-ask
 returns-in_err-matches-clause-asked g c =
     let is_metad : app_of c.in_ok-command.command ≡ metad = c.in_ok-command.ensures in
     let refused = c.in_err-matches.ensures.kinds (ap is_simple_and_free is_metad ∙ simple_and_free) in
-    let says = kind_says (map g.S.AsStr.text c.args.words.now) (kind_of c.in_err-matches.field-0.0) (subst (λ (a : App). HasKind (fault_of a (map g.S.AsStr.text c.args.words.now)) c.in_err-matches.field-0.0) is_metad refused) in
-    reads_refusal (asked (map g.S.AsStr.text c.args.words.now)) c.from_residual-in_err-matches.result c.in_err-matches.field-0.0 c.from_residual-in_err-matches.ensures.1 says
+    let says = kind_says (map g.S.AsStr.text c.args.words.now) (kind_of c.in_err-matches.field-0.0)
+    (subst (λ (a : App). HasKind (fault_of a (map g.S.AsStr.text c.args.words.now)) c.in_err-matches.field-0.0) is_metad refused) in
+    reads_refusal (asked (map g.S.AsStr.text c.args.words.now)) c.from_residual-in_err-matches.result c.in_err-matches.field-0.0
+    c.from_residual-in_err-matches.ensures.1 says
 
 pub returns-clause-kinds : goal.returns-clause-kinds
 returns-clause-kinds g c =
     let is_metad : app_of c.in_ok-command.command ≡ metad = c.in_ok-command.ensures in
-    sym (ap (λ (a : App). fault_of a (map g.S.AsStr.text c.args.words.now)) is_metad) ∙ c.in_ok-matches.ensures.kinds (ap is_simple_and_free is_metad ∙ simple_and_free)
+    sym (ap (λ (a : App). fault_of a (map g.S.AsStr.text c.args.words.now)) is_metad)
+    ∙ c.in_ok-matches.ensures.kinds (ap is_simple_and_free is_metad ∙ simple_and_free)
 
 pub returns-clause-classes : goal.returns-clause-classes
 returns-clause-classes g c =
     let is_metad : app_of c.in_ok-command.command ≡ metad = c.in_ok-command.ensures in
-    let exact = (c.in_ok-matches.ensures.matches (ap is_simple is_metad ∙ simple)).0 ∙ ap (λ (a : App). matches_of a (map g.S.AsStr.text c.args.words.now)) is_metad in
+    let exact = (c.in_ok-matches.ensures.matches (ap is_simple is_metad ∙ simple)).0
+    ∙ ap (λ (a : App). matches_of a (map g.S.AsStr.text c.args.words.now)) is_metad in
     c.in_ok-classes.ensures ∙ (first_value-rows (found_of c.in_ok-matches.matches) (codes "classes") ∙ ap (first_of (codes "classes")) exact)
 
 pub returns-clause-slice : goal.returns-clause-slice
 returns-clause-slice g c =
     let is_metad : app_of c.in_ok-command.command ≡ metad = c.in_ok-command.ensures in
-    let exact = (c.in_ok-matches.ensures.matches (ap is_simple is_metad ∙ simple)).0 ∙ ap (λ (a : App). matches_of a (map g.S.AsStr.text c.args.words.now)) is_metad in
+    let exact = (c.in_ok-matches.ensures.matches (ap is_simple is_metad ∙ simple)).0
+    ∙ ap (λ (a : App). matches_of a (map g.S.AsStr.text c.args.words.now)) is_metad in
     c.in_ok-slice.ensures ∙ (first_value-rows (found_of c.in_ok-matches.matches) (codes "slice") ∙ ap (first_of (codes "slice")) exact)
 
 pub returns-clause-turns : goal.returns-clause-turns
@@ -42,10 +47,12 @@ returns-clause-turns g c =
     let exact = (c.in_ok-matches.ensures.matches (ap is_simple is_metad ∙ simple)).0 ∙ ap (λ (a : App). matches_of a words) is_metad in
     let same = one_text-rows (found_of c.in_ok-matches.matches) (codes "turns") ∙ ap (one_of (codes "turns")) exact in
     let asks = run_asked words (returns-clause-kinds g c) in
-    let found : Gives (one_text (found_of c.in_ok-matches.matches) (codes "turns")) asks.0 = subst (λ (o : Option (List ℕ)). Gives o asks.0) (sym same) asks.2 in
+    let found : Gives (one_text (found_of c.in_ok-matches.matches) (codes "turns")) asks.0 =
+    subst (λ (o : Option (List ℕ)). Gives o asks.0) (sym same) asks.2 in
     let is : c.unwrap_or-turns.result ≡ asks.0 = c.unwrap_or-turns.ensures ∙ turns_read
     (λ bs r. ParsesUnsigned 32 10 bs r × ExplainsUnsignedError 10 bs r × HasUnsignedDigitsIfOk bs r)
-    (one_text (found_of c.in_ok-matches.matches) (codes "turns")) c.get_one.result asks.0 found c.get_one.ensures.none c.get_one.ensures.value (λ text result reads. reads.0) in
+    (one_text (found_of c.in_ok-matches.matches) (codes "turns")) c.get_one.result asks.0 found c.get_one.ensures.none c.get_one.ensures.value
+    (λ text result reads. reads.0) in
     subst (Gives (one_of (codes "turns") (matches_of metad words))) (sym is) asks.2
 
 pub returns-clause-asked : goal.returns-clause-asked

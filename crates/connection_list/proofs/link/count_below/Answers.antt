@@ -11,7 +11,9 @@ pub returns : goal.returns
 returns c =
     let items = c.as_buffer-all.result.now.items in
     let order : IsInOrder link_cmp items = rw c.as_buffer-all.ensures.links c.as_buffer-all.ensures.sound in
-    rw (← c.as_buffer-all.ensures.links) (IsPartitionPoint-from_clause (λ other. is_lt (link_cmp other c.args.link)) items c.partition_point.result c.partition_point.ensures.partitioned (below_parted link_total items order c.args.link) (λ a r k called. search rules))
+    rw (← c.as_buffer-all.ensures.links) (IsPartitionPoint-from_clause
+    (λ other. is_lt (link_cmp other c.args.link)) items c.partition_point.result c.partition_point.ensures.partitioned
+    (below_parted link_total items order c.args.link) (λ a r k called. search rules))
 
 pub returns-then-is_parted : goal.returns-then-is_parted
 returns-then-is_parted c = c.is_parted.ensures c.if-is_parted.true

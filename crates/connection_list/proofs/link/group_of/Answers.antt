@@ -9,7 +9,9 @@ pub returns-clause-before : goal.returns-clause-before
 returns-clause-before c =
     let items = c.as_buffer-all.result.now.items in
     let order : IsInOrder link_cmp items = rw c.as_buffer-all.ensures.links c.as_buffer-all.ensures.sound in
-    rw (← c.as_buffer-all.ensures.links) (IsPartitionPoint-from_clause (is_before c.args.object c.args.signal) items c.partition_point.result c.partition_point.ensures.partitioned (before_parted items order c.args.object c.args.signal) (λ a r k called. search rules)).0
+    rw (← c.as_buffer-all.ensures.links) (IsPartitionPoint-from_clause
+    (is_before c.args.object c.args.signal) items c.partition_point.result c.partition_point.ensures.partitioned
+    (before_parted items order c.args.object c.args.signal) (λ a r k called. search rules)).0
 
 unless : (b : Bool) → not b ≡ false → b ≡ true
 unless true fails = refl
@@ -19,5 +21,6 @@ pub returns-clause-past : goal.returns-clause-past
 returns-clause-past c =
     let items = c.as_buffer-all.result.now.items in
     let order : IsInOrder link_cmp items = rw c.as_buffer-all.ensures.links c.as_buffer-all.ensures.sound in
-    let point = IsPartitionPoint-from_clause (λ link. not (is_past c.args.object c.args.signal link)) items c.partition_point-2.result c.partition_point-2.ensures.partitioned (past_parted items order c.args.object c.args.signal) (λ a r k called. search rules) in
+    let point = IsPartitionPoint-from_clause (λ link. not (is_past c.args.object c.args.signal link)) items c.partition_point-2.result
+    c.partition_point-2.ensures.partitioned (past_parted items order c.args.object c.args.signal) (λ a r k called. search rules) in
     rw (← c.as_buffer-all.ensures.links) (λ k d low high. unless _ (point.1 k d low high))

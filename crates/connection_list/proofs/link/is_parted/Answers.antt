@@ -12,7 +12,8 @@ returns-then-at-len-2 c = λ parted.
     let order : IsInOrder link_cmp items = rw c.as_buffer-all.ensures.links c.as_buffer-all.ensures.sound in
     rw (← c.as_buffer-all.ensures.links) (parted_at items order c.args.link c.args.at (omega (arith, c.if-at-len.false, c.len-len.ensures))
     (λ some d. elim c.else-at-gt0.branch [
-      | else-at-gt0-via-then-at-gt0+else-not-is_lt w ↦ ap is_lt (ap (λ l. link_cmp l c.args.link) (sym (w.get.ensures d)) ∙ sym w.cmp.ensures) ∙ (sym w.is_lt.ensures ∙ w.if-not-is_lt.false)
+      | else-at-gt0-via-then-at-gt0+else-not-is_lt w ↦ ap is_lt (ap (λ l. link_cmp l c.args.link) (sym (w.get.ensures d)) ∙ sym w.cmp.ensures)
+          ∙ (sym w.is_lt.ensures ∙ w.if-not-is_lt.false)
       | else-at-gt0-via-else-at-gt0 w ↦ absurd (omega (arith, some, w.if-at-gt0.false))
     ])
     (λ within d. absurd (omega (arith, within, c.len-len.ensures, c.if-at-len-2.true))))
@@ -27,7 +28,9 @@ returns-else-at-len-2 c = λ parted.
     let order : IsInOrder link_cmp items = rw c.as_buffer-all.ensures.links c.as_buffer-all.ensures.sound in
     rw (← c.as_buffer-all.ensures.links) (parted_at items order c.args.link c.args.at (omega (arith, c.if-at-len.false, c.len-len.ensures))
     (λ some d. elim c.else-at-gt0.branch [
-      | else-at-gt0-via-then-at-gt0+else-not-is_lt w ↦ ap is_lt (ap (λ l. link_cmp l c.args.link) (sym (w.get.ensures d)) ∙ sym w.cmp.ensures) ∙ (sym w.is_lt.ensures ∙ w.if-not-is_lt.false)
+      | else-at-gt0-via-then-at-gt0+else-not-is_lt w ↦ ap is_lt (ap (λ l. link_cmp l c.args.link) (sym (w.get.ensures d)) ∙ sym w.cmp.ensures)
+          ∙ (sym w.is_lt.ensures ∙ w.if-not-is_lt.false)
       | else-at-gt0-via-else-at-gt0 w ↦ absurd (omega (arith, some, w.if-at-gt0.false))
     ])
-    (λ within d. ap is_lt (ap (λ l. link_cmp l c.args.link) (sym (c.get-else-at-len-2.ensures d)) ∙ sym c.cmp-else-at-len-2.ensures) ∙ (sym c.is_lt-else-at-len-2.ensures ∙ unless c.is_lt-else-at-len-2.result parted)))
+    (λ within d. ap is_lt (ap (λ l. link_cmp l c.args.link) (sym (c.get-else-at-len-2.ensures d)) ∙ sym c.cmp-else-at-len-2.ensures)
+    ∙ (sym c.is_lt-else-at-len-2.ensures ∙ unless c.is_lt-else-at-len-2.result parted)))

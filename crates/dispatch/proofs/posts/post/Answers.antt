@@ -12,7 +12,8 @@ returns-then-not-is_published-clause-reaches c =
     let from = c.args.caller.now.name.now in
     let place = c.args.caller.now.place in
     let old = c.args.tables.now in
-    subst (λ posts. Reaches classes from place posts old old c.args.failing c.args.failing) (sym (posts_none classes (state_at old place) c.args.object c.args.signal c.args.args.now (sym c.is_published.ensures ∙ c.if-not-is_published.true)))
+    subst (λ posts. Reaches classes from place posts old old c.args.failing c.args.failing)
+    (sym (posts_none classes (state_at old place) c.args.object c.args.signal c.args.args.now (sym c.is_published.ensures ∙ c.if-not-is_published.true)))
     (reaches_changed classes from place old old c.args.failing (changes_same old old place refl) refl)
 
 pub returns-clause-reaches : goal.returns-clause-reaches
@@ -21,4 +22,5 @@ returns-clause-reaches c =
     let from = c.args.caller.now.name.now in
     let place = c.args.caller.now.place in
     let old = c.args.tables.now in
-    subst (λ kinds. Reaches classes from place (posts_by c.args.object c.args.signal kinds c.args.args.now (state_at old place).desk.publications) old c.deliver.new.self c.args.failing c.deliver.result) c.kinds_at.ensures c.deliver.ensures.reaches
+    subst (λ kinds. Reaches classes from place (posts_by c.args.object c.args.signal kinds c.args.args.now (state_at old place).desk.publications) old
+    c.deliver.new.self c.args.failing c.deliver.result) c.kinds_at.ensures c.deliver.ensures.reaches

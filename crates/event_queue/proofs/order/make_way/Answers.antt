@@ -8,4 +8,11 @@ pub returns-then-count-clause-way : goal.returns-then-count-clause-way
 returns-then-count-clause-way c = search (rules, none_dropped)
 
 pub returns-else-len-queued-clause-way : goal.returns-else-len-queued-clause-way
-returns-else-len-queued-clause-way c = search (rules, else-len-queued-via-then-len-queued+else-count, else-len-queued-via-else-len-queued, none_dropped, all_waiting, length-map)
+returns-else-len-queued-clause-way c = search (
+  rules,
+  else-len-queued-via-then-len-queued+else-count,
+  else-len-queued-via-else-len-queued,
+  none_dropped,
+  all_waiting,
+  length-map,
+)

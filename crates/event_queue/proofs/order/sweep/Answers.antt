@@ -17,7 +17,8 @@ rows-preserved-then-count c =
     let under = sweep_on c.rows.invariant (omega (arith, c.rows-test.true)) in
     sweep_drops c.requires.place under c.at-key.ensures c.subtract.new.self
     (ap (is_dropped c.rows.objects) (sym c.object-object.ensures) ∙ (sym (ap (λ (count : Count). count.is_dropped) c.count.ensures) ∙ c.if-count.true))
-    c.remove.ensures.rest (subst (λ n. IsCounted c.rows.objects c.subtract.new.self n (count_of c.rows.objects n - 1)) c.object-object.ensures c.subtract.ensures.counted) c.subtract.ensures.marks
+    c.remove.ensures.rest (subst (λ n. IsCounted c.rows.objects c.subtract.new.self n (count_of c.rows.objects n - 1)) c.object-object.ensures
+    c.subtract.ensures.counted) c.subtract.ensures.marks
 
 pub rows-preserved : goal.rows-preserved
 rows-preserved c =

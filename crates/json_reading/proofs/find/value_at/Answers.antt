@@ -8,7 +8,8 @@ use Rattle.json_reading.proofs.MemberLemmas.{found_at_last, found_before_last}
 use Rattle.json_reading.proofs.find.value_at.Goals as goal
 
 -- the member that is looked at is the last of those that are left
-looks_at_last : (ms : List Member) (left next : ℕ) (m : Member) → next ≡ left + 1 → left < length ms → m ≡ get_or ms left m → take next ms ≡ take left ms ++ m ∷ []
+looks_at_last : (ms : List Member) (left next : ℕ) (m : Member) → next ≡ left + 1 → left < length ms → m ≡ get_or ms left m
+    → take next ms ≡ take left ms ++ m ∷ []
 looks_at_last ms left next m is within item = ap (λ k. take k ms) is ∙ take_more ms left m within ∙ ap (λ y. take left ms ++ y ∷ []) (sym item)
 
 pub returns-then-eq : goal.returns-then-eq

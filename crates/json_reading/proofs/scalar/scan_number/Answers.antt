@@ -27,6 +27,7 @@ returns c =
     let end = c.digits.end in
     let zero : get_or d 0 0 ≡ 48 → end ≡ 1 = grind arith in
     let some : 0 < end = omega arith in (
-      number_stands d c.digits.number end c.digits.invariant.0 c.digits.invariant.1 some c.digits.invariant.2 c.digits.invariant.3 (λ e. zero (sym (get_or-take end d 0 0 some) ∙ e)),
+      number_stands d c.digits.number end c.digits.invariant.0 c.digits.invariant.1 some c.digits.invariant.2 c.digits.invariant.3
+          (λ e. zero (sym (get_or-take end d 0 0 some) ∙ e)),
       c.digits.invariant.3,
     )

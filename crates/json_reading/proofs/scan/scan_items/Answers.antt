@@ -35,8 +35,10 @@ returns-in-93 c =
     let s = c.in_ok-item.item in
     let found = c.in_ok-item.ensures in
     let bracket : get_or d c.in_ok-item.next 0 ≡ 93 = cc in
-    rw c.in_ok-push.ensures.items
-    (item_grown_to_end d ss s c.args.from c.items.at c.in_ok-item.next c.items.invariant.later c.items.invariant.text found.0 bracket, AllFit-push ss s c.items.invariant.fit found.1)
+    rw c.in_ok-push.ensures.items (
+      item_grown_to_end d ss s c.args.from c.items.at c.in_ok-item.next c.items.invariant.later c.items.invariant.text found.0 bracket,
+      AllFit-push ss s c.items.invariant.fit found.1,
+    )
 
 pub overflow_add-result : goal.overflow_add-result
 overflow_add-result c = grind (arith, common_steps)

@@ -9,9 +9,11 @@ use Rattle.json_reading.proofs.Printing.{member_tokens-push, AreSpelled-push}
 use Rattle.json_reading.proofs.token.rest_of_members.Goals as goal
 
 -- a key and its value have been taken from what was left
-took_member : (all left rest : List Token) (ms : List Member) (m : Member) → all ≡ member_tokens ms ++ left → left ≡ key m.key.now ∷ (field_tokens m.value ++ rest) → all ≡ member_tokens (ms ++ m ∷ []) ++ rest
+took_member : (all left rest : List Token) (ms : List Member) (m : Member) → all ≡ member_tokens ms ++ left
+    → left ≡ key m.key.now ∷ (field_tokens m.value ++ rest) → all ≡ member_tokens (ms ++ m ∷ []) ++ rest
 took_member all left rest ms m so_far taken =
-    so_far ∙ ap (λ ts. member_tokens ms ++ ts) taken ∙ sym (append_assoc (member_tokens ms) (key m.key.now ∷ field_tokens m.value) rest) ∙ ap (λ ts. ts ++ rest) (sym (member_tokens-push ms m))
+    so_far ∙ ap (λ ts. member_tokens ms ++ ts) taken ∙ sym (append_assoc (member_tokens ms) (key m.key.now ∷ field_tokens m.value) rest)
+    ∙ ap (λ ts. ts ++ rest) (sym (member_tokens-push ms m))
 
 pub members-preserved : goal.members-preserved
 members-preserved c =

@@ -7,9 +7,11 @@ use Rattle.json_reading.proofs.ItemLemmas.{tokens_push, AllFit-push}
 use Rattle.json_reading.proofs.token.token_items.Goals as goal
 
 -- an item has been taken from what was left
-took_item : (all left rest : List Token) (ss : List Scalar) (s : Scalar) → all ≡ map scalar_token ss ++ left → left ≡ scalar_token s ∷ rest → all ≡ map scalar_token (ss ++ s ∷ []) ++ rest
+took_item : (all left rest : List Token) (ss : List Scalar) (s : Scalar) → all ≡ map scalar_token ss ++ left → left ≡ scalar_token s ∷ rest
+    → all ≡ map scalar_token (ss ++ s ∷ []) ++ rest
 took_item all left rest ss s so_far taken =
-    so_far ∙ ap (λ ts. map scalar_token ss ++ ts) taken ∙ sym (append_assoc (map scalar_token ss) (scalar_token s ∷ []) rest) ∙ ap (λ ts. ts ++ rest) (sym (tokens_push ss s))
+    so_far ∙ ap (λ ts. map scalar_token ss ++ ts) taken ∙ sym (append_assoc (map scalar_token ss) (scalar_token s ∷ []) rest)
+    ∙ ap (λ ts. ts ++ rest) (sym (tokens_push ss s))
 
 pub items-preserved : goal.items-preserved
 items-preserved c =

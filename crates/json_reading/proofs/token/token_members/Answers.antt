@@ -11,5 +11,6 @@ returns-in-None c =
     let found = c.in_ok-found.ensures in
     let opening : tokens c.args.text.now ≡ begin_object ∷ c.next.new.self = grind arith in
     let nothing : c.rest_of_members.new.reader ≡ [] = grind arith in
-    let whole : tokens c.args.text.now ≡ object_tokens ms = opening ∙ ap (λ ts. begin_object ∷ ts) (found.0 ∙ ap (λ ts. member_tokens ms ++ end_object ∷ ts) nothing) in
+    let whole : tokens c.args.text.now ≡ object_tokens ms = opening
+    ∙ ap (λ ts. begin_object ∷ ts) (found.0 ∙ ap (λ ts. member_tokens ms ++ end_object ∷ ts) nothing) in
     reads_members c.args.text.now ms found.1 whole

@@ -16,7 +16,8 @@ is_row c = search (rules, row_stands)
 pub returns-clause-link : goal.returns-clause-link
 returns-clause-link c =
     let done = c.update.ensures in
-    link_of_old (rows_at c.args.rows.now c.args.place) c.unwrap-key.result c.args.at.object done.3.shown.now done.3.shown.now (is_row c) (is_row c).numbered c.args.at refl ∙ done.3.met.was
+    link_of_old (rows_at c.args.rows.now c.args.place) c.unwrap-key.result c.args.at.object done.3.shown.now done.3.shown.now (is_row c)
+    (is_row c).numbered c.args.at refl ∙ done.3.met.was
 
 pub returns-clause-rest : goal.returns-clause-rest
 returns-clause-rest c =

@@ -8,7 +8,8 @@ use Rattle.property_store.proofs.PlaceLemmas.{under_all}
 use Rattle.property_store.proofs.row.write_under.Goals as goal
 
 pub update-requires-clause-callable : goal.update-requires-clause-callable
-update-requires-clause-callable c = λ lent under. under_all (λ (row : Row). AreAsMany (fields_in c.args.layouts.now row.class) row) (rows_at c.args.rows.now c.args.place) c.requires.many c.args.key lent.now under
+update-requires-clause-callable c = λ lent under. under_all (λ (row : Row). AreAsMany (fields_in c.args.layouts.now row.class) row)
+    (rows_at c.args.rows.now c.args.place) c.requires.many c.args.key lent.now under
 
 pub returns : goal.returns
 returns c =
@@ -18,5 +19,6 @@ returns c =
       changed = done.3.left.now;
       under = done.2 ∙ ap Some (sym done.3.shows);
       done = done.3.met;
-      new_is = done.4 ∙ ap (λ (r : Row). with_place c.args.rows.now c.args.place (with_row (rows_at c.args.rows.now c.args.place) c.args.key r)) (sym done.3.leaves);
+      new_is = done.4 ∙ ap (λ (r : Row). with_place c.args.rows.now c.args.place (with_row (rows_at c.args.rows.now c.args.place) c.args.key r))
+          (sym done.3.leaves);
     }

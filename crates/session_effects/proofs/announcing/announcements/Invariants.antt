@@ -7,6 +7,7 @@ use Rattle.session_effects.proofs.announcing.announcements.Given as goal
 abbrev pub invariant-loop-change : goal.invariant-loop-change
 invariant-loop-change l = record {
   same : l.change-items ≡ l.fn.changes;
-  told : (depth : ℕ) → map (announced depth) l.told ++ told_items (settings_of l.caller.setup.now) (state_at l.tables l.caller.place) depth (drop l.change-index l.change-items)
+  told : (depth : ℕ) → map (announced depth) l.told ++ told_items (settings_of l.caller.setup.now) (state_at l.tables l.caller.place) depth
+      (drop l.change-index l.change-items)
       ≡ told_items (settings_of l.caller.setup.now) (state_at l.tables l.caller.place) depth l.change-items;
 }

@@ -11,7 +11,9 @@ use Rattle.std.proofs.lemmas.Grind.{common_steps}
 use Rattle.session_effects.proofs.class_layouts.layouts.Goals as goal
 
 -- past the last class there are no properties
-all_laid : (layouts : List (List Field)) (classes : List Class) → length layouts ≡ length classes → ((class : ℕ) → class < length classes → fields_in layouts class ≡ fields_of classes class) → (class : ℕ) → fields_in layouts class ≡ fields_of classes class
+all_laid : (layouts : List (List Field)) (classes : List Class) → length layouts ≡ length classes
+    → ((class : ℕ) → class < length classes → fields_in layouts class ≡ fields_of classes class) → (class : ℕ)
+    → fields_in layouts class ≡ fields_of classes class
 all_laid layouts classes even below class = ⊎_elim
     (λ within. below class (grind (arith, nat_tests, within)))
     (λ past.
@@ -20,7 +22,8 @@ all_laid layouts classes even below class = ⊎_elim
     (cases_Bool (nat_lt class (length classes)))
 
 pub returns-clause-each : goal.returns-clause-each
-returns-clause-each c = all_laid c.loop-class.layouts c.args.classes.now (omega (arith, c.loop-class.invariant.length, c.len-class-end.ensures.value)) (λ class within. c.loop-class.invariant.each class (omega (arith, within, c.len-class-end.ensures.value)))
+returns-clause-each c = all_laid c.loop-class.layouts c.args.classes.now (omega (arith, c.loop-class.invariant.length, c.len-class-end.ensures.value))
+    (λ class within. c.loop-class.invariant.each class (omega (arith, within, c.len-class-end.ensures.value)))
 
 pub loop-class-preserved : goal.loop-class-preserved
 loop-class-preserved c = grind (arith, common_steps)

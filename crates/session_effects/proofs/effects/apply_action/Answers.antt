@@ -11,6 +11,7 @@ pub returns-clause-tries : goal.returns-clause-tries
 unfolding operation_done
 returns-clause-tries c = λ doing.
     let slot = c.args.slot.now in
-    operation_is_done (settings_of c.args.caller.now.setup.now) slot.object slot.sender slot.args.now slot.depth (in_state doing (state_at c.args.tables.now c.args.caller.now.place)) c.args.effect.now c.in_ok-operation.operation
+    operation_is_done (settings_of c.args.caller.now.setup.now) slot.object slot.sender slot.args.now slot.depth
+    (in_state doing (state_at c.args.tables.now c.args.caller.now.place)) c.args.effect.now c.in_ok-operation.operation
     c.in_ok-operation.ensures.0 c.in_ok-do_found.ensures.refusal
     ∙ put_at c.args.tables.now c.do_found.new.tables c.args.caller.now.place _ doing c.requires.placed c.in_ok-do_found.ensures.ok

@@ -9,7 +9,8 @@ use Rattle.session_effects.proofs.evaluation.all_converted.Goals as goal
 pub returns-then-at-kinds : goal.returns-then-at-kinds
 returns-then-at-kinds c =
     let none : c.loop-value.value-iterator.rest.items ≡ [] = grind (arith, common_steps) in
-    sym c.loop-value.invariant.rest ∙ converted_short _ (get_or c.args.kinds.now c.loop-value.at k.Text) _ _ _ (drop_more c.args.kinds.now c.loop-value.at k.Text (omega arith)) none
+    sym c.loop-value.invariant.rest ∙ converted_short _ (get_or c.args.kinds.now c.loop-value.at k.Text) _ _ _
+    (drop_more c.args.kinds.now c.loop-value.at k.Text (omega arith)) none
 
 pub loop-value-preserved : goal.loop-value-preserved
 loop-value-preserved c =
@@ -34,7 +35,8 @@ returns-in_err-value_as c =
     answers_refused _ _ _ c.from_residual.ensures.1 (
     sym c.loop-value.invariant.rest
     ∙ ap (λ values. behind c.loop-value.converted (all_converted (drop c.loop-value.at c.args.kinds.now) values)) next
-    ∙ converted_refused c.loop-value.converted c.args.kinds.now c.loop-value.at c.in-Some.value c.next.new.self.rest.items c.get.result c.get.ensures.lookup.3 _ c.in_err-value_as.ensures
+    ∙ converted_refused c.loop-value.converted c.args.kinds.now c.loop-value.at c.in-Some.value c.next.new.self.rest.items c.get.result c.get.ensures.lookup.3 _
+    c.in_err-value_as.ensures
     )
 
 pub returns : goal.returns

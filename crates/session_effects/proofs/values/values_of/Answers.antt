@@ -8,7 +8,8 @@ use Rattle.session_effects.proofs.values.values_of.Goals as goal
 
 pub returns-then-at-kinds : goal.returns-then-at-kinds
 returns-then-at-kinds c =
-    sym c.loop-json.invariant.rest ∙ values_short c.loop-json.is_long _ (get_or c.args.kinds.now c.loop-json.at k.Text) _ _ _ (drop_more c.args.kinds.now c.loop-json.at k.Text (omega arith))
+    sym c.loop-json.invariant.rest ∙ values_short c.loop-json.is_long _ (get_or c.args.kinds.now c.loop-json.at k.Text) _ _ _
+    (drop_more c.args.kinds.now c.loop-json.at k.Text (omega arith))
     (ap (map view) (drop_all c.loop-json.json-index c.args.args.now (omega arith)))
 
 pub returns-then-not-is_limit : goal.returns-then-not-is_limit
@@ -23,7 +24,8 @@ returns-then-not-is_limit c =
     let here : drop at kinds ≡ c.in-Some.kind.now ∷ drop (at + 1) kinds = drop_more kinds at k.Text within ∙ ap (λ kind. kind ∷ drop (at + 1) kinds) is in
     let there : drop i args ≡ x ∷ drop (i + 1) args = drop_more args i x (omega arith) ∙ ap (λ y. y ∷ drop (i + 1) args) (sym c.json-item.is) in
     sym c.loop-json.invariant.rest
-    ∙ values_refused c.loop-json.is_long _ _ _ _ _ _ _ _ here (ap (map view) there) (rw c.in-Err-Refused.field-0-is at c.in-Err-Refused.ensures.exact) (sym c.if-not-is_limit.ensures)
+    ∙ values_refused c.loop-json.is_long _ _ _ _ _ _ _ _ here (ap (map view) there) (rw c.in-Err-Refused.field-0-is at c.in-Err-Refused.ensures.exact)
+    (sym c.if-not-is_limit.ensures)
 
 pub returns-in_default : goal.returns-in_default
 returns-in_default c = grind (arith, common_steps)

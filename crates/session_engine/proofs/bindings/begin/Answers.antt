@@ -9,7 +9,8 @@ use Rattle.session_engine.proofs.CommandsLemmas.{made_fault, replied}
 use Rattle.session_engine.proofs.bindings.begin.Goals as goal
 
 pub returns-in_err-begin : goal.returns-in_err-begin
-returns-in_err-begin c = made_fault _ _ _ _ _ _ c.in_err-begin.field-0.0 _ c.from_residual.ensures.1 (refusal_begin _ _ _) c.in_err-begin.ensures.refusal c.in_err-begin.ensures.refused c.begin.ensures.only
+returns-in_err-begin c = made_fault _ _ _ _ _ _ c.in_err-begin.field-0.0 _ c.from_residual.ensures.1
+    (refusal_begin _ _ _) c.in_err-begin.ensures.refusal c.in_err-begin.ensures.refused c.begin.ensures.only
 
 pub returns : goal.returns
 returns c =

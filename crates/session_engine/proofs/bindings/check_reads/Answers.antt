@@ -14,8 +14,10 @@ returns-in_err-check_read c =
     let i = c.reads.read-index in
     let read = c.read-item.result in
     let there : drop i reads ≡ read ∷ drop (i + 1) reads = drop_more reads i read (omega arith) ∙ ap (λ read. read ∷ drop (i + 1) reads) (sym c.read-item.is) in
-    subst (λ refusal. Answers c.from_residual-in_err-check_read.result (behind refusal (Ok (tt {0})))) (ap (reads_refusal state c.args.object) (sym there) ∙ c.reads.invariant)
-    (read_refused state c.args.object read (drop (i + 1) reads) c.in_err-check_read.field-0.0 _ c.from_residual-in_err-check_read.ensures.1 c.in_err-check_read.ensures)
+    subst (λ refusal. Answers c.from_residual-in_err-check_read.result (behind refusal (Ok (tt {0}))))
+    (ap (reads_refusal state c.args.object) (sym there) ∙ c.reads.invariant)
+    (read_refused state c.args.object read (drop (i + 1) reads) c.in_err-check_read.field-0.0 _ c.from_residual-in_err-check_read.ensures.1
+    c.in_err-check_read.ensures)
 
 pub reads-preserved : goal.reads-preserved
 reads-preserved c =
@@ -24,4 +26,5 @@ reads-preserved c =
     let i = c.reads.read-index in
     let read = c.read-item.result in
     let there : drop i reads ≡ read ∷ drop (i + 1) reads = drop_more reads i read (omega arith) ∙ ap (λ read. read ∷ drop (i + 1) reads) (sym c.read-item.is) in
-    sym (read_passed state c.args.object read (drop (i + 1) reads) c.in_ok-check_read.ensures) ∙ ap (reads_refusal state c.args.object) (sym there) ∙ c.reads.invariant
+    sym (read_passed state c.args.object read (drop (i + 1) reads) c.in_ok-check_read.ensures) ∙ ap (reads_refusal state c.args.object) (sym there)
+    ∙ c.reads.invariant

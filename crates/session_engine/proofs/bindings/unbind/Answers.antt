@@ -29,7 +29,8 @@ returns-in_err-tell g c =
     starved_told caller (Unbind c.args.object c.args.property.now) old middle c.tell.new.tables c.args.output.now c.tell.new.output
     (told_items (settings_of caller.setup.now) (state_at middle caller.place) 0 c.in_ok-changes.changes) _ _ c.requires.placed c.requires.fresh
     (refusal_unbind _ _ _ _ _ ∙ ap result_err found) (unbind_done _ _ _ _ _ _ found)
-    (comes_found caller old middle _ (Some c.in_ok-at.at) c.in_ok-changes.changes (state_with _ _ _ _ c.requires.placed c.in_ok-changes.ensures.ok) c.in_ok-changes.ensures.told)
+    (comes_found caller old middle _ (Some c.in_ok-at.at) c.in_ok-changes.changes
+    (state_with _ _ _ _ c.requires.placed c.in_ok-changes.ensures.ok) c.in_ok-changes.ensures.told)
     (record { only = c.unbind.ensures.only; failed = c.unbind.ensures.failed }) _ _ _ c.from_residual-in_err-tell.ensures.1 c.in_err-tell.ensures
 
 pub returns : goal.returns
@@ -39,7 +40,10 @@ returns g c =
     let middle = c.unbind.new.self in
     let found = sym (rw c.as_str.ensures at c.in_ok-at.ensures) in
     performs_told caller (Unbind c.args.object c.args.property.now) old middle c.tell.new.tables c.args.output.now c.tell.new.output
-    (told_items (settings_of caller.setup.now) (state_at middle caller.place) 0 c.in_ok-changes.changes) _ (a.Truth c.is_bound-was_bound.result) c.requires.placed c.requires.fresh
-    (refusal_unbind _ _ _ _ _ ∙ ap result_err found) (unbind_done _ _ _ _ _ _ found ∙ ap (does_next (settings_of caller.setup.now) _) (ap a.Truth (sym c.is_bound-was_bound.ensures)))
-    (comes_found caller old middle _ (Some c.in_ok-at.at) c.in_ok-changes.changes (state_with _ _ _ _ c.requires.placed c.in_ok-changes.ensures.ok) c.in_ok-changes.ensures.told)
+    (told_items (settings_of caller.setup.now) (state_at middle caller.place) 0 c.in_ok-changes.changes) _
+    (a.Truth c.is_bound-was_bound.result) c.requires.placed c.requires.fresh
+    (refusal_unbind _ _ _ _ _ ∙ ap result_err found)
+    (unbind_done _ _ _ _ _ _ found ∙ ap (does_next (settings_of caller.setup.now) _) (ap a.Truth (sym c.is_bound-was_bound.ensures)))
+    (comes_found caller old middle _ (Some c.in_ok-at.at) c.in_ok-changes.changes
+    (state_with _ _ _ _ c.requires.placed c.in_ok-changes.ensures.ok) c.in_ok-changes.ensures.told)
     (record { only = c.unbind.ensures.only; failed = c.unbind.ensures.failed }) _ c.in_ok-tell.ensures

@@ -10,5 +10,7 @@ use Rattle.session_engine.proofs.connections.disconnect_one.Goals as goal
 
 pub returns : goal.returns
 returns c = replied _ _ _ _ _ _ c.requires (refusal_disconnect_one _ _ _ _)
-    (performs_disconnect_one _ _ _ _ ∙ ap (λ stood. replies (without_connections (state_at c.args.tables.now c.args.caller.now.place) (has_number c.args.connection)) (a.Truth stood)) (sym c.disconnect_one.ensures.stood))
+    (performs_disconnect_one _ _ _ _ ∙ ap (λ stood. replies
+    (without_connections (state_at c.args.tables.now c.args.caller.now.place) (has_number c.args.connection)) (a.Truth stood))
+    (sym c.disconnect_one.ensures.stood))
     c.disconnect_one.ensures.broken

@@ -17,4 +17,5 @@ returns-in_err-take_events g c =
     (at_first_reaches caller c.args.tables.now c.take_events.new.tables c.args.output.now c.take_events.new.output does.posts c.requires.fresh does.reaches)
 
 pub returns : goal.returns
-returns g c = performs_spun c.args.actor.now.caller c.args.tables.now c.take_events.new.tables c.args.output.now c.take_events.new.output _ c.spun.result c.requires.fresh c.in_ok-take_events.ensures c.spun.ensures
+returns g c = performs_spun c.args.actor.now.caller c.args.tables.now c.take_events.new.tables c.args.output.now c.take_events.new.output _ c.spun.result
+    c.requires.fresh c.in_ok-take_events.ensures c.spun.ensures

@@ -8,28 +8,38 @@ use Rattle.session_model.proofs.ForCallers.{invoke_none, refusal_invoke}
 use Rattle.session_tables.specs.Tables.{state_at}
 use Rattle.session_tables.proofs.ForCallers.{changes_same}
 use Rattle.session_effects.specs.Setup.{settings_of}
-use Rattle.session_engine.proofs.CommandsLemmas.{at_first_reaches, found_fault, made_fault, quietly, starved_last, on_refused, or_first, or_second, replied, replies_alone, silently, stopped}
-use Rattle.session_engine.proofs.InvocationLemmas.{invoke_runs, kinds_are, method_is, method_there, named_in, performs_invoked, posts_invoked, refusal_absent, refusal_found, refusal_later, refusal_now, unread}
+use Rattle.session_engine.proofs.CommandsLemmas.{at_first_reaches, found_fault, made_fault, quietly, starved_last, on_refused, or_first, or_second, replied}
+use Rattle.session_engine.proofs.CommandsLemmas.{replies_alone, silently, stopped}
+use Rattle.session_engine.proofs.InvocationLemmas.{invoke_runs, kinds_are, method_is, method_there, named_in, performs_invoked, posts_invoked, refusal_absent}
+use Rattle.session_engine.proofs.InvocationLemmas.{refusal_found, refusal_later, refusal_now, unread}
 use Rattle.session_engine.proofs.invocation.invoke.Goals as goal
 
 pub returns-in_err-class : goal.returns-in_err-class
-returns-in_err-class g c = quietly _ _ _ _ _ _ _ c.requires.fresh (stopped _ _ _ _ _ c.in_err-class.field-0.0 _ c.from_residual.ensures.1 (refusal_invoke _ _ _ _ _ _ _ _ ∙ or_first _ _ _ c.in_err-class.ensures.refusal) refl)
+returns-in_err-class g c = quietly _ _ _ _ _ _ _ c.requires.fresh
+    (stopped _ _ _ _ _ c.in_err-class.field-0.0 _ c.from_residual.ensures.1
+    (refusal_invoke _ _ _ _ _ _ _ _ ∙ or_first _ _ _ c.in_err-class.ensures.refusal) refl)
 
 pub returns-in_err-index : goal.returns-in_err-index
 returns-in_err-index g c =
     let settings = settings_of c.args.actor.now.caller.setup.now in
     let state = state_at c.args.tables.now c.args.actor.now.caller.place in
     let asked = asked_method settings state c.args.object c.args.method.now in
-    quietly _ _ _ _ _ _ _ c.requires.fresh (found_fault _ _ _ _ (λ found. option_or (result_err found) (option_or (values_refusal settings state c.args.object (map view c.args.args.now) asked) (later_refusal state c.args.mode asked))) _ c.in_err-index.field-0.0 _
-    c.from_residual-in_err-index.ensures.1 (refusal_invoke _ _ _ _ _ _ _ _ ∙ or_second _ _ c.in_ok-class.ensures.refusal) (λ code. refl) (unread _ c.args.method.now _ c.in_err-index.ensures))
+    quietly _ _ _ _ _ _ _ c.requires.fresh (found_fault _ _ _ _
+    (λ found. option_or (result_err found) (option_or (values_refusal settings state c.args.object (map view c.args.args.now) asked)
+    (later_refusal state c.args.mode asked))) _ c.in_err-index.field-0.0 _
+    c.from_residual-in_err-index.ensures.1 (refusal_invoke _ _ _ _ _ _ _ _ ∙ or_second _ _ c.in_ok-class.ensures.refusal) (λ code. refl)
+    (unread _ c.args.method.now _ c.in_err-index.ensures))
 
 pub returns-in_default : goal.returns-in_default
 returns-in_default g c =
     let settings = settings_of c.args.actor.now.caller.setup.now in
     let state = state_at c.args.tables.now c.args.actor.now.caller.place in
-    let named = named_in settings state c.args.object c.in_ok-class.class c.args.method.now None c.in_ok-class.ensures.class (c.in_ok-index.ensures ∙ ap Ok c.in_default.is) in
+    let named = named_in settings state c.args.object c.in_ok-class.class c.args.method.now None c.in_ok-class.ensures.class
+    (c.in_ok-index.ensures ∙ ap Ok c.in_default.is) in
     replies_alone _ _ _ _ _ c.requires.fresh (
-      refusal_absent c.args.actor.now.caller c.args.object c.args.method.now (map view c.args.args.now) c.args.mode c.args.priority c.args.tables.now c.args.tables.now named.signature c.in_ok-class.ensures.refusal named.spelled named.asked,
+      refusal_absent c.args.actor.now.caller c.args.object c.args.method.now
+          (map view c.args.args.now) c.args.mode c.args.priority c.args.tables.now c.args.tables.now named.signature c.in_ok-class.ensures.refusal named.spelled
+          named.asked,
       invoke_none _ _ _ _ _ _ _ _ named.asked,
     )
 
@@ -37,23 +47,34 @@ pub returns-in_err-values : goal.returns-in_err-values
 returns-in_err-values g c =
     let settings = settings_of c.args.actor.now.caller.setup.now in
     let state = state_at c.args.tables.now c.args.actor.now.caller.place in
-    let named = named_in settings state c.args.object c.in_ok-class.class c.args.method.now (Some c.in-Some.index) c.in_ok-class.ensures.class (c.in_ok-index.ensures ∙ ap Ok c.in-Some.is) in
-    let has = method_is settings state c.args.object c.in_ok-class.class c.in-Some.index c.in-Some-method_row.row.now c.in_ok-class.ensures.class c.in-Some-method_row.ensures.value in
+    let named = named_in settings state c.args.object c.in_ok-class.class c.args.method.now (Some c.in-Some.index) c.in_ok-class.ensures.class
+    (c.in_ok-index.ensures ∙ ap Ok c.in-Some.is) in
+    let has = method_is settings state c.args.object c.in_ok-class.class c.in-Some.index c.in-Some-method_row.row.now c.in_ok-class.ensures.class
+    c.in-Some-method_row.ensures.value in
     let kinds = c.as_slice-kinds.ensures ∙ kinds_are settings state c.args.object c.in-Some.index c.in-Some-method_row.row.now has in
-    quietly _ _ _ _ _ _ _ c.requires.fresh (found_fault _ _ _ _ (λ given. option_or (result_err given) (later_refusal state c.args.mode (Some c.in-Some.index))) (asked_values settings state c.args.object c.in-Some.index (map view c.args.args.now)) c.in_err-values.field-0.0 _ c.from_residual-in_err-values.ensures.1
-    (refusal_found c.args.actor.now.caller c.args.object c.args.method.now (map view c.args.args.now) c.args.mode c.args.priority c.args.tables.now c.args.tables.now named.signature c.in_ok-class.ensures.refusal named.spelled (Some c.in-Some.index) named.asked)
+    quietly _ _ _ _ _ _ _ c.requires.fresh (found_fault _ _ _ _ (λ given. option_or (result_err given) (later_refusal state c.args.mode (Some c.in-Some.index)))
+    (asked_values settings state c.args.object c.in-Some.index (map view c.args.args.now)) c.in_err-values.field-0.0 _
+    c.from_residual-in_err-values.ensures.1
+    (refusal_found c.args.actor.now.caller c.args.object c.args.method.now
+    (map view c.args.args.now) c.args.mode c.args.priority c.args.tables.now c.args.tables.now named.signature c.in_ok-class.ensures.refusal named.spelled
+    (Some c.in-Some.index) named.asked)
     (λ code. refl) (rw kinds at c.in_err-values.ensures))
 
 pub returns-in_err-enqueue : goal.returns-in_err-enqueue
 returns-in_err-enqueue g c =
     let settings = settings_of c.args.actor.now.caller.setup.now in
     let state = state_at c.args.tables.now c.args.actor.now.caller.place in
-    let named = named_in settings state c.args.object c.in_ok-class.class c.args.method.now (Some c.in-Some.index) c.in_ok-class.ensures.class (c.in_ok-index.ensures ∙ ap Ok c.in-Some.is) in
-    let has = method_is settings state c.args.object c.in_ok-class.class c.in-Some.index c.in-Some-method_row.row.now c.in_ok-class.ensures.class c.in-Some-method_row.ensures.value in
+    let named = named_in settings state c.args.object c.in_ok-class.class c.args.method.now (Some c.in-Some.index) c.in_ok-class.ensures.class
+    (c.in_ok-index.ensures ∙ ap Ok c.in-Some.is) in
+    let has = method_is settings state c.args.object c.in_ok-class.class c.in-Some.index c.in-Some-method_row.row.now c.in_ok-class.ensures.class
+    c.in-Some-method_row.ensures.value in
     let kinds = c.as_slice-kinds.ensures ∙ kinds_are settings state c.args.object c.in-Some.index c.in-Some-method_row.row.now has in
-    let given : asked_values settings state c.args.object c.in-Some.index (map view c.args.args.now) ≡ Ok c.in_ok-values.values = rw kinds at c.in_ok-values.ensures in
+    let given : asked_values settings state c.args.object c.in-Some.index (map view c.args.args.now) ≡ Ok c.in_ok-values.values =
+    rw kinds at c.in_ok-values.ensures in
     quietly _ _ _ _ _ _ _ c.requires.fresh (made_fault _ _ _ _ _ _ c.in_err-enqueue.field-0.0 _ c.from_residual-in_err-enqueue.ensures.1
-    (refusal_later c.args.actor.now.caller c.args.object c.args.method.now (map view c.args.args.now) c.args.mode c.args.priority c.args.tables.now c.enqueue.new.tables named.signature c.in_ok-class.ensures.refusal named.spelled c.in-Some.index c.in_ok-values.values named.asked given
+    (refusal_later c.args.actor.now.caller c.args.object c.args.method.now
+    (map view c.args.args.now) c.args.mode c.args.priority c.args.tables.now c.enqueue.new.tables named.signature c.in_ok-class.ensures.refusal
+    named.spelled c.in-Some.index c.in_ok-values.values named.asked given
     (sym c.if-is_queued.ensures))
     c.in_err-enqueue.ensures.refusal (on_refused _ c.in_err-enqueue.ensures.err) (changes_same _ _ _ c.in_err-enqueue.ensures.err))
 
@@ -61,40 +82,56 @@ pub returns-then-is_queued : goal.returns-then-is_queued
 returns-then-is_queued g c =
     let settings = settings_of c.args.actor.now.caller.setup.now in
     let state = state_at c.args.tables.now c.args.actor.now.caller.place in
-    let named = named_in settings state c.args.object c.in_ok-class.class c.args.method.now (Some c.in-Some.index) c.in_ok-class.ensures.class (c.in_ok-index.ensures ∙ ap Ok c.in-Some.is) in
-    let has = method_is settings state c.args.object c.in_ok-class.class c.in-Some.index c.in-Some-method_row.row.now c.in_ok-class.ensures.class c.in-Some-method_row.ensures.value in
+    let named = named_in settings state c.args.object c.in_ok-class.class c.args.method.now (Some c.in-Some.index) c.in_ok-class.ensures.class
+    (c.in_ok-index.ensures ∙ ap Ok c.in-Some.is) in
+    let has = method_is settings state c.args.object c.in_ok-class.class c.in-Some.index c.in-Some-method_row.row.now c.in_ok-class.ensures.class
+    c.in-Some-method_row.ensures.value in
     let kinds = c.as_slice-kinds.ensures ∙ kinds_are settings state c.args.object c.in-Some.index c.in-Some-method_row.row.now has in
-    let given : asked_values settings state c.args.object c.in-Some.index (map view c.args.args.now) ≡ Ok c.in_ok-values.values = rw kinds at c.in_ok-values.ensures in
+    let given : asked_values settings state c.args.object c.in-Some.index (map view c.args.args.now) ≡ Ok c.in_ok-values.values =
+    rw kinds at c.in_ok-values.ensures in
     silently _ _ _ _ _ _ c.requires.fresh
     (replied _ _ _ _ _ _ c.requires.placed
-    (refusal_later c.args.actor.now.caller c.args.object c.args.method.now (map view c.args.args.now) c.args.mode c.args.priority c.args.tables.now c.enqueue.new.tables named.signature c.in_ok-class.ensures.refusal named.spelled c.in-Some.index c.in_ok-values.values named.asked given
+    (refusal_later c.args.actor.now.caller c.args.object c.args.method.now
+    (map view c.args.args.now) c.args.mode c.args.priority c.args.tables.now c.enqueue.new.tables named.signature c.in_ok-class.ensures.refusal
+    named.spelled c.in-Some.index c.in_ok-values.values named.asked given
     (sym c.if-is_queued.ensures) ∙ c.in_ok-enqueue.ensures.refusal)
-    (posts_invoked c.args.actor.now.caller c.args.object c.args.method.now (map view c.args.args.now) c.args.mode c.args.priority state c.in-Some.index c.in_ok-values.values (sym c.if-is_queued.ensures) named.asked given)
+    (posts_invoked c.args.actor.now.caller c.args.object c.args.method.now
+    (map view c.args.args.now) c.args.mode c.args.priority state c.in-Some.index c.in_ok-values.values (sym c.if-is_queued.ensures) named.asked given)
     (rw c.as_slice-values.ensures at c.in_ok-enqueue.ensures.ok))
 
 pub unreachable-requires : goal.unreachable-requires
 unreachable-requires g c =
     let settings = settings_of c.args.actor.now.caller.setup.now in
     let state = state_at c.args.tables.now c.args.actor.now.caller.place in
-    let named = named_in settings state c.args.object c.in_ok-class.class c.args.method.now (Some c.in-Some.index) c.in_ok-class.ensures.class (c.in_ok-index.ensures ∙ ap Ok c.in-Some.is) in
-    method_there settings state c.args.object c.in_ok-class.class named.signature c.in-Some.index c.in_ok-class.ensures.class named.found (ap option_copied (sym c.in_default-method_row.is) ∙ c.method_row.ensures.value)
+    let named = named_in settings state c.args.object c.in_ok-class.class c.args.method.now (Some c.in-Some.index) c.in_ok-class.ensures.class
+    (c.in_ok-index.ensures ∙ ap Ok c.in-Some.is) in
+    method_there settings state c.args.object c.in_ok-class.class named.signature c.in-Some.index c.in_ok-class.ensures.class named.found
+    (ap option_copied (sym c.in_default-method_row.is) ∙ c.method_row.ensures.value)
 
 pub run-requires-clause-has : goal.run-requires-clause-has
 run-requires-clause-has g c =
     let settings = settings_of c.args.actor.now.caller.setup.now in
     let state = state_at c.args.tables.now c.args.actor.now.caller.place in
-    method_is settings state c.args.object c.in_ok-class.class c.in-Some.index c.in-Some-method_row.row.now c.in_ok-class.ensures.class c.in-Some-method_row.ensures.value
+    method_is settings state c.args.object c.in_ok-class.class c.in-Some.index c.in-Some-method_row.row.now c.in_ok-class.ensures.class
+    c.in-Some-method_row.ensures.value
 
 pub returns : goal.returns
 returns g c =
     let settings = settings_of c.args.actor.now.caller.setup.now in
     let state = state_at c.args.tables.now c.args.actor.now.caller.place in
-    let named = named_in settings state c.args.object c.in_ok-class.class c.args.method.now (Some c.in-Some.index) c.in_ok-class.ensures.class (c.in_ok-index.ensures ∙ ap Ok c.in-Some.is) in
-    let has = method_is settings state c.args.object c.in_ok-class.class c.in-Some.index c.in-Some-method_row.row.now c.in_ok-class.ensures.class c.in-Some-method_row.ensures.value in
+    let named = named_in settings state c.args.object c.in_ok-class.class c.args.method.now (Some c.in-Some.index) c.in_ok-class.ensures.class
+    (c.in_ok-index.ensures ∙ ap Ok c.in-Some.is) in
+    let has = method_is settings state c.args.object c.in_ok-class.class c.in-Some.index c.in-Some-method_row.row.now c.in_ok-class.ensures.class
+    c.in-Some-method_row.ensures.value in
     let kinds = c.as_slice-kinds.ensures ∙ kinds_are settings state c.args.object c.in-Some.index c.in-Some-method_row.row.now has in
-    let given : asked_values settings state c.args.object c.in-Some.index (map view c.args.args.now) ≡ Ok c.in_ok-values.values = rw kinds at c.in_ok-values.ensures in
-    performs_invoked c.args.actor.now.caller c.args.object c.args.method.now (map view c.args.args.now) c.args.mode c.args.priority c.args.tables.now c.run.new.tables c.args.output.now c.run.new.output _ c.in-Some.index c.in_ok-values.values c.in-Some-method_row.row.now c.requires.fresh has (sym c.if-is_queued.ensures)
-    (refusal_now c.args.actor.now.caller c.args.object c.args.method.now (map view c.args.args.now) c.args.mode c.args.priority c.args.tables.now c.run.new.tables named.signature c.in_ok-class.ensures.refusal named.spelled c.in-Some.index c.in_ok-values.values named.asked given
+    let given : asked_values settings state c.args.object c.in-Some.index (map view c.args.args.now) ≡ Ok c.in_ok-values.values =
+    rw kinds at c.in_ok-values.ensures in
+    performs_invoked c.args.actor.now.caller c.args.object c.args.method.now
+    (map view c.args.args.now) c.args.mode c.args.priority c.args.tables.now c.run.new.tables c.args.output.now c.run.new.output _ c.in-Some.index
+    c.in_ok-values.values c.in-Some-method_row.row.now c.requires.fresh has (sym c.if-is_queued.ensures)
+    (refusal_now c.args.actor.now.caller c.args.object c.args.method.now
+    (map view c.args.args.now) c.args.mode c.args.priority c.args.tables.now c.run.new.tables named.signature c.in_ok-class.ensures.refusal named.spelled
+    c.in-Some.index c.in_ok-values.values named.asked given
     (sym c.if-is_queued.ensures))
     named.asked given (rw c.as_slice-values.ensures at c.in_ok-run.ensures)
 
@@ -103,14 +140,19 @@ returns-in_err-run g c =
     let caller = c.args.actor.now.caller in
     let settings = settings_of caller.setup.now in
     let state = state_at c.args.tables.now caller.place in
-    let named = named_in settings state c.args.object c.in_ok-class.class c.args.method.now (Some c.in-Some.index) c.in_ok-class.ensures.class (c.in_ok-index.ensures ∙ ap Ok c.in-Some.is) in
-    let has = method_is settings state c.args.object c.in_ok-class.class c.in-Some.index c.in-Some-method_row.row.now c.in_ok-class.ensures.class c.in-Some-method_row.ensures.value in
+    let named = named_in settings state c.args.object c.in_ok-class.class c.args.method.now (Some c.in-Some.index) c.in_ok-class.ensures.class
+    (c.in_ok-index.ensures ∙ ap Ok c.in-Some.is) in
+    let has = method_is settings state c.args.object c.in_ok-class.class c.in-Some.index c.in-Some-method_row.row.now c.in_ok-class.ensures.class
+    c.in-Some-method_row.ensures.value in
     let kinds = c.as_slice-kinds.ensures ∙ kinds_are settings state c.args.object c.in-Some.index c.in-Some-method_row.row.now has in
-    let given : asked_values settings state c.args.object c.in-Some.index (map view c.args.args.now) ≡ Ok c.in_ok-values.values = rw kinds at c.in_ok-values.ensures in
+    let given : asked_values settings state c.args.object c.in-Some.index (map view c.args.args.now) ≡ Ok c.in_ok-values.values =
+    rw kinds at c.in_ok-values.ensures in
     let runs = rw c.as_slice-values.ensures at c.in_err-run.ensures in
     starved_last caller _ c.args.tables.now c.run.new.tables c.run.new.output runs.posts _ _ _ _ c.from_residual-in_err-run.ensures.1
-    (refusal_now caller c.args.object c.args.method.now (map view c.args.args.now) c.args.mode c.args.priority c.args.tables.now c.run.new.tables named.signature c.in_ok-class.ensures.refusal named.spelled c.in-Some.index c.in_ok-values.values named.asked given
+    (refusal_now caller c.args.object c.args.method.now (map view c.args.args.now) c.args.mode c.args.priority c.args.tables.now c.run.new.tables
+    named.signature c.in_ok-class.ensures.refusal named.spelled c.in-Some.index c.in_ok-values.values named.asked given
     (sym c.if-is_queued.ensures))
-    (invoke_runs caller c.args.object c.args.method.now (map view c.args.args.now) c.args.mode c.args.priority c.args.tables.now c.args.output.now c.in-Some.index c.in_ok-values.values c.in-Some-method_row.row.now c.requires.fresh has (sym c.if-is_queued.ensures) named.asked given)
+    (invoke_runs caller c.args.object c.args.method.now (map view c.args.args.now) c.args.mode c.args.priority c.args.tables.now c.args.output.now
+    c.in-Some.index c.in_ok-values.values c.in-Some-method_row.row.now c.requires.fresh has (sym c.if-is_queued.ensures) named.asked given)
     (runs.front [])
     (at_first_reaches caller c.args.tables.now c.run.new.tables c.args.output.now c.run.new.output runs.posts c.requires.fresh runs.reaches)

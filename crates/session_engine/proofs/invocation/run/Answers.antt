@@ -15,8 +15,10 @@ returns-then-output-eq0 g c =
     let old = c.args.tables.now in
     let before = c.args.output.now in
     let items = method_items c.args.object c.args.index 0 c.args.values.now 0 0 c.args.method.now in
-    next_none caller _ old before (λ earlier. now_front settings items (doing_at caller.place old before earlier) c.args.method.now.is_signal) old c.use_up.new.self c.use_up.result (keeps_same old old caller.place refl) c.use_up.ensures.failing
-    (OnOk-map c.use_up.result (λ e earlier. now_spent settings items (doing_at caller.place old before earlier) c.args.method.now.is_signal c.if-not-method.true (omega arith) ∙ spent_is caller.place old before c.use_up.new.self earlier e) c.use_up.ensures.told)
+    next_none caller _ old before (λ earlier. now_front settings items (doing_at caller.place old before earlier) c.args.method.now.is_signal) old
+    c.use_up.new.self c.use_up.result (keeps_same old old caller.place refl) c.use_up.ensures.failing
+    (OnOk-map c.use_up.result (λ e earlier. now_spent settings items (doing_at caller.place old before earlier) c.args.method.now.is_signal c.if-not-method.true
+    (omega arith) ∙ spent_is caller.place old before c.use_up.new.self earlier e) c.use_up.ensures.told)
 
 pub returns : goal.returns
 returns g c =
@@ -27,8 +29,10 @@ returns g c =
     let items = method_items c.args.object c.args.index 0 c.args.values.now 0 0 c.args.method.now in
     elim c.if-not-method.branch [
       | then-not-method+else-output-eq0 w ↦
-          does_after caller _ old before _ old c.run_method.new.tables _ c.run_method.new.output c.run_method.result c.requires.placed (keeps_same old old caller.place refl) refl
-          (λ earlier done. now_run settings items (doing_at caller.place old before earlier) c.args.method.now.is_signal w.if-not-method.true (omega (arith, w.if-output-eq0.false)) done)
+          does_after caller _ old before _ old c.run_method.new.tables _ c.run_method.new.output c.run_method.result c.requires.placed
+          (keeps_same old old caller.place refl) refl
+          (λ earlier done. now_run settings items (doing_at caller.place old before earlier) c.args.method.now.is_signal w.if-not-method.true
+          (omega (arith, w.if-output-eq0.false)) done)
           (rw w.output-is at c.run_method.ensures)
       | else-not-method w ↦
           does_by caller _ old before _ c.run_method.new.tables c.run_method.new.output c.run_method.result

@@ -5,4 +5,5 @@ use Rattle.session_engine.proofs.CommandsLemmas.{operation_performed}
 use Rattle.session_engine.proofs.operations.block.Goals as goal
 
 pub returns : goal.returns
-returns c = operation_performed _ _ (Ok (Block c.args.object c.args.on)) (Block c.args.object c.args.on) _ _ _ c.requires (refusal_do _ _ _ _) (performs_do _ _ _ _) refl c.do_operation.ensures.refusal c.do_operation.ensures.answer c.do_operation.ensures.ok c.do_operation.ensures.err
+returns c = operation_performed _ _ (Ok (Block c.args.object c.args.on)) (Block c.args.object c.args.on) _ _ _ c.requires (refusal_do _ _ _ _)
+    (performs_do _ _ _ _) refl c.do_operation.ensures.refusal c.do_operation.ensures.answer c.do_operation.ensures.ok c.do_operation.ensures.err

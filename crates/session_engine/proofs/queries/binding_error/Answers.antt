@@ -13,13 +13,15 @@ pub returns-in_err-at : goal.returns-in_err-at
 returns-in_err-at c =
     let state = state_at c.args.tables.now c.args.caller.now.place in
     refused_reading _ _ _ c.in_err-at.field-0.0 _ c.from_residual.ensures.1
-    (ap (λ (found : Found Property). found >>= λ at. Ok (a.BindingError (shown state at.object at.number).1)) (sym (rw c.as_str.ensures at c.in_err-at.ensures)))
+    (ap (λ (found : Found Property). found >>= λ at. Ok (a.BindingError (shown state at.object at.number).1))
+    (sym (rw c.as_str.ensures at c.in_err-at.ensures)))
 
 pub returns : goal.returns
 returns c =
     let state = state_at c.args.tables.now c.args.caller.now.place in
     record {
       returns =
-          ap (λ (found : Found Property). found >>= λ at. Ok (a.BindingError (shown state at.object at.number).1)) (sym (rw c.as_str.ensures at c.in_ok-at.ensures))
+          ap (λ (found : Found Property). found >>= λ at. Ok (a.BindingError (shown state at.object at.number).1))
+          (sym (rw c.as_str.ensures at c.in_ok-at.ensures))
           ∙ ap (λ (shown : Value × Option BindingError). Ok (a.BindingError shown.1)) (sym c.in_ok-error.ensures.shown);
     }

@@ -4,7 +4,11 @@ use Rattle.session_engine.proofs.CommandsLemmas.{behind_first, behind_second, re
 use Rattle.session_engine.proofs.queries.children.Goals as goal
 
 pub returns-in_err-check_named : goal.returns-in_err-check_named
-returns-in_err-check_named c = refused_reading _ _ _ c.in_err-check_named.field-0.0 _ c.from_residual.ensures.1 (behind_first _ _ _ c.in_err-check_named.ensures)
+returns-in_err-check_named c = refused_reading _ _ _ c.in_err-check_named.field-0.0 _ c.from_residual.ensures.1
+    (behind_first _ _ _ c.in_err-check_named.ensures)
 
 pub returns : goal.returns
-returns c = record { returns = behind_second _ _ c.in_ok-check_named.ensures ∙ ap (λ numbers. Ok (a.Numbers numbers)) (sym (c.from_vec.ensures ∙ c.in_ok-found.ensures)) }
+returns c = record {
+  returns = behind_second _ _ c.in_ok-check_named.ensures
+      ∙ ap (λ numbers. Ok (a.Numbers numbers)) (sym (c.from_vec.ensures ∙ c.in_ok-found.ensures));
+}

@@ -7,7 +7,8 @@ use Rattle.session_engine.proofs.CommandsLemmas.{behind_first, behind_second, re
 use Rattle.session_engine.proofs.queries.find.Goals as goal
 
 pub returns-in_err-check_object : goal.returns-in_err-check_object
-returns-in_err-check_object c = refused_reading _ _ _ c.in_err-check_object.field-0.0 _ c.from_residual.ensures.1 (behind_first _ _ _ c.in_err-check_object.ensures)
+returns-in_err-check_object c = refused_reading _ _ _ c.in_err-check_object.field-0.0 _ c.from_residual.ensures.1
+    (behind_first _ _ _ c.in_err-check_object.ensures)
 
 pub returns-in_err-base : goal.returns-in_err-base
 returns-in_err-base c = refused_reading _ _ _ c.in_err-base.field-0.0 _ c.from_residual-in_err-base.ensures.1
@@ -20,6 +21,8 @@ returns c =
       returns =
           behind_second _ _ c.in_ok-check_object.ensures
           ∙ behind_second _ _ c.in_ok-base.ensures.refusal
-          ∙ ap (λ base. Ok (a.Found (found_below state.forest.rows c.args.object (λ number. has_title state c.args.title.now number && is_of_class c.args.caller.now.setup.now.classes state base number)))) (sym c.in_ok-base.ensures.index)
+          ∙ ap (λ base. Ok (a.Found (found_below state.forest.rows c.args.object
+          (λ number. has_title state c.args.title.now number && is_of_class c.args.caller.now.setup.now.classes state base number))))
+          (sym c.in_ok-base.ensures.index)
           ∙ ap (λ found. Ok (a.Found found)) (sym c.in_ok-found.ensures);
     }

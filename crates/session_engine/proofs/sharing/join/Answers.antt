@@ -16,7 +16,8 @@ use Rattle.session_engine.proofs.sharing.join.Goals as goal
 -- what is asked for where these are the kinds that its types name
 with_kinds : Settings → State → List ℕ → List ℕ → ℕ → List ℕ → Found (List Kind) → Found Join
 with_kinds settings state from name target method found =
-    found >>= λ kinds. method_named (methods_of settings state target) method >>= λ index. Ok (record { from = from; name = name; kinds = kinds; object = target; method = index })
+    found >>= λ kinds. method_named (methods_of settings state target) method >>=
+    λ index. Ok (record { from = from; name = name; kinds = kinds; object = target; method = index })
 
 -- and where this is its method
 with_method : List ℕ → List ℕ → List Kind → ℕ → Found ℕ → Found Join
@@ -24,7 +25,8 @@ with_method from name kinds target found = found >>= λ index. Ok (record { from
 
 pub returns-in_err-check_object : goal.returns-in_err-check_object
 returns-in_err-check_object c = stopped _ _ _ _ _ c.in_err-check_object.field-0.0 _ c.from_residual.ensures.1
-    (refusal_join _ _ _ _ _ _ _ _ ∙ ap (joining_refusal (settings_of c.args.caller.now.setup.now) c.args.caller.now.name.now (state_at c.args.tables.now c.args.caller.now.place)) (behind_first _ _ _ c.in_err-check_object.ensures)) refl
+    (refusal_join _ _ _ _ _ _ _ _ ∙ ap (joining_refusal (settings_of c.args.caller.now.setup.now) c.args.caller.now.name.now
+    (state_at c.args.tables.now c.args.caller.now.place)) (behind_first _ _ _ c.in_err-check_object.ensures)) refl
 
 pub returns-in_err-kinds : goal.returns-in_err-kinds
 unfolding with_kinds
@@ -32,7 +34,8 @@ returns-in_err-kinds c =
     let settings = settings_of c.args.caller.now.setup.now in
     let state = state_at c.args.tables.now c.args.caller.now.place in
     let refused = joining_refusal settings c.args.caller.now.name.now state in
-    found_fault _ _ _ _ (λ found. refused (with_kinds settings state c.args.from.now c.args.name.now c.args.object c.args.method.now found)) _ c.in_err-kinds.field-0.0 _ c.from_residual-in_err-kinds.ensures.1
+    found_fault _ _ _ _ (λ found. refused (with_kinds settings state c.args.from.now c.args.name.now c.args.object c.args.method.now found)) _
+    c.in_err-kinds.field-0.0 _ c.from_residual-in_err-kinds.ensures.1
     (refusal_join _ _ _ _ _ _ _ _ ∙ ap refused (behind_second _ _ c.in_ok-check_object.ensures)) (λ code. refl) c.in_err-kinds.ensures
 
 pub returns-in_err-method : goal.returns-in_err-method
@@ -41,8 +44,11 @@ returns-in_err-method c =
     let settings = settings_of c.args.caller.now.setup.now in
     let state = state_at c.args.tables.now c.args.caller.now.place in
     let refused = joining_refusal settings c.args.caller.now.name.now state in
-    found_fault _ _ _ _ (λ found. refused (with_method c.args.from.now c.args.name.now c.in_ok-kinds.kinds c.args.object found)) _ c.in_err-method.field-0.0 _ c.from_residual-in_err-method.ensures.1
-    (refusal_join _ _ _ _ _ _ _ _ ∙ ap refused (behind_second _ _ c.in_ok-check_object.ensures ∙ ap (with_kinds settings state c.args.from.now c.args.name.now c.args.object c.args.method.now) c.in_ok-kinds.ensures)) (λ code. refl) c.in_err-method.ensures
+    found_fault _ _ _ _ (λ found. refused (with_method c.args.from.now c.args.name.now c.in_ok-kinds.kinds c.args.object found)) _ c.in_err-method.field-0.0 _
+    c.from_residual-in_err-method.ensures.1
+    (refusal_join _ _ _ _ _ _ _ _ ∙ ap refused
+    (behind_second _ _ c.in_ok-check_object.ensures ∙ ap (with_kinds settings state c.args.from.now c.args.name.now c.args.object c.args.method.now)
+    c.in_ok-kinds.ensures)) (λ code. refl) c.in_err-method.ensures
 
 pub returns-in_err-copy : goal.returns-in_err-copy
 returns-in_err-copy c = starved _ _ _ _ _ _ c.from_residual-in_err-copy.ensures.1 (changes_same _ _ _ refl)
@@ -60,11 +66,16 @@ returns-in_err-join c =
     let name = c.args.name.now in
     let kinds = c.in_ok-kinds.kinds in
     let target = c.args.object in
-    let found = behind_second _ _ c.in_ok-check_object.ensures ∙ ap (with_kinds settings state from name target c.args.method.now) c.in_ok-kinds.ensures ∙ ap (with_method from name kinds target) c.in_ok-method.ensures
+    let found = behind_second _ _ c.in_ok-check_object.ensures ∙ ap (with_kinds settings state from name target c.args.method.now) c.in_ok-kinds.ensures
+    ∙ ap (with_method from name kinds target) c.in_ok-method.ensures
     ∙ ap (λ from. Ok (record { from = from; name = name; kinds = kinds; object = target; method = c.in_ok-method.method })) (sym c.in_ok-copy.ensures)
-    ∙ ap (λ name. Ok (record { from = c.in_ok-copy.field-0; name = name; kinds = kinds; object = target; method = c.in_ok-method.method })) (sym c.in_ok-copy-2.ensures) in
+    ∙ ap (λ name. Ok (record { from = c.in_ok-copy.field-0; name = name; kinds = kinds; object = target; method = c.in_ok-method.method }))
+    (sym c.in_ok-copy-2.ensures) in
     made_fault _ _ _ _ _ _ c.in_err-join.field-0.0 _ c.from_residual-in_err-join.ensures.1
-    (refusal_join _ _ _ _ _ _ _ _ ∙ ap (joining_refusal settings own state) found ∙ ap (join_refusal own state.desk (record { from = c.in_ok-copy.field-0; name = c.in_ok-copy-2.field-0; kinds = kinds; object = target; method = c.in_ok-method.method })) (sym c.kinds_at-wanted.ensures))
+    (refusal_join _ _ _ _ _ _ _ _ ∙ ap (joining_refusal settings own state) found
+    ∙ ap (join_refusal own state.desk (record
+    { from = c.in_ok-copy.field-0; name = c.in_ok-copy-2.field-0; kinds = kinds; object = target; method = c.in_ok-method.method }))
+    (sym c.kinds_at-wanted.ensures))
     c.in_err-join.ensures.refusal (on_refused _ c.in_err-join.ensures.err) (changes_same _ _ _ c.in_err-join.ensures.err)
 
 pub returns : goal.returns
@@ -77,8 +88,13 @@ returns c =
     let name = c.args.name.now in
     let kinds = c.in_ok-kinds.kinds in
     let target = c.args.object in
-    let found = behind_second _ _ c.in_ok-check_object.ensures ∙ ap (with_kinds settings state from name target c.args.method.now) c.in_ok-kinds.ensures ∙ ap (with_method from name kinds target) c.in_ok-method.ensures
+    let found = behind_second _ _ c.in_ok-check_object.ensures ∙ ap (with_kinds settings state from name target c.args.method.now) c.in_ok-kinds.ensures
+    ∙ ap (with_method from name kinds target) c.in_ok-method.ensures
     ∙ ap (λ from. Ok (record { from = from; name = name; kinds = kinds; object = target; method = c.in_ok-method.method })) (sym c.in_ok-copy.ensures)
-    ∙ ap (λ name. Ok (record { from = c.in_ok-copy.field-0; name = name; kinds = kinds; object = target; method = c.in_ok-method.method })) (sym c.in_ok-copy-2.ensures) in
-    replied _ _ _ _ _ _ c.requires (refusal_join _ _ _ _ _ _ _ _ ∙ ap (joining_refusal settings own state) found ∙ ap (join_refusal own state.desk (record { from = c.in_ok-copy.field-0; name = c.in_ok-copy-2.field-0; kinds = kinds; object = target; method = c.in_ok-method.method })) (sym c.kinds_at-wanted.ensures) ∙ c.in_ok-join.ensures.refusal)
+    ∙ ap (λ name. Ok (record { from = c.in_ok-copy.field-0; name = name; kinds = kinds; object = target; method = c.in_ok-method.method }))
+    (sym c.in_ok-copy-2.ensures) in
+    replied _ _ _ _ _ _ c.requires (refusal_join _ _ _ _ _ _ _ _ ∙ ap (joining_refusal settings own state) found
+    ∙ ap (join_refusal own state.desk (record
+    { from = c.in_ok-copy.field-0; name = c.in_ok-copy-2.field-0; kinds = kinds; object = target; method = c.in_ok-method.method }))
+    (sym c.kinds_at-wanted.ensures) ∙ c.in_ok-join.ensures.refusal)
     (performs_join _ _ _ _ _ _ _ _ ∙ ap (joins_found state) found) c.in_ok-join.ensures.ok

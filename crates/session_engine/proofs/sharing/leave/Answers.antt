@@ -11,7 +11,8 @@ use Rattle.session_engine.proofs.CommandsLemmas.{behind_first, behind_second, fo
 use Rattle.session_engine.proofs.sharing.leave.Goals as goal
 
 pub returns-in_err-check_object : goal.returns-in_err-check_object
-returns-in_err-check_object c = stopped _ _ _ _ _ c.in_err-check_object.field-0.0 _ c.from_residual.ensures.1 (refusal_leave _ _ _ _ _ _ _ ∙ ap result_err (behind_first _ _ _ c.in_err-check_object.ensures)) refl
+returns-in_err-check_object c = stopped _ _ _ _ _ c.in_err-check_object.field-0.0 _ c.from_residual.ensures.1
+    (refusal_leave _ _ _ _ _ _ _ ∙ ap result_err (behind_first _ _ _ c.in_err-check_object.ensures)) refl
 
 pub returns-in_err-method : goal.returns-in_err-method
 returns-in_err-method c = found_fault _ _ _ _ result_err _ c.in_err-method.field-0.0 _ c.from_residual-in_err-method.ensures.1

@@ -12,5 +12,6 @@ pub returns : goal.returns
 returns c =
     let state = state_at c.args.tables.now c.args.caller.now.place in
     replied _ _ _ _ _ _ c.requires (refusal_unpublish _ _ _ _)
-    (performs_unpublish _ _ _ _ ∙ ap (λ stood. replies (with_desk state (unpublished state.desk c.args.name.now)) (a.Truth stood)) (sym c.unpublish.ensures.was))
+    (performs_unpublish _ _ _ _ ∙ ap (λ stood. replies (with_desk state (unpublished state.desk c.args.name.now)) (a.Truth stood))
+    (sym c.unpublish.ensures.was))
     c.unpublish.ensures.is

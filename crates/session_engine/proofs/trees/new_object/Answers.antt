@@ -8,7 +8,8 @@ use Rattle.session_engine.proofs.CommandsLemmas.{or_first, or_second, made_fault
 use Rattle.session_engine.proofs.trees.new_object.Goals as goal
 
 pub returns-in_err-check_parent : goal.returns-in_err-check_parent
-returns-in_err-check_parent c = stopped _ _ _ _ _ c.in_err-check_parent.field-0.0 _ c.from_residual.ensures.1 (refusal_new _ _ _ _ _ ∙ or_first _ _ _ c.in_err-check_parent.ensures) refl
+returns-in_err-check_parent c = stopped _ _ _ _ _ c.in_err-check_parent.field-0.0 _ c.from_residual.ensures.1
+    (refusal_new _ _ _ _ _ ∙ or_first _ _ _ c.in_err-check_parent.ensures) refl
 
 pub returns-in_err-class : goal.returns-in_err-class
 returns-in_err-class c = stopped _ _ _ _ _ c.in_err-class.field-0.0 _ c.from_residual-in_err-class.ensures.1

@@ -11,6 +11,7 @@ abbrev pub invariant-joins : goal.invariant-joins
 invariant-joins l = record {
   there : IsPlace l.queues l.at;
   only : ChangesAt empty_queue l.at l.fn.queues l.queues;
-  reached : reached_by l.posting.classes.now (forest_at l.forests l.at).rows l.posting.from.now (post_in l.posting) (queue_at l.queues l.at) (drop l.join-index l.joins)
+  reached : reached_by l.posting.classes.now (forest_at l.forests l.at).rows l.posting.from.now (post_in l.posting) (queue_at l.queues l.at)
+      (drop l.join-index l.joins)
       ≡ reached_by l.posting.classes.now (forest_at l.forests l.at).rows l.posting.from.now (post_in l.posting) (queue_at l.fn.queues l.at) l.joins;
 }

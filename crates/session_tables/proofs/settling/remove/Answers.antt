@@ -25,7 +25,9 @@ module _ (c : goal.After-tidy) where
   abbrev change : List Binding → List Binding
   change = filter (λ (binding : Binding). not (binding.at.object == c.args.object))
 
-  graphs_so : c.tidy.new.bindings.graphs ≡ with_graph c.args.bindings.now.graphs c.args.place (settled_in (without c.args.object (store_at c.args.stores.now.shelves c.args.place)) (without_object c.args.object (graph_at c.args.bindings.now.graphs c.args.place)))
+  graphs_so : c.tidy.new.bindings.graphs ≡ with_graph c.args.bindings.now.graphs c.args.place
+      (settled_in (without c.args.object (store_at c.args.stores.now.shelves c.args.place))
+      (without_object c.args.object (graph_at c.args.bindings.now.graphs c.args.place)))
   graphs_so =
       let store = store_at c.args.stores.now.shelves c.args.place in
       let other = without c.args.object store in
@@ -33,15 +35,19 @@ module _ (c : goal.After-tidy) where
       let noted = c.note.new.bindings.graphs in
       let graph = without_object c.args.object (graph_at noted c.args.place) in
       settled_at_once store other old noted c.args.place change c.requires.ready.graph c.in_ok-note.ensures.ok c.tidy.new.bindings.graphs
-      (settled_then other graph noted c.remove.new.self.graphs c.tidy.new.bindings.graphs c.args.place (place_noted store other old noted c.args.place change c.requires.ready.graph c.in_ok-note.ensures.ok) (rw c.note.ensures.stores at c.in_ok-told.ensures.ok) (c.tidy.ensures.tidied other graph))
+      (settled_then other graph noted c.remove.new.self.graphs c.tidy.new.bindings.graphs c.args.place
+      (place_noted store other old noted c.args.place change c.requires.ready.graph c.in_ok-note.ensures.ok)
+      (rw c.note.ensures.stores at c.in_ok-told.ensures.ok) (c.tidy.ensures.tidied other graph))
 
 pub returns-clause-told : goal.returns-clause-told
 returns-clause-told c =
     let store = store_at c.args.stores.now.shelves c.args.place in
     let other = without c.args.object store in
     let old = c.args.bindings.now.graphs in
-    let at : graph_at c.note.new.bindings.graphs c.args.place ≡ settled_graph store (graph_at old c.args.place) = at_noted store other old c.note.new.bindings.graphs c.args.place (change c) c.requires.ready.graph c.in_ok-note.ensures.ok in
-    let noted : settled_changes other (without_object c.args.object (graph_at c.note.new.bindings.graphs c.args.place)) None ≡ settled_changes other (without_object c.args.object (settled_graph store (graph_at old c.args.place))) None =
+    let at : graph_at c.note.new.bindings.graphs c.args.place ≡ settled_graph store (graph_at old c.args.place) =
+    at_noted store other old c.note.new.bindings.graphs c.args.place (change c) c.requires.ready.graph c.in_ok-note.ensures.ok in
+    let noted : settled_changes other (without_object c.args.object (graph_at c.note.new.bindings.graphs c.args.place)) None
+    ≡ settled_changes other (without_object c.args.object (settled_graph store (graph_at old c.args.place))) None =
     ap (λ graph. settled_changes other (without_object c.args.object graph) None) at in
     (rw c.note.ensures.stores at c.in_ok-told.ensures.told) ∙ (noted ∙ told_after store other (graph_at old c.args.place) (change c) None)
 

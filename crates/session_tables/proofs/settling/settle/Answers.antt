@@ -7,4 +7,5 @@ pub returns-clause-ok : goal.returns-clause-ok
 returns-clause-ok c =
     let store = store_at c.args.stores.now.shelves c.args.place in
     let graph = graph_at c.args.bindings.now.graphs c.args.place in
-    settled_then store graph c.args.bindings.now.graphs c.settle.new.self.graphs c.tidy.new.bindings.graphs c.args.place c.requires.ready.graph c.in_ok-told.ensures.ok (c.tidy.ensures.tidied store graph)
+    settled_then store graph c.args.bindings.now.graphs c.settle.new.self.graphs c.tidy.new.bindings.graphs c.args.place c.requires.ready.graph
+    c.in_ok-told.ensures.ok (c.tidy.ensures.tidied store graph)

@@ -16,9 +16,11 @@ returns-clause-ok c =
     let old = c.args.bindings.now.graphs in
     let store = store_at stores place in
     let after : store_at c.take.new.stores.shelves place ≡ taken store (graph_at old place) c.args.at =
-    took_at stores c.note.new.stores.shelves c.take.new.stores.shelves old c.note.new.bindings.graphs place c.args.at c.requires.ready.store c.requires.ready.graph c.note.ensures.stores c.in_ok-note.ensures.ok c.in_ok-take.ensures.stored.shelves in
+    took_at stores c.note.new.stores.shelves c.take.new.stores.shelves old c.note.new.bindings.graphs place c.args.at c.requires.ready.store
+    c.requires.ready.graph c.note.ensures.stores c.in_ok-note.ensures.ok c.in_ok-take.ensures.stored.shelves in
     where_ok_too c.settle.result
-    (λ is. settled_after store (taken store (graph_at old place) c.args.at) old c.note.new.bindings.graphs c.take.new.self.graphs c.settle.new.bindings.graphs place
+    (λ is. settled_after store (taken store (graph_at old place) c.args.at) old c.note.new.bindings.graphs c.take.new.self.graphs c.settle.new.bindings.graphs
+    place
     (filter (λ (binding : Binding). not (is_property c.args.at binding.at))) c.requires.ready.graph c.in_ok-note.ensures.ok c.in_ok-take.ensures.graph
     (is ∙ ap (λ store. with_graph c.take.new.self.graphs place (settled_in store (graph_at c.take.new.self.graphs place))) after))
     c.settle.ensures.ok
@@ -28,7 +30,9 @@ returns-clause-stays c = record {
   layouts = search rules;
   stores = search rules;
   graphs =
-      changes_thrice c.args.bindings.now.graphs c.note.new.bindings.graphs c.take.new.self.graphs c.settle.new.bindings.graphs c.args.place _ _ c.requires.ready.graph c.in_ok-note.ensures.ok c.in_ok-take.ensures.graph
-      (λ there. changes_either c.settle.result c.take.new.self.graphs c.settle.new.bindings.graphs c.args.place _ there c.settle.ensures.ok c.settle.ensures.err);
+      changes_thrice c.args.bindings.now.graphs c.note.new.bindings.graphs c.take.new.self.graphs c.settle.new.bindings.graphs c.args.place _ _
+      c.requires.ready.graph c.in_ok-note.ensures.ok c.in_ok-take.ensures.graph
+      (λ there. changes_either c.settle.result c.take.new.self.graphs c.settle.new.bindings.graphs c.args.place _ there c.settle.ensures.ok
+      c.settle.ensures.err);
   step = search rules;
 }

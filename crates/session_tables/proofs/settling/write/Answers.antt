@@ -20,9 +20,13 @@ returns-clause-told c =
     let store = store_at stores place in
     let new = written store c.args.at.object c.args.at.number c.args.value in
     let after : store_at c.write.new.self.shelves place ≡ new =
-    wrote_at stores c.note.new.stores.shelves c.take.new.stores.shelves old c.note.new.bindings.graphs place c.args.at c.requires.ready.store c.requires.ready.graph c.note.ensures.stores c.in_ok-note.ensures.ok c.in_ok-take.ensures.stored.shelves c.write.new.self.shelves c.args.value c.requires.fits c.write.ensures.new in
-    let its : graph_at c.take.new.self.graphs place ≡ record (settled_graph store (graph_at old place)) { bindings = filter (λ (binding : Binding). not (is_property c.args.at binding.at)) (settled_graph store (graph_at old place)).bindings } =
-    changed_at store store old c.note.new.bindings.graphs c.take.new.self.graphs c.settle.new.bindings.graphs place (filter (λ (binding : Binding). not (is_property c.args.at binding.at))) c.requires.ready.graph c.in_ok-note.ensures.ok c.in_ok-take.ensures.graph in
+    wrote_at stores c.note.new.stores.shelves c.take.new.stores.shelves old c.note.new.bindings.graphs place c.args.at c.requires.ready.store
+    c.requires.ready.graph c.note.ensures.stores c.in_ok-note.ensures.ok c.in_ok-take.ensures.stored.shelves c.write.new.self.shelves c.args.value
+    c.requires.fits c.write.ensures.new in
+    let its : graph_at c.take.new.self.graphs place ≡ record (settled_graph store (graph_at old place))
+    { bindings = filter (λ (binding : Binding). not (is_property c.args.at binding.at)) (settled_graph store (graph_at old place)).bindings } =
+    changed_at store store old c.note.new.bindings.graphs c.take.new.self.graphs c.settle.new.bindings.graphs place
+    (filter (λ (binding : Binding). not (is_property c.args.at binding.at))) c.requires.ready.graph c.in_ok-note.ensures.ok c.in_ok-take.ensures.graph in
     if_ok_too _ _ c.settle.result
     (λ told is. is ∙ (ap (λ store. settled_changes store (graph_at c.take.new.self.graphs place) (Some c.args.at)) after
     ∙ (ap (λ graph. settled_changes new graph (Some c.args.at)) its
@@ -37,7 +41,9 @@ returns-clause-ok c =
     let store = store_at stores place in
     let new = written store c.args.at.object c.args.at.number c.args.value in
     let after : store_at c.write.new.self.shelves place ≡ new =
-    wrote_at stores c.note.new.stores.shelves c.take.new.stores.shelves old c.note.new.bindings.graphs place c.args.at c.requires.ready.store c.requires.ready.graph c.note.ensures.stores c.in_ok-note.ensures.ok c.in_ok-take.ensures.stored.shelves c.write.new.self.shelves c.args.value c.requires.fits c.write.ensures.new in
+    wrote_at stores c.note.new.stores.shelves c.take.new.stores.shelves old c.note.new.bindings.graphs place c.args.at c.requires.ready.store
+    c.requires.ready.graph c.note.ensures.stores c.in_ok-note.ensures.ok c.in_ok-take.ensures.stored.shelves c.write.new.self.shelves c.args.value
+    c.requires.fits c.write.ensures.new in
     where_ok_too c.settle.result
     (λ is. settled_after store new old c.note.new.bindings.graphs c.take.new.self.graphs c.settle.new.bindings.graphs place
     (filter (λ (binding : Binding). not (is_property c.args.at binding.at))) c.requires.ready.graph c.in_ok-note.ensures.ok c.in_ok-take.ensures.graph
@@ -48,19 +54,27 @@ pub returns-clause-stores : goal.returns-clause-stores
 returns-clause-stores c =
     where_ok c.settle.result
     (c.settle.ensures.stores
-    ∙ wrote_is c.args.stores.now.shelves c.note.new.stores.shelves c.take.new.stores.shelves c.args.bindings.now.graphs c.note.new.bindings.graphs c.args.place c.args.at c.requires.ready.store c.requires.ready.graph c.note.ensures.stores c.in_ok-note.ensures.ok c.in_ok-take.ensures.stored.shelves c.write.new.self.shelves c.args.value c.requires.fits c.write.ensures.new)
+    ∙ wrote_is c.args.stores.now.shelves c.note.new.stores.shelves c.take.new.stores.shelves c.args.bindings.now.graphs c.note.new.bindings.graphs c.args.place
+    c.args.at c.requires.ready.store c.requires.ready.graph c.note.ensures.stores c.in_ok-note.ensures.ok c.in_ok-take.ensures.stored.shelves
+    c.write.new.self.shelves c.args.value c.requires.fits c.write.ensures.new)
 
 pub returns-clause-stays : goal.returns-clause-stays
 returns-clause-stays c =
     let stores = c.args.stores.now.shelves in
-    let new : c.settle.new.stores.shelves ≡ with_store stores c.args.place (written (store_at stores c.args.place) c.args.at.object c.args.at.number c.args.value) =
+    let new : c.settle.new.stores.shelves ≡ with_store stores c.args.place
+    (written (store_at stores c.args.place) c.args.at.object c.args.at.number c.args.value) =
     c.settle.ensures.stores
-    ∙ wrote_is stores c.note.new.stores.shelves c.take.new.stores.shelves c.args.bindings.now.graphs c.note.new.bindings.graphs c.args.place c.args.at c.requires.ready.store c.requires.ready.graph c.note.ensures.stores c.in_ok-note.ensures.ok c.in_ok-take.ensures.stored.shelves c.write.new.self.shelves c.args.value c.requires.fits c.write.ensures.new in
+    ∙ wrote_is stores c.note.new.stores.shelves c.take.new.stores.shelves c.args.bindings.now.graphs c.note.new.bindings.graphs c.args.place c.args.at
+    c.requires.ready.store c.requires.ready.graph c.note.ensures.stores c.in_ok-note.ensures.ok c.in_ok-take.ensures.stored.shelves c.write.new.self.shelves
+    c.args.value c.requires.fits c.write.ensures.new in
     record {
       layouts = ap (λ (shelves : StoreTable). shelves.layouts) new;
-      stores = column.changes_with [] stores.table c.settle.new.stores.shelves.table c.args.place _ c.requires.ready.store (ap (λ (shelves : StoreTable). shelves.table) new);
+      stores = column.changes_with [] stores.table c.settle.new.stores.shelves.table c.args.place _ c.requires.ready.store
+          (ap (λ (shelves : StoreTable). shelves.table) new);
       graphs =
-          changes_thrice c.args.bindings.now.graphs c.note.new.bindings.graphs c.take.new.self.graphs c.settle.new.bindings.graphs c.args.place _ _ c.requires.ready.graph c.in_ok-note.ensures.ok c.in_ok-take.ensures.graph
-          (λ there. changes_either c.settle.result c.take.new.self.graphs c.settle.new.bindings.graphs c.args.place _ there c.settle.ensures.ok c.settle.ensures.err);
+          changes_thrice c.args.bindings.now.graphs c.note.new.bindings.graphs c.take.new.self.graphs c.settle.new.bindings.graphs c.args.place _ _
+          c.requires.ready.graph c.in_ok-note.ensures.ok c.in_ok-take.ensures.graph
+          (λ there. changes_either c.settle.result c.take.new.self.graphs c.settle.new.bindings.graphs c.args.place _ there c.settle.ensures.ok
+          c.settle.ensures.err);
       step = search rules;
     }

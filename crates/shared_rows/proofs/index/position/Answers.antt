@@ -15,5 +15,8 @@ look-requires-clause-window g c =
 
 pub look-requires-clause-within : goal.look-requires-clause-within
 look-requires-clause-within g c =
-    let some : 0 < length c.args.entries.now.items = c.in_ok-first.ensures.variant.0 refl in
-    (omega arith, least_below c.min-guess.result (c.args.number - c.value-first.result) c.len-high.result c.min-guess.ensures (omega (arith, some, c.len-high.ensures)))
+    let some : 0 < length c.args.entries.now.items = c.in_ok-first.ensures.variant.0 refl in (
+      omega arith,
+      least_below c.min-guess.result (c.args.number - c.value-first.result) c.len-high.result c.min-guess.ensures
+          (omega (arith, some, c.len-high.ensures)),
+    )

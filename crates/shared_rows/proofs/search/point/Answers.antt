@@ -17,8 +17,11 @@ halves-preserved-then-pred g c =
       callable = search of_calls;
       halved = λ p h.
           let before = c.halves.invariant.halved p h in
-          let next = answers_next g.P.FnMut _ _ _ _ _ call before.0 in
-          (next.1, passed p xs base size middle (size - size / 2) (omega arith) before.1 (at_read xs (λ y. p y ≡ true) middle c.read.result.now (omega arith) c.read.ensures (sym next.0)));
+          let next = answers_next g.P.FnMut _ _ _ _ _ call before.0 in (
+            next.1,
+            passed p xs base size middle (size - size / 2) (omega arith) before.1
+                (at_read xs (λ y. p y ≡ true) middle c.read.result.now (omega arith) c.read.ensures (sym next.0)),
+          );
     }
 
 pub halves-preserved : goal.halves-preserved
@@ -34,8 +37,11 @@ halves-preserved g c =
       callable = search of_calls;
       halved = λ p h.
           let before = c.halves.invariant.halved p h in
-          let next = answers_next g.P.FnMut _ _ _ _ _ call before.0 in
-          (next.1, failed p xs base size middle (size - size / 2) (omega arith) before.1 (at_read xs (λ y. p y ≡ false) middle c.read.result.now (omega arith) c.read.ensures (sym next.0)));
+          let next = answers_next g.P.FnMut _ _ _ _ _ call before.0 in (
+            next.1,
+            failed p xs base size middle (size - size / 2) (omega arith) before.1
+                (at_read xs (λ y. p y ≡ false) middle c.read.result.now (omega arith) c.read.ensures (sym next.0)),
+          );
     }
 
 pub returns-then-pred-2-clause-partitioned : goal.returns-then-pred-2-clause-partitioned
@@ -47,7 +53,8 @@ returns-then-pred-2-clause-partitioned g c =
     λ p h.
     let before = c.halves.invariant.halved p h in
     let next = answers_next g.P.FnMut _ _ _ _ _ call before.0 in
-    after_passing p xs base size (omega arith) (omega arith) before.1 (at_read xs (λ y. p y ≡ true) base c.read-2.result.now (omega arith) c.read-2.ensures (sym next.0))
+    after_passing p xs base size (omega arith) (omega arith) before.1
+    (at_read xs (λ y. p y ≡ true) base c.read-2.result.now (omega arith) c.read-2.ensures (sym next.0))
 
 pub returns-clause-partitioned : goal.returns-clause-partitioned
 returns-clause-partitioned g c =

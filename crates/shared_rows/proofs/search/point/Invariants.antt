@@ -10,7 +10,8 @@ invariant-halves g l = record {
   some : 0 < l.size;
   within : l.base + l.size ≤ length (listed l.places.items l.gap);
   callable : always_mut g.P.FnMut l.pred;
-  halved : (p : g.row.T.Denot → Bool) → ComputesKey g.P.FnMut p l.initial.pred → ComputesKey g.P.FnMut p l.pred × Halved p (listed l.places.items l.gap) l.base l.size;
+  halved : (p : g.row.T.Denot → Bool) → ComputesKey g.P.FnMut p l.initial.pred
+      → ComputesKey g.P.FnMut p l.pred × Halved p (listed l.places.items l.gap) l.base l.size;
 }
 
 abbrev pub decreases-halves : goal.decreases-halves

@@ -7,7 +7,8 @@ use Rattle.term_core.proofs.action.+count.Goals as goal
 pub count_all-count-requires : goal.count_all-count-requires
 count_all-count-requires t c =
     let xs = c.args.actions.now in
-    let smaller : count c.action-item.result ≤ counts (acts_of xs) = subst (λ y. count y ≤ counts (acts_of xs)) (sym c.action-item.is) (count_within xs c.loop-action.action-index _ (omega arith)) in
+    let smaller : count c.action-item.result ≤ counts (acts_of xs) =
+    subst (λ y. count y ≤ counts (acts_of xs)) (sym c.action-item.is) (count_within xs c.loop-action.action-index _ (omega arith)) in
     search rules
 
 pub count_all-loop-action-preserved : goal.count_all-loop-action-preserved

@@ -21,7 +21,8 @@ action-actions-requires-in-Some-get-2 t c =
 pub actions_of-action-requires : goal.actions_of-action-requires
 actions_of-action-requires t c =
     let xs = c.args.list.now in
-    let smaller : depth (view c.json-item.result) ≤ items_depth (items_view xs) = subst (λ y. depth (view y) ≤ items_depth (items_view xs)) (sym c.json-item.is) (item_within xs c.loop-json.json-index _ (omega arith)) in
+    let smaller : depth (view c.json-item.result) ≤ items_depth (items_view xs) =
+    subst (λ y. depth (view y) ≤ items_depth (items_view xs)) (sym c.json-item.is) (item_within xs c.loop-json.json-index _ (omega arith)) in
     search rules
 
 pub actions_of-returns-in_err-action : goal.actions_of-returns-in_err-action
@@ -29,8 +30,10 @@ actions_of-returns-in_err-action t c =
     let l = c.loop-json in
     let xs = c.args.list.now in
     let x = c.json-item.result in
-    let here : drop l.json-index xs ≡ x ∷ drop (l.json-index + 1) xs = drop_more xs l.json-index x (omega arith) ∙ ap (λ y. y ∷ drop (l.json-index + 1) xs) (sym c.json-item.is) in
-    let refused = concatenated_refused (action_in c.args.scope) (acts_in c.args.scope) (acts_in_reads c.args.scope) l.found.items x _ _ _ here l.invariant c.in_err-action.field-0.0 c.in_err-action.ensures in
+    let here : drop l.json-index xs ≡ x ∷ drop (l.json-index + 1) xs = drop_more xs l.json-index x (omega arith)
+    ∙ ap (λ y. y ∷ drop (l.json-index + 1) xs) (sym c.json-item.is) in
+    let refused = concatenated_refused (action_in c.args.scope) (acts_in c.args.scope)
+    (acts_in_reads c.args.scope) l.found.items x _ _ _ here l.invariant c.in_err-action.field-0.0 c.in_err-action.ensures in
     search rules
 
 pub actions_of-loop-json-preserved : goal.actions_of-loop-json-preserved
@@ -38,8 +41,10 @@ actions_of-loop-json-preserved t c =
     let l = c.loop-json in
     let xs = c.args.list.now in
     let x = c.json-item.result in
-    let here : drop l.json-index xs ≡ x ∷ drop (l.json-index + 1) xs = drop_more xs l.json-index x (omega arith) ∙ ap (λ y. y ∷ drop (l.json-index + 1) xs) (sym c.json-item.is) in
-    rw c.in_ok-push.ensures.items (concatenated_step (action_in c.args.scope) (acts_in c.args.scope) (acts_in_reads c.args.scope) _ _ x _ _ here c.in_ok-action.ensures ∙ l.invariant)
+    let here : drop l.json-index xs ≡ x ∷ drop (l.json-index + 1) xs = drop_more xs l.json-index x (omega arith)
+    ∙ ap (λ y. y ∷ drop (l.json-index + 1) xs) (sym c.json-item.is) in
+    rw c.in_ok-push.ensures.items (concatenated_step (action_in c.args.scope) (acts_in c.args.scope)
+    (acts_in_reads c.args.scope) _ _ x _ _ here c.in_ok-action.ensures ∙ l.invariant)
 
 pub actions_of-returns : goal.actions_of-returns
 actions_of-returns t c = grind (arith, common_steps)

@@ -11,8 +11,10 @@ loop-json-preserved c =
     let l = c.loop-json in
     let xs = c.args.list.now in
     let x = c.json-item.result in
-    let here : drop l.json-index xs ≡ x ∷ drop (l.json-index + 1) xs = drop_more xs l.json-index x (omega arith) ∙ ap (λ y. y ∷ drop (l.json-index + 1) xs) (sym c.json-item.is) in
-    rw c.in_ok-push.ensures.items (concatenated_step (term_in c.args.scope) (terms_in c.args.scope) (λ json rest. refl) _ _ x _ _ here c.in_ok-expression.ensures ∙ l.invariant)
+    let here : drop l.json-index xs ≡ x ∷ drop (l.json-index + 1) xs = drop_more xs l.json-index x (omega arith)
+    ∙ ap (λ y. y ∷ drop (l.json-index + 1) xs) (sym c.json-item.is) in
+    rw c.in_ok-push.ensures.items (concatenated_step (term_in c.args.scope) (terms_in c.args.scope)
+    (λ json rest. refl) _ _ x _ _ here c.in_ok-expression.ensures ∙ l.invariant)
 
 pub returns-in_err-expression : goal.returns-in_err-expression
 returns-in_err-expression c = grind (arith, common_steps)

@@ -3,7 +3,12 @@ use Rattle.wire_commands.proofs.FoundLemmas.{is_further, is_there}
 use Rattle.wire_commands.proofs.found.any_place_of.Goals as goal
 
 pub returns-then-eq : goal.returns-then-eq
-returns-then-eq c = (c.keys-test.true, is_there c.args.keys.now c.keys.place _ c.word.result.now c.args.word.now c.word.ensures c.keys-test.true (sym c.eq.ensures ∙ c.if-eq.true))
+returns-then-eq c = (
+  c.keys-test.true,
+  is_there c.args.keys.now c.keys.place _ c.word.result.now c.args.word.now c.word.ensures c.keys-test.true
+      (sym c.eq.ensures ∙ c.if-eq.true),
+)
 
 pub keys-preserved : goal.keys-preserved
-keys-preserved c = c.keys.invariant ∙ is_further c.args.keys.now c.keys.place _ c.word.result.now c.args.word.now c.word.ensures c.keys-test.true (sym c.eq.ensures ∙ c.if-eq.false)
+keys-preserved c = c.keys.invariant ∙ is_further c.args.keys.now c.keys.place _ c.word.result.now c.args.word.now c.word.ensures c.keys-test.true
+    (sym c.eq.ensures ∙ c.if-eq.false)

@@ -13,13 +13,16 @@ loop-place-preserved c =
     let place = c.loop-place.place in
     let held = c.in-Some.held in
     let within : place < length room = omega (arith, c.requires.room, c.loop-place.auto.room) in
-    let found = held_found (λ field. data_of field.now) c.args.keys.now c.args.members.now c.find_values.new.found place _ _ c.loop-place-test.true (omega (arith, c.requires.few, c.find_values.auto.found)) (c.if-not-find_values.ensures.found refl) in
+    let found = held_found (λ field. data_of field.now) c.args.keys.now c.args.members.now c.find_values.new.found place _ _ c.loop-place-test.true
+    (omega (arith, c.requires.few, c.find_values.auto.found)) (c.if-not-find_values.ensures.found refl) in
     rw (take_more_set room place held within)
-    (one_more (object (members_in c.args.members.now)) (take place room) held c.args.keys.now place _ c.loop-place-test.true (c.in-Some.ensures ∙ found) ∙ c.loop-place.invariant)
+    (one_more (object (members_in c.args.members.now)) (take place room) held c.args.keys.now place _ c.loop-place-test.true (c.in-Some.ensures ∙ found)
+    ∙ c.loop-place.invariant)
 
 pub returns-in_default-clause-held : goal.returns-in_default-clause-held
 returns-in_default-clause-held c =
-    let found = held_found (λ field. data_of field.now) c.args.keys.now c.args.members.now c.find_values.new.found c.loop-place.place _ _ c.loop-place-test.true (omega (arith, c.requires.few, c.find_values.auto.found)) (c.if-not-find_values.ensures.found refl) in
+    let found = held_found (λ field. data_of field.now) c.args.keys.now c.args.members.now c.find_values.new.found c.loop-place.place _ _ c.loop-place-test.true
+    (omega (arith, c.requires.few, c.find_values.auto.found)) (c.if-not-find_values.ensures.found refl) in
     let none = c.in_default.ensures ∙ found in
     grind (arith, common_steps)
 

@@ -7,4 +7,5 @@ use Rattle.wire_commands.proofs.HeldLemmas.{in_front}
 use Rattle.wire_commands.proofs.held.held_by.Given as goal
 
 abbrev pub invariant-loop-place : goal.invariant-loop-place
-invariant-loop-place l = in_front (map held_seen (take l.place l.room)) (all_held (object (members_in l.members)) (map key_seen (drop l.place l.keys))) ≡ all_held (object (members_in l.members)) (map key_seen l.keys)
+invariant-loop-place l = in_front (map held_seen (take l.place l.room)) (all_held (object (members_in l.members)) (map key_seen (drop l.place l.keys)))
+    ≡ all_held (object (members_in l.members)) (map key_seen l.keys)

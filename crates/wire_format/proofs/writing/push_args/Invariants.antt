@@ -8,4 +8,5 @@ use Rattle.wire_format.proofs.writing.push_args.Given as goal
 -- the values so far, and then those to come
 abbrev pub invariant-loop-place : goal.invariant-loop-place
 invariant-loop-place l =
-    string_bytes l.buffer ++ items_text (nat_le 1 l.place) (items_of (map json_of (drop l.place l.args))) ≡ string_bytes l.fn.buffer ++ (codes "{\"args\":" ++ 91 ∷ items_text false (items_of (map json_of l.args)))
+    string_bytes l.buffer ++ items_text (nat_le 1 l.place) (items_of (map json_of (drop l.place l.args))) ≡ string_bytes l.fn.buffer
+    ++ (codes "{\"args\":" ++ 91 ∷ items_text false (items_of (map json_of l.args)))

@@ -14,8 +14,12 @@ in_turn a0 a1 a2 a3 a4 a5 a6 k1 v1 k2 v2 k3 v3 k4 v4 last e1 e2 e3 e4 e5 e6 = rw
 
 pub returns : goal.returns
 returns c =
-    let args = c.in_ok-push_args.ensures ∙ ap (λ values. string_bytes c.args.buffer.now ++ (codes "{\"args\":" ++ compact_text (array_of json_of values))) c.as_slice.ensures in
-    let method = c.in_ok-push_method.ensures ∙ ap (λ text. string_bytes c.push_args.new.buffer ++ (codes ",\"call\":" ++ (compact_text (string text) ++ codes ",\"object\":"))) c.as_str.ensures in
-    in_turn _ _ _ _ _ _ _ (codes "{\"args\":") _ (codes ",\"call\":") (compact_text (string c.args.call.now.method)) (codes ",\"object\":") _ (codes ",\"sender\":") _ _
+    let args = c.in_ok-push_args.ensures ∙ ap (λ values. string_bytes c.args.buffer.now ++ (codes "{\"args\":" ++ compact_text (array_of json_of values)))
+    c.as_slice.ensures in
+    let method = c.in_ok-push_method.ensures
+    ∙ ap (λ text. string_bytes c.push_args.new.buffer ++ (codes ",\"call\":" ++ (compact_text (string text) ++ codes ",\"object\":")))
+    c.as_str.ensures in
+    in_turn _ _ _ _ _ _ _ (codes "{\"args\":") _ (codes ",\"call\":") (compact_text (string c.args.call.now.method)) (codes ",\"object\":") _
+    (codes ",\"sender\":") _ _
     args method c.in_ok-push_number.ensures c.in_ok-push_str.ensures.bytes c.in_ok-push_number-2.ensures c.in_ok-push_session.ensures
     ∙ ap (λ line. string_bytes c.args.buffer.now ++ line) (sym (call_line c.args.call.now c.args.session.now))

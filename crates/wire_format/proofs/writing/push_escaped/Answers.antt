@@ -15,7 +15,8 @@ map_ok (Err error) f h = h
 pub returns : goal.returns
 returns c =
     let text = c.args.text.now in
-    let before = c.string-written.ensures.room.0 ∙ c.new-writer.ensures.before ∙ ap (λ v. v.items) c.into_bytes.ensures.value ∙ ap string_bytes c.replace-before.ensures.value in
+    let before = c.string-written.ensures.room.0 ∙ c.new-writer.ensures.before ∙ ap (λ v. v.items) c.into_bytes.ensures.value
+    ∙ ap string_bytes c.replace-before.ensures.value in
     map_ok c.string-written.result
     (λ tokens.
     ap (λ v. v.items) c.in-Ok.ensures.ok ∙ c.into_inner.ensures.items

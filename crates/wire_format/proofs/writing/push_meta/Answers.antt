@@ -16,10 +16,12 @@ in_turn a0 a1 a2 a3 a4 a5 a6 a7 a8 a9 a10 a11 a12 a13 k1 k2 k3 k4 k5 k6 v1 v2 v3
     rw (e13, e12, e11, e10, e9, e8, e7, e6, e5, e4, e3, e2, e1) (simp append_assoc)
 
 -- the text of a class, key by key
-in_parts : (meta : MetaObject) (class : List ℕ) (methods properties : List (List ℕ)) → class ≡ meta.class → methods ≡ meta.methods → properties ≡ meta.properties → compact_text (json_of_meta meta) ≡
+in_parts : (meta : MetaObject) (class : List ℕ) (methods properties : List (List ℕ)) → class ≡ meta.class → methods ≡ meta.methods
+    → properties ≡ meta.properties → compact_text (json_of_meta meta) ≡
     codes "{\"class\":" ++ (compact_text (string class) ++ (codes ",\"methodOffset\":" ++ (compact_text (json_of_number meta.method_offset)
     ++ (codes ",\"methods\":" ++ (compact_text (array_of string methods) ++ (codes ",\"properties\":" ++ (compact_text (array_of string properties)
-    ++ (codes ",\"propertyOffset\":" ++ (compact_text (json_of_number meta.property_offset) ++ (codes ",\"super\":" ++ (compact_text (json_of_name meta.superclass) ++ 125 ∷ [])))))))))))
+    ++ (codes ",\"propertyOffset\":" ++ (compact_text (json_of_number meta.property_offset)
+    ++ (codes ",\"super\":" ++ (compact_text (json_of_name meta.superclass) ++ 125 ∷ [])))))))))))
 unfolding serde_json_on_literals
 in_parts meta class methods properties e f g = rw (e, f, g) refl
 
@@ -29,8 +31,11 @@ in_other_words a b x y e f = e ∙ ap (λ rest. a ++ rest) f
 
 pub returns : goal.returns
 returns c = in_other_words _ _ _ _
-    (in_turn _ _ _ _ _ _ _ _ _ _ _ _ _ _ (codes "{\"class\":") (codes ",\"methodOffset\":") (codes ",\"methods\":") (codes ",\"properties\":") (codes ",\"propertyOffset\":") (codes ",\"super\":") _ _ _ _ _ _
-    c.in_ok-push_str.ensures.bytes c.in_ok-push_text.ensures c.in_ok-push_str-2.ensures.bytes c.in_ok-push_number.ensures c.in_ok-push_str-3.ensures.bytes c.in_ok-push_texts.ensures
-    c.in_ok-push_str-4.ensures.bytes c.in_ok-push_texts-2.ensures c.in_ok-push_str-5.ensures.bytes c.in_ok-push_number-2.ensures c.in_ok-push_str-6.ensures.bytes c.in_ok-push_name.ensures
+    (in_turn _ _ _ _ _ _ _ _ _ _ _ _ _ _ (codes "{\"class\":") (codes ",\"methodOffset\":") (codes ",\"methods\":") (codes ",\"properties\":")
+    (codes ",\"propertyOffset\":") (codes ",\"super\":") _ _ _ _ _ _
+    c.in_ok-push_str.ensures.bytes c.in_ok-push_text.ensures c.in_ok-push_str-2.ensures.bytes c.in_ok-push_number.ensures c.in_ok-push_str-3.ensures.bytes
+    c.in_ok-push_texts.ensures
+    c.in_ok-push_str-4.ensures.bytes c.in_ok-push_texts-2.ensures c.in_ok-push_str-5.ensures.bytes c.in_ok-push_number-2.ensures
+    c.in_ok-push_str-6.ensures.bytes c.in_ok-push_name.ensures
     c.in_ok-push_str-7.ensures.bytes)
     (sym (in_parts c.args.meta.now _ _ _ c.as_str.ensures c.as_slice.ensures c.as_slice-2.ensures))

@@ -8,4 +8,5 @@ use Rattle.wire_format.proofs.writing.push_numbers.Given as goal
 -- the numbers so far, and then those to come
 abbrev pub invariant-loop-place : goal.invariant-loop-place
 invariant-loop-place l =
-    string_bytes l.buffer ++ items_text (nat_le 1 l.place) (items_of (map json_of_number (drop l.place l.numbers))) ≡ string_bytes l.fn.buffer ++ 91 ∷ items_text false (items_of (map json_of_number l.numbers))
+    string_bytes l.buffer ++ items_text (nat_le 1 l.place) (items_of (map json_of_number (drop l.place l.numbers))) ≡ string_bytes l.fn.buffer ++ 91
+    ∷ items_text false (items_of (map json_of_number l.numbers))

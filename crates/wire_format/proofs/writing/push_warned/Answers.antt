@@ -6,4 +6,5 @@ in_turn : (a b c d e w x y z : List ℕ) → b ≡ a ++ w → c ≡ b ++ x → d
 in_turn a b c d e w x y z h i j k = rw (k, j, i, h) (simp append_assoc)
 
 pub returns : goal.returns
-returns c = in_turn _ _ _ _ _ _ (codes ",\"warning\":") _ (codes "}\n") c.in_ok-push_text.ensures c.in_ok-push_str.ensures.bytes c.in_ok-push_text-2.ensures c.in_ok-push_str-2.ensures.bytes
+returns c = in_turn _ _ _ _ _ _ (codes ",\"warning\":") _ (codes "}\n") c.in_ok-push_text.ensures c.in_ok-push_str.ensures.bytes c.in_ok-push_text-2.ensures
+    c.in_ok-push_str-2.ensures.bytes

@@ -6,7 +6,8 @@ use Rattle.wire_lines.proofs.FirstLine.{first_line-ended, first_line-last, only_
 use Rattle.wire_lines.proofs.slice.first_line.Goals as goal
 
 pub returns-in-Some-clause-line : goal.returns-in-Some-clause-line
-returns-in-Some-clause-line c = sym (ap first_line c.in-Some.ensures.whole ∙ first_line-ended c.in-Some.parts.0.now c.in-Some.parts.1.now c.in-Some.ensures.line)
+returns-in-Some-clause-line c = sym (ap first_line c.in-Some.ensures.whole
+    ∙ first_line-ended c.in-Some.parts.0.now c.in-Some.parts.1.now c.in-Some.ensures.line)
 
 pub returns-in-Some-clause-lines : goal.returns-in-Some-clause-lines
 returns-in-Some-clause-lines c = λ some. ap lines_of c.in-Some.ensures.whole ∙ lines_of-line c.in-Some.parts.0.now c.in-Some.parts.1.now c.in-Some.ensures.line

@@ -10,7 +10,8 @@ use Rattle.wire_lines.proofs.slice.read_by.Goals as goal
 
 pub reads-init : goal.reads-init
 reads-init g c = record {
-  consumed = subst (Consumes (g.R.Source.left c.args.reader.now) (g.R.Source.left c.args.reader.now)) (sym c.new-bytes.ensures.items) (Consumes-nil (g.R.Source.left c.args.reader.now));
+  consumed = subst (Consumes (g.R.Source.left c.args.reader.now) (g.R.Source.left c.args.reader.now)) (sym c.new-bytes.ensures.items)
+      (Consumes-nil (g.R.Source.left c.args.reader.now));
   asked = omega arith;
   counted = omega arith;
   gave = omega arith;
@@ -30,7 +31,8 @@ reads-preserved g c =
     let all = ap length more in
     let some : 0 < c.in-Ok.count = omega (arith, c.if-count-eq0.false) in
     record {
-      consumed = subst (Consumes (g.R.Source.left c.args.reader.now) (g.R.Source.left c.read.new.self)) (sym more) (Consumes-trans _ _ _ bytes chunk so_far.consumed read.bytes.0);
+      consumed = subst (Consumes (g.R.Source.left c.args.reader.now) (g.R.Source.left c.read.new.self)) (sym more)
+          (Consumes-trans _ _ _ bytes chunk so_far.consumed read.bytes.0);
       asked = omega (arith, so_far.asked, read.asked);
       counted = omega (arith, so_far.counted, read.asked);
       gave = omega (arith, so_far.gave, read.gave.0 some);
@@ -62,8 +64,10 @@ pub returns-in_default-clause-asked : goal.returns-in_default-clause-asked
 returns-in_default-clause-asked g c =
     let so_far = c.reads.invariant in
     let read = c.in_default.ensures in
-    AsksSource-stopped (2 ^ 40) (reads g.R.Source.calls g.R.Source.gave c.args.reader.now) (reads g.R.Source.calls g.R.Source.gave c.read.new.self) c.reads._reads 1
-    (omega (arith, so_far.asked, read.asked)) (omega (arith, so_far.counted, read.asked), omega (arith, so_far.gave, read.gave)) (omega arith) Read (Err Read) refl
+    AsksSource-stopped (2 ^ 40) (reads g.R.Source.calls g.R.Source.gave c.args.reader.now)
+    (reads g.R.Source.calls g.R.Source.gave c.read.new.self) c.reads._reads 1
+    (omega (arith, so_far.asked, read.asked)) (omega (arith, so_far.counted, read.asked), omega (arith, so_far.gave, read.gave)) (omega arith) Read
+    (Err Read) refl
 
 -- nor did the one that found the end
 pub returns-then-count-eq0-clause-asked : goal.returns-then-count-eq0-clause-asked
@@ -84,11 +88,14 @@ returns-in_err-extend_from_slice-clause-asked g c =
     let so_far = c.reads.invariant in
     let read = c.in-Ok.ensures in
     let some : 0 < c.in-Ok.count = omega (arith, c.if-count-eq0.false) in
-    AsksSource-stopped (2 ^ 40) (reads g.R.Source.calls g.R.Source.gave c.args.reader.now) (reads g.R.Source.calls g.R.Source.gave c.read.new.self) (c.reads._reads + 1) 0
-    (omega (arith, so_far.asked, read.asked)) (omega (arith, so_far.counted, read.asked), omega (arith, so_far.gave, read.gave.0 some)) (omega arith) Memory c.from_residual.result (err_is _ _ c.from_residual.ensures.1)
+    AsksSource-stopped (2 ^ 40) (reads g.R.Source.calls g.R.Source.gave c.args.reader.now) (reads g.R.Source.calls g.R.Source.gave c.read.new.self)
+    (c.reads._reads + 1) 0
+    (omega (arith, so_far.asked, read.asked)) (omega (arith, so_far.counted, read.asked), omega (arith, so_far.gave, read.gave.0 some))
+    (omega arith) Memory c.from_residual.result (err_is _ _ c.from_residual.ensures.1)
 
 pub returns-clause-asked : goal.returns-clause-asked
 returns-clause-asked g c =
     let so_far = c.reads.invariant in
-    AsksSource-stopped (2 ^ 40) (reads g.R.Source.calls g.R.Source.gave c.args.reader.now) (reads g.R.Source.calls g.R.Source.gave c.reads.reader) c.reads._reads 0
+    AsksSource-stopped (2 ^ 40) (reads g.R.Source.calls g.R.Source.gave c.args.reader.now)
+    (reads g.R.Source.calls g.R.Source.gave c.reads.reader) c.reads._reads 0
     (omega (arith, so_far.asked)) (omega (arith, so_far.counted), omega (arith, so_far.gave)) (omega arith) Endless (Err Endless) refl

@@ -5,4 +5,5 @@ use Rattle.binding_graph.proofs.PlaceLemmas.{graph_now}
 use Rattle.binding_graph.proofs.bindings.Bindings.depth.Goals as goal
 
 pub returns : goal.returns
-returns c = rw (← c.self.view_is) (c.depth.ensures ∙ ap (λ (graph : Graph). graph.depth) (graph_now c.self.inside.graphs c.args.place c.get.result.now (c.get.ensures no_graph_and_cache)))
+returns c = rw (← c.self.view_is) (c.depth.ensures ∙ ap (λ (graph : Graph). graph.depth)
+    (graph_now c.self.inside.graphs c.args.place c.get.result.now (c.get.ensures no_graph_and_cache)))

@@ -6,4 +6,5 @@ use Rattle.binding_graph.specs.Graph.{is_bound}
 use Rattle.binding_graph.proofs.bindings.Bindings.is_bound.Goals as goal
 
 pub returns : goal.returns
-returns c = rw (← c.self.view_is) (c.is_bound.ensures ∙ ap (λ (graph : Graph). is_bound graph.bindings c.args.at) (graph_now c.self.inside.graphs c.args.place c.get.result.now (c.get.ensures no_graph_and_cache)))
+returns c = rw (← c.self.view_is) (c.is_bound.ensures ∙ ap (λ (graph : Graph). is_bound graph.bindings c.args.at)
+    (graph_now c.self.inside.graphs c.args.place c.get.result.now (c.get.ensures no_graph_and_cache)))

@@ -9,15 +9,21 @@ use Rattle.binding_graph.proofs.ShownLemmas.{value_short}
 use Rattle.binding_graph.proofs.PlaceLemmas.{at_place, graph_now}
 use Rattle.binding_graph.proofs.bindings.Bindings.value.Goals as goal
 
-carried : {E : Type 0} (r : Result (Value × Option BindingError) E) (v : Value × Option BindingError) → IsShort v.0 → IfOk r (λ found. found ≡ v) → IfOk r (λ found. IsShort found.0)
+carried : {E : Type 0} (r : Result (Value × Option BindingError) E) (v : Value × Option BindingError) → IsShort v.0 → IfOk r (λ found. found ≡ v)
+    → IfOk r (λ found. IsShort found.0)
 carried (Ok found) v short is = subst (λ (f : Value × Option BindingError). IsShort f.0) (sym is) short
 carried (Err e) v short is = tt
 
 pub value-requires-clause-step : goal.value-requires-clause-step
-value-requires-clause-step c = subst (IsAt c.args.stores.now c.args.place) (sym (c.get-graph.ensures no_graph_and_cache)) (at_place c.args.stores.now c.self.inside.graphs (rw (← c.self.view_is) at c.requires.step) c.args.place)
+value-requires-clause-step c = subst (IsAt c.args.stores.now c.args.place) (sym (c.get-graph.ensures no_graph_and_cache))
+    (at_place c.args.stores.now c.self.inside.graphs (rw (← c.self.view_is) at c.requires.step) c.args.place)
 
 pub returns-clause-value : goal.returns-clause-value
-returns-clause-value c = rw (← c.self.view_is) (subst (λ (graph : Graph). IfOk c.value.result (λ found. found ≡ value_in (store_at c.args.stores.now.shelves c.args.place) graph c.args.at)) (graph_now c.self.inside.graphs c.args.place c.get-graph.result.now (c.get-graph.ensures no_graph_and_cache)) c.value.ensures)
+returns-clause-value c = rw (← c.self.view_is)
+    (subst (λ (graph : Graph). IfOk c.value.result (λ found. found ≡ value_in (store_at c.args.stores.now.shelves c.args.place) graph c.args.at))
+    (graph_now c.self.inside.graphs c.args.place c.get-graph.result.now (c.get-graph.ensures no_graph_and_cache)) c.value.ensures)
 
 pub returns-clause-short : goal.returns-clause-short
-returns-clause-short c = carried c.value.result _ (value_short (store_at c.args.stores.now.shelves c.args.place) c.count.ensures.sound c.get-graph.result.now.graph c.count-2.ensures.sound c.args.at) c.value.ensures
+returns-clause-short c = carried c.value.result _
+    (value_short (store_at c.args.stores.now.shelves c.args.place) c.count.ensures.sound c.get-graph.result.now.graph c.count-2.ensures.sound c.args.at)
+    c.value.ensures

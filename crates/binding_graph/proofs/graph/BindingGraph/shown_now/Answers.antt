@@ -6,4 +6,5 @@ use Rattle.binding_graph.proofs.graph.BindingGraph.shown_now.Goals as goal
 
 pub show_kept-requires-clause-complete : goal.show_kept-requires-clause-complete
 show_kept-requires-clause-complete c =
-    clean_is_complete (rw (← c.self.view_is) at c.requires.step) (sym c.has_written.ensures ∙ c.if-not-has_written.true) (not-true (has_marks c.self.inside.pending) (sym c.is_empty.ensures ∙ c.if-is_empty.true))
+    clean_is_complete (rw (← c.self.view_is) at c.requires.step) (sym c.has_written.ensures ∙ c.if-not-has_written.true)
+    (not-true (has_marks c.self.inside.pending) (sym c.is_empty.ensures ∙ c.if-is_empty.true))

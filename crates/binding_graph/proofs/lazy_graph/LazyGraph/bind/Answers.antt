@@ -4,7 +4,9 @@ use Rattle.binding_graph.specs.GraphAndCache.{StaysAt}
 use Rattle.binding_graph.proofs.lazy_graph.LazyGraph.bind.Goals as goal
 
 pub returns-clause-step : goal.returns-clause-step
-returns-clause-step c = subst (λ old. StaysAt old c.bind.new.self) (c.deref_mut.ensures.value ∙ (sym (ap pair_of c.in-Some.is) ∙ (c.make.ensures.same ∙ c.self.view_is))) c.bind.ensures.step
+returns-clause-step c = subst (λ old. StaysAt old c.bind.new.self)
+    (c.deref_mut.ensures.value ∙ (sym (ap pair_of c.in-Some.is) ∙ (c.make.ensures.same ∙ c.self.view_is))) c.bind.ensures.step
 
 pub returns-in_err-bind-clause-step : goal.returns-in_err-bind-clause-step
-returns-in_err-bind-clause-step c = subst (λ old. StaysAt old c.bind.new.self) (c.deref_mut.ensures.value ∙ (sym (ap pair_of c.in-Some.is) ∙ (c.make.ensures.same ∙ c.self.view_is))) c.bind.ensures.step
+returns-in_err-bind-clause-step c = subst (λ old. StaysAt old c.bind.new.self)
+    (c.deref_mut.ensures.value ∙ (sym (ap pair_of c.in-Some.is) ∙ (c.make.ensures.same ∙ c.self.view_is))) c.bind.ensures.step

@@ -13,9 +13,11 @@ invariant_of-self c =
     let stays : Shown → Bool = λ shown. not (shown.at.object == c.args.object) in
     subst AreShown (sym (filter_same _ stays _ (λ x b f' h. search rules) _ _ c.retain.ensures.filtered))
     (record {
-      rising = AllPairs-filter (λ (earlier : Shown) (later : Shown). is_before earlier.at later.at ≡ true) stays c.self.inside.rows.items c.self.invariant.rising;
+      rising = AllPairs-filter (λ (earlier : Shown) (later : Shown). is_before earlier.at later.at ≡ true) stays c.self.inside.rows.items
+          c.self.invariant.rising;
       fitting = All-filter stays (λ (shown : Shown). IsOfKind shown.kind shown.value) c.self.inside.rows.items c.self.invariant.fitting;
     })
 
 pub returns : goal.returns
-returns c = rw (← c.self.view_is) (filter_same _ (λ (shown : Shown). not (shown.at.object == c.args.object)) _ (λ x b f' h. search rules) _ _ c.retain.ensures.filtered)
+returns c = rw (← c.self.view_is) (filter_same _ (λ (shown : Shown). not (shown.at.object == c.args.object)) _
+    (λ x b f' h. search rules) _ _ c.retain.ensures.filtered)

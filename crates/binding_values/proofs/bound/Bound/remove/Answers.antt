@@ -8,8 +8,10 @@ use Rattle.binding_values.proofs.bound.Bound.remove.Goals as goal
 
 pub invariant_of-self : goal.invariant_of-self
 invariant_of-self c =
-    subst AreBindings (sym (filter_same _ (λ (binding : Binding). not (is_property c.args.at binding.at)) _ (λ x b f' h. search rules) _ _ c.retain.ensures.filtered))
+    subst AreBindings (sym (filter_same _ (λ (binding : Binding). not (is_property c.args.at binding.at)) _
+    (λ x b f' h. search rules) _ _ c.retain.ensures.filtered))
     (fewer_sound (λ (binding : Binding). not (is_property c.args.at binding.at)) c.self.inside.rows.items c.self.invariant)
 
 pub returns : goal.returns
-returns c = rw (← c.self.view_is) (filter_same _ (λ (binding : Binding). not (is_property c.args.at binding.at)) _ (λ x b f' h. search rules) _ _ c.retain.ensures.filtered)
+returns c = rw (← c.self.view_is) (filter_same _ (λ (binding : Binding). not (is_property c.args.at binding.at)) _
+    (λ x b f' h. search rules) _ _ c.retain.ensures.filtered)

@@ -11,7 +11,10 @@ copied (Some kept) = refl
 pub returns-in_err-row : goal.returns-in_err-row
 returns-in_err-row c =
     ap (option_map (λ kept. kept.now)) c.from_residual.ensures
-    ∙ rw (← c.self.view_is) (ap kept_in (rw c.as_slice.ensures.value at c.in_err-row.ensures) ∙ sym (kept_at c.self.inside.rows.items c.args.at c.self.invariant))
+    ∙ rw (← c.self.view_is) (ap kept_in (rw c.as_slice.ensures.value at c.in_err-row.ensures)
+    ∙ sym (kept_at c.self.inside.rows.items c.args.at c.self.invariant))
 
 pub returns : goal.returns
-returns c = rw (← c.self.view_is) (copied c.as_ref.result ∙ (c.as_ref.ensures.value ∙ (ap kept_in (rw c.as_slice.ensures.value at c.in_ok-row.ensures) ∙ sym (kept_at c.self.inside.rows.items c.args.at c.self.invariant))))
+returns c = rw (← c.self.view_is) (copied c.as_ref.result
+    ∙ (c.as_ref.ensures.value ∙ (ap kept_in (rw c.as_slice.ensures.value at c.in_ok-row.ensures)
+    ∙ sym (kept_at c.self.inside.rows.items c.args.at c.self.invariant))))

@@ -10,27 +10,35 @@ use Rattle.binding_values.proofs.SortedLemmas.{stands_so, stands_within}
 use Rattle.binding_values.proofs.kept_rows.KeptRows.put.Goals as goal
 
 within : (c : goal.Joined-index_mut) → c.count_before-place.result < length c.self.inside.rows.items
-within c = stands_within (λ (row : KeptRow). row.at) c.self.inside.rows.items c.count_before-place.result c.into_parts-kept.result.0 c.is_at.result (rw c.as_slice-2.ensures.value at c.is_at.ensures) c.if-is_at.true
+within c = stands_within (λ (row : KeptRow). row.at) c.self.inside.rows.items c.count_before-place.result c.into_parts-kept.result.0 c.is_at.result
+    (rw c.as_slice-2.ensures.value at c.is_at.ensures) c.if-is_at.true
 
 pub returns-then-is_at-clause-ok : goal.returns-then-is_at-clause-ok
 returns-then-is_at-clause-ok c =
     let new : KeptRow = record { at = c.into_parts-kept.result.0; kept = Some c.into_parts-kept.result.1 } in
-    rw (← c.self.view_is) (put_there c.self.inside.rows.items c.count_before-place.result new c.self.invariant (rw c.as_slice.ensures.value at c.count_before-place.ensures) (within c)
-    (stands_so (λ (row : KeptRow). row.at) c.self.inside.rows.items c.count_before-place.result c.into_parts-kept.result.0 c.is_at.result (rw c.as_slice-2.ensures.value at c.is_at.ensures) new (within c) ∙ c.if-is_at.true)
-    c.args.row (ap (λ (parts : Property × EvalResult). parts.0) c.into_parts-kept.ensures) (ap (λ (parts : Property × EvalResult). Some parts.1) c.into_parts-kept.ensures))
+    rw (← c.self.view_is) (put_there c.self.inside.rows.items c.count_before-place.result new c.self.invariant
+    (rw c.as_slice.ensures.value at c.count_before-place.ensures) (within c)
+    (stands_so (λ (row : KeptRow). row.at) c.self.inside.rows.items c.count_before-place.result c.into_parts-kept.result.0 c.is_at.result
+    (rw c.as_slice-2.ensures.value at c.is_at.ensures) new (within c) ∙ c.if-is_at.true)
+    c.args.row (ap (λ (parts : Property × EvalResult). parts.0) c.into_parts-kept.ensures)
+    (ap (λ (parts : Property × EvalResult). Some parts.1) c.into_parts-kept.ensures))
 
-other : (c : goal.In_ok-insert) (d : KeptRow) → c.count_before-place.result < length c.self.inside.rows.items → is_property c.into_parts-kept.result.0 (get_or c.self.inside.rows.items c.count_before-place.result d).at ≡ false
-other c d within = stands_so (λ (row : KeptRow). row.at) c.self.inside.rows.items c.count_before-place.result c.into_parts-kept.result.0 c.is_at.result (rw c.as_slice-2.ensures.value at c.is_at.ensures) d within ∙ c.if-is_at.false
+other : (c : goal.In_ok-insert) (d : KeptRow) → c.count_before-place.result < length c.self.inside.rows.items
+    → is_property c.into_parts-kept.result.0 (get_or c.self.inside.rows.items c.count_before-place.result d).at ≡ false
+other c d within = stands_so (λ (row : KeptRow). row.at) c.self.inside.rows.items c.count_before-place.result c.into_parts-kept.result.0 c.is_at.result
+    (rw c.as_slice-2.ensures.value at c.is_at.ensures) d within ∙ c.if-is_at.false
 
 pub invariant_of-self-2 : goal.invariant_of-self-2
 invariant_of-self-2 c =
     let new : KeptRow = record { at = c.into_parts-kept.result.0; kept = Some c.into_parts-kept.result.1 } in
     subst (IsRising (λ (row : KeptRow). row.at)) (sym c.in_ok-insert.ensures.items)
-    (insert_rising c.self.inside.rows.items c.count_before-place.result new c.self.invariant (rw c.as_slice.ensures.value at c.count_before-place.ensures) (other c))
+    (insert_rising c.self.inside.rows.items c.count_before-place.result new c.self.invariant (rw c.as_slice.ensures.value at c.count_before-place.ensures)
+    (other c))
 
 pub returns-clause-ok : goal.returns-clause-ok
 returns-clause-ok c =
     let new : KeptRow = record { at = c.into_parts-kept.result.0; kept = Some c.into_parts-kept.result.1 } in
     rw (← c.self.view_is) (subst (λ rows. IsPut c.args.row (standing c.self.inside.rows.items) (standing rows)) (sym c.in_ok-insert.ensures.items)
     (put_new c.self.inside.rows.items c.count_before-place.result new c.self.invariant (rw c.as_slice.ensures.value at c.count_before-place.ensures) (other c)
-    c.args.row (ap (λ (parts : Property × EvalResult). parts.0) c.into_parts-kept.ensures) (ap (λ (parts : Property × EvalResult). Some parts.1) c.into_parts-kept.ensures)))
+    c.args.row (ap (λ (parts : Property × EvalResult). parts.0) c.into_parts-kept.ensures)
+    (ap (λ (parts : Property × EvalResult). Some parts.1) c.into_parts-kept.ensures)))

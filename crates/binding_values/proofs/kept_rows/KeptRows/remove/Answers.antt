@@ -10,10 +10,13 @@ use Rattle.binding_values.proofs.kept_rows.KeptRows.remove.Goals as goal
 
 pub invariant_of-self : goal.invariant_of-self
 invariant_of-self c =
-    subst (IsRising (λ (row : KeptRow). row.at)) (sym (filter_same _ (λ (row : KeptRow). not (is_property c.args.at row.at)) _ (λ x b f' h. search rules) _ _ c.retain.ensures.filtered))
-    (AllPairs-filter (λ (earlier : KeptRow) (later : KeptRow). is_before earlier.at later.at ≡ true) (λ (row : KeptRow). not (is_property c.args.at row.at)) c.self.inside.rows.items c.self.invariant)
+    subst (IsRising (λ (row : KeptRow). row.at))
+    (sym (filter_same _ (λ (row : KeptRow). not (is_property c.args.at row.at)) _ (λ x b f' h. search rules) _ _ c.retain.ensures.filtered))
+    (AllPairs-filter (λ (earlier : KeptRow) (later : KeptRow). is_before earlier.at later.at ≡ true)
+    (λ (row : KeptRow). not (is_property c.args.at row.at)) c.self.inside.rows.items c.self.invariant)
 
 pub returns : goal.returns
 returns c =
-    rw (← c.self.view_is) (ap standing (filter_same _ (λ (row : KeptRow). not (is_property c.args.at row.at)) _ (λ x b f' h. search rules) _ _ c.retain.ensures.filtered)
+    rw (← c.self.view_is) (ap standing (filter_same _ (λ (row : KeptRow). not (is_property c.args.at row.at)) _
+    (λ x b f' h. search rules) _ _ c.retain.ensures.filtered)
     ∙ standing_filter (λ q. not (is_property c.args.at q)) c.self.inside.rows.items)

@@ -6,38 +6,51 @@ use Rattle.binding_values.proofs.KeepingLemmas.{kept_there, let_go, none_there, 
 use Rattle.binding_values.proofs.SortedLemmas.{stands_so, stands_within}
 use Rattle.binding_values.proofs.kept_rows.KeptRows.take.Goals as goal
 
-other : (c : goal.Then-not-is_at) (d : KeptRow) → c.count_before-place.result < length c.self.inside.rows.items → is_property c.args.at (get_or c.self.inside.rows.items c.count_before-place.result d).at ≡ false
-other c d within = stands_so (λ (row : KeptRow). row.at) c.self.inside.rows.items c.count_before-place.result c.args.at c.is_at.result (rw c.as_slice-2.ensures.value at c.is_at.ensures) d within ∙ c.if-not-is_at.true
+other : (c : goal.Then-not-is_at) (d : KeptRow) → c.count_before-place.result < length c.self.inside.rows.items
+    → is_property c.args.at (get_or c.self.inside.rows.items c.count_before-place.result d).at ≡ false
+other c d within = stands_so (λ (row : KeptRow). row.at) c.self.inside.rows.items c.count_before-place.result c.args.at c.is_at.result
+    (rw c.as_slice-2.ensures.value at c.is_at.ensures) d within ∙ c.if-not-is_at.true
 
 pub returns-then-not-is_at-clause-taken : goal.returns-then-not-is_at-clause-taken
-returns-then-not-is_at-clause-taken c = rw (← c.self.view_is) (sym (none_there c.self.inside.rows.items c.count_before-place.result c.args.at c.self.invariant (rw c.as_slice.ensures.value at c.count_before-place.ensures) (other c)))
+returns-then-not-is_at-clause-taken c = rw (← c.self.view_is)
+    (sym (none_there c.self.inside.rows.items c.count_before-place.result c.args.at c.self.invariant
+    (rw c.as_slice.ensures.value at c.count_before-place.ensures) (other c)))
 
 pub returns-then-not-is_at-clause-new : goal.returns-then-not-is_at-clause-new
-returns-then-not-is_at-clause-new c = rw (← c.self.view_is) (others_only c.self.inside.rows.items c.count_before-place.result c.args.at c.self.invariant (rw c.as_slice.ensures.value at c.count_before-place.ensures) (other c))
+returns-then-not-is_at-clause-new c = rw (← c.self.view_is)
+    (others_only c.self.inside.rows.items c.count_before-place.result c.args.at c.self.invariant (rw c.as_slice.ensures.value at c.count_before-place.ensures)
+    (other c))
 
 pub index_mut-requires : goal.index_mut-requires
 index_mut-requires c =
-    let within = stands_within (λ (row : KeptRow). row.at) c.self.inside.rows.items c.count_before-place.result c.args.at c.is_at.result (rw c.as_slice-2.ensures.value at c.is_at.ensures) c.if-not-is_at.false in
+    let within = stands_within (λ (row : KeptRow). row.at) c.self.inside.rows.items c.count_before-place.result c.args.at c.is_at.result
+    (rw c.as_slice-2.ensures.value at c.is_at.ensures) c.if-not-is_at.false in
     omega (arith, c.self.inside.rows.ok.0, within)
 
 within : (c : goal.After-self-1) → c.count_before-place.result < length c.self.inside.rows.items
-within c = stands_within (λ (row : KeptRow). row.at) c.self.inside.rows.items c.count_before-place.result c.args.at c.is_at.result (rw c.as_slice-2.ensures.value at c.is_at.ensures) c.if-not-is_at.false
+within c = stands_within (λ (row : KeptRow). row.at) c.self.inside.rows.items c.count_before-place.result c.args.at c.is_at.result
+    (rw c.as_slice-2.ensures.value at c.is_at.ensures) c.if-not-is_at.false
 
 here : (c : goal.After-self-1) → is_property c.args.at (get_or c.self.inside.rows.items c.count_before-place.result c.index_mut.result.now).at ≡ true
-here c = stands_so (λ (row : KeptRow). row.at) c.self.inside.rows.items c.count_before-place.result c.args.at c.is_at.result (rw c.as_slice-2.ensures.value at c.is_at.ensures) c.index_mut.result.now (within c) ∙ c.if-not-is_at.false
+here c = stands_so (λ (row : KeptRow). row.at) c.self.inside.rows.items c.count_before-place.result c.args.at c.is_at.result
+    (rw c.as_slice-2.ensures.value at c.is_at.ensures) c.index_mut.result.now (within c) ∙ c.if-not-is_at.false
 
 pub invariant_of-self : goal.invariant_of-self
 invariant_of-self c =
-    still_rising c.self.inside.rows.items c.count_before-place.result c.args.at c.self.invariant (rw c.as_slice.ensures.value at c.count_before-place.ensures) c.index_mut.result.now (within c) (here c)
+    still_rising c.self.inside.rows.items c.count_before-place.result c.args.at c.self.invariant
+    (rw c.as_slice.ensures.value at c.count_before-place.ensures) c.index_mut.result.now (within c) (here c)
     (record { at = c.index_mut.result.now.at; kept = c.take.new.self })
-    (property_eq c.args.at (get_or c.self.inside.rows.items c.count_before-place.result c.index_mut.result.now).at (here c) ∙ ap (λ (row : KeptRow). row.at) (sym c.index_mut.ensures.value))
+    (property_eq c.args.at (get_or c.self.inside.rows.items c.count_before-place.result c.index_mut.result.now).at (here c)
+    ∙ ap (λ (row : KeptRow). row.at) (sym c.index_mut.ensures.value))
 
 pub returns-clause-taken : goal.returns-clause-taken
 returns-clause-taken c =
     rw (← c.self.view_is) (c.take.ensures.value ∙ (ap (λ (row : KeptRow). row.kept) c.index_mut.ensures.value
-    ∙ sym (kept_there c.self.inside.rows.items c.count_before-place.result c.args.at c.self.invariant (rw c.as_slice.ensures.value at c.count_before-place.ensures) c.index_mut.result.now (within c) (here c))))
+    ∙ sym (kept_there c.self.inside.rows.items c.count_before-place.result c.args.at c.self.invariant
+    (rw c.as_slice.ensures.value at c.count_before-place.ensures) c.index_mut.result.now (within c) (here c))))
 
 pub returns-clause-new : goal.returns-clause-new
 returns-clause-new c =
-    rw (← c.self.view_is) (let_go c.self.inside.rows.items c.count_before-place.result c.args.at c.self.invariant (rw c.as_slice.ensures.value at c.count_before-place.ensures) c.index_mut.result.now (within c) (here c)
+    rw (← c.self.view_is) (let_go c.self.inside.rows.items c.count_before-place.result c.args.at c.self.invariant
+    (rw c.as_slice.ensures.value at c.count_before-place.ensures) c.index_mut.result.now (within c) (here c)
     (record { at = c.index_mut.result.now.at; kept = c.take.new.self }) c.take.ensures.after)

@@ -10,4 +10,5 @@ pub settle-requires-clause-whole : goal.settle-requires-clause-whole
 settle-requires-clause-whole c =
     let store = store_at c.args.stores.now.shelves c.args.place in
     subst (λ rows. IsWhole (scene_of store c.args.bindings.now) (only c.in_ok-bound.bound.items) (kept_of rows)) (sym c.clear.ensures)
-    (subst (λ touched. IsWhole (scene_of store c.args.bindings.now) (only touched) (kept_of [])) (sym c.in_ok-bound.ensures) (bound_or_not store c.args.bindings.now))
+    (subst (λ touched. IsWhole (scene_of store c.args.bindings.now) (only touched) (kept_of [])) (sym c.in_ok-bound.ensures)
+    (bound_or_not store c.args.bindings.now))

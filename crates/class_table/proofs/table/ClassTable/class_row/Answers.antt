@@ -19,7 +19,10 @@ returns-in_err-row-clause-no_line c =
     rw (c.from_residual.ensures, ← c.self.view_is) (of_class-none (λ index class. index ∷ []) _ _ past)
 
 pub returns-clause-value : goal.returns-clause-value
-returns-clause-value c = rw (← c.self.view_is) (sym (entry_value c.self.inside.classes.entries c.args.class c.in_ok-row.field-0-0.now c.in_ok-row.row.now c.in_ok-row.ensures.entry))
+returns-clause-value c = rw (← c.self.view_is)
+    (sym (entry_value c.self.inside.classes.entries c.args.class c.in_ok-row.field-0-0.now c.in_ok-row.row.now c.in_ok-row.ensures.entry))
 
 pub returns-clause-has : goal.returns-clause-has
-returns-clause-has c = rw (← c.self.view_is) (c.self.invariant.is_table.each c.args.class c.in_ok-row.row.now (entry_value c.self.inside.classes.entries c.args.class c.in_ok-row.field-0-0.now c.in_ok-row.row.now c.in_ok-row.ensures.entry))
+returns-clause-has c = rw (← c.self.view_is)
+    (c.self.invariant.is_table.each c.args.class c.in_ok-row.row.now
+    (entry_value c.self.inside.classes.entries c.args.class c.in_ok-row.field-0-0.now c.in_ok-row.row.now c.in_ok-row.ensures.entry))

@@ -7,7 +7,8 @@ pub returns-in-Some-own_method : goal.returns-in-Some-own_method
 returns-in-Some-own_method c =
     let rows = c.args.self.now in
     let wanted = c.args.signature.now in
-    sym (own_only rows c.in-Some.index c.in_ok-row.row.now wanted c.in-Some-own_method.number c.in_ok-row.ensures.table c.in_ok-row.ensures.has c.in-Some-own_method.ensures)
+    sym (own_only rows c.in-Some.index c.in_ok-row.row.now wanted c.in-Some-own_method.number c.in_ok-row.ensures.table c.in_ok-row.ensures.has
+    c.in-Some-own_method.ensures)
     ∙ ap (λ o. method_number wanted (inherited (methods rows) o)) (sym c.in-Some.is) ∙ c.loop-next.invariant
 
 pub loop-next-preserved : goal.loop-next-preserved

@@ -9,5 +9,6 @@ returns-then-row-number-clause-value c =
     let number = c.args.number in
     let row = c.in_ok-row.row.now in
     let has = c.in_ok-row.ensures.has in
-    c.get.ensures.value ∙ (slice_get-own (inherited (methods rows) row.superclass) row.methods _ row.method_offset number has.its_methods has.method_offset c.if-row-number.true
+    c.get.ensures.value ∙ (slice_get-own (inherited (methods rows) row.superclass) row.methods _ row.method_offset number has.its_methods has.method_offset
+    c.if-row-number.true
     ∙ (ap (λ o. slice_get (inherited (methods rows) o) number) (sym c.in-Some.is) ∙ c.loop-next.invariant))

@@ -12,8 +12,15 @@ loop-next-preserved c =
     let more = c.loop-next.invariant.front.0 in
     let within : number < length (inherited (properties rows) row.superclass) = omega (arith, has.property_offset) in
     record {
-      same = sym (slice_get-front (inherited (properties rows) row.superclass) row.properties number within) ∙ (ap (λ l. slice_get l number) (sym has.its_properties) ∙ (ap (λ o. slice_get (inherited (properties rows) o) number) (sym c.in-Some.is) ∙ c.loop-next.invariant.same));
-      front = (row.methods ++ more, c.loop-next.invariant.front.1 ∙ (ap (λ o. inherited (methods rows) o ++ more) c.in-Some.is ∙ (ap (λ l. l ++ more) has.its_methods ∙ append_assoc (inherited (methods rows) row.superclass) row.methods more)));
+      same = sym (slice_get-front (inherited (properties rows) row.superclass) row.properties number within)
+          ∙ (ap (λ l. slice_get l number) (sym has.its_properties)
+          ∙ (ap (λ o. slice_get (inherited (properties rows) o) number) (sym c.in-Some.is) ∙ c.loop-next.invariant.same));
+      front = (
+        row.methods ++ more,
+        c.loop-next.invariant.front.1
+            ∙ (ap (λ o. inherited (methods rows) o ++ more) c.in-Some.is
+            ∙ (ap (λ l. l ++ more) has.its_methods ∙ append_assoc (inherited (methods rows) row.superclass) row.methods more)),
+      );
     }
 
 pub returns-then-row-number-clause-value : goal.returns-then-row-number-clause-value
@@ -22,5 +29,6 @@ returns-then-row-number-clause-value c =
     let number = c.args.number in
     let row = c.in_ok-row.row.now in
     let has = c.in_ok-row.ensures.has in
-    c.get.ensures.value ∙ (slice_get-own (inherited (properties rows) row.superclass) row.properties _ row.property_offset number has.its_properties has.property_offset c.if-row-number.true
+    c.get.ensures.value ∙ (slice_get-own (inherited (properties rows) row.superclass) row.properties _ row.property_offset number has.its_properties
+    has.property_offset c.if-row-number.true
     ∙ (ap (λ o. slice_get (inherited (properties rows) o) number) (sym c.in-Some.is) ∙ c.loop-next.invariant.same))

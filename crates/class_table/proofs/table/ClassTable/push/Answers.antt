@@ -13,7 +13,8 @@ invariant_of-self-2 c =
     let fits : FitsBehind (values_of c.self.inside.classes.entries) c.args.class = rw c.self.view_is c.requires.fits in
     record {
       by_name = c.in_ok-insert.ensures.by_name;
-      is_table = rw c.in_ok-insert.ensures.values (IsTable-push (values_of c.self.inside.classes.entries) c.args.class c.self.invariant.is_table (rw c.self.view_is c.requires.room) fits);
+      is_table = rw c.in_ok-insert.ensures.values
+          (IsTable-push (values_of c.self.inside.classes.entries) c.args.class c.self.invariant.is_table (rw c.self.view_is c.requires.room) fits);
     }
 
 pub returns : goal.returns

@@ -19,11 +19,13 @@ pub key_at-key-requires : goal.key_at-key-requires
 key_at-key-requires c = omega (arith, c.links.invariant.1.within, c.links-test.true)
 
 pub get-requires-clause-place : goal.get-requires-clause-place
-get-requires-clause-place c = still_place (λ keyed. matches c.args.pattern.now keyed.row) c.args.place c.args.rows.now c.links.rows c.args.self.now c.links.self c.links.invariant.0 c.requires.place
+get-requires-clause-place c = still_place (λ keyed. matches c.args.pattern.now keyed.row) c.args.place c.args.rows.now c.links.rows c.args.self.now c.links.self
+    c.links.invariant.0 c.requires.place
 
 pub get-requires-clause-stands : goal.get-requires-clause-stands
 get-requires-clause-stands c =
-    let its = led c.group-group.result.received (rows_at c.links.rows c.args.place) c.links.self (c.links.left - 1) c.key_at-key.result c.links.invariant.0.kept (omega (arith, c.links.invariant.1.within, c.links-test.true)) c.key_at-key.ensures.key in
+    let its = led c.group-group.result.received (rows_at c.links.rows c.args.place) c.links.self (c.links.left - 1) c.key_at-key.result c.links.invariant.0.kept
+    (omega (arith, c.links.invariant.1.within, c.links-test.true)) c.key_at-key.ensures.key in
     rw its.under refl
 
 pub take_out-requires-clause-kept : goal.take_out-requires-clause-kept
@@ -34,11 +36,22 @@ links-preserved-then-matches c =
     let test = λ (keyed : Keyed Connection). matches c.args.pattern.now keyed.row in
     let rows = rows_at c.links.rows c.args.place in
     let end = c.group-group.result.received in
-    let its = led end rows c.links.self (c.links.left - 1) c.key_at-key.result c.links.invariant.0.kept (omega (arith, c.links.invariant.1.within, c.links-test.true)) c.key_at-key.ensures.key in
+    let its = led end rows c.links.self (c.links.left - 1) c.key_at-key.result c.links.invariant.0.kept
+    (omega (arith, c.links.invariant.1.within, c.links-test.true)) c.key_at-key.ensures.key in
     let there = stands_under rows c.key_at-key.result c.get.result.now c.get.ensures.row in (
-      one_more_gone test c.args.place c.args.rows.now c.links.rows c.args.self.now c.links.self c.links.invariant.0 c.take_out.new.rows c.take_out.new.self c.key_at-key.result (there.0, record { key = c.key_at-key.result; row = c.get.result.now }, there.1, there.2, (refl, sym c.matches.ensures ∙ c.if-matches.true)) c.take_out.ensures.gone,
-      left_gone end test rows (rows_at c.take_out.new.rows c.args.place) (links_of end c.links.self) (links_of end c.take_out.new.self) c.group-group.result.start c.links.left (c.links.left - 1) c.key_at-key.result c.key_at-key.ensures.sound (omega (arith, c.links-test.true)) c.links-test.true
-          (λ keyed. not (keyed.key == c.key_at-key.result)) c.take_out.ensures.gone.rows its (c.take_out.ensures.links end its.row its.under) c.links.invariant.1,
+      one_more_gone test c.args.place c.args.rows.now c.links.rows c.args.self.now c.links.self c.links.invariant.0 c.take_out.new.rows c.take_out.new.self
+          c.key_at-key.result (
+            there.0,
+            record { key = c.key_at-key.result; row = c.get.result.now },
+            there.1,
+            there.2,
+            (refl, sym c.matches.ensures ∙ c.if-matches.true),
+          ) c.take_out.ensures.gone,
+      left_gone end test rows (rows_at c.take_out.new.rows c.args.place) (links_of end c.links.self)
+          (links_of end c.take_out.new.self) c.group-group.result.start c.links.left (c.links.left - 1) c.key_at-key.result c.key_at-key.ensures.sound
+          (omega (arith, c.links-test.true)) c.links-test.true
+          (λ keyed. not (keyed.key == c.key_at-key.result)) c.take_out.ensures.gone.rows its
+          (c.take_out.ensures.links end its.row its.under) c.links.invariant.1,
     )
 
 pub links-preserved : goal.links-preserved
@@ -46,9 +59,12 @@ links-preserved c =
     let test = λ (keyed : Keyed Connection). matches c.args.pattern.now keyed.row in
     let rows = rows_at c.links.rows c.args.place in
     let end = c.group-group.result.received in
-    let its = led end rows c.links.self (c.links.left - 1) c.key_at-key.result c.links.invariant.0.kept (omega (arith, c.links.invariant.1.within, c.links-test.true)) c.key_at-key.ensures.key in (
+    let its = led end rows c.links.self (c.links.left - 1) c.key_at-key.result c.links.invariant.0.kept
+    (omega (arith, c.links.invariant.1.within, c.links-test.true)) c.key_at-key.ensures.key in (
       c.links.invariant.0,
-      left_back end test rows (links_of end c.links.self) c.group-group.result.start c.links.left (c.links.left - 1) c.key_at-key.result c.get.result.now (omega (arith, c.links-test.true)) c.links.invariant.0.kept.apart c.get.ensures.row its (sym c.matches.ensures ∙ c.if-matches.false) c.links.invariant.1,
+      left_back end test rows (links_of end c.links.self) c.group-group.result.start c.links.left (c.links.left - 1) c.key_at-key.result c.get.result.now
+          (omega (arith, c.links-test.true)) c.links.invariant.0.kept.apart c.get.ensures.row its
+          (sym c.matches.ensures ∙ c.if-matches.false) c.links.invariant.1,
     )
 
 pub returns : goal.returns
@@ -57,4 +73,5 @@ returns c =
     let rows = rows_at c.links.rows c.args.place in
     let end = c.group-group.result.received in
     all_gone test c.args.place c.args.rows.now c.links.rows c.args.self.now c.links.self c.links.invariant.0
-    (none_left end test rows (links_of end c.links.self) c.group-group.result.start c.links.left (linked_end end rows c.links.self c.links.invariant.0.kept.routed) c.links.invariant.1 (omega (arith, c.links-test.false)))
+    (none_left end test rows (links_of end c.links.self) c.group-group.result.start c.links.left
+    (linked_end end rows c.links.self c.links.invariant.0.kept.routed) c.links.invariant.1 (omega (arith, c.links-test.false)))

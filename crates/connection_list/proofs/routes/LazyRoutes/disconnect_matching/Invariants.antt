@@ -7,7 +7,8 @@ use Rattle.connection_list.proofs.WalkLemmas.{AreLeft}
 use Rattle.connection_list.proofs.routes.LazyRoutes.disconnect_matching.Given as goal
 
 abbrev pub invariant-links : goal.invariant-links
-invariant-links l = AreGoing (λ keyed. matches l.pattern keyed.row) l.place l.fn.rows l.rows l.fn.self l.self × AreLeft l.group.received (λ keyed. matches l.pattern keyed.row) (rows_at l.rows l.place) (links_of l.group.received l.self) l.group.start l.left
+invariant-links l = AreGoing (λ keyed. matches l.pattern keyed.row) l.place l.fn.rows l.rows l.fn.self l.self
+    × AreLeft l.group.received (λ keyed. matches l.pattern keyed.row) (rows_at l.rows l.place) (links_of l.group.received l.self) l.group.start l.left
 
 abbrev pub decreases-links : goal.decreases-links
 decreases-links l = l.left - l.group.start

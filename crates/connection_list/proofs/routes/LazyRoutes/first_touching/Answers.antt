@@ -17,4 +17,5 @@ pub returns-in-None-clause-none : goal.returns-in-None-clause-none
 returns-in-None-clause-none c = λ rows routed.
     let is = seen_made c.self.view_is c.in-Some.is c.deref.ensures in
     let still = seen_made c.self.view_is c.in-Some.is c.deref-in-None.ensures in
-    touching_none c.args.object rows c.args.self.now routed (rw (sym is) c.in-None.ensures.none) c.first_of-in-None.result (rw (sym still) c.first_of-in-None.ensures.none)
+    touching_none c.args.object rows c.args.self.now routed (rw (sym is) c.in-None.ensures.none) c.first_of-in-None.result
+    (rw (sym still) c.first_of-in-None.ensures.none)

@@ -9,16 +9,20 @@ use Rattle.connection_list.proofs.LazyLemmas.{none_under, seen_made}
 use Rattle.connection_list.proofs.routes.LazyRoutes.take_out.Goals as goal
 
 pub unreachable-requires : goal.unreachable-requires
-unreachable-requires c = none_under c.self.inside.made c.args.self.now c.self.view_is c.in_default.is (rows_at c.args.rows.now c.args.place) c.requires.kept.routed c.args.key c.requires.stands
+unreachable-requires c = none_under c.self.inside.made c.args.self.now c.self.view_is c.in_default.is
+    (rows_at c.args.rows.now c.args.place) c.requires.kept.routed c.args.key c.requires.stands
 
 pub overflow_cast-key : goal.overflow_cast-key
-overflow_cast-key c = let short : c.args.key < 4294967296 = short_key c.args.place c.args.key c.remove-row.result c.args.rows.now c.remove-row.new.self c.args.self.now c.args.self.now c.requires.place c.requires.kept c.remove-row.ensures.row in search rules
+overflow_cast-key c =
+    let short : c.args.key < 4294967296 = short_key c.args.place c.args.key c.remove-row.result c.args.rows.now c.remove-row.new.self c.args.self.now
+    c.args.self.now c.requires.place c.requires.kept c.remove-row.ensures.row in search rules
 
 pub returns-clause-gone : goal.returns-clause-gone
 returns-clause-gone c =
     let is = seen_made c.self.view_is c.in-Some.is c.deref_mut.ensures.value in
     let keyed : Keyed Connection = record { key = c.args.key; row = c.remove-row.result } in
-    one_gone c.args.place c.args.key c.remove-row.result c.args.rows.now c.remove-row.new.self c.args.self.now c.unlink.new.self c.requires.place c.requires.kept c.remove-row.ensures.row c.remove-row.ensures.rest
+    one_gone c.args.place c.args.key c.remove-row.result c.args.rows.now c.remove-row.new.self c.args.self.now c.unlink.new.self c.requires.place
+    c.requires.kept c.remove-row.ensures.row c.remove-row.ensures.rest
     (c.unlink.ensures.number ∙ ap (λ (seen : Routes). seen.last_number) is)
     (c.unlink.ensures.sent ∙ ap (λ (seen : Routes). without_link link_cmp seen.sent.links (sent_of keyed)) is)
     (c.unlink.ensures.received ∙ ap (λ (seen : Routes). without_link link_cmp seen.received.links (received_of keyed)) is)

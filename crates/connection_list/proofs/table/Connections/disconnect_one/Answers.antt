@@ -43,8 +43,10 @@ pub returns-in-None-clause-rows : goal.returns-in-None-clause-rows
 returns-in-None-clause-rows c =
     let at = seen_anyhow c.self.invariant c.self.view_is c.requires in
     let none = found_none (has_number c.args.number) (rows_at c.self.inside.rows c.args.place) c.in-None.ensures.found in
-    let absent : list_any (has_number c.args.number) (place_at c.args.self.now c.args.place).rows ≡ false = rw at.shows (sym (ap is_some none ∙ any_found (has_number c.args.number) _)) in
-    sym (ap (λ rows. with_place c.args.self.now c.args.place (record { rows = rows; last_number = (place_at c.args.self.now c.args.place).last_number })) (filter_all (has_number c.args.number) (place_at c.args.self.now c.args.place).rows absent)
+    let absent : list_any (has_number c.args.number) (place_at c.args.self.now c.args.place).rows ≡ false =
+    rw at.shows (sym (ap is_some none ∙ any_found (has_number c.args.number) _)) in
+    sym (ap (λ rows. with_place c.args.self.now c.args.place (record { rows = rows; last_number = (place_at c.args.self.now c.args.place).last_number }))
+    (filter_all (has_number c.args.number) (place_at c.args.self.now c.args.place).rows absent)
     ∙ with_same no_rows c.args.self.now c.args.place)
 
 pub get_mut-routes-requires : goal.get_mut-routes-requires

@@ -18,4 +18,5 @@ invariant_of-self c =
 
 pub returns : goal.returns
 returns c =
-    gone_view (seen c.self.invariant c.self.view_is c.requires c.get_mut-routes.ensures.value) c.drop_object.ensures (touches c.args.object) (λ k d within. refl)
+    gone_view (seen c.self.invariant c.self.view_is c.requires c.get_mut-routes.ensures.value) c.drop_object.ensures (touches c.args.object)
+    (λ k d within. refl)

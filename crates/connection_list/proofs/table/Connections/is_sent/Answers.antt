@@ -21,7 +21,9 @@ returns-clause-sent c =
     let rows = rows_at c.self.inside.rows c.args.place in
     let test = is_next c.args.sender c.args.signal 0 c.get-routes.result.now.last_number in
     rw (at.shows, sym c.last_number.ensures)
-    (c.is_some.ensures ∙ (ap is_some (c.next_sent-key.ensures rows at.kept) ∙ (as_row (find (λ keyed. is_next c.args.sender c.args.signal 0 c.last_number.result keyed.row) rows) ∙ sym (ap is_some (find_map (is_next c.args.sender c.args.signal 0 c.last_number.result) rows)))))
+    (c.is_some.ensures ∙ (ap is_some (c.next_sent-key.ensures rows at.kept)
+    ∙ (as_row (find (λ keyed. is_next c.args.sender c.args.signal 0 c.last_number.result keyed.row) rows)
+    ∙ sym (ap is_some (find_map (is_next c.args.sender c.args.signal 0 c.last_number.result) rows)))))
 
 pub returns-clause-sound : goal.returns-clause-sound
 returns-clause-sound c =

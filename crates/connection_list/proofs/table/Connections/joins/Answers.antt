@@ -19,4 +19,5 @@ joins-requires-clause-kept c = (seen c.self.invariant c.self.view_is c.requires 
 pub returns : goal.returns
 returns c =
     let at = seen c.self.invariant c.self.view_is c.requires c.get.ensures in
-    c.joins.ensures ∙ (sym (any_map (same_ends c.args.new.now) (rows_at c.self.inside.rows c.args.place)) ∙ ap (λ (place : Rows). list_any (same_ends c.args.new.now) place.rows) (sym at.shows))
+    c.joins.ensures ∙ (sym (any_map (same_ends c.args.new.now) (rows_at c.self.inside.rows c.args.place))
+    ∙ ap (λ (place : Rows). list_any (same_ends c.args.new.now) place.rows) (sym at.shows))

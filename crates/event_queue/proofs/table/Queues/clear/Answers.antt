@@ -11,4 +11,6 @@ get_mut-requires c = search (rules, of_logs)
 
 pub returns : goal.returns
 returns c =
-    (all_cleared c.self.invariant c.self.view_is c.requires c.get_mut.ensures.value (has_events c.self.inside.rows c.clear.new.self c.args.place [] [] (of_rows c.self.invariant c.self.view_is c.requires) c.clear.ensures refl) c.new.ensures.lost c.new.ensures.mismatched c.new.ensures.logged).view
+    (all_cleared c.self.invariant c.self.view_is c.requires c.get_mut.ensures.value
+    (has_events c.self.inside.rows c.clear.new.self c.args.place [] [] (of_rows c.self.invariant c.self.view_is c.requires) c.clear.ensures refl)
+    c.new.ensures.lost c.new.ensures.mismatched c.new.ensures.logged).view

@@ -6,7 +6,8 @@ pub get_mut-log-requires : goal.get_mut-log-requires
 get_mut-log-requires c = search (rules, of_logs)
 
 pub overflow_sub-log : goal.overflow_sub-log
-overflow_sub-log c = fewer_queued c.self.invariant c.self.view_is c.requires c.get_mut-log.ensures.value c.drop_events.new.self c.args.object c.drop_events.ensures.counted c.drop_events.ensures.marks c.drop_events.ensures.waited
+overflow_sub-log c = fewer_queued c.self.invariant c.self.view_is c.requires c.get_mut-log.ensures.value c.drop_events.new.self c.args.object
+    c.drop_events.ensures.counted c.drop_events.ensures.marks c.drop_events.ensures.waited
 
 pub len-requires : goal.len-requires
 len-requires c = search (rules, of_rows)
@@ -19,20 +20,24 @@ sweep-requires-clause-counted c = search (rules, left_counted)
 
 pub invariant_of-self : goal.invariant_of-self
 invariant_of-self c =
-    (all_swept c.self.invariant c.self.view_is c.requires c.get_mut-log.ensures.value c.drop_events.new.self c.args.object c.drop_events.ensures.counted c.drop_events.ensures.marks c.drop_events.ensures.waited
+    (all_swept c.self.invariant c.self.view_is c.requires c.get_mut-log.ensures.value c.drop_events.new.self c.args.object c.drop_events.ensures.counted
+    c.drop_events.ensures.marks c.drop_events.ensures.waited
     c.sweep.ensures.rest c.sweep.ensures.all).kept
 
 pub returns-then-len-log : goal.returns-then-len-log
 returns-then-len-log c =
-    (all_swept c.self.invariant c.self.view_is c.requires c.get_mut-log.ensures.value c.drop_events.new.self c.args.object c.drop_events.ensures.counted c.drop_events.ensures.marks c.drop_events.ensures.waited
+    (all_swept c.self.invariant c.self.view_is c.requires c.get_mut-log.ensures.value c.drop_events.new.self c.args.object c.drop_events.ensures.counted
+    c.drop_events.ensures.marks c.drop_events.ensures.waited
     c.sweep.ensures.rest c.sweep.ensures.all).view
 
 pub invariant_of-self-else-len-log : goal.invariant_of-self-else-len-log
 invariant_of-self-else-len-log c =
-    (all_dropped c.self.invariant c.self.view_is c.requires c.get_mut-log.ensures.value c.drop_events.new.self c.args.object c.drop_events.ensures.counted c.drop_events.ensures.marks c.drop_events.ensures.waited
+    (all_dropped c.self.invariant c.self.view_is c.requires c.get_mut-log.ensures.value c.drop_events.new.self c.args.object c.drop_events.ensures.counted
+    c.drop_events.ensures.marks c.drop_events.ensures.waited
     (omega (arith, c.len.ensures.len, c.if-len-log.false))).kept
 
 pub returns-else-len-log : goal.returns-else-len-log
 returns-else-len-log c =
-    (all_dropped c.self.invariant c.self.view_is c.requires c.get_mut-log.ensures.value c.drop_events.new.self c.args.object c.drop_events.ensures.counted c.drop_events.ensures.marks c.drop_events.ensures.waited
+    (all_dropped c.self.invariant c.self.view_is c.requires c.get_mut-log.ensures.value c.drop_events.new.self c.args.object c.drop_events.ensures.counted
+    c.drop_events.ensures.marks c.drop_events.ensures.waited
     (omega (arith, c.len.ensures.len, c.if-len-log.false))).view

@@ -10,4 +10,8 @@ abbrev pub decreases-levels_within : goal.decreases-levels_within
 decreases-levels_within l = l.most
 
 abbrev pub invariant-kids : goal.invariant-kids
-invariant-kids l = (max l.below (greatest (map (levels_within (l.most - 1) (forest_at l.self l.place).rows) (map (λ (child : Child). child.number) (slice_range l.kids.all.now.items l.at l.kids.end)))) ≡ greatest (map (levels_within (l.most - 1) (forest_at l.self l.place).rows) (children (forest_at l.self l.place).rows (Some l.number)))) × (l.below ≤ l.most - 1)
+invariant-kids l = (max l.below (greatest
+    (map (levels_within (l.most - 1) (forest_at l.self l.place).rows)
+    (map (λ (child : Child). child.number) (slice_range l.kids.all.now.items l.at l.kids.end))))
+    ≡ greatest (map (levels_within (l.most - 1) (forest_at l.self l.place).rows) (children (forest_at l.self l.place).rows (Some l.number))))
+    × (l.below ≤ l.most - 1)

@@ -10,4 +10,5 @@ pub len-requires : goal.len-requires
 len-requires c = in_rows c.self.invariant c.self.view_is c.args.place c.requires
 
 pub returns : goal.returns
-returns c = c.len.ensures.len ∙ (sym (length-map (rows_at c.self.inside.rows c.args.place) (λ (k : Keyed Row). k.row)) ∙ ap (λ (forest : Forest). length forest.rows) (sym (seen_anyhow c.self.invariant c.self.view_is c.args.place c.requires)))
+returns c = c.len.ensures.len ∙ (sym (length-map (rows_at c.self.inside.rows c.args.place) (λ (k : Keyed Row). k.row))
+    ∙ ap (λ (forest : Forest). length forest.rows) (sym (seen_anyhow c.self.invariant c.self.view_is c.args.place c.requires)))

@@ -6,4 +6,5 @@ use Rattle.object_tree.specs.Table.{forest_at}
 use Rattle.object_tree.proofs.forests.Forests.depth.Given as goal
 
 abbrev pub invariant-levels : goal.invariant-levels
-invariant-levels l = (l.depth + length (option_map_or (walk (parent_of (forest_at l.self l.place).rows) (length (forest_at l.self l.place).rows - l._step)) l.at []) ≡ depth (forest_at l.self l.place).rows l.number) × (l.depth ≤ l._step)
+invariant-levels l = (l.depth + length (option_map_or (walk (parent_of (forest_at l.self l.place).rows) (length (forest_at l.self l.place).rows - l._step)) l.at
+    []) ≡ depth (forest_at l.self l.place).rows l.number) × (l.depth ≤ l._step)

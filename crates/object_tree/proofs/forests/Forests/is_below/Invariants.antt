@@ -7,4 +7,6 @@ use Rattle.object_tree.specs.Table.{forest_at}
 use Rattle.object_tree.proofs.forests.Forests.is_below.Given as goal
 
 abbrev pub invariant-levels : goal.invariant-levels
-invariant-levels l = list_any (λ above. l.base == above) (option_map_or (walk (parent_of (forest_at l.self l.place).rows) (length (forest_at l.self l.place).rows - l._step)) l.at []) ≡ is_below (forest_at l.self l.place).rows l.base l.number
+invariant-levels l = list_any (λ above. l.base == above)
+    (option_map_or (walk (parent_of (forest_at l.self l.place).rows) (length (forest_at l.self l.place).rows - l._step)) l.at [])
+    ≡ is_below (forest_at l.self l.place).rows l.base l.number

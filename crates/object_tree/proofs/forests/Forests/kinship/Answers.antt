@@ -7,7 +7,9 @@ pub get-requires : goal.get-requires
 get-requires c = in_kinships c.self.invariant c.self.view_is c.args.place c.requires
 
 pub returns-clause-number : goal.returns-clause-number
-returns-clause-number c = ap (λ (forest : Forest). forest.last_number) (sym (forest_is c.self.invariant c.self.view_is c.args.place c.requires c.get.result.now c.get.ensures))
+returns-clause-number c = ap (λ (forest : Forest). forest.last_number)
+    (sym (forest_is c.self.invariant c.self.view_is c.args.place c.requires c.get.result.now c.get.ensures))
 
 pub returns-clause-stamp : goal.returns-clause-stamp
-returns-clause-stamp c = ap (λ (forest : Forest). forest.last_stamp) (sym (forest_is c.self.invariant c.self.view_is c.args.place c.requires c.get.result.now c.get.ensures))
+returns-clause-stamp c = ap (λ (forest : Forest). forest.last_stamp)
+    (sym (forest_is c.self.invariant c.self.view_is c.args.place c.requires c.get.result.now c.get.ensures))

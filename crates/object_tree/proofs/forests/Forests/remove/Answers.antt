@@ -16,22 +16,38 @@ pub get_mut-requires : goal.get_mut-requires
 get_mut-requires c = in_kinships c.self.invariant c.self.view_is c.args.place c.requires
 
 pub orphan-requires-clause-place : goal.orphan-requires-clause-place
-orphan-requires-clause-place c = middle_place c.self.invariant c.self.view_is c.args.place c.requires (stands (rows_at c.self.inside.rows c.args.place) c.in-Some.ensures.taken.0 c.args.object c.in-Some.row c.take.ensures.sound c.in-Some.ensures.taken.2 c.in-Some.ensures.taken.3) c.get_mut.result.now c.get_mut.ensures.value c.in-Some.ensures.taken.4
+orphan-requires-clause-place c = middle_place c.self.invariant c.self.view_is c.args.place c.requires
+    (stands (rows_at c.self.inside.rows c.args.place) c.in-Some.ensures.taken.0 c.args.object c.in-Some.row c.take.ensures.sound c.in-Some.ensures.taken.2
+    c.in-Some.ensures.taken.3) c.get_mut.result.now c.get_mut.ensures.value c.in-Some.ensures.taken.4
 
 pub orphan-requires-clause-object : goal.orphan-requires-clause-object
-orphan-requires-clause-object c = number_begins (forest_at c.args.self.now c.args.place) (sound_anyhow c.self.invariant c.self.view_is c.args.place c.requires) c.args.object c.in-Some.row (is_row c.self.invariant c.self.view_is c.args.place c.requires (stands (rows_at c.self.inside.rows c.args.place) c.in-Some.ensures.taken.0 c.args.object c.in-Some.row c.take.ensures.sound c.in-Some.ensures.taken.2 c.in-Some.ensures.taken.3))
+orphan-requires-clause-object c = number_begins (forest_at c.args.self.now c.args.place)
+    (sound_anyhow c.self.invariant c.self.view_is c.args.place c.requires) c.args.object c.in-Some.row
+    (is_row c.self.invariant c.self.view_is c.args.place c.requires
+    (stands (rows_at c.self.inside.rows c.args.place) c.in-Some.ensures.taken.0 c.args.object c.in-Some.row c.take.ensures.sound c.in-Some.ensures.taken.2
+    c.in-Some.ensures.taken.3))
 
 pub orphan-requires-clause-linked : goal.orphan-requires-clause-linked
-orphan-requires-clause-linked c = middle_linked c.self.invariant c.self.view_is c.args.place c.requires (stands (rows_at c.self.inside.rows c.args.place) c.in-Some.ensures.taken.0 c.args.object c.in-Some.row c.take.ensures.sound c.in-Some.ensures.taken.2 c.in-Some.ensures.taken.3) c.get_mut.result.now c.get_mut.ensures.value c.in-Some.ensures.taken.4 (ap (λ (l : Linked Child). l.links) c.remove.ensures ∙ λ i. without_link child_cmp c.get_mut.result.now.children.links (c.child_of.ensures i))
+orphan-requires-clause-linked c = middle_linked c.self.invariant c.self.view_is c.args.place c.requires
+    (stands (rows_at c.self.inside.rows c.args.place) c.in-Some.ensures.taken.0 c.args.object c.in-Some.row c.take.ensures.sound c.in-Some.ensures.taken.2
+    c.in-Some.ensures.taken.3) c.get_mut.result.now c.get_mut.ensures.value c.in-Some.ensures.taken.4
+    (ap (λ (l : Linked Child). l.links) c.remove.ensures ∙ λ i. without_link child_cmp c.get_mut.result.now.children.links (c.child_of.ensures i))
 
 pub invariant_of-self : goal.invariant_of-self
-invariant_of-self c = (gone c.self.invariant c.self.view_is c.args.place c.requires (stands (rows_at c.self.inside.rows c.args.place) c.in-Some.ensures.taken.0 c.args.object c.in-Some.row c.take.ensures.sound c.in-Some.ensures.taken.2 c.in-Some.ensures.taken.3) c.get_mut.result.now c.get_mut.ensures.value c.in-Some.ensures.taken.4 c.orphan.new.children c.orphan.ensures.elsewhere c.orphan.ensures.rows c.orphan.ensures.linked).kept
+invariant_of-self c = (gone c.self.invariant c.self.view_is c.args.place c.requires
+    (stands (rows_at c.self.inside.rows c.args.place) c.in-Some.ensures.taken.0 c.args.object c.in-Some.row c.take.ensures.sound c.in-Some.ensures.taken.2
+    c.in-Some.ensures.taken.3) c.get_mut.result.now c.get_mut.ensures.value c.in-Some.ensures.taken.4 c.orphan.new.children c.orphan.ensures.elsewhere
+    c.orphan.ensures.rows c.orphan.ensures.linked).kept
 
 pub returns-in-Some : goal.returns-in-Some
-returns-in-Some c = (gone c.self.invariant c.self.view_is c.args.place c.requires (stands (rows_at c.self.inside.rows c.args.place) c.in-Some.ensures.taken.0 c.args.object c.in-Some.row c.take.ensures.sound c.in-Some.ensures.taken.2 c.in-Some.ensures.taken.3) c.get_mut.result.now c.get_mut.ensures.value c.in-Some.ensures.taken.4 c.orphan.new.children c.orphan.ensures.elsewhere c.orphan.ensures.rows c.orphan.ensures.linked).seen
+returns-in-Some c = (gone c.self.invariant c.self.view_is c.args.place c.requires
+    (stands (rows_at c.self.inside.rows c.args.place) c.in-Some.ensures.taken.0 c.args.object c.in-Some.row c.take.ensures.sound c.in-Some.ensures.taken.2
+    c.in-Some.ensures.taken.3) c.get_mut.result.now c.get_mut.ensures.value c.in-Some.ensures.taken.4 c.orphan.new.children c.orphan.ensures.elsewhere
+    c.orphan.ensures.rows c.orphan.ensures.linked).seen
 
 pub invariant_of-self-in_default : goal.invariant_of-self-in_default
 invariant_of-self-in_default c = rw c.in_default.ensures.unchanged c.self.invariant
 
 pub returns-in_default : goal.returns-in_default
-returns-in_default c = absent_gone c.self.invariant c.self.view_is c.args.place c.requires c.args.object c.in_default.ensures.unchanged c.in_default.ensures.absent
+returns-in_default c = absent_gone c.self.invariant c.self.view_is c.args.place c.requires c.args.object c.in_default.ensures.unchanged
+    c.in_default.ensures.absent

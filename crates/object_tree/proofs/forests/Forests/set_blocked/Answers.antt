@@ -9,18 +9,25 @@ pub find-requires : goal.find-requires
 find-requires c = in_rows c.self.invariant c.self.view_is c.args.place c.requires
 
 pub invariant_of-self : goal.invariant_of-self
-invariant_of-self c = (edited c.self.invariant c.self.view_is c.args.place c.requires (stands_under c.get-row.ensures.sound c.get-row.ensures.row c.in-Some.ensures.stands) (λ row. record row { blocked = c.args.on }) c.replace.ensures.new (λ _. refl) (λ _. refl) (λ _. refl)).kept
+invariant_of-self c = (edited c.self.invariant c.self.view_is c.args.place c.requires
+    (stands_under c.get-row.ensures.sound c.get-row.ensures.row c.in-Some.ensures.stands) (λ row. record row { blocked = c.args.on }) c.replace.ensures.new
+    (λ _. refl) (λ _. refl) (λ _. refl)).kept
 
 pub returns-clause-after : goal.returns-clause-after
 unfolding with_blocked
-returns-clause-after c = (edited c.self.invariant c.self.view_is c.args.place c.requires (stands_under c.get-row.ensures.sound c.get-row.ensures.row c.in-Some.ensures.stands) (λ row. record row { blocked = c.args.on }) c.replace.ensures.new (λ _. refl) (λ _. refl) (λ _. refl)).seen
+returns-clause-after c = (edited c.self.invariant c.self.view_is c.args.place c.requires
+    (stands_under c.get-row.ensures.sound c.get-row.ensures.row c.in-Some.ensures.stands) (λ row. record row { blocked = c.args.on }) c.replace.ensures.new
+    (λ _. refl) (λ _. refl) (λ _. refl)).seen
 
 pub returns-in_default-clause-after : goal.returns-in_default-clause-after
 unfolding with_blocked
-returns-in_default-clause-after c = absent_same c.self.invariant c.self.view_is c.args.place c.requires (λ row. record row { blocked = c.args.on }) c.args.object c.in_default.ensures.found
+returns-in_default-clause-after c = absent_same c.self.invariant c.self.view_is c.args.place c.requires
+    (λ row. record row { blocked = c.args.on }) c.args.object c.in_default.ensures.found
 
 pub returns-in_default-clause-before : goal.returns-in_default-clause-before
-returns-in_default-clause-before c = ap (λ found. option_map_or (λ (row : Row). row.blocked) found false) (sym (absent c.self.invariant c.self.view_is c.args.place c.requires c.args.object c.in_default.ensures.found))
+returns-in_default-clause-before c = ap (λ found. option_map_or (λ (row : Row). row.blocked) found false)
+    (sym (absent c.self.invariant c.self.view_is c.args.place c.requires c.args.object c.in_default.ensures.found))
 
 pub returns-clause-before : goal.returns-clause-before
-returns-clause-before c = ap (λ found. option_map_or (λ (row : Row). row.blocked) found false) (sym (is_row c.self.invariant c.self.view_is c.args.place c.requires (stands_under c.get-row.ensures.sound c.get-row.ensures.row c.in-Some.ensures.stands)))
+returns-clause-before c = ap (λ found. option_map_or (λ (row : Row). row.blocked) found false)
+    (sym (is_row c.self.invariant c.self.view_is c.args.place c.requires (stands_under c.get-row.ensures.sound c.get-row.ensures.row c.in-Some.ensures.stands)))

@@ -16,7 +16,8 @@ use Rattle.property_store.proofs.StoreLemmas.{number}
 use Rattle.property_store.proofs.stores.Stores.add_object.Goals as goal
 
 pub insert-requires-clause-absent : goal.insert-requires-clause-absent
-insert-requires-clause-absent c = no_key (limited c.self.inside.rows c.self.inside.heads.room) (shelves_seen c.self.view_is) c.args.place c.requires.place c.args.object c.requires.absent
+insert-requires-clause-absent c = no_key (limited c.self.inside.rows c.self.inside.heads.room)
+    (shelves_seen c.self.view_is) c.args.place c.requires.place c.args.object c.requires.absent
 
 -- the row that is added
 abbrev row : (c : goal.After-set_first) → Row
@@ -38,26 +39,38 @@ are_new : (c : goal.After-set_first) → AreNew c.args.object (length (fields c)
 are_new c = search rules
 
 none : (c : goal.After-set_first) → key_of number (rows_at c.self.inside.rows c.args.place) c.args.object ≡ option.None
-none c = no_key (limited c.self.inside.rows c.self.inside.heads.room) (shelves_seen c.self.view_is) c.args.place c.requires.place c.args.object c.requires.absent
+none c = no_key (limited c.self.inside.rows c.self.inside.heads.room)
+    (shelves_seen c.self.view_is) c.args.place c.requires.place c.args.object c.requires.absent
 
-heads_are : (c : goal.After-set_first) → c.set_first.new.heads ≡ with_place c.self.inside.heads c.args.place (cond (nat_lt 0 (length (fields c)) && not (is_all (head_at c.self.inside.heads c.args.place))) (First (record { object = c.args.object; number = 0 })) (head_at c.self.inside.heads c.args.place))
+heads_are : (c : goal.After-set_first) → c.set_first.new.heads
+    ≡ with_place c.self.inside.heads c.args.place
+    (cond (nat_lt 0 (length (fields c)) && not (is_all (head_at c.self.inside.heads c.args.place))) (First (record { object = c.args.object; number = 0 }))
+    (head_at c.self.inside.heads c.args.place))
 heads_are c = search rules
 
-limited_are : (c : goal.After-set_first) → limited c.insert.new.self c.set_first.new.heads.room ≡ with_place (limited c.self.inside.rows c.self.inside.heads.room) c.args.place (inserted number (rows_at c.self.inside.rows c.args.place) c.in_ok-insert.field-0 (row c))
+limited_are : (c : goal.After-set_first) → limited c.insert.new.self c.set_first.new.heads.room
+    ≡ with_place (limited c.self.inside.rows c.self.inside.heads.room) c.args.place
+    (inserted number (rows_at c.self.inside.rows c.args.place) c.in_ok-insert.field-0 (row c))
 limited_are c = search rules
 
 pub invariant_of-self-2 : goal.invariant_of-self-2
 invariant_of-self-2 c =
-    come_kept c.self.invariant c.self.view_is c.args.place c.requires.place c.args.object c.args.class c.in_ok-insert.field-0 (row c) refl (none c) (are_new c) (as_many c) c.insert.new.self c.set_first.new.heads c.in_ok-insert.ensures.added (heads_are c)
-    (new_kept (limited c.self.inside.rows c.self.inside.heads.room) (shelves_seen c.self.view_is) c.args.place c.requires.place c.args.object c.self.invariant.sound c.args.class c.in_ok-insert.field-0 (row c) (is_fresh c) (limited c.insert.new.self c.set_first.new.heads.room) (limited_are c))
+    come_kept c.self.invariant c.self.view_is c.args.place c.requires.place c.args.object c.args.class c.in_ok-insert.field-0 (row c) refl (none c) (are_new c)
+    (as_many c) c.insert.new.self c.set_first.new.heads c.in_ok-insert.ensures.added (heads_are c)
+    (new_kept (limited c.self.inside.rows c.self.inside.heads.room)
+    (shelves_seen c.self.view_is) c.args.place c.requires.place c.args.object c.self.invariant.sound c.args.class c.in_ok-insert.field-0 (row c)
+    (is_fresh c) (limited c.insert.new.self c.set_first.new.heads.room) (limited_are c))
 
 pub returns-clause-ok : goal.returns-clause-ok
 returns-clause-ok c =
-    new_added (limited c.self.inside.rows c.self.inside.heads.room) (shelves_seen c.self.view_is) c.args.place c.requires.place c.args.object c.self.invariant.sound c.args.class c.in_ok-insert.field-0 (row c) (is_fresh c) (limited c.insert.new.self c.set_first.new.heads.room) (limited_are c)
+    new_added (limited c.self.inside.rows c.self.inside.heads.room)
+    (shelves_seen c.self.view_is) c.args.place c.requires.place c.args.object c.self.invariant.sound c.args.class c.in_ok-insert.field-0 (row c)
+    (is_fresh c) (limited c.insert.new.self c.set_first.new.heads.room) (limited_are c)
 
 pub returns-clause-marks : goal.returns-clause-marks
 returns-clause-marks c =
-    come_marks c.self.invariant c.self.view_is c.args.place c.requires.place c.args.object c.args.class c.in_ok-insert.field-0 (row c) refl (none c) (are_new c) (as_many c) c.insert.new.self c.set_first.new.heads c.in_ok-insert.ensures.added (heads_are c)
+    come_marks c.self.invariant c.self.view_is c.args.place c.requires.place c.args.object c.args.class c.in_ok-insert.field-0 (row c) refl (none c) (are_new c)
+    (as_many c) c.insert.new.self c.set_first.new.heads c.in_ok-insert.ensures.added (heads_are c)
 
 pub insert-requires-clause-place : goal.insert-requires-clause-place
 insert-requires-clause-place c = grind (arith, common_steps)

@@ -9,7 +9,9 @@ use Rattle.property_store.proofs.stores.Stores.count.Goals as goal
 pub returns-clause-sound : goal.returns-clause-sound
 returns-clause-sound c =
     subst IsSound (sym (store_there (limited c.self.inside.rows c.self.inside.heads.room) (shelves_seen c.self.view_is) c.args.place c.requires))
-    (store_sound c.self.inside.layouts (rows_at c.self.inside.rows c.args.place) c.len.ensures.sound (c.self.invariant.sound c.args.place _ (rows_open (limited c.self.inside.rows c.self.inside.heads.room) (shelves_seen c.self.view_is) c.args.place c.requires)))
+    (store_sound c.self.inside.layouts (rows_at c.self.inside.rows c.args.place) c.len.ensures.sound
+    (c.self.invariant.sound c.args.place _ (rows_open (limited c.self.inside.rows c.self.inside.heads.room)
+    (shelves_seen c.self.view_is) c.args.place c.requires)))
 
 pub len-requires : goal.len-requires
 len-requires c = grind (arith, common_steps)

@@ -8,11 +8,15 @@ use Rattle.property_store.proofs.stores.Stores.dynamic_names.Goals as goal
 
 pub returns-in-Some : goal.returns-in-Some
 returns-in-Some c =
-    let one = one_there (limited c.self.inside.rows c.self.inside.heads.room) (shelves_seen c.self.view_is) c.args.place c.requires c.args.object c.in-Some.row.now c.in-Some.ensures in
+    let one = one_there (limited c.self.inside.rows c.self.inside.heads.room)
+    (shelves_seen c.self.view_is) c.args.place c.requires c.args.object c.in-Some.row.now c.in-Some.ensures in
     let P : List (List ℕ) → Type 0 = λ names. IfOk c.names.result (λ result. result ≡ names) in
-    subst P (ap (map (λ (named : Named). named.name)) c.as_slice.ensures.value ∙ ap (λ o. option_map_or (λ (of : Properties). map (λ (named : Named). named.name) of.dynamic) o []) (sym one)) c.names.ensures
+    subst P (ap (map (λ (named : Named). named.name)) c.as_slice.ensures.value
+    ∙ ap (λ o. option_map_or (λ (of : Properties). map (λ (named : Named). named.name) of.dynamic) o []) (sym one)) c.names.ensures
 
 pub returns-in-None : goal.returns-in-None
 returns-in-None c =
     c.new.ensures
-    ∙ ap (λ o. option_map_or (λ (of : Properties). map (λ (named : Named). named.name) of.dynamic) o []) (sym (none_there (limited c.self.inside.rows c.self.inside.heads.room) (shelves_seen c.self.view_is) c.args.place c.requires c.args.object c.in-None.ensures))
+    ∙ ap (λ o. option_map_or (λ (of : Properties). map (λ (named : Named). named.name) of.dynamic) o [])
+    (sym (none_there (limited c.self.inside.rows c.self.inside.heads.room)
+    (shelves_seen c.self.view_is) c.args.place c.requires c.args.object c.in-None.ensures))

@@ -17,7 +17,8 @@ stands head.All some = refl
 told : (c : goal.Joined-matches) → is_some_head c.get.result.now ≡ has_marks (marks_at c.args.self.now.marks c.args.place)
 told c =
     ap is_some_head (c.get.ensures head.None)
-    ∙ sym (ap has_marks (marks_there c.self.invariant c.self.view_is c.args.place) ∙ head_tells (rows_at c.self.inside.rows c.args.place) (head_at c.self.inside.heads c.args.place) (c.self.invariant.chained c.args.place).linked)
+    ∙ sym (ap has_marks (marks_there c.self.invariant c.self.view_is c.args.place)
+    ∙ head_tells (rows_at c.self.inside.rows c.args.place) (head_at c.self.inside.heads c.args.place) (c.self.invariant.chained c.args.place).linked)
 
 pub returns : goal.returns
 returns c = elim c.match-matches.branch [

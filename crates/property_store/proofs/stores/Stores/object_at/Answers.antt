@@ -15,10 +15,16 @@ pub at-requires-clause-stands : goal.at-requires-clause-stands
 at-requires-clause-stands c = grind (arith, common_steps)
 
 pub returns : goal.returns
-returns c = record { object = λ default. ap (λ (of : Properties). of.object) (sym (there default)); fields = λ default. c.fields_in.ensures ∙ ap (λ (of : Properties). of.fields) (sym (there default)) }
+returns c = record {
+  object = λ default. ap (λ (of : Properties). of.object) (sym (there default));
+  fields = λ default. c.fields_in.ensures
+      ∙ ap (λ (of : Properties). of.fields) (sym (there default));
+}
   where
     keyed : Keyed Row
     keyed = record { key = c.at.result.0; row = c.at.result.1.now }
 
-    there : (default : Properties) → get_or (store_at c.args.self.now.shelves c.args.place) c.args.position default ≡ shown c.self.inside.layouts c.at.result.1.now
-    there default = at_there (limited c.self.inside.rows c.self.inside.heads.room) (shelves_seen c.self.view_is) c.args.place c.requires.place c.args.position c.requires.stands keyed (c.at.ensures keyed) default
+    there : (default : Properties) → get_or (store_at c.args.self.now.shelves c.args.place) c.args.position default
+        ≡ shown c.self.inside.layouts c.at.result.1.now
+    there default = at_there (limited c.self.inside.rows c.self.inside.heads.room)
+        (shelves_seen c.self.view_is) c.args.place c.requires.place c.args.position c.requires.stands keyed (c.at.ensures keyed) default

@@ -13,21 +13,40 @@ use Rattle.property_store.proofs.WrittenLemmas.{kept_same, marks_as_before}
 use Rattle.property_store.proofs.stores.Stores.remove_dynamic.Goals as goal
 
 -- the row of the object is changed
-changed : (c : goal.After-update) → IsRowChanged c.self.inside.layouts c.self.inside.rows c.self.inside.heads c.update.new.self c.self.inside.heads c.args.self.now c.args.place c.in-Some.key c.args.object c.update.ensures.3.shown.now c.update.ensures.3.left.now (head_at c.self.inside.heads c.args.place)
+changed : (c : goal.After-update) → IsRowChanged c.self.inside.layouts c.self.inside.rows c.self.inside.heads c.update.new.self c.self.inside.heads
+    c.args.self.now c.args.place c.in-Some.key c.args.object c.update.ensures.3.shown.now c.update.ensures.3.left.now (head_at c.self.inside.heads c.args.place)
 changed c =
     let done = c.update.ensures in
-    record { kept = c.self.invariant; view_is = c.self.view_is; is_place = c.requires; sound = c.find.ensures.sound; found = sym c.in-Some.ensures.found; lent = done.0; under = done.2; lends = done.3.shows; left = done.1; leaves = done.3.leaves; rows_are = done.4; heads_are = sym (with_same None c.self.inside.heads c.args.place) }
+    record {
+      kept = c.self.invariant;
+      view_is = c.self.view_is;
+      is_place = c.requires;
+      sound = c.find.ensures.sound;
+      found = sym c.in-Some.ensures.found;
+      lent = done.0;
+      under = done.2;
+      lends = done.3.shows;
+      left = done.1;
+      leaves = done.3.leaves;
+      rows_are = done.4;
+      heads_are = sym (with_same None c.self.inside.heads c.args.place);
+    }
 
 pub returns-in_default-clause-stores : goal.returns-in_default-clause-stores
-returns-in_default-clause-stores c = nothing_changed (limited c.self.inside.rows c.self.inside.heads.room) (shelves_seen c.self.view_is) c.args.place c.requires c.args.object (sym c.in_default.ensures.found) (without_dynamic c.args.name.now)
+returns-in_default-clause-stores c = nothing_changed (limited c.self.inside.rows c.self.inside.heads.room)
+    (shelves_seen c.self.view_is) c.args.place c.requires c.args.object (sym c.in_default.ensures.found) (without_dynamic c.args.name.now)
 
 pub update-requires-clause-callable : goal.update-requires-clause-callable
-update-requires-clause-callable c = λ lent under. (under_sound c.self.inside.layouts (rows_at c.self.inside.rows c.args.place) (c.self.invariant.sound c.args.place [] (rows_open (limited c.self.inside.rows c.self.inside.heads.room) (shelves_seen c.self.view_is) c.args.place c.requires)) c.in-Some.key lent.now under).distinct
+update-requires-clause-callable c = λ lent under.
+    (under_sound c.self.inside.layouts (rows_at c.self.inside.rows c.args.place)
+    (c.self.invariant.sound c.args.place [] (rows_open (limited c.self.inside.rows c.self.inside.heads.room)
+    (shelves_seen c.self.view_is) c.args.place c.requires)) c.in-Some.key lent.now under).distinct
 
 pub invariant_of-self : goal.invariant_of-self
 invariant_of-self c =
     let rest = c.update.ensures.3.met.rest in
-    kept_same (changed c) (ap (λ (r : Row). r.links) rest) (ap (λ (r : Row). length r.values) rest) (ap (λ (r : Row). r.object) rest) refl (removed_kept (as_changed (changed c)) {name = c.args.name.now} c.update.ensures.3.met)
+    kept_same (changed c) (ap (λ (r : Row). r.links) rest) (ap (λ (r : Row). length r.values) rest) (ap (λ (r : Row). r.object) rest) refl
+    (removed_kept (as_changed (changed c)) {name = c.args.name.now} c.update.ensures.3.met)
 
 pub returns-clause-stores : goal.returns-clause-stores
 returns-clause-stores c = dynamic_removed (as_changed (changed c)) c.update.ensures.3.met

@@ -19,13 +19,20 @@ pub unlink-link-requires-clause-stands : goal.unlink-link-requires-clause-stands
 unlink-link-requires-clause-stands c = search (rules, first_stands)
 
 pub invariant_of-self-in-First : goal.invariant_of-self-in-First
-invariant_of-self-in-First c = rw c.head_behind.ensures (one_left c.self.invariant c.self.view_is c.args.place c.requires c.in-First.at (sym (c.get.ensures None) ∙ c.in-First.is) c.unlink-link.result c.unlink-link.ensures.link c.unlink-link.new.rows c.unlink-link.ensures.rest).kept
+invariant_of-self-in-First c = rw c.head_behind.ensures
+    (one_left c.self.invariant c.self.view_is c.args.place c.requires c.in-First.at
+    (sym (c.get.ensures None) ∙ c.in-First.is) c.unlink-link.result c.unlink-link.ensures.link c.unlink-link.new.rows c.unlink-link.ensures.rest).kept
 
 pub returns-in-First-clause-shelves : goal.returns-in-First-clause-shelves
-returns-in-First-clause-shelves c = (one_left c.self.invariant c.self.view_is c.args.place c.requires c.in-First.at (sym (c.get.ensures None) ∙ c.in-First.is) c.unlink-link.result c.unlink-link.ensures.link c.unlink-link.new.rows c.unlink-link.ensures.rest).shelves
+returns-in-First-clause-shelves c = (one_left c.self.invariant c.self.view_is c.args.place c.requires c.in-First.at
+    (sym (c.get.ensures None) ∙ c.in-First.is) c.unlink-link.result c.unlink-link.ensures.link c.unlink-link.new.rows c.unlink-link.ensures.rest).shelves
 
 pub returns-in-First-clause-taken : goal.returns-in-First-clause-taken
-returns-in-First-clause-taken c = rw c.head_behind.ensures (one_taken c.self.invariant c.self.view_is c.args.place c.requires c.in-First.at (sym (c.get.ensures None) ∙ c.in-First.is) c.unlink-link.result c.unlink-link.ensures.link c.unlink-link.new.rows c.unlink-link.ensures.rest)
+returns-in-First-clause-taken c = rw c.head_behind.ensures
+    (one_taken c.self.invariant c.self.view_is c.args.place c.requires c.in-First.at
+    (sym (c.get.ensures None) ∙ c.in-First.is) c.unlink-link.result c.unlink-link.ensures.link c.unlink-link.new.rows c.unlink-link.ensures.rest)
 
 pub returns-in-First-clause-others : goal.returns-in-First-clause-others
-returns-in-First-clause-others c = rw c.head_behind.ensures (one_left c.self.invariant c.self.view_is c.args.place c.requires c.in-First.at (sym (c.get.ensures None) ∙ c.in-First.is) c.unlink-link.result c.unlink-link.ensures.link c.unlink-link.new.rows c.unlink-link.ensures.rest).others
+returns-in-First-clause-others c = rw c.head_behind.ensures
+    (one_left c.self.invariant c.self.view_is c.args.place c.requires c.in-First.at
+    (sym (c.get.ensures None) ∙ c.in-First.is) c.unlink-link.result c.unlink-link.ensures.link c.unlink-link.new.rows c.unlink-link.ensures.rest).others

@@ -10,7 +10,9 @@ use Rattle.property_store.proofs.stores.Stores.value_named.Goals as goal
 pub returns-in_err-row : goal.returns-in_err-row
 returns-in_err-row c =
     ap (option_map (λ value. value.now)) c.from_residual.ensures
-    ∙ ap (option_and_then (named_value c.args.name.now)) (sym (none_there (limited c.self.inside.rows c.self.inside.heads.room) (shelves_seen c.self.view_is) c.args.place c.requires c.args.object c.in_err-row.ensures))
+    ∙ ap (option_and_then (named_value c.args.name.now))
+    (sym (none_there (limited c.self.inside.rows c.self.inside.heads.room)
+    (shelves_seen c.self.view_is) c.args.place c.requires c.args.object c.in_err-row.ensures))
 
 pub returns-in-Some : goal.returns-in-Some
 returns-in-Some c =
@@ -18,7 +20,9 @@ returns-in-Some c =
     let number = c.in-Some.ensures.number ∙ ap (field_number c.args.name.now) c.fields_in.ensures in
     c.value_at.ensures
     ∙ (ap (λ o. option_map_or (λ n. slice_get row.values n) o (dynamic_value c.args.name.now row.dynamic.items)) number
-    ∙ ap (option_and_then (named_value c.args.name.now)) (sym (one_there (limited c.self.inside.rows c.self.inside.heads.room) (shelves_seen c.self.view_is) c.args.place c.requires c.args.object row c.in_ok-row.ensures)))
+    ∙ ap (option_and_then (named_value c.args.name.now))
+    (sym (one_there (limited c.self.inside.rows c.self.inside.heads.room)
+    (shelves_seen c.self.view_is) c.args.place c.requires c.args.object row c.in_ok-row.ensures)))
 
 pub returns-in-None : goal.returns-in-None
 returns-in-None c =
@@ -27,7 +31,9 @@ returns-in-None c =
     c.value_of.ensures
     ∙ (ap (dynamic_value c.args.name.now) c.as_slice.ensures.value
     ∙ (ap (λ o. option_map_or (λ n. slice_get row.values n) o (dynamic_value c.args.name.now row.dynamic.items)) number
-    ∙ ap (option_and_then (named_value c.args.name.now)) (sym (one_there (limited c.self.inside.rows c.self.inside.heads.room) (shelves_seen c.self.view_is) c.args.place c.requires c.args.object row c.in_ok-row.ensures))))
+    ∙ ap (option_and_then (named_value c.args.name.now))
+    (sym (one_there (limited c.self.inside.rows c.self.inside.heads.room)
+    (shelves_seen c.self.view_is) c.args.place c.requires c.args.object row c.in_ok-row.ensures))))
 
 pub row_of-requires : goal.row_of-requires
 row_of-requires c = grind (arith, common_steps)

@@ -14,27 +14,51 @@ use Rattle.property_store.proofs.stores.Stores.write.Goals as goal
 
 -- there is no such object
 pub returns-in_default-clause-refused : goal.returns-in_default-clause-refused
-returns-in_default-clause-refused c = (nothing_written c.args.self.now.shelves c.args.place c.args.object c.args.value (nothing (limited c.self.inside.rows c.self.inside.heads.room) (shelves_seen c.self.view_is) c.args.place c.requires.place c.args.object (sym c.in_default.ensures.found)) c.args.number).refused
+returns-in_default-clause-refused c = (nothing_written c.args.self.now.shelves c.args.place c.args.object c.args.value
+    (nothing (limited c.self.inside.rows c.self.inside.heads.room) (shelves_seen c.self.view_is) c.args.place c.requires.place c.args.object
+    (sym c.in_default.ensures.found)) c.args.number).refused
 
 pub returns-in_default-clause-answer : goal.returns-in_default-clause-answer
-returns-in_default-clause-answer c = (nothing_written c.args.self.now.shelves c.args.place c.args.object c.args.value (nothing (limited c.self.inside.rows c.self.inside.heads.room) (shelves_seen c.self.view_is) c.args.place c.requires.place c.args.object (sym c.in_default.ensures.found)) c.args.number).answer
+returns-in_default-clause-answer c = (nothing_written c.args.self.now.shelves c.args.place c.args.object c.args.value
+    (nothing (limited c.self.inside.rows c.self.inside.heads.room) (shelves_seen c.self.view_is) c.args.place c.requires.place c.args.object
+    (sym c.in_default.ensures.found)) c.args.number).answer
 
 pub returns-in_default-clause-new : goal.returns-in_default-clause-new
-returns-in_default-clause-new c = (nothing_written c.args.self.now.shelves c.args.place c.args.object c.args.value (nothing (limited c.self.inside.rows c.self.inside.heads.room) (shelves_seen c.self.view_is) c.args.place c.requires.place c.args.object (sym c.in_default.ensures.found)) c.args.number).new_is
+returns-in_default-clause-new c = (nothing_written c.args.self.now.shelves c.args.place c.args.object c.args.value
+    (nothing (limited c.self.inside.rows c.self.inside.heads.room) (shelves_seen c.self.view_is) c.args.place c.requires.place c.args.object
+    (sym c.in_default.ensures.found)) c.args.number).new_is
 
 pub returns-in_default-clause-marks : goal.returns-in_default-clause-marks
-returns-in_default-clause-marks c = nothing_marked c.args.place c.args.object (store_at c.args.self.now.shelves c.args.place) c.args.self.now.marks (nothing (limited c.self.inside.rows c.self.inside.heads.room) (shelves_seen c.self.view_is) c.args.place c.requires.place c.args.object (sym c.in_default.ensures.found)) c.args.number c.args.value
+returns-in_default-clause-marks c = nothing_marked c.args.place c.args.object (store_at c.args.self.now.shelves c.args.place) c.args.self.now.marks
+    (nothing (limited c.self.inside.rows c.self.inside.heads.room) (shelves_seen c.self.view_is) c.args.place c.requires.place c.args.object
+    (sym c.in_default.ensures.found)) c.args.number c.args.value
 
 pub write_under-requires-clause-many : goal.write_under-requires-clause-many
-write_under-requires-clause-many c = each_many c.self.invariant c.args.place (rows_open (limited c.self.inside.rows c.self.inside.heads.room) (shelves_seen c.self.view_is) c.args.place c.requires.place)
+write_under-requires-clause-many c = each_many c.self.invariant c.args.place
+    (rows_open (limited c.self.inside.rows c.self.inside.heads.room) (shelves_seen c.self.view_is) c.args.place c.requires.place)
 
 -- the value is refused
-refused_row : (c : goal.In-Err) → IsRowChanged c.self.inside.layouts c.self.inside.rows c.self.inside.heads c.write_under.new.rows c.self.inside.heads c.args.self.now c.args.place c.in-Some.key c.args.object c.write_under.ensures.row c.write_under.ensures.changed (head_at c.self.inside.heads c.args.place)
+refused_row : (c : goal.In-Err) → IsRowChanged c.self.inside.layouts c.self.inside.rows c.self.inside.heads c.write_under.new.rows c.self.inside.heads
+    c.args.self.now c.args.place c.in-Some.key c.args.object c.write_under.ensures.row c.write_under.ensures.changed (head_at c.self.inside.heads c.args.place)
 refused_row c =
     let done = c.write_under.ensures in
-    record { kept = c.self.invariant; view_is = c.self.view_is; is_place = c.requires.place; sound = c.find.ensures.sound; found = sym c.in-Some.ensures.found; lent = done.row; under = done.under; lends = refl; left = done.changed; leaves = refl; rows_are = done.new_is; heads_are = sym (with_same None c.self.inside.heads c.args.place) }
+    record {
+      kept = c.self.invariant;
+      view_is = c.self.view_is;
+      is_place = c.requires.place;
+      sound = c.find.ensures.sound;
+      found = sym c.in-Some.ensures.found;
+      lent = done.row;
+      under = done.under;
+      lends = refl;
+      left = done.changed;
+      leaves = refl;
+      rows_are = done.new_is;
+      heads_are = sym (with_same None c.self.inside.heads c.args.place);
+    }
 
-refused : (c : goal.In-Err) → IsStored (fields_in c.self.inside.layouts c.write_under.ensures.row.class) c.args.number c.args.value (head_at c.self.inside.heads c.args.place) c.write_under.ensures.row c.write_under.ensures.changed (Err c.in-Err.code)
+refused : (c : goal.In-Err) → IsStored (fields_in c.self.inside.layouts c.write_under.ensures.row.class) c.args.number c.args.value
+    (head_at c.self.inside.heads c.args.place) c.write_under.ensures.row c.write_under.ensures.changed (Err c.in-Err.code)
 refused c = search rules
 
 pub invariant_of-self : goal.invariant_of-self
@@ -53,12 +77,28 @@ pub returns-in-Err-clause-marks : goal.returns-in-Err-clause-marks
 returns-in-Err-clause-marks c = stored_marks (refused_row c) (refused c) refl
 
 -- it is stored
-stored_row : (c : goal.After-set_first) → IsRowChanged c.self.inside.layouts c.self.inside.rows c.self.inside.heads c.write_under.new.rows c.set_first.new.heads c.args.self.now c.args.place c.in-Some.key c.args.object c.write_under.ensures.row c.write_under.ensures.changed (cond c.in-Ok.stored.is_linked (First (record { object = c.args.object; number = c.args.number })) (head_at c.self.inside.heads c.args.place))
+stored_row : (c : goal.After-set_first) → IsRowChanged c.self.inside.layouts c.self.inside.rows c.self.inside.heads c.write_under.new.rows c.set_first.new.heads
+    c.args.self.now c.args.place c.in-Some.key c.args.object c.write_under.ensures.row c.write_under.ensures.changed
+    (cond c.in-Ok.stored.is_linked (First (record { object = c.args.object; number = c.args.number })) (head_at c.self.inside.heads c.args.place))
 stored_row c =
     let done = c.write_under.ensures in
-    record { kept = c.self.invariant; view_is = c.self.view_is; is_place = c.requires.place; sound = c.find.ensures.sound; found = sym c.in-Some.ensures.found; lent = done.row; under = done.under; lends = refl; left = done.changed; leaves = refl; rows_are = done.new_is; heads_are = c.set_first.ensures }
+    record {
+      kept = c.self.invariant;
+      view_is = c.self.view_is;
+      is_place = c.requires.place;
+      sound = c.find.ensures.sound;
+      found = sym c.in-Some.ensures.found;
+      lent = done.row;
+      under = done.under;
+      lends = refl;
+      left = done.changed;
+      leaves = refl;
+      rows_are = done.new_is;
+      heads_are = c.set_first.ensures;
+    }
 
-stored : (c : goal.After-set_first) → IsStored (fields_in c.self.inside.layouts c.write_under.ensures.row.class) c.args.number c.args.value (head_at c.self.inside.heads c.args.place) c.write_under.ensures.row c.write_under.ensures.changed (Ok c.in-Ok.stored)
+stored : (c : goal.After-set_first) → IsStored (fields_in c.self.inside.layouts c.write_under.ensures.row.class) c.args.number c.args.value
+    (head_at c.self.inside.heads c.args.place) c.write_under.ensures.row c.write_under.ensures.changed (Ok c.in-Ok.stored)
 stored c = search rules
 
 pub invariant_of-self-2 : goal.invariant_of-self-2

@@ -14,58 +14,101 @@ use Rattle.property_store.proofs.stores.Stores.write_named.Goals as goal
 
 -- there is no such object
 pub returns-in_default-clause-answer : goal.returns-in_default-clause-answer
-returns-in_default-clause-answer c = (nothing_named c.args.self.now.shelves c.args.place c.args.object c.args.value (nothing (limited c.self.inside.rows c.self.inside.heads.room) (shelves_seen c.self.view_is) c.args.place c.requires.place c.args.object (sym c.in_default.ensures.found)) c.args.name.now).answer
+returns-in_default-clause-answer c = (nothing_named c.args.self.now.shelves c.args.place c.args.object c.args.value
+    (nothing (limited c.self.inside.rows c.self.inside.heads.room) (shelves_seen c.self.view_is) c.args.place c.requires.place c.args.object
+    (sym c.in_default.ensures.found)) c.args.name.now).answer
 
 pub returns-in_default-clause-new : goal.returns-in_default-clause-new
-returns-in_default-clause-new c = (nothing_named c.args.self.now.shelves c.args.place c.args.object c.args.value (nothing (limited c.self.inside.rows c.self.inside.heads.room) (shelves_seen c.self.view_is) c.args.place c.requires.place c.args.object (sym c.in_default.ensures.found)) c.args.name.now).new_is
+returns-in_default-clause-new c = (nothing_named c.args.self.now.shelves c.args.place c.args.object c.args.value
+    (nothing (limited c.self.inside.rows c.self.inside.heads.room) (shelves_seen c.self.view_is) c.args.place c.requires.place c.args.object
+    (sym c.in_default.ensures.found)) c.args.name.now).new_is
 
 pub returns-in_default-clause-marks : goal.returns-in_default-clause-marks
-returns-in_default-clause-marks c = no_name_marked c.args.place c.args.object (store_at c.args.self.now.shelves c.args.place) c.args.self.now.marks (nothing (limited c.self.inside.rows c.self.inside.heads.room) (shelves_seen c.self.view_is) c.args.place c.requires.place c.args.object (sym c.in_default.ensures.found)) c.args.name.now c.args.value
+returns-in_default-clause-marks c = no_name_marked c.args.place c.args.object (store_at c.args.self.now.shelves c.args.place) c.args.self.now.marks
+    (nothing (limited c.self.inside.rows c.self.inside.heads.room) (shelves_seen c.self.view_is) c.args.place c.requires.place c.args.object
+    (sym c.in_default.ensures.found)) c.args.name.now c.args.value
 
 pub update-requires-clause-callable : goal.update-requires-clause-callable
-update-requires-clause-callable c = λ lent under. under_many c.self.invariant c.args.place (rows_open (limited c.self.inside.rows c.self.inside.heads.room) (shelves_seen c.self.view_is) c.args.place c.requires.place) c.in-Some.key lent.now under
+update-requires-clause-callable c = λ lent under. under_many c.self.invariant c.args.place
+    (rows_open (limited c.self.inside.rows c.self.inside.heads.room) (shelves_seen c.self.view_is) c.args.place c.requires.place) c.in-Some.key lent.now under
 
 -- the value is refused
-refused_row : (c : goal.In-Err) → IsRowChanged c.self.inside.layouts c.self.inside.rows c.self.inside.heads c.update.new.self c.self.inside.heads c.args.self.now c.args.place c.in-Some.key c.args.object c.update.ensures.3.shown.now c.update.ensures.3.left.now (head_at c.self.inside.heads c.args.place)
+refused_row : (c : goal.In-Err) → IsRowChanged c.self.inside.layouts c.self.inside.rows c.self.inside.heads c.update.new.self c.self.inside.heads
+    c.args.self.now c.args.place c.in-Some.key c.args.object c.update.ensures.3.shown.now c.update.ensures.3.left.now (head_at c.self.inside.heads c.args.place)
 refused_row c =
     let done = c.update.ensures in
-    record { kept = c.self.invariant; view_is = c.self.view_is; is_place = c.requires.place; sound = c.find.ensures.sound; found = sym c.in-Some.ensures.found; lent = done.0; under = done.2; lends = done.3.shows; left = done.1; leaves = done.3.leaves; rows_are = done.4; heads_are = sym (with_same None c.self.inside.heads c.args.place) }
+    record {
+      kept = c.self.invariant;
+      view_is = c.self.view_is;
+      is_place = c.requires.place;
+      sound = c.find.ensures.sound;
+      found = sym c.in-Some.ensures.found;
+      lent = done.0;
+      under = done.2;
+      lends = done.3.shows;
+      left = done.1;
+      leaves = done.3.leaves;
+      rows_are = done.4;
+      heads_are = sym (with_same None c.self.inside.heads c.args.place);
+    }
 
-refused : (c : goal.In-Err) → IsNamed (fields_in c.self.inside.layouts c.update.ensures.3.shown.now.class) c.args.name.now c.args.value (head_at c.self.inside.heads c.args.place) c.update.ensures.3.shown.now c.update.ensures.3.left.now (Err c.in-Err.unwritten)
+refused : (c : goal.In-Err) → IsNamed (fields_in c.self.inside.layouts c.update.ensures.3.shown.now.class) c.args.name.now c.args.value
+    (head_at c.self.inside.heads c.args.place) c.update.ensures.3.shown.now c.update.ensures.3.left.now (Err c.in-Err.unwritten)
 refused c = search rules
 
 pub invariant_of-self : goal.invariant_of-self
 invariant_of-self c = named_kept (refused_row c) c.args.name.now c.args.value (Err c.in-Err.unwritten) (refused c) refl c.requires.short
 
 pub returns-in-Err-clause-answer : goal.returns-in-Err-clause-answer
-returns-in-Err-clause-answer c = (name_written (as_changed (refused_row c)) c.args.name.now c.args.value (head_at c.self.inside.heads c.args.place) (Err c.in-Err.unwritten) (refused c)).answer
+returns-in-Err-clause-answer c = (name_written (as_changed (refused_row c)) c.args.name.now c.args.value (head_at c.self.inside.heads c.args.place)
+    (Err c.in-Err.unwritten) (refused c)).answer
 
 pub returns-in-Err-clause-new : goal.returns-in-Err-clause-new
-returns-in-Err-clause-new c = (name_written (as_changed (refused_row c)) c.args.name.now c.args.value (head_at c.self.inside.heads c.args.place) (Err c.in-Err.unwritten) (refused c)).new_is
+returns-in-Err-clause-new c = (name_written (as_changed (refused_row c)) c.args.name.now c.args.value (head_at c.self.inside.heads c.args.place)
+    (Err c.in-Err.unwritten) (refused c)).new_is
 
 pub returns-in-Err-clause-err : goal.returns-in-Err-clause-err
-returns-in-Err-clause-err c = named_same (refused_row c) c.args.name.now c.args.value (Err c.in-Err.unwritten) (refused c) refl c.in-Err.unwritten refl (name_written (as_changed (refused_row c)) c.args.name.now c.args.value (head_at c.self.inside.heads c.args.place) (Err c.in-Err.unwritten) (refused c)).err
+returns-in-Err-clause-err c = named_same (refused_row c) c.args.name.now c.args.value (Err c.in-Err.unwritten) (refused c) refl c.in-Err.unwritten refl
+    (name_written (as_changed (refused_row c)) c.args.name.now c.args.value (head_at c.self.inside.heads c.args.place) (Err c.in-Err.unwritten) (refused c)).err
 
 pub returns-in-Err-clause-marks : goal.returns-in-Err-clause-marks
 returns-in-Err-clause-marks c = named_marks (refused_row c) c.args.name.now c.args.value (Err c.in-Err.unwritten) (refused c) refl
 
 -- it is stored
-stored_row : (c : goal.After-set_first) → IsRowChanged c.self.inside.layouts c.self.inside.rows c.self.inside.heads c.update.new.self c.set_first.new.heads c.args.self.now c.args.place c.in-Some.key c.args.object c.update.ensures.3.shown.now c.update.ensures.3.left.now (cond c.in-Ok.stored.1.is_linked (First (record { object = c.args.object; number = c.in-Ok.stored.0 })) (head_at c.self.inside.heads c.args.place))
+stored_row : (c : goal.After-set_first) → IsRowChanged c.self.inside.layouts c.self.inside.rows c.self.inside.heads c.update.new.self c.set_first.new.heads
+    c.args.self.now c.args.place c.in-Some.key c.args.object c.update.ensures.3.shown.now c.update.ensures.3.left.now
+    (cond c.in-Ok.stored.1.is_linked (First (record { object = c.args.object; number = c.in-Ok.stored.0 })) (head_at c.self.inside.heads c.args.place))
 stored_row c =
     let done = c.update.ensures in
-    record { kept = c.self.invariant; view_is = c.self.view_is; is_place = c.requires.place; sound = c.find.ensures.sound; found = sym c.in-Some.ensures.found; lent = done.0; under = done.2; lends = done.3.shows; left = done.1; leaves = done.3.leaves; rows_are = done.4; heads_are = c.set_first.ensures }
+    record {
+      kept = c.self.invariant;
+      view_is = c.self.view_is;
+      is_place = c.requires.place;
+      sound = c.find.ensures.sound;
+      found = sym c.in-Some.ensures.found;
+      lent = done.0;
+      under = done.2;
+      lends = done.3.shows;
+      left = done.1;
+      leaves = done.3.leaves;
+      rows_are = done.4;
+      heads_are = c.set_first.ensures;
+    }
 
-stored : (c : goal.After-set_first) → IsNamed (fields_in c.self.inside.layouts c.update.ensures.3.shown.now.class) c.args.name.now c.args.value (head_at c.self.inside.heads c.args.place) c.update.ensures.3.shown.now c.update.ensures.3.left.now (Ok c.in-Ok.stored)
+stored : (c : goal.After-set_first) → IsNamed (fields_in c.self.inside.layouts c.update.ensures.3.shown.now.class) c.args.name.now c.args.value
+    (head_at c.self.inside.heads c.args.place) c.update.ensures.3.shown.now c.update.ensures.3.left.now (Ok c.in-Ok.stored)
 stored c = search rules
 
 pub invariant_of-self-2 : goal.invariant_of-self-2
 invariant_of-self-2 c = named_kept (stored_row c) c.args.name.now c.args.value (Ok c.in-Ok.stored) (stored c) refl c.requires.short
 
 pub returns-clause-answer : goal.returns-clause-answer
-returns-clause-answer c = (name_written (as_changed (stored_row c)) c.args.name.now c.args.value (head_at c.self.inside.heads c.args.place) (Ok c.in-Ok.stored) (stored c)).answer
+returns-clause-answer c = (name_written (as_changed (stored_row c)) c.args.name.now c.args.value (head_at c.self.inside.heads c.args.place) (Ok c.in-Ok.stored)
+    (stored c)).answer
 
 pub returns-clause-new : goal.returns-clause-new
-returns-clause-new c = (name_written (as_changed (stored_row c)) c.args.name.now c.args.value (head_at c.self.inside.heads c.args.place) (Ok c.in-Ok.stored) (stored c)).new_is
+returns-clause-new c = (name_written (as_changed (stored_row c)) c.args.name.now c.args.value (head_at c.self.inside.heads c.args.place) (Ok c.in-Ok.stored)
+    (stored c)).new_is
 
 pub returns-clause-marks : goal.returns-clause-marks
 returns-clause-marks c = named_marks (stored_row c) c.args.name.now c.args.value (Ok c.in-Ok.stored) (stored c) refl

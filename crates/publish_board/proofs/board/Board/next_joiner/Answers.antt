@@ -4,4 +4,5 @@ use Rattle.publish_board.proofs.ListedLemmas.{next_joins}
 use Rattle.publish_board.proofs.board.Board.next_joiner.Goals as goal
 
 pub returns : goal.returns
-returns c = next_joins c.self.inside.joiners c.args.self.now (subst (AreListed c.self.inside.joiners) c.self.view_is c.self.invariant) c.args.from.now c.args.least c.next.result c.next.ensures
+returns c = next_joins c.self.inside.joiners c.args.self.now (subst (AreListed c.self.inside.joiners) c.self.view_is c.self.invariant) c.args.from.now
+    c.args.least c.next.result c.next.ensures

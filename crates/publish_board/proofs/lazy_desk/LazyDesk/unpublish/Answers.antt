@@ -5,4 +5,5 @@ use Rattle.publish_board.proofs.lazy_desk.LazyDesk.unpublish.Goals as goal
 
 pub invariant_of-self-2 : goal.invariant_of-self-2
 invariant_of-self-2 c =
-    sound_without c.self.inside.made c.in-Some.rows c.deref_mut.result.now c.unpublish.new.self (λ row. not (has_name c.args.name.now row)) c.self.invariant c.in-Some.is c.deref_mut.ensures.value c.unpublish.ensures
+    sound_without c.self.inside.made c.in-Some.rows c.deref_mut.result.now c.unpublish.new.self
+    (λ row. not (has_name c.args.name.now row)) c.self.invariant c.in-Some.is c.deref_mut.ensures.value c.unpublish.ensures

@@ -6,4 +6,5 @@ use Rattle.publish_board.proofs.rows.Rows.drop_publications.Goals as goal
 
 pub returns : goal.returns
 returns c =
-    ap (λ (rows : List Publication). let desk : Desk = record { publications = rows; joins = c.args.self.now.joins.items } in desk) (filter_same _ (λ row. not (row.object == c.args.object)) _ (λ x b f' h. search rules) _ _ c.retain.ensures.filtered)
+    ap (λ (rows : List Publication). let desk : Desk = record { publications = rows; joins = c.args.self.now.joins.items } in desk)
+    (filter_same _ (λ row. not (row.object == c.args.object)) _ (λ x b f' h. search rules) _ _ c.retain.ensures.filtered)

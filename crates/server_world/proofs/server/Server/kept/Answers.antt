@@ -16,7 +16,8 @@ kept-requires-clause-within g c = rw c.len.ensures.count c.requires
 
 pub returns-in-Some : goal.returns-in-Some
 returns-in-Some g c =
-    IfOk-weaker c.kept.result _ _ (λ places is. is ∙ kept_there (seen_as c.args.self.now) c.args.session.now c.in-Some.place c.args.notes.now c.len.ensures.named (sym c.in-Some.ensures) c.requires) c.kept.ensures
+    IfOk-weaker c.kept.result _ _ (λ places is. is ∙ kept_there
+    (seen_as c.args.self.now) c.args.session.now c.in-Some.place c.args.notes.now c.len.ensures.named (sym c.in-Some.ensures) c.requires) c.kept.ensures
 
 pub returns-in-None : goal.returns-in-None
 returns-in-None g c = c.new.ensures.items ∙ kept_none (seen_as c.args.self.now) c.args.session.now c.args.notes.now (sym c.in-None.ensures) c.requires

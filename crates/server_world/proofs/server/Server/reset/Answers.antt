@@ -4,4 +4,7 @@ use Rattle.server_world.proofs.ServerLemmas.{anew_absent}
 use Rattle.server_world.proofs.server.Server.reset.Goals as goal
 
 pub returns-in_default : goal.returns-in_default
-returns-in_default g c = record { anew = anew_absent (seen_as c.args.self.now) c.args.session.now (sym c.in_default.ensures) c.law_sound.ensures.sound; names = refl }
+returns-in_default g c = record {
+  anew = anew_absent (seen_as c.args.self.now) c.args.session.now (sym c.in_default.ensures) c.law_sound.ensures.sound;
+  names = refl;
+}

@@ -26,13 +26,15 @@ loop-given-preserved g c =
 
 pub returns-clause-steps : goal.returns-clause-steps
 returns-clause-steps g c =
-    inl (steps_all (seen_as c.args.self.now) (seen_as c.loop-given.self) c.args.list.now c.loop-given.given-index c.loop-given.entries.items _ (omega arith) c.from_vec.ensures c.loop-given.invariant.steps)
+    inl (steps_all (seen_as c.args.self.now) (seen_as c.loop-given.self) c.args.list.now c.loop-given.given-index c.loop-given.entries.items _
+    (omega arith) c.from_vec.ensures c.loop-given.invariant.steps)
 
 pub returns-clause-world : goal.returns-clause-world
 returns-clause-world g c = λ found.
     let old = seen_as c.args.self.now in
     let new = seen_as c.loop-given.self in
-    let steps = steps_all old new c.args.list.now c.loop-given.given-index c.loop-given.entries.items _ (omega arith) c.from_vec.ensures c.loop-given.invariant.steps in
+    let steps = steps_all old new c.args.list.now c.loop-given.given-index c.loop-given.entries.items _
+    (omega arith) c.from_vec.ensures c.loop-given.invariant.steps in
     steps_world old new (tags c.args.list.now) _ steps (sym c.memory_refused.ensures ∙ found)
 
 pub returns-clause-isolated : goal.returns-clause-isolated
@@ -42,18 +44,21 @@ pub returns-clause-spared : goal.returns-clause-spared
 returns-clause-spared g c = λ s fine.
     let old = seen_as c.args.self.now in
     let new = seen_as c.loop-given.self in
-    let steps = steps_all old new c.args.list.now c.loop-given.given-index c.loop-given.entries.items _ (omega arith) c.from_vec.ensures c.loop-given.invariant.steps in
+    let steps = steps_all old new c.args.list.now c.loop-given.given-index c.loop-given.entries.items _
+    (omega arith) c.from_vec.ensures c.loop-given.invariant.steps in
     spared old new (tags c.args.list.now) _ steps s fine
 
 pub returns-in_default-clause-spared : goal.returns-in_default-clause-spared
 returns-in_default-clause-spared g c = λ s fine.
-    spared_none (seen_as c.args.self.now) (seen_as c.note_memory_refused.new.self) (tags c.args.list.now) _ c.new.ensures c.note_memory_refused.ensures.refused s fine
+    spared_none (seen_as c.args.self.now) (seen_as c.note_memory_refused.new.self)
+    (tags c.args.list.now) _ c.new.ensures c.note_memory_refused.ensures.refused s fine
 
 pub returns-clause-blame : goal.returns-clause-blame
 returns-clause-blame g c = λ was refused.
     let old = seen_as c.args.self.now in
     let new = seen_as c.loop-given.self in
-    let steps = steps_all old new c.args.list.now c.loop-given.given-index c.loop-given.entries.items _ (omega arith) c.from_vec.ensures c.loop-given.invariant.steps in
+    let steps = steps_all old new c.args.list.now c.loop-given.given-index c.loop-given.entries.items _
+    (omega arith) c.from_vec.ensures c.loop-given.invariant.steps in
     inr (steps_blame old new (tags c.args.list.now) _ steps was (sym c.memory_refused.ensures ∙ refused))
 
 pub returns-clause-later : goal.returns-clause-later

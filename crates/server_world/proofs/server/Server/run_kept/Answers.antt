@@ -36,7 +36,8 @@ pub returns-in-Err-clause-later : goal.returns-in-Err-clause-later
 returns-in-Err-clause-later g c =
     let new = seen_as c.note_memory_refused.new.self in
     record {
-      settings = c.note_memory_refused.ensures.settings ∙ stops_settings (seen_as c.args.self.now) (seen_as c.run_noted.new.self) (tags c.args.list.now) c.in-Err.ensures.stopped;
+      settings = c.note_memory_refused.ensures.settings ∙ stops_settings (seen_as c.args.self.now) (seen_as c.run_noted.new.self)
+          (tags c.args.list.now) c.in-Err.ensures.stopped;
       kept = λ was. c.note_memory_refused.ensures.refused.refused;
       knows = knows_all (settings new) new.engine;
       sound = c.law_sound-in-Err.ensures.sound;

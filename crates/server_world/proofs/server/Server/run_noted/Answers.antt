@@ -27,21 +27,25 @@ loop-given-preserved g c =
           (steps_more old now next before c.loop-given.entries.items (tag given) entry invariant.steps c.entry-entry.ensures));
       noted = λ found. subst (λ notes. AreNoted (states old) (tags (take (c.loop-given.given-index + 1) c.args.list.now)) next notes) (sym put)
           (subst (λ ts. AreNoted (states old) ts next (c.loop-given.notes ++ note ∷ [])) (sym more)
-          (noted_step old now next before c.loop-given.entries.items (tag given) entry c.loop-given.notes note invariant.steps c.entry-entry.ensures invariant.noted right found));
+          (noted_step old now next before c.loop-given.entries.items
+          (tag given) entry c.loop-given.notes note invariant.steps c.entry-entry.ensures invariant.noted right found));
     }
 
 pub returns-in_err-entries-clause-stopped : goal.returns-in_err-entries-clause-stopped
-returns-in_err-entries-clause-stopped g c = if_stops _ (seen_as c.args.self.now) (seen_as c.args.self.now) (tags c.args.list.now) (record { count = 0; entries = []; steps = refl })
+returns-in_err-entries-clause-stopped g c = if_stops _ (seen_as c.args.self.now) (seen_as c.args.self.now) (tags c.args.list.now)
+    (record { count = 0; entries = []; steps = refl })
 
 pub returns-in_err-note-clause-stopped : goal.returns-in_err-note-clause-stopped
 returns-in_err-note-clause-stopped g c =
     if_stops _ (seen_as c.args.self.now) (seen_as c.loop-given.self) (tags c.args.list.now)
-    (stops_at (seen_as c.args.self.now) (seen_as c.loop-given.self) c.args.list.now c.loop-given.given-index c.loop-given.entries.items c.loop-given.invariant.steps)
+    (stops_at (seen_as c.args.self.now) (seen_as c.loop-given.self) c.args.list.now c.loop-given.given-index c.loop-given.entries.items
+    c.loop-given.invariant.steps)
 
 pub returns-in_err-places-clause-stopped : goal.returns-in_err-places-clause-stopped
 returns-in_err-places-clause-stopped g c =
     if_stops _ (seen_as c.args.self.now) (seen_as c.loop-given.self) (tags c.args.list.now)
-    (stops_at (seen_as c.args.self.now) (seen_as c.loop-given.self) c.args.list.now c.loop-given.given-index c.loop-given.entries.items c.loop-given.invariant.steps)
+    (stops_at (seen_as c.args.self.now) (seen_as c.loop-given.self) c.args.list.now c.loop-given.given-index c.loop-given.entries.items
+    c.loop-given.invariant.steps)
 
 pub returns-clause-told : goal.returns-clause-told
 returns-clause-told g c =
@@ -51,11 +55,14 @@ returns-clause-told g c =
     let whole = ap tags (take_all c.loop-given.given-index c.args.list.now (omega arith)) in
     record {
       refused = sym found;
-      steps = steps_all old new c.args.list.now c.loop-given.given-index c.loop-given.entries.items _ (omega arith) c.from_vec-lines.ensures c.loop-given.invariant.steps;
+      steps = steps_all old new c.args.list.now c.loop-given.given-index c.loop-given.entries.items _
+          (omega arith) c.from_vec-lines.ensures c.loop-given.invariant.steps;
       kept = record {
         found = λ fine. c.in_ok-places.ensures
-            ∙ kept_are (states old) (tags (take c.loop-given.given-index c.args.list.now)) new c.loop-given.notes c.args.session.now (c.loop-given.invariant.noted found)
-            ∙ ap₂ (λ settings ts. kept_places settings (states old) ts c.args.session.now) (steps_settings old new (tags (take c.loop-given.given-index c.args.list.now)) c.loop-given.entries.items c.loop-given.invariant.steps) whole;
+            ∙ kept_are (states old) (tags (take c.loop-given.given-index c.args.list.now)) new c.loop-given.notes c.args.session.now
+            (c.loop-given.invariant.noted found)
+            ∙ ap₂ (λ settings ts. kept_places settings (states old) ts c.args.session.now)
+            (steps_settings old new (tags (take c.loop-given.given-index c.args.list.now)) c.loop-given.entries.items c.loop-given.invariant.steps) whole;
         none = λ refused. absurd (true≢false (sym refused));
       };
     }

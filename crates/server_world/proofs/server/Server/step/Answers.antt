@@ -12,7 +12,8 @@ pub returns-in_err-place-clause-step : goal.returns-in_err-place-clause-step
 returns-in_err-place-clause-step g c =
     let old : Server = seen_as c.args.self.now in
     let new : Server = record { engine = seen_engine c.enter.new.sessions; memory_refused = old.memory_refused } in
-    subst (IsStep (seen_by_name old) (seen_by_name new) c.args.given.now.session (asked c.args.given.now.command)) (sym (none_of_err _ c.from_residual.ensures.0))
+    subst (IsStep (seen_by_name old) (seen_by_name new) c.args.given.now.session (asked c.args.given.now.command))
+    (sym (none_of_err _ c.from_residual.ensures.0))
     (step_out old new c.args.given.now.session (asked c.args.given.now.command) c.in_err-place.ensures.out c.enter.ensures.well c.enter.ensures.sound)
 
 pub returns-clause-step : goal.returns-clause-step
@@ -20,5 +21,6 @@ returns-clause-step g c =
     let old : Server = seen_as c.args.self.now in
     let new : Server = record { engine = seen_engine c.told.new.self; memory_refused = old.memory_refused } in
     step_of_engine old new refl c.args.given.now.session (asked c.args.given.now.command) (result_ok c.told.result)
-    (subst (λ sessions. IsStep sessions (engine.seen_by_name (seen_engine c.told.new.self)) c.args.given.now.session (asked c.args.given.now.command) (result_ok c.told.result)) c.in_ok-place.ensures.seen
+    (subst (λ sessions. IsStep sessions (engine.seen_by_name (seen_engine c.told.new.self)) c.args.given.now.session (asked c.args.given.now.command)
+    (result_ok c.told.result)) c.in_ok-place.ensures.seen
     (c.told.ensures.step c.args.given.now.session c.in_ok-place.ensures.place))

@@ -9,12 +9,14 @@ use Rattle.session_engine.proofs.engine.Engine.come.Goals as goal
 
 pub returns-in-Arrival-clause-ok : goal.returns-in-Arrival-clause-ok
 returns-in-Arrival-clause-ok g c = λ name there.
-    subst (λ item. OnOk c.arrive.result (HasAdded (seen_by_name c.args.self.now.core) (seen_by_name c.arrive.new.self.core) name (item_of item) c.args.told.now c.args.told.now)) (sym c.in-Arrival.is)
+    subst (λ item. OnOk c.arrive.result (HasAdded (seen_by_name c.args.self.now.core) (seen_by_name c.arrive.new.self.core) name
+    (item_of item) c.args.told.now c.args.told.now)) (sym c.in-Arrival.is)
     (arrival_comes _ _ name _ _ c.args.told.now c.arrive.result (c.arrive.ensures.arrives name there))
 
 pub returns-in-Ok-clause-ok : goal.returns-in-Ok-clause-ok
 returns-in-Ok-clause-ok g c = λ name there.
-    subst (λ item. HasAdded (seen_by_name c.args.self.now.core) (seen_by_name c.told.new.self.core) name (item_of item) c.args.told.now c.append.new.told) (sym c.in-Own.is)
+    subst (λ item. HasAdded (seen_by_name c.args.self.now.core) (seen_by_name c.told.new.self.core) name (item_of item) c.args.told.now c.append.new.told)
+    (sym c.in-Own.is)
     (c.in_ok-lines-in-Own.lines, c.in_ok-lines-in-Own.ensures.step name there, c.in-Ok.ensures)
 
 pub returns-in_default-clause-err : goal.returns-in_default-clause-err

@@ -10,7 +10,8 @@ obey-requires-clause-known g c = record { laid = c.self.invariant.laid; stored =
 pub invariant_of-self : goal.invariant_of-self
 invariant_of-self g c =
     done_whole _ _ c.self.inside.0.0.tables c.obey.new.tables _ _ c.obey.result c.obey.ensures _
-    c.args.self.now.core c.self.invariant (λ state. asked_fits _ state c.args.command.now) (ap seen_engine c.self.view_is) c.in-Some.ensures.key c.requires.0 c.requires.1
+    c.args.self.now.core c.self.invariant (λ state. asked_fits _ state c.args.command.now)
+    (ap seen_engine c.self.view_is) c.in-Some.ensures.key c.requires.0 c.requires.1
 
 pub returns-clause-step : goal.returns-clause-step
 returns-clause-step g c = λ name there.

@@ -6,5 +6,6 @@ use Rattle.session_engine.proofs.JoiningLemmas.{if_joiners}
 use Rattle.session_engine.proofs.engine.Engine.joiners.Goals as goal
 
 pub returns : goal.returns
-returns g c = subst (λ (engine : EngineState). IfOk c.joiners.result (λ places. AreJoinersOf engine c.args.from.now places.items)) (ap seen_engine c.self.view_is)
+returns g c = subst (λ (engine : EngineState). IfOk c.joiners.result (λ places. AreJoinersOf engine c.args.from.now places.items))
+    (ap seen_engine c.self.view_is)
     (if_joiners _ c.args.from.now (λ places. places.items) c.joiners.result c.self.invariant c.joiners.ensures)

@@ -9,7 +9,8 @@ use Rattle.session_engine.proofs.engine.Engine.told.Goals as goal
 
 pub returns-in-Ok-one_line-clause-step : goal.returns-in-Ok-one_line-clause-step
 returns-in-Ok-one_line-clause-step g c = λ name there.
-    subst (λ lines. IsStep (seen_by_name (seen_engine c.args.self.now)) (seen_by_name (seen_engine c.command.new.self)) name (asked c.args.command.now) (Some lines)) (sym c.in-Ok-one_line.ensures)
+    subst (λ lines. IsStep (seen_by_name (seen_engine c.args.self.now)) (seen_by_name (seen_engine c.command.new.self)) name (asked c.args.command.now)
+    (Some lines)) (sym c.in-Ok-one_line.ensures)
     (rw c.in-Err-Refused.field-0-is at (c.in-Err-Refused.ensures.step name there))
 
 pub returns-in_default-clause-step : goal.returns-in_default-clause-step
@@ -21,7 +22,8 @@ pub returns-in-Err-Memory-clause-step : goal.returns-in-Err-Memory-clause-step
 returns-in-Err-Memory-clause-step g c = λ name there. rw c.in-Err-Memory.field-0-is at (c.in-Err-Memory.ensures.step name there)
 
 pub returns-in_default-clause-fails : goal.returns-in_default-clause-fails
-returns-in_default-clause-fails g c = λ name there. (c.give_up.ensures.fails name (ap (λ names. position (bytes_eq name) names) c.command.ensures.places.names ∙ there)).fails
+returns-in_default-clause-fails g c = λ name there.
+    (c.give_up.ensures.fails name (ap (λ names. position (bytes_eq name) names) c.command.ensures.places.names ∙ there)).fails
 
 pub returns-in-Err-Memory-clause-fails : goal.returns-in-Err-Memory-clause-fails
 returns-in-Err-Memory-clause-fails g c = λ name there. (rw c.in-Err-Memory.field-0-is at (c.in-Err-Memory.ensures.answered name there)).fails

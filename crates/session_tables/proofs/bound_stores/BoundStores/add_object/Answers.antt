@@ -20,8 +20,11 @@ returns-in-Err-clause-only c =
     let store = added (store_at stores place) c.args.object (fields_of stores c.args.class) in
     let new : c.settle.new.stores.shelves ≡ with_store stores place store = c.settle.ensures.stores ∙ c.in_ok-add_object.ensures.ok in
     rw (← c.self.view_is)
-    (forgotten_changes stores c.settle.new.stores.shelves c.self.inside.bindings c.clear.new.self place (rw (← c.self.view_is) at c.requires.place) (closed_place graphs place (rw (← c.self.view_is) at c.requires.graph)) c.settle.new.bindings.graphs
-    (ap (λ (shelves : StoreTable). shelves.layouts) new) (column.changes_with [] stores.table c.settle.new.stores.shelves.table place store (rw (← c.self.view_is) at c.requires.place) (ap (λ (shelves : StoreTable). shelves.table) new))
+    (forgotten_changes stores c.settle.new.stores.shelves c.self.inside.bindings c.clear.new.self place (rw (← c.self.view_is) at c.requires.place)
+    (closed_place graphs place (rw (← c.self.view_is) at c.requires.graph)) c.settle.new.bindings.graphs
+    (ap (λ (shelves : StoreTable). shelves.layouts) new)
+    (column.changes_with [] stores.table c.settle.new.stores.shelves.table place store (rw (← c.self.view_is) at c.requires.place)
+    (ap (λ (shelves : StoreTable). shelves.table) new))
     (column.changes_same no_graph graphs c.settle.new.bindings.graphs place c.in-Err.ensures.err) c.clear.ensures.cleared)
 
 pub returns-in-Ok-clause-ok : goal.returns-in-Ok-clause-ok
@@ -32,7 +35,9 @@ returns-in-Ok-clause-ok c =
     let store = added (store_at stores place) c.args.object (fields_of stores c.args.class) in
     let new : c.settle.new.stores.shelves ≡ with_store stores place store = c.settle.ensures.stores ∙ c.in_ok-add_object.ensures.ok in
     rw (← c.self.view_is)
-    (put_seen stores c.settle.new.stores.shelves bindings c.settle.new.bindings place store (settled_in (store_at c.add_object.new.self.shelves place) (graph_at bindings.graphs place)) (bound_at (seen_of stores bindings) place) new c.in-Ok.ensures.ok
+    (put_seen stores c.settle.new.stores.shelves bindings c.settle.new.bindings place store
+    (settled_in (store_at c.add_object.new.self.shelves place) (graph_at bindings.graphs place))
+    (bound_at (seen_of stores bindings) place) new c.in-Ok.ensures.ok
     (closed_settled (store_at c.add_object.new.self.shelves place) (graph_at bindings.graphs place) ∙ sym (closed_at bindings.graphs place)))
 
 pub returns-in-Ok-clause-only : goal.returns-in-Ok-clause-only
@@ -43,4 +48,5 @@ returns-in-Ok-clause-only c =
     let store = added (store_at stores place) c.args.object (fields_of stores c.args.class) in
     let new : c.settle.new.stores.shelves ≡ with_store stores place store = c.settle.ensures.stores ∙ c.in_ok-add_object.ensures.ok in
     rw (← c.self.view_is)
-    (put_changes stores c.settle.new.stores.shelves bindings c.settle.new.bindings place (rw (← c.self.view_is) at c.requires.place) (closed_place bindings.graphs place (rw (← c.self.view_is) at c.requires.graph)) store _ new c.in-Ok.ensures.ok)
+    (put_changes stores c.settle.new.stores.shelves bindings c.settle.new.bindings place (rw (← c.self.view_is) at c.requires.place)
+    (closed_place bindings.graphs place (rw (← c.self.view_is) at c.requires.graph)) store _ new c.in-Ok.ensures.ok)

@@ -17,7 +17,8 @@ use Rattle.session_tables.proofs.tables.Tables.arrive.Goals as goal
 pub returns-then-is_err-clause-only : goal.returns-then-is_err-clause-only
 returns-then-is_err-clause-only c =
     failed_only c.args.self.now c.give_up.new.self c.args.place c.arrive-posted.new.queues c.requires
-    (on_err {P = ChangesAt empty_queue c.args.place c.args.self.now.queues c.arrive-posted.new.queues} c.arrive-posted.result (sym c.is_err.ensures.value ∙ c.if-is_err.true) c.arrive-posted.ensures.err) c.give_up.ensures
+    (on_err {P = ChangesAt empty_queue c.args.place c.args.self.now.queues c.arrive-posted.new.queues} c.arrive-posted.result
+    (sym c.is_err.ensures.value ∙ c.if-is_err.true) c.arrive-posted.ensures.err) c.give_up.ensures
 
 pub returns-then-is_err-clause-err : goal.returns-then-is_err-clause-err
 returns-then-is_err-clause-err c =
@@ -29,7 +30,8 @@ returns-then-is_err-clause-err c =
     let changed = on_err {P = ChangesAt empty_queue at old.queues c.arrive-posted.new.queues} c.arrive-posted.result failed c.arrive-posted.ensures.err in
     let taken : IsTrue (takes_some from (told c.as_slice.result.now c.as_slice-2.result.now ∷ []) (session_at old at)) =
     takes_post from (told c.as_slice.result.now c.as_slice-2.result.now) c.joins-joins.result.now (session_at old at) c.joins-joins.ensures
-    (on_err {P = IsTrue (list_any (takes from (told c.as_slice.result.now c.as_slice-2.result.now)) c.joins-joins.result.now)} c.arrive-posted.result failed c.arrive-posted.ensures.taken) in
+    (on_err {P = IsTrue (list_any (takes from (told c.as_slice.result.now c.as_slice-2.result.now)) c.joins-joins.result.now)} c.arrive-posted.result failed
+    c.arrive-posted.ensures.taken) in
     map_err c.arrive-posted.result (λ error. (
       sym (c.get.ensures false) ∙ c.if-get.false,
       subst (λ kinds. IsTrue (takes_some from (told kinds c.args.post.now.arguments ∷ []) (session_at old at))) c.as_slice.ensures
@@ -46,9 +48,16 @@ returns-else-is_err-clause-ok c =
     let rows = (forest_at old.forests at).rows in
     let queue = queue_at old.queues at in
     let told : List Kind → List Value → Post = λ kinds arguments. record { name = c.args.post.now.name; kinds = kinds; arguments = arguments } in
-    let done : c.arrive-posted.new.queues ≡ with_queue old.queues at (reached_by classes rows from (told c.as_slice.result.now c.as_slice-2.result.now) queue c.joins-joins.result.now) =
-    on_ok {P = c.arrive-posted.new.queues ≡ with_queue old.queues at (reached_by classes rows from (told c.as_slice.result.now c.as_slice-2.result.now) queue c.joins-joins.result.now)} c.arrive-posted.result (sym c.is_err.ensures.value ∙ c.if-is_err.false) c.arrive-posted.ensures.ok in
-    map_ok c.arrive-posted.result (λ value. after_posts_one classes from 0 old at c.args.post.now c.arrive-posted.new.queues (sym (c.get.ensures false) ∙ c.if-get.false) c.requires
-    (done ∙ ap (λ joins. with_queue old.queues at (reached_by classes rows from (told c.as_slice.result.now c.as_slice-2.result.now) queue joins)) c.joins-joins.ensures
-    ∙ ap (λ kinds. with_queue old.queues at (reached_by classes rows from (told kinds c.as_slice-2.result.now) queue (desk_at old.desks at).joins)) c.as_slice.ensures
-    ∙ ap (λ arguments. with_queue old.queues at (reached_by classes rows from (told c.args.post.now.kinds arguments) queue (desk_at old.desks at).joins)) c.as_slice-2.ensures))
+    let done : c.arrive-posted.new.queues ≡ with_queue old.queues at
+    (reached_by classes rows from (told c.as_slice.result.now c.as_slice-2.result.now) queue c.joins-joins.result.now) =
+    on_ok {P = c.arrive-posted.new.queues ≡ with_queue old.queues at
+    (reached_by classes rows from (told c.as_slice.result.now c.as_slice-2.result.now) queue c.joins-joins.result.now)} c.arrive-posted.result
+    (sym c.is_err.ensures.value ∙ c.if-is_err.false) c.arrive-posted.ensures.ok in
+    map_ok c.arrive-posted.result (λ value. after_posts_one classes from 0 old at c.args.post.now c.arrive-posted.new.queues
+    (sym (c.get.ensures false) ∙ c.if-get.false) c.requires
+    (done ∙ ap (λ joins. with_queue old.queues at (reached_by classes rows from (told c.as_slice.result.now c.as_slice-2.result.now) queue joins))
+    c.joins-joins.ensures
+    ∙ ap (λ kinds. with_queue old.queues at (reached_by classes rows from (told kinds c.as_slice-2.result.now) queue (desk_at old.desks at).joins))
+    c.as_slice.ensures
+    ∙ ap (λ arguments. with_queue old.queues at (reached_by classes rows from (told c.args.post.now.kinds arguments) queue (desk_at old.desks at).joins))
+    c.as_slice-2.ensures))

@@ -23,10 +23,14 @@ publications-preserved c =
     let test = c.publications-test.true in
     let within : index < length rows = omega (arith, count, test) in
     record {
-      reaches = subst (λ posts. Reaches classes from place posts old c.post_by-failing.new.self c.args.failing c.post_by-failing.result) (posts_next object signal kinds args rows index within)
-          (reaches_twice classes from place (posts_by object signal kinds args (take index rows)) (posts_at (desk_at old.desks place) index object signal kinds args) old c.publications.self c.post_by-failing.new.self c.args.failing c.publications.failing c.post_by-failing.result c.requires
+      reaches = subst (λ posts. Reaches classes from place posts old c.post_by-failing.new.self c.args.failing c.post_by-failing.result)
+          (posts_next object signal kinds args rows index within)
+          (reaches_twice classes from place (posts_by object signal kinds args (take index rows))
+          (posts_at (desk_at old.desks place) index object signal kinds args) old c.publications.self c.post_by-failing.new.self c.args.failing
+          c.publications.failing c.post_by-failing.result c.requires
           c.publications.invariant.reaches
-          (subst (λ desk. Reaches classes from place (posts_at desk index object signal kinds args) c.publications.self c.post_by-failing.new.self c.publications.failing c.post_by-failing.result)
+          (subst (λ desk. Reaches classes from place (posts_at desk index object signal kinds args) c.publications.self c.post_by-failing.new.self
+          c.publications.failing c.post_by-failing.result)
           (ap (λ (state : State). state.desk) c.publications.invariant.own) c.post_by-failing.ensures.reaches));
       own = c.post_by-failing.ensures.own ∙ c.publications.invariant.own;
     }

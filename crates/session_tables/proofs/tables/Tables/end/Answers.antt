@@ -21,9 +21,13 @@ returns-in-Ok-clause-ok c =
     let new = c.end.new.stores.shelves in
     let store = store_at stores place in
     rw (← c.self.view_is)
-    (put_state (of_columns c.self.inside.0.0 (seen_of c.self.inside.0.1.0.stores.shelves c.self.inside.0.1.0.bindings) c.self.inside.0.1.1.0 c.self.inside.0.1.1.1.0 c.self.inside.0.1.1.1.1.0 c.self.inside.0.1.1.1.1.1.0) place stores bindings refl (rw (← c.self.view_is) at c.requires) (λ of. stored_at of place) (λ of. closed (ended (bound_at of place))) (seen_of new c.end.new.bindings)
-    (put_seen stores new bindings c.end.new.bindings place store (settled_in store (ended (graph_at bindings.graphs place))) (closed (ended (bound_at (seen_of stores bindings) place))) (settled_store stores new place c.end.ensures.stays.stores) c.in-Ok.ensures.ok
-    (closed_settled store (ended (graph_at bindings.graphs place)) ∙ (sym (closed_ended (graph_at bindings.graphs place)) ∙ ap (λ graph. closed (ended graph)) (sym (closed_at bindings.graphs place))))))
+    (put_state (of_columns c.self.inside.0.0 (seen_of c.self.inside.0.1.0.stores.shelves c.self.inside.0.1.0.bindings) c.self.inside.0.1.1.0
+    c.self.inside.0.1.1.1.0 c.self.inside.0.1.1.1.1.0 c.self.inside.0.1.1.1.1.1.0) place stores bindings refl (rw (← c.self.view_is) at c.requires)
+    (λ of. stored_at of place) (λ of. closed (ended (bound_at of place))) (seen_of new c.end.new.bindings)
+    (put_seen stores new bindings c.end.new.bindings place store (settled_in store (ended (graph_at bindings.graphs place)))
+    (closed (ended (bound_at (seen_of stores bindings) place))) (settled_store stores new place c.end.ensures.stays.stores) c.in-Ok.ensures.ok
+    (closed_settled store (ended (graph_at bindings.graphs place))
+    ∙ (sym (closed_ended (graph_at bindings.graphs place)) ∙ ap (λ graph. closed (ended graph)) (sym (closed_at bindings.graphs place))))))
 
 pub returns-in-Ok-clause-only : goal.returns-in-Ok-clause-only
 returns-in-Ok-clause-only c =
@@ -31,18 +35,24 @@ returns-in-Ok-clause-only c =
     let stores = c.self.inside.0.1.0.stores.shelves in
     let new = c.end.new.stores.shelves in
     rw (← c.self.view_is)
-    (only_here (of_columns c.self.inside.0.0 (seen_of c.self.inside.0.1.0.stores.shelves c.self.inside.0.1.0.bindings) c.self.inside.0.1.1.0 c.self.inside.0.1.1.1.0 c.self.inside.0.1.1.1.1.0 c.self.inside.0.1.1.1.1.1.0) place stores c.self.inside.0.1.0.bindings refl (rw (← c.self.view_is) at c.requires) (seen_of new c.end.new.bindings)
+    (only_here (of_columns c.self.inside.0.0 (seen_of c.self.inside.0.1.0.stores.shelves c.self.inside.0.1.0.bindings) c.self.inside.0.1.1.0
+    c.self.inside.0.1.1.1.0 c.self.inside.0.1.1.1.1.0 c.self.inside.0.1.1.1.1.1.0) place stores c.self.inside.0.1.0.bindings refl
+    (rw (← c.self.view_is) at c.requires) (seen_of new c.end.new.bindings)
     (changes_seen stores new c.self.inside.0.1.0.bindings c.end.new.bindings place (ap (λ (shelves : StoreTable). shelves.layouts) c.end.ensures.stays.stores)
     (column.changes_same [] stores.table new.table place (ap (λ (shelves : StoreTable). shelves.table) c.end.ensures.stays.stores)) c.end.ensures.stays.graphs))
 
 pub returns-in-Err-Memory-clause-only : goal.returns-in-Err-Memory-clause-only
 returns-in-Err-Memory-clause-only c =
-    let tables = (of_columns c.self.inside.0.0 (seen_of c.self.inside.0.1.0.stores.shelves c.self.inside.0.1.0.bindings) c.self.inside.0.1.1.0 c.self.inside.0.1.1.1.0 c.self.inside.0.1.1.1.1.0 c.self.inside.0.1.1.1.1.1.0) in
+    let tables = (of_columns c.self.inside.0.0 (seen_of c.self.inside.0.1.0.stores.shelves c.self.inside.0.1.0.bindings) c.self.inside.0.1.1.0
+    c.self.inside.0.1.1.1.0 c.self.inside.0.1.1.1.1.0 c.self.inside.0.1.1.1.1.1.0) in
     let place = c.args.place in
     let stores = c.self.inside.0.1.0.stores.shelves in
     let bindings = c.self.inside.0.1.0.bindings in
     let new = c.end.new.stores.shelves in
     rw (← c.self.view_is)
     (only_here tables place stores bindings refl (rw (← c.self.view_is) at c.requires) (seen_of new c.clear.new.self)
-    (forgotten_changes stores new bindings c.clear.new.self place (shelf_there tables place stores bindings refl (rw (← c.self.view_is) at c.requires)) (graph_there tables place stores bindings refl (rw (← c.self.view_is) at c.requires)) c.end.new.bindings.graphs
-    (ap (λ (shelves : StoreTable). shelves.layouts) c.end.ensures.stays.stores) (column.changes_same [] stores.table new.table place (ap (λ (shelves : StoreTable). shelves.table) c.end.ensures.stays.stores)) c.end.ensures.stays.graphs c.clear.ensures.cleared))
+    (forgotten_changes stores new bindings c.clear.new.self place (shelf_there tables place stores bindings refl (rw (← c.self.view_is) at c.requires))
+    (graph_there tables place stores bindings refl (rw (← c.self.view_is) at c.requires)) c.end.new.bindings.graphs
+    (ap (λ (shelves : StoreTable). shelves.layouts) c.end.ensures.stays.stores)
+    (column.changes_same [] stores.table new.table place (ap (λ (shelves : StoreTable). shelves.table) c.end.ensures.stays.stores))
+    c.end.ensures.stays.graphs c.clear.ensures.cleared))

@@ -16,7 +16,8 @@ joiners-smaller c =
     let up = first.from_least in
     let desks = (c.joiners.invariant.reaches.shape.even c.requires.placed.7).desks in
     let places = c.reach-failing.ensures.reaches.shape.places in
-    let less : length c.reach-failing.new.self.failed.places - (c.in-Some.at + 1) < length c.joiners.self.failed.places - c.joiners.least = omega (arith, there, up, desks, places) in
+    let less : length c.reach-failing.new.self.failed.places - (c.in-Some.at + 1) < length c.joiners.self.failed.places - c.joiners.least =
+    omega (arith, there, up, desks, places) in
     less
 
 pub joiners-preserved : goal.joiners-preserved
@@ -39,7 +40,8 @@ joiners-preserved c =
     let places = c.reach-failing.ensures.reaches.shape.places in
     record {
       reaches = reaches_next classes from place posts at old now new c.args.failing c.joiners.failing c.reach-failing.result c.requires.placed
-          (reaches_strangers classes from place posts least at old now c.args.failing c.joiners.failing up c.joiners.invariant.rest (λ other from_least under placed. first.before other from_least under) c.joiners.invariant.reaches)
+          (reaches_strangers classes from place posts least at old now c.args.failing c.joiners.failing up c.joiners.invariant.rest
+          (λ other from_least under placed. first.before other from_least under) c.joiners.invariant.reaches)
           (subst (λ desk. ReachesBy classes from place (only_at at (post_at desk c.args.index kinds args)) now new c.joiners.failing c.reach-failing.result)
           (ap (λ (state : State). state.desk) c.joiners.invariant.own) c.reach-failing.ensures.reaches);
       rest = λ other above.
@@ -64,12 +66,16 @@ returns-in_default-clause-reaches c =
     let shape = c.joiners.invariant.reaches.shape in
     let within = c.joiners.invariant.within in
     let places = shape.places in
-    let none : (other : ℕ) → c.joiners.least ≤ other → IsPlace now.desks other → IsFalse (names_session from (desk_at now.desks other)) = c.in_default.ensures in
-    let one = post_row c.publications.result.now (desk_at old.desks place).publications c.args.index kinds args row c.publications.ensures c.requires.within c.index-publications-index.is in
-    let sent = posts_row c.publications.result.now (desk_at old.desks place).publications c.args.index c.args.sending.now.object c.args.sending.now.signal kinds args row true c.publications.ensures c.requires.within c.index-publications-index.is (sym c.is_of.ensures ∙ c.if-not-is_of.false) in
+    let none : (other : ℕ) → c.joiners.least ≤ other → IsPlace now.desks other
+    → IsFalse (names_session from (desk_at now.desks other)) = c.in_default.ensures in
+    let one = post_row c.publications.result.now (desk_at old.desks place).publications c.args.index kinds args row c.publications.ensures c.requires.within
+    c.index-publications-index.is in
+    let sent = posts_row c.publications.result.now (desk_at old.desks place).publications c.args.index c.args.sending.now.object c.args.sending.now.signal kinds
+    args row true c.publications.ensures c.requires.within c.index-publications-index.is (sym c.is_of.ensures ∙ c.if-not-is_of.false) in
     subst (λ posts. Reaches classes from place posts old now c.args.failing c.joiners.failing) (one ∙ sym sent)
     (reaches_all classes from place posts end old now c.args.failing c.joiners.failing (omega arith)
-    (reaches_strangers classes from place posts c.joiners.least end old now c.args.failing c.joiners.failing (omega (arith, within, places)) c.joiners.invariant.rest
+    (reaches_strangers classes from place posts c.joiners.least end old now c.args.failing c.joiners.failing
+    (omega (arith, within, places)) c.joiners.invariant.rest
     (λ other up under placed. none other up (placed_shaped old now other shape placed).5) c.joiners.invariant.reaches))
 
 pub returns-after-joiners-clause-reaches : goal.returns-after-joiners-clause-reaches
@@ -85,7 +91,9 @@ returns-after-joiners-clause-reaches c =
     let posts = post_at (desk_at old.desks place) c.args.index kinds args in
     let past = c.joiners-test.false in
     let count = c.len-count.ensures in
-    let one = post_row c.publications.result.now (desk_at old.desks place).publications c.args.index kinds args row c.publications.ensures c.requires.within c.index-publications-index.is in
-    let sent = posts_row c.publications.result.now (desk_at old.desks place).publications c.args.index c.args.sending.now.object c.args.sending.now.signal kinds args row true c.publications.ensures c.requires.within c.index-publications-index.is (sym c.is_of.ensures ∙ c.if-not-is_of.false) in
+    let one = post_row c.publications.result.now (desk_at old.desks place).publications c.args.index kinds args row c.publications.ensures c.requires.within
+    c.index-publications-index.is in
+    let sent = posts_row c.publications.result.now (desk_at old.desks place).publications c.args.index c.args.sending.now.object c.args.sending.now.signal kinds
+    args row true c.publications.ensures c.requires.within c.index-publications-index.is (sym c.is_of.ensures ∙ c.if-not-is_of.false) in
     subst (λ posts. Reaches classes from place posts old now c.args.failing c.joiners.failing) (one ∙ sym sent)
     (reaches_all classes from place posts c.joiners.least old now c.args.failing c.joiners.failing (omega (arith, past, count)) c.joiners.invariant.reaches)

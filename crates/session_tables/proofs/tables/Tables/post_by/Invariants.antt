@@ -9,7 +9,8 @@ use Rattle.session_tables.proofs.tables.Tables.post_by.Given as goal
 abbrev pub invariant-joiners : goal.invariant-joiners
 invariant-joiners l = record {
   reaches : ReachesBy l.sending.classes.now l.sending.from.now l.sending.place
-      (below l.sending.classes.now l.sending.from.now l.sending.place l.least (post_at (desk_at l.fn.self.desks l.sending.place) l.index l.sending.kinds.now l.sending.args.now)) l.fn.self l.self l.fn.failing l.failing;
+      (below l.sending.classes.now l.sending.from.now l.sending.place l.least
+      (post_at (desk_at l.fn.self.desks l.sending.place) l.index l.sending.kinds.now l.sending.args.now)) l.fn.self l.self l.fn.failing l.failing;
   rest : (at : ℕ) → l.least ≤ at → session_at l.self at ≡ session_at l.fn.self at;
   own : state_at l.self l.sending.place ≡ state_at l.fn.self l.sending.place;
   within : l.least ≤ length l.self.failed.places;

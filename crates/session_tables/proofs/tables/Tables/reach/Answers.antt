@@ -19,18 +19,23 @@ returns-then-is_err-clause-reaches c =
     let row = c.index-publications-index.result in
     let kinds = c.args.sending.now.kinds.now in
     let args = c.args.sending.now.args.now in
-    let post = post_row c.publications.result.now (desk_at old.desks c.args.sending.now.place).publications c.args.index kinds args row c.publications.ensures c.requires.within c.index-publications-index.is in
+    let post = post_row c.publications.result.now (desk_at old.desks c.args.sending.now.place).publications c.args.index kinds args row c.publications.ensures
+    c.requires.within c.index-publications-index.is in
     let taken : IsTrue (takes_some from (post_of kinds args row ∷ []) (session_at old at)) =
     takes_post from (post_of kinds args row) c.joins-joins.result.now (session_at old at) c.joins-joins.ensures
-    (on_err {P = IsTrue (list_any (takes from (post_of kinds args row)) c.joins-joins.result.now)} c.arrive-posted.result (sym c.is_err.ensures.value ∙ c.if-is_err.true) c.arrive-posted.ensures.taken) in
-    reach_failed c.args.sending.now.classes.now from c.args.sending.now.place old c.give_up.new.self at _ c.args.failing c.arrive-posted.new.queues c.if-at-sending.false (sym (c.get.ensures false) ∙ c.if-get.false) c.requires.there
+    (on_err {P = IsTrue (list_any (takes from (post_of kinds args row)) c.joins-joins.result.now)} c.arrive-posted.result
+    (sym c.is_err.ensures.value ∙ c.if-is_err.true) c.arrive-posted.ensures.taken) in
+    reach_failed c.args.sending.now.classes.now from c.args.sending.now.place old c.give_up.new.self at _ c.args.failing c.arrive-posted.new.queues
+    c.if-at-sending.false (sym (c.get.ensures false) ∙ c.if-get.false) c.requires.there
     (subst (λ posts. IsTrue (takes_some from posts (session_at old at))) (sym post) taken)
-    (on_err {P = ChangesAt empty_queue c.args.at c.args.self.now.queues c.arrive-posted.new.queues} c.arrive-posted.result (sym c.is_err.ensures.value ∙ c.if-is_err.true) c.arrive-posted.ensures.err) c.give_up.ensures
+    (on_err {P = ChangesAt empty_queue c.args.at c.args.self.now.queues c.arrive-posted.new.queues} c.arrive-posted.result
+    (sym c.is_err.ensures.value ∙ c.if-is_err.true) c.arrive-posted.ensures.err) c.give_up.ensures
 
 pub returns-then-is_err-clause-only : goal.returns-then-is_err-clause-only
 returns-then-is_err-clause-only c =
     failed_only c.args.self.now c.give_up.new.self c.args.at c.arrive-posted.new.queues c.requires.there
-    (on_err {P = ChangesAt empty_queue c.args.at c.args.self.now.queues c.arrive-posted.new.queues} c.arrive-posted.result (sym c.is_err.ensures.value ∙ c.if-is_err.true) c.arrive-posted.ensures.err) c.give_up.ensures
+    (on_err {P = ChangesAt empty_queue c.args.at c.args.self.now.queues c.arrive-posted.new.queues} c.arrive-posted.result
+    (sym c.is_err.ensures.value ∙ c.if-is_err.true) c.arrive-posted.ensures.err) c.give_up.ensures
 
 pub returns-clause-reaches : goal.returns-clause-reaches
 returns-clause-reaches c =
@@ -42,9 +47,16 @@ returns-clause-reaches c =
     let row = c.index-publications-index.result in
     let kinds = c.args.sending.now.kinds.now in
     let args = c.args.sending.now.args.now in
-    let post = post_row c.publications.result.now (desk_at old.desks place).publications c.args.index kinds args row c.publications.ensures c.requires.within c.index-publications-index.is in
-    let done : c.arrive-posted.new.queues ≡ with_queue old.queues at (reached_by classes (forest_at old.forests at).rows from (post_of kinds args row) (queue_at old.queues at) c.joins-joins.result.now) =
-    on_ok {P = c.arrive-posted.new.queues ≡ with_queue old.queues at (reached_by classes (forest_at old.forests at).rows from (post_of kinds args row) (queue_at old.queues at) c.joins-joins.result.now)} c.arrive-posted.result (sym c.is_err.ensures.value ∙ c.if-is_err.false) c.arrive-posted.ensures.ok in
-    subst (λ posts. ReachesBy classes from place (only_at at posts) old (record old { queues = c.arrive-posted.new.queues }) c.args.failing c.args.failing) (sym post)
-    (reach_after_posts classes from place old at (post_of kinds args row) c.args.failing c.arrive-posted.new.queues c.if-at-sending.false (sym (c.get.ensures false) ∙ c.if-get.false) c.requires.there
-    (done ∙ ap (λ joins. with_queue old.queues at (reached_by classes (forest_at old.forests at).rows from (post_of kinds args row) (queue_at old.queues at) joins)) c.joins-joins.ensures))
+    let post = post_row c.publications.result.now (desk_at old.desks place).publications c.args.index kinds args row c.publications.ensures c.requires.within
+    c.index-publications-index.is in
+    let done : c.arrive-posted.new.queues ≡ with_queue old.queues at
+    (reached_by classes (forest_at old.forests at).rows from (post_of kinds args row) (queue_at old.queues at) c.joins-joins.result.now) =
+    on_ok {P = c.arrive-posted.new.queues ≡ with_queue old.queues at
+    (reached_by classes (forest_at old.forests at).rows from (post_of kinds args row) (queue_at old.queues at) c.joins-joins.result.now)}
+    c.arrive-posted.result (sym c.is_err.ensures.value ∙ c.if-is_err.false) c.arrive-posted.ensures.ok in
+    subst (λ posts. ReachesBy classes from place (only_at at posts) old (record old { queues = c.arrive-posted.new.queues }) c.args.failing c.args.failing)
+    (sym post)
+    (reach_after_posts classes from place old at (post_of kinds args row) c.args.failing c.arrive-posted.new.queues c.if-at-sending.false
+    (sym (c.get.ensures false) ∙ c.if-get.false) c.requires.there
+    (done ∙ ap (λ joins. with_queue old.queues at
+    (reached_by classes (forest_at old.forests at).rows from (post_of kinds args row) (queue_at old.queues at) joins)) c.joins-joins.ensures))

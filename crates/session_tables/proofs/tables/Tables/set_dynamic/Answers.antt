@@ -18,10 +18,16 @@ invariant_of-self c = by c.set_dynamic.result c.set_dynamic.ensures.ok c.set_dyn
     stores = c.self.inside.0.1.0.stores
 
     place : IsPlace stores.shelves.table c.args.place
-    place = shelf_there (of_columns c.self.inside.0.0 (seen_of c.self.inside.0.1.0.stores.shelves c.self.inside.0.1.0.bindings) c.self.inside.0.1.1.0 c.self.inside.0.1.1.1.0 c.self.inside.0.1.1.1.1.0 c.self.inside.0.1.1.1.1.1.0) c.args.place stores.shelves c.self.inside.0.1.0.bindings refl (rw (← c.self.view_is) at c.requires.place)
+    place = shelf_there (of_columns c.self.inside.0.0 (seen_of c.self.inside.0.1.0.stores.shelves c.self.inside.0.1.0.bindings) c.self.inside.0.1.1.0
+        c.self.inside.0.1.1.1.0 c.self.inside.0.1.1.1.1.0 c.self.inside.0.1.1.1.1.1.0) c.args.place stores.shelves c.self.inside.0.1.0.bindings refl
+        (rw (← c.self.view_is) at c.requires.place)
 
-    by : (result : Result (Unit {0}) Fault) → OnOk result (HasStore c.args.place (changed (with_dynamic c.args.name c.args.value) c.args.object (store_at stores.shelves c.args.place)) stores c.set_dynamic.new.self) → OnErr result (c.set_dynamic.new.self ≡ stores) → AllSettled c.set_dynamic.new.self c.self.inside.0.1.0.bindings
+    by : (result : Result (Unit {0}) Fault) →
+        OnOk result (HasStore c.args.place (changed (with_dynamic c.args.name c.args.value) c.args.object (store_at stores.shelves c.args.place)) stores
+        c.set_dynamic.new.self) → OnErr result (c.set_dynamic.new.self ≡ stores) → AllSettled c.set_dynamic.new.self c.self.inside.0.1.0.bindings
     by (Ok done) ok err =
-        settled_changed (with_dynamic c.args.name c.args.value) c.args.object (λ of. refl) (λ of. refl) (λ of. refl) stores c.set_dynamic.new.self c.self.inside.0.1.0.bindings c.args.place place c.self.invariant ok
-        (c.law_steps.ensures.set_dynamic stores c.set_dynamic.new.self c.args.place c.args.object c.args.name c.args.value place ok c.set_dynamic.ensures.marks c.self.inside.0.1.0.bindings c.self.invariant.step)
+        settled_changed (with_dynamic c.args.name c.args.value) c.args.object (λ of. refl) (λ of. refl)
+        (λ of. refl) stores c.set_dynamic.new.self c.self.inside.0.1.0.bindings c.args.place place c.self.invariant ok
+        (c.law_steps.ensures.set_dynamic stores c.set_dynamic.new.self c.args.place c.args.object c.args.name c.args.value place ok c.set_dynamic.ensures.marks
+        c.self.inside.0.1.0.bindings c.self.invariant.step)
     by (Err fault) ok err = subst (λ stores. AllSettled stores c.self.inside.0.1.0.bindings) (sym err) c.self.invariant

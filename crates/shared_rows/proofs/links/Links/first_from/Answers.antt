@@ -11,7 +11,8 @@ returns-in-Some-clause-first g c =
     let low : is_lt (g.K.Ord.cmp c.in-Some.last c.args.link) ≡ true = search rules in
     let seat = seat_behind g.met.K.Ord.total links c.self.invariant.0 c.args.link (c.in-Some.ensures.variant.0 refl) c.in-Some.ensures.lookup low in
     sym (slice_get_past links (length links) (omega arith))
-    ∙ (first_above g.met.K.Ord.total links c.self.invariant.0 c.args.link (length links) seat ∙ ap (λ list. first_from g.K.Ord.cmp list.links c.args.link) c.self.view_is)
+    ∙ (first_above g.met.K.Ord.total links c.self.invariant.0 c.args.link (length links) seat
+    ∙ ap (λ list. first_from g.K.Ord.cmp list.links c.args.link) c.self.view_is)
 
 pub returns-in_default-clause-first : goal.returns-in_default-clause-first
 returns-in_default-clause-first g c = c.first_from_front.ensures ∙ ap (λ list. first_from g.K.Ord.cmp list.links c.args.link) c.self.view_is

@@ -8,11 +8,13 @@ use Rattle.shared_rows.proofs.links.Links.insert_reserved.Goals as goal
 
 pub returns-in-Ok : goal.returns-in-Ok
 returns-in-Ok g c =
-    relinked (λ links. with_link g.K.Ord.cmp links c.args.link) c.self.view_is (ap (λ buffer. buffer.items) c.set.ensures ∙ set_link g.met.K.Ord.total _ c.self.invariant.0 _ c.in-Ok.at c.in-Ok.ensures) refl
+    relinked (λ links. with_link g.K.Ord.cmp links c.args.link) c.self.view_is
+    (ap (λ buffer. buffer.items) c.set.ensures ∙ set_link g.met.K.Ord.total _ c.self.invariant.0 _ c.in-Ok.at c.in-Ok.ensures) refl
 
 pub returns-in-Err : goal.returns-in-Err
 returns-in-Err g c =
-    relinked (λ links. with_link g.K.Ord.cmp links c.args.link) c.self.view_is (ap (λ buffer. buffer.items) c.insert_reserved.ensures ∙ insert_link g.met.K.Ord.total _ c.self.invariant.0 _ c.in-Err.at c.in-Err.ensures) refl
+    relinked (λ links. with_link g.K.Ord.cmp links c.args.link) c.self.view_is
+    (ap (λ buffer. buffer.items) c.insert_reserved.ensures ∙ insert_link g.met.K.Ord.total _ c.self.invariant.0 _ c.in-Err.at c.in-Err.ensures) refl
 
 pub invariant_of-self : goal.invariant_of-self
 invariant_of-self g c =
@@ -25,7 +27,8 @@ invariant_of-self g c =
 pub invariant_of-self-in-Err : goal.invariant_of-self-in-Err
 invariant_of-self-in-Err g c =
     let seat : IsSeat g.K.Ord.cmp c.self.inside.items.items c.args.link (Err c.in-Err.at) = c.in-Err.ensures in
-    let items : c.insert_reserved.new.self.items ≡ insert c.self.inside.items.items c.in-Err.at c.args.link = ap (λ buffer. buffer.items) c.insert_reserved.ensures in
+    let items : c.insert_reserved.new.self.items ≡ insert c.self.inside.items.items c.in-Err.at c.args.link =
+    ap (λ buffer. buffer.items) c.insert_reserved.ensures in
     let ordered = with_order g.met.K.Ord.total _ c.self.invariant.0 c.args.link in (
       subst (IsInOrder g.K.Ord.cmp) (sym (items ∙ insert_link g.met.K.Ord.total _ c.self.invariant.0 c.args.link c.in-Err.at seat)) ordered,
       (

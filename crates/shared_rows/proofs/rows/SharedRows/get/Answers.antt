@@ -5,7 +5,8 @@ pub index-slot-requires : goal.index-slot-requires
 index-slot-requires g c = slot_some (seen_at c.self.invariant c.self.view_is c.requires.place).1 c.args.key c.requires.stands
 
 pub prove-unreachable-requires : goal.prove-unreachable-requires
-prove-unreachable-requires g c = c.if-prove.true (slot_under (seen_at c.self.invariant c.self.view_is c.requires.place).1 c.args.key c.requires.stands c.index-slot.ensures).0
+prove-unreachable-requires g c = c.if-prove.true
+    (slot_under (seen_at c.self.invariant c.self.view_is c.requires.place).1 c.args.key c.requires.stands c.index-slot.ensures).0
 
 pub returns : goal.returns
 returns g c =

@@ -17,7 +17,8 @@ unwrap-at-requires g c =
 pub invariant_of-self : goal.invariant_of-self
 invariant_of-self g c =
     let seen = seen_by c.self.invariant c.self.view_is c.requires.place c.get_mut-index.ensures.value in
-    (removed c.self.invariant seen c.self.view_is c.remove.new.self c.args.key c.requires.stands c.remove-row.ensures.value (rw c.unwrap-at.ensures at c.position.ensures.found) (sym (c.value.ensures ∙ c.number.ensures))
+    (removed c.self.invariant seen c.self.view_is c.remove.new.self c.args.key c.requires.stands c.remove-row.ensures.value
+    (rw c.unwrap-at.ensures at c.position.ensures.found) (sym (c.value.ensures ∙ c.number.ensures))
     c.remove-row.ensures.updates.others c.remove-row.ensures.len (ap (λ index. index.items) c.remove.ensures.others)).kept
 
 pub returns-clause-row : goal.returns-clause-row
@@ -26,7 +27,8 @@ returns-clause-row g c = (slot_under (seen_at c.self.invariant c.self.view_is c.
 pub returns-clause-rest : goal.returns-clause-rest
 returns-clause-rest g c =
     let seen = seen_by c.self.invariant c.self.view_is c.requires.place c.get_mut-index.ensures.value in
-    (removed c.self.invariant seen c.self.view_is c.remove.new.self c.args.key c.requires.stands c.remove-row.ensures.value (rw c.unwrap-at.ensures at c.position.ensures.found) (sym (c.value.ensures ∙ c.number.ensures))
+    (removed c.self.invariant seen c.self.view_is c.remove.new.self c.args.key c.requires.stands c.remove-row.ensures.value
+    (rw c.unwrap-at.ensures at c.position.ensures.found) (sym (c.value.ensures ∙ c.number.ensures))
     c.remove-row.ensures.updates.others c.remove-row.ensures.len (ap (λ index. index.items) c.remove.ensures.others)).view
 
 pub get_mut-index-requires : goal.get_mut-index-requires

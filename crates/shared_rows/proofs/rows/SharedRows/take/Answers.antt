@@ -8,7 +8,8 @@ position-requires g c = (seen_by c.self.invariant c.self.view_is c.requires c.ge
 
 pub invariant_of-self : goal.invariant_of-self
 invariant_of-self g c =
-    (unchanged c.self.invariant (seen_by c.self.invariant c.self.view_is c.requires c.get_mut-index.ensures.value) c.self.view_is c.get_mut-index.result.now refl refl).kept
+    (unchanged c.self.invariant (seen_by c.self.invariant c.self.view_is c.requires c.get_mut-index.ensures.value) c.self.view_is c.get_mut-index.result.now
+    refl refl).kept
 
 pub returns-in_err-at : goal.returns-in_err-at
 returns-in_err-at g c =
@@ -29,8 +30,10 @@ pub invariant_of-self-2 : goal.invariant_of-self-2
 invariant_of-self-2 g c =
     let seen = seen_by c.self.invariant c.self.view_is c.requires c.get_mut-index.ensures.value in
     let entry = c.remove-entry.ensures.element c.remove-entry.result in
-    (removed c.self.invariant seen c.self.view_is c.remove-entry.new.self c.remove-entry.result.key (number_some seen c.in_ok-at.ensures.found entry) c.remove-row.ensures.value c.in_ok-at.ensures.found
-    (row_numbered seen c.in_ok-at.ensures.found entry c.remove-row.ensures.value).1 c.remove-row.ensures.updates.others c.remove-row.ensures.len (ap (λ index. index.items) c.remove-entry.ensures.others)).kept
+    (removed c.self.invariant seen c.self.view_is c.remove-entry.new.self c.remove-entry.result.key
+    (number_some seen c.in_ok-at.ensures.found entry) c.remove-row.ensures.value c.in_ok-at.ensures.found
+    (row_numbered seen c.in_ok-at.ensures.found entry c.remove-row.ensures.value).1 c.remove-row.ensures.updates.others c.remove-row.ensures.len
+    (ap (λ index. index.items) c.remove-entry.ensures.others)).kept
 
 pub returns-clause-taken : goal.returns-clause-taken
 returns-clause-taken g c =
@@ -41,7 +44,8 @@ returns-clause-taken g c =
       number_found seen c.in_ok-at.ensures.found entry,
       row.0,
       row.1,
-      (removed c.self.invariant seen c.self.view_is c.remove-entry.new.self c.remove-entry.result.key (number_some seen c.in_ok-at.ensures.found entry) c.remove-row.ensures.value c.in_ok-at.ensures.found
+      (removed c.self.invariant seen c.self.view_is c.remove-entry.new.self c.remove-entry.result.key
+          (number_some seen c.in_ok-at.ensures.found entry) c.remove-row.ensures.value c.in_ok-at.ensures.found
           row.1 c.remove-row.ensures.updates.others c.remove-row.ensures.len (ap (λ index. index.items) c.remove-entry.ensures.others)).view,
     )
 

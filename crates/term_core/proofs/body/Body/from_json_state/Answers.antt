@@ -7,7 +7,9 @@ pub returns-clause-answers : goal.returns-clause-answers
 returns-clause-answers c = answers_next c.limited.result _ c.in_ok-actions.actions (limited_body c.args.params) c.in_ok-actions.ensures c.limited.ensures
 
 pub returns-clause-params : goal.returns-clause-params
-returns-clause-params c = read_params c.args.params c.limited.result (answered (IsReadFor c.args.params) c.limited.result _ (returns-clause-answers c) (functor_body_read c.args.params (view c.args.json.now)))
+returns-clause-params c = read_params c.args.params c.limited.result
+    (answered (IsReadFor c.args.params) c.limited.result _ (returns-clause-answers c) (functor_body_read c.args.params (view c.args.json.now)))
 
 pub returns-clause-sound : goal.returns-clause-sound
-returns-clause-sound c = read_body c.args.params c.limited.result (answered (IsReadFor c.args.params) c.limited.result _ (returns-clause-answers c) (functor_body_read c.args.params (view c.args.json.now)))
+returns-clause-sound c = read_body c.args.params c.limited.result
+    (answered (IsReadFor c.args.params) c.limited.result _ (returns-clause-answers c) (functor_body_read c.args.params (view c.args.json.now)))

@@ -20,9 +20,14 @@ returns-in-Ok-clause-answered g c =
 pub returns-in-Ok-clause-stuck : goal.returns-in-Ok-clause-stuck
 returns-in-Ok-clause-stuck g c = λ memory.
     let stepped = c.in-Ok.ensures in
-    IsStuckBy-means (λ text. text ≡ flat_map (text_of_line c.args.given.now.session) c.in-Ok.lines) (λ text. IsDone (seen_as c.args.server.now) (tag c.args.given.now) text (seen_as c.step.new.self))
+    IsStuckBy-means (λ text. text ≡ flat_map (text_of_line c.args.given.now.session) c.in-Ok.lines)
+    (λ text. IsDone (seen_as c.args.server.now) (tag c.args.given.now) text (seen_as c.step.new.self))
     (out (g.W.Sink.held c.args.writer.now) c.args.self.now.gathered) (out (g.W.Sink.held c.say_lines.new.writer) c.say_lines.new.self.gathered)
-    (λ text is. record { entry = Lines c.in-Ok.lines; does = record { step = stepped.step; known = stepped.known; there = stepped.there; lost = tt }; says = is })
+    (λ text is. record {
+      entry = Lines c.in-Ok.lines;
+      does = record { step = stepped.step; known = stepped.known; there = stepped.there; lost = tt };
+      says = is;
+    })
     (rw (c.as_str-session.ensures, c.as_slice.ensures) at c.say_lines.ensures.stuck memory)
 
 pub returns-in-Err-clause-answered : goal.returns-in-Err-clause-answered
@@ -31,7 +36,8 @@ returns-in-Err-clause-answered g c =
     let text = entry_text c.args.given.now.session OutOfMemory in (
       text,
       record { entry = OutOfMemory; does = record { step = stepped.step; known = stepped.known; there = tt; lost = stepped.lost }; says = refl },
-      SentAll-by_sink (out (g.W.Sink.held c.args.writer.now) c.args.self.now.gathered) (out (g.W.Sink.held c.say_error.new.writer) c.say_error.new.self.gathered) c.say_error.result text c.by_sink.result c.by_sink.ensures
+      SentAll-by_sink (out (g.W.Sink.held c.args.writer.now) c.args.self.now.gathered)
+          (out (g.W.Sink.held c.say_error.new.writer) c.say_error.new.self.gathered) c.say_error.result text c.by_sink.result c.by_sink.ensures
           (rw c.as_str-session.ensures at c.say_error.ensures.said),
     )
 

@@ -15,7 +15,8 @@ returns-in_err-say_line-clause-said g c =
     let mid = out (g.W.Sink.held c.loop-line.writer) c.loop-line.self.gathered in
     let new = out (g.W.Sink.held c.say_line.new.writer) c.say_line.new.self.gathered in
     SentAll-failed old new _ _ c.from_residual.ensures.0
-    (SentFront-next (text_of_line c.args.session.now) c.args.lines.now c.loop-line.line-index old mid new c.line-item.result _ (omega arith) (ap (text_of_line c.args.session.now) c.line-item.is) c.loop-line.invariant.said c.in_err-say_line.ensures.said)
+    (SentFront-next (text_of_line c.args.session.now) c.args.lines.now c.loop-line.line-index old mid new c.line-item.result _ (omega arith)
+    (ap (text_of_line c.args.session.now) c.line-item.is) c.loop-line.invariant.said c.in_err-say_line.ensures.said)
 
 pub loop-line-preserved : goal.loop-line-preserved
 loop-line-preserved g c =
@@ -23,7 +24,8 @@ loop-line-preserved g c =
     let mid = out (g.W.Sink.held c.loop-line.writer) c.loop-line.self.gathered in
     let new = out (g.W.Sink.held c.say_line.new.writer) c.say_line.new.self.gathered in
     record {
-      said = Sent-next (text_of_line c.args.session.now) c.args.lines.now c.loop-line.line-index old mid new c.line-item.result _ (omega arith) (ap (text_of_line c.args.session.now) c.line-item.is) c.loop-line.invariant.said c.in_ok-say_line.ensures.said;
+      said = Sent-next (text_of_line c.args.session.now) c.args.lines.now c.loop-line.line-index old mid new c.line-item.result _ (omega arith)
+          (ap (text_of_line c.args.session.now) c.line-item.is) c.loop-line.invariant.said c.in_ok-say_line.ensures.said;
       failed = c.in_ok-say_line.ensures.failed ∙ c.loop-line.invariant.failed;
     }
 
@@ -38,4 +40,5 @@ returns-in_err-say_line-clause-stuck g c = λ memory.
     let both = sym (err_is _ _ c.from_residual.ensures.1) ∙ memory in
     let fault : c.in_err-say_line.field-0.0 ≡ Memory = cc in
     let stuck = c.in_err-say_line.ensures.stuck (ap Err fault) in
-    IsStuckBy-lines c.args.session.now c.args.lines.now c.loop-line.line-index old mid new c.line-item.result (omega arith) (sym (ap has_parts c.line-item.is) ∙ stuck.0) c.loop-line.invariant.said stuck.1
+    IsStuckBy-lines c.args.session.now c.args.lines.now c.loop-line.line-index old mid new c.line-item.result (omega arith)
+    (sym (ap has_parts c.line-item.is) ∙ stuck.0) c.loop-line.invariant.said stuck.1

@@ -13,7 +13,9 @@ returns-in_err-send-clause-said g c =
     let new = out (g.W.Sink.held c.send.new.writer) c.send.new.self in
     SentAll-failed old new _ _ c.from_residual.ensures.0
     (subst (SentFront old new) c.in_order-parts.ensures
-    (SentFront-next (λ (part : Bor (List ℕ)). part.now) c.in_order-parts.result c.loop-part.part-index old mid new (record { ref_ptr = (0, 0); now = [] }) c.as_bytes.result.now (omega arith) c.as_bytes.ensures.value c.loop-part.invariant.said c.in_err-send.ensures.bytes))
+    (SentFront-next (λ (part : Bor (List ℕ)). part.now) c.in_order-parts.result c.loop-part.part-index old mid new
+    (record { ref_ptr = (0, 0); now = [] }) c.as_bytes.result.now
+    (omega arith) c.as_bytes.ensures.value c.loop-part.invariant.said c.in_err-send.ensures.bytes))
 
 pub loop-part-preserved : goal.loop-part-preserved
 loop-part-preserved g c =
@@ -21,7 +23,9 @@ loop-part-preserved g c =
     let mid = out (g.W.Sink.held c.loop-part.writer) c.loop-part.self.gathered in
     let new = out (g.W.Sink.held c.send.new.writer) c.send.new.self in
     record {
-      said = Sent-next (λ (part : Bor (List ℕ)). part.now) c.in_order-parts.result c.loop-part.part-index old mid new (record { ref_ptr = (0, 0); now = [] }) c.as_bytes.result.now (omega arith) c.as_bytes.ensures.value c.loop-part.invariant.said c.in_ok-send.ensures.bytes;
+      said = Sent-next (λ (part : Bor (List ℕ)). part.now) c.in_order-parts.result c.loop-part.part-index old mid new
+          (record { ref_ptr = (0, 0); now = [] }) c.as_bytes.result.now
+          (omega arith) c.as_bytes.ensures.value c.loop-part.invariant.said c.in_ok-send.ensures.bytes;
       counted = c.in_ok-send.ensures.counted ∙ c.loop-part.invariant.counted;
     }
 

@@ -24,8 +24,11 @@ say_error-requires g c =
 
 pub returns-in-Ok-clause-answered : goal.returns-in-Ok-clause-answered
 returns-in-Ok-clause-answered g c =
-    let (text, done, sent) = c.obey.ensures.answered in
-    (text, answered-given (seen_as c.args.server.now) (seen_as c.obey.new.server) (command_of c.args.line.now) text (tag c.in-Ok.given) c.in-Ok.ensures done, sent)
+    let (text, done, sent) = c.obey.ensures.answered in (
+      text,
+      answered-given (seen_as c.args.server.now) (seen_as c.obey.new.server) (command_of c.args.line.now) text (tag c.in-Ok.given) c.in-Ok.ensures done,
+      sent,
+    )
 
 pub returns-in-Ok-clause-stuck : goal.returns-in-Ok-clause-stuck
 returns-in-Ok-clause-stuck g c = λ memory.
@@ -41,8 +44,10 @@ returns-in-Err-Fault-clause-answered g c =
     let fault = c.in-Err-Fault.fault in
     let text = text_of_line (blamed fault) (Error fault.code) in (
       text,
-      answered-faulty server server (command_of c.args.line.now) text fault (rw c.in-Err-Fault.field-0-is at c.in-Err-Fault.ensures) (record { stays = refl; says = refl }),
-      SentAll-by_sink (out (g.W.Sink.held c.args.writer.now) c.args.self.now.gathered) (out (g.W.Sink.held c.say_error.new.writer) c.say_error.new.self.gathered) c.say_error.result text c.by_sink.result c.by_sink.ensures
+      answered-faulty server server (command_of c.args.line.now) text fault (rw c.in-Err-Fault.field-0-is at c.in-Err-Fault.ensures)
+          (record { stays = refl; says = refl }),
+      SentAll-by_sink (out (g.W.Sink.held c.args.writer.now) c.args.self.now.gathered)
+          (out (g.W.Sink.held c.say_error.new.writer) c.say_error.new.self.gathered) c.say_error.result text c.by_sink.result c.by_sink.ensures
           (rw c.blamed.ensures at c.say_error.ensures.said),
     )
 
@@ -60,12 +65,16 @@ returns-in-Err-Memory-clause-answered g c =
     let text = text_of_line (codes "-") (Error OutOfMemory) in (
       text,
       answered-unread old new (command_of c.args.line.now) text (record { only = said.only; settings = said.settings; says = refl }),
-      SentAll-by_sink (out (g.W.Sink.held c.args.writer.now) c.args.self.now.gathered) (out (g.W.Sink.held c.say_out_of_memory.new.writer) c.say_out_of_memory.new.self.gathered) c.say_out_of_memory.result text c.by_sink-in-Err-Memory.result c.by_sink-in-Err-Memory.ensures
+      SentAll-by_sink (out (g.W.Sink.held c.args.writer.now) c.args.self.now.gathered)
+          (out (g.W.Sink.held c.say_out_of_memory.new.writer) c.say_out_of_memory.new.self.gathered) c.say_out_of_memory.result text
+          c.by_sink-in-Err-Memory.result c.by_sink-in-Err-Memory.ensures
           said.said,
     )
 
 pub returns-in-Err-Memory-clause-failed : goal.returns-in-Err-Memory-clause-failed
-returns-in-Err-Memory-clause-failed g c = SendFails-by_sink _ _ c.say_out_of_memory.result c.by_sink-in-Err-Memory.result c.by_sink-in-Err-Memory.ensures c.say_out_of_memory.ensures.failed
+returns-in-Err-Memory-clause-failed g c = SendFails-by_sink _ _ c.say_out_of_memory.result c.by_sink-in-Err-Memory.result c.by_sink-in-Err-Memory.ensures
+    c.say_out_of_memory.ensures.failed
 
 pub returns-in-Err-Memory-clause-stuck : goal.returns-in-Err-Memory-clause-stuck
-returns-in-Err-Memory-clause-stuck g c = λ memory. absurd (by_sink-memory c.say_out_of_memory.result c.by_sink-in-Err-Memory.result c.by_sink-in-Err-Memory.ensures memory)
+returns-in-Err-Memory-clause-stuck g c =
+    λ memory. absurd (by_sink-memory c.say_out_of_memory.result c.by_sink-in-Err-Memory.result c.by_sink-in-Err-Memory.ensures memory)

@@ -26,9 +26,13 @@ returns-in_default-clause-later g c = record {
 pub returns-in_err-step-clause-stopped : goal.returns-in_err-step-clause-stopped
 returns-in_err-step-clause-stopped g c =
     let stepped = c.in_err-step.ensures in
-    let does : IsEntry (seen_as c.args.server.now) (seen_as c.step.new.self) (tag c.args.given.now) OutOfMemory = record { step = stepped.step; known = stepped.known; there = tt; lost = stepped.lost } in
-    let short : RunsShort (Some (Given (tag c.args.given.now))) (seen_as c.args.server.now) (seen_as c.step.new.self) = inr (tag c.args.given.now, OutOfMemory, refl, does) in
-    subst (λ (r : Result (Unit {0}) RunFault). IfErr r (λ fault. (fault ≡ Memory) × RunsShort (Some (Given (tag c.args.given.now))) (seen_as c.args.server.now) (seen_as c.step.new.self))) (sym (err_is _ _ c.from_residual.ensures.1)) (refl, short)
+    let does : IsEntry (seen_as c.args.server.now) (seen_as c.step.new.self) (tag c.args.given.now) OutOfMemory =
+    record { step = stepped.step; known = stepped.known; there = tt; lost = stepped.lost } in
+    let short : RunsShort (Some (Given (tag c.args.given.now))) (seen_as c.args.server.now) (seen_as c.step.new.self) =
+    inr (tag c.args.given.now, OutOfMemory, refl, does) in
+    subst (λ (r : Result (Unit {0}) RunFault). IfErr r
+    (λ fault. (fault ≡ Memory) × RunsShort (Some (Given (tag c.args.given.now))) (seen_as c.args.server.now) (seen_as c.step.new.self)))
+    (sym (err_is _ _ c.from_residual.ensures.1)) (refl, short)
 
 pub returns-in_err-step-clause-later : goal.returns-in_err-step-clause-later
 returns-in_err-step-clause-later g c = record {

@@ -27,7 +27,8 @@ pub returns-in-Ok-clause-taken : goal.returns-in-Ok-clause-taken
 returns-in-Ok-clause-taken g c =
     let old = noted c.args.self.now (seen_as c.args.server.now) in
     let new = noted c.obey.new.self (seen_as c.obey.new.server) in
-    subst (λ (piece : Option Piece). OnOk c.obey.result (Takes c.args.start piece old new)) (sym (piece_of-given c.args.line.now (tag c.in-Ok.given) (sym c.if-is_blank.ensures) c.in-Ok.ensures)) c.obey.ensures.done
+    subst (λ (piece : Option Piece). OnOk c.obey.result (Takes c.args.start piece old new))
+    (sym (piece_of-given c.args.line.now (tag c.in-Ok.given) (sym c.if-is_blank.ensures) c.in-Ok.ensures)) c.obey.ensures.done
 
 pub returns-in-Ok-clause-counted : goal.returns-in-Ok-clause-counted
 returns-in-Ok-clause-counted g c = on_ok c.obey.result (c.obey.new.self.count ≡ c.args.self.now.count + 1) c.obey.ensures.count
@@ -40,7 +41,8 @@ returns-in-Ok-clause-stopped g c =
 pub returns-in-Err-Fault-clause-taken : goal.returns-in-Err-Fault-clause-taken
 returns-in-Err-Fault-clause-taken g c =
     let same = noted c.args.self.now (seen_as c.args.server.now) in
-    subst (λ (piece : Option Piece). Takes c.args.start piece same same) (sym (piece_of-faulty c.args.line.now _ (sym c.if-is_blank.ensures) (rw c.in-Err-Fault.field-0-is at c.in-Err-Fault.ensures))) refl
+    subst (λ (piece : Option Piece). Takes c.args.start piece same same)
+    (sym (piece_of-faulty c.args.line.now _ (sym c.if-is_blank.ensures) (rw c.in-Err-Fault.field-0-is at c.in-Err-Fault.ensures))) refl
 
 pub returns-in-Err-Fault-clause-later : goal.returns-in-Err-Fault-clause-later
 returns-in-Err-Fault-clause-later g c = Later-same (seen_as c.args.server.now) (seen_as c.args.server.now) refl

@@ -36,7 +36,8 @@ lines-preserved g c =
     let start = length input - length rest in
     let below : start < length input = omega (arith, ap length is, length-append front rest, some) in
     let here : line_at input start ≡ line = ap first_line (end_rest input rest front is) ∙ sym c.first_line.ensures.line in
-    let taken = HasTaken-line input (seen_as c.args.server.now) now c.lines.slicing.count rest c.lines.invariant.taken line behind (c.first_line.ensures.lines some) start next below here c.in_ok-take.ensures.taken in
+    let taken = HasTaken-line input (seen_as c.args.server.now) now c.lines.slicing.count rest c.lines.invariant.taken line behind
+    (c.first_line.ensures.lines some) start next below here c.in_ok-take.ensures.taken in
     record {
       taken = subst (λ (count : ℕ). HasTaken input (seen_as c.args.server.now) next count behind) (sym c.in_ok-take.ensures.counted) taken;
       behind = (front ++ more, is ∙ ap (λ l. front ++ l) split ∙ sym (append_assoc front more behind));
@@ -64,7 +65,8 @@ returns-in_err-take-clause-stopped g c =
     let now = noted c.lines.slicing (seen_as c.lines.server) in
     let some : 0 < length c.lines.rest.now = grind (arith, common_steps, c.lines-test.ensures) in
     let first = c.first_line.ensures.lines some in
-    let stopped = HasStopped-line input old now c.lines.slicing.count c.lines.rest.now c.lines.invariant.taken c.first_line.result.0.now c.first_line.result.1.now first c.in_err-take.field-0.0 new c.in_err-take.ensures.stopped in
+    let stopped = HasStopped-line input old now c.lines.slicing.count c.lines.rest.now c.lines.invariant.taken c.first_line.result.0.now
+    c.first_line.result.1.now first c.in_err-take.field-0.0 new c.in_err-take.ensures.stopped in
     subst (λ (r : Result Slicing RunFault). IfErr r (λ fault. HasStopped fault input old new)) (sym (err_is _ _ c.from_residual.ensures.1)) stopped
 
 pub returns-in_err-take-clause-later : goal.returns-in_err-take-clause-later
@@ -73,7 +75,8 @@ returns-in_err-take-clause-later g c = Later-trans _ _ _ c.lines.invariant.later
 pub returns-clause-taken : goal.returns-clause-taken
 returns-clause-taken g c =
     let none : c.lines.rest.now ≡ [] = grind (arith, common_steps, c.lines-test.ensures) in
-    subst (HasTaken c.args.input.now (seen_as c.args.server.now) (noted c.lines.slicing (seen_as c.lines.server)) c.lines.slicing.count) none c.lines.invariant.taken
+    subst (HasTaken c.args.input.now (seen_as c.args.server.now) (noted c.lines.slicing (seen_as c.lines.server)) c.lines.slicing.count) none
+    c.lines.invariant.taken
 
 pub returns-clause-later : goal.returns-clause-later
 returns-clause-later g c = c.lines.invariant.later

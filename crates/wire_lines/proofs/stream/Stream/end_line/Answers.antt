@@ -22,8 +22,11 @@ returns-clause-fed g c =
     let before = out (g.W.Sink.held c.args.writer.now) old.lines.output.gathered in
     let whole = NoEnd-append old.begun c.args.line.now old.no_end c.requires in
     let kept = Fed-kept (seen_as c.args.server.now) before old.lines.count BUFFER_BYTES begun whole (lit< tt) in
-    let answered = subst (λ (line : List ℕ). Feeds old.lines.most (point (seen_as c.args.server.now) before old.lines.count (line ++ 10 ∷ [])) (at (g.W.Sink.held c.answer-answered.new.writer) c.answer-answered.new.self (seen_as c.answer-answered.new.server) []) c.answer-answered.result)
+    let answered = subst (λ (line : List ℕ). Feeds old.lines.most (point (seen_as c.args.server.now) before old.lines.count (line ++ 10 ∷ []))
+    (at (g.W.Sink.held c.answer-answered.new.writer) c.answer-answered.new.self (seen_as c.answer-answered.new.server) []) c.answer-answered.result)
     (c.as_slice.ensures ∙ c.keep.ensures) c.answer-answered.ensures.fed in
-    Feeds-after old.lines.most (point (seen_as c.args.server.now) before old.lines.count (begun ++ 10 ∷ [])) (point (seen_as c.args.server.now) before old.lines.count (take BUFFER_BYTES begun ++ 10 ∷ []))
+    Feeds-after old.lines.most (point (seen_as c.args.server.now) before old.lines.count (begun ++ 10 ∷ []))
+    (point (seen_as c.args.server.now) before old.lines.count (take BUFFER_BYTES begun ++ 10 ∷ []))
     (at (g.W.Sink.held c.answer-answered.new.writer) c.answer-answered.new.self (seen_as c.answer-answered.new.server) []) c.answer-answered.result
-    (Fed-more (point (seen_as c.args.server.now) before old.lines.count begun) (point (seen_as c.args.server.now) before old.lines.count (take BUFFER_BYTES begun)) (10 ∷ []) kept) answered
+    (Fed-more (point (seen_as c.args.server.now) before old.lines.count begun)
+    (point (seen_as c.args.server.now) before old.lines.count (take BUFFER_BYTES begun)) (10 ∷ []) kept) answered

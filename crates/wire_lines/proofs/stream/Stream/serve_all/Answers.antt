@@ -8,9 +8,11 @@ use Rattle.wire_lines.specs.Feeding.{at}
 use Rattle.wire_lines.specs.Run.{Ends, reads}
 use Rattle.wire_lines.proofs.Answering.{Later-trans}
 use Rattle.wire_lines.proofs.Asking.{AsksSource-stopped}
-use Rattle.wire_lines.proofs.Feeding.{and_then, Fed-later, Fed-refl, Fed-trans, Cut-after, Cut-later, Finishes-later, Stops-cut, Stops-anywhere, SinkFails-unread}
+use Rattle.wire_lines.proofs.Feeding.{and_then, Fed-later, Fed-refl, Fed-trans, Cut-after, Cut-later, Finishes-later, Stops-cut, Stops-anywhere}
+use Rattle.wire_lines.proofs.Feeding.{SinkFails-unread}
 use Rattle.wire_lines.proofs.Kept.{err_is}
-use Rattle.wire_lines.proofs.Reading.{known_rest, known_end, Fed-flushed, Cut-flushed, Cut-here, Cut-known, Stops-known, Fed-read, Stops-read, Ends-stopped, Ends-finished, not_read, counted_read}
+use Rattle.wire_lines.proofs.Reading.{known_rest, known_end, Fed-flushed, Cut-flushed, Cut-here, Cut-known, Stops-known, Fed-read, Stops-read, Ends-stopped}
+use Rattle.wire_lines.proofs.Reading.{Ends-finished, not_read, counted_read}
 use Rattle.server_world.specs.Server.{seen_as}
 use Rattle.wire_lines.proofs.stream.Stream.serve_all.Goals as goal
 
@@ -24,8 +26,12 @@ returns-in_err-flush-clause-ends g c = λ input known.
     let here = at (g.W.Sink.held c.reads.writer) c.reads.self.lines (seen_as c.reads.server) c.reads.self.begun in
     let end = at (g.W.Sink.held c.flush.new.writer) c.flush.new.self (seen_as c.reads.server) [] in
     let flushed = c.in_err-flush.ensures in
-    let cut = Cut-flushed (seen_as c.reads.server) (g.W.Sink.held c.reads.writer) (g.W.Sink.held c.flush.new.writer) c.reads.self.lines.output.gathered c.flush.new.self.output.gathered c.reads.self.begun [] rest c.reads.self.lines.count c.flush.new.self.count flushed.emptied flushed.bytes flushed.count in
-    Ends-stopped old.lines.most c.args.max_reads (reads g.R.Source.calls g.R.Source.gave c.args.reader.now) (reads g.R.Source.calls g.R.Source.gave c.reads.reader) (g.R.Source.left c.reads.reader) Write (and_then start input) end c.from_residual.result not_read
+    let cut = Cut-flushed (seen_as c.reads.server) (g.W.Sink.held c.reads.writer)
+    (g.W.Sink.held c.flush.new.writer) c.reads.self.lines.output.gathered c.flush.new.self.output.gathered c.reads.self.begun
+    [] rest c.reads.self.lines.count c.flush.new.self.count flushed.emptied flushed.bytes flushed.count in
+    Ends-stopped old.lines.most c.args.max_reads (reads g.R.Source.calls g.R.Source.gave c.args.reader.now)
+    (reads g.R.Source.calls g.R.Source.gave c.reads.reader) (g.R.Source.left c.reads.reader) Write
+    (and_then start input) end c.from_residual.result not_read
     (Cut-known start end bytes rest input is Write (Cut-after Write (and_then start bytes) here end rest so_far.fed cut))
     (err_is _ _ c.from_residual.ensures.1)
 
@@ -38,7 +44,9 @@ returns-in_default-clause-ends g c = λ input known.
     let here = at (g.W.Sink.held c.reads.writer) c.reads.self.lines (seen_as c.reads.server) c.reads.self.begun in
     let next = at (g.W.Sink.held c.flush.new.writer) c.flush.new.self (seen_as c.reads.server) c.reads.self.begun in
     let flushed = c.in_ok-flush.ensures in
-    let fed : Fed here next = Fed-flushed (seen_as c.reads.server) (g.W.Sink.held c.reads.writer) (g.W.Sink.held c.flush.new.writer) c.reads.self.lines.output.gathered c.flush.new.self.output.gathered c.reads.self.begun c.reads.self.lines.count c.flush.new.self.count flushed.emptied flushed.bytes flushed.count in
+    let fed : Fed here next = Fed-flushed (seen_as c.reads.server) (g.W.Sink.held c.reads.writer)
+    (g.W.Sink.held c.flush.new.writer) c.reads.self.lines.output.gathered c.flush.new.self.output.gathered c.reads.self.begun c.reads.self.lines.count
+    c.flush.new.self.count flushed.emptied flushed.bytes flushed.count in
     let fed_all : Fed (and_then start bytes) next = Fed-trans (and_then start bytes) here next so_far.fed fed in
     let end = at (g.W.Sink.held c.flush.new.writer) c.flush.new.self (seen_as c.reads.server) [] in
     let kept = Consumes-kept _ _ _ bytes so_far.consumed c.in_default.ensures.bytes in
@@ -56,18 +64,27 @@ returns-then-count-eq0-clause-ends g c = λ input known.
     let here = at (g.W.Sink.held c.reads.writer) c.reads.self.lines (seen_as c.reads.server) c.reads.self.begun in
     let next = at (g.W.Sink.held c.flush.new.writer) c.flush.new.self (seen_as c.reads.server) c.reads.self.begun in
     let flushed = c.in_ok-flush.ensures in
-    let fed : Fed here next = Fed-flushed (seen_as c.reads.server) (g.W.Sink.held c.reads.writer) (g.W.Sink.held c.flush.new.writer) c.reads.self.lines.output.gathered c.flush.new.self.output.gathered c.reads.self.begun c.reads.self.lines.count c.flush.new.self.count flushed.emptied flushed.bytes flushed.count in
+    let fed : Fed here next = Fed-flushed (seen_as c.reads.server) (g.W.Sink.held c.reads.writer)
+    (g.W.Sink.held c.flush.new.writer) c.reads.self.lines.output.gathered c.flush.new.self.output.gathered c.reads.self.begun c.reads.self.lines.count
+    c.flush.new.self.count flushed.emptied flushed.bytes flushed.count in
     let fed_all : Fed (and_then start bytes) next = Fed-trans (and_then start bytes) here next so_far.fed fed in
     let read = c.in-Ok.ensures.bytes in
     let none : take c.in-Ok.count c.read.new.buffer ≡ [] = ap (λ n. take n c.read.new.buffer) c.if-count-eq0.true in
-    let consumed : Consumes (g.R.Source.left c.args.reader.now) (g.R.Source.left c.read.new.self) (bytes ++ take c.in-Ok.count c.read.new.buffer) = Consumes-trans _ _ _ bytes (take c.in-Ok.count c.read.new.buffer) so_far.consumed read.0 in
+    let consumed : Consumes (g.R.Source.left c.args.reader.now) (g.R.Source.left c.read.new.self) (bytes ++ take c.in-Ok.count c.read.new.buffer) =
+    Consumes-trans _ _ _ bytes (take c.in-Ok.count c.read.new.buffer) so_far.consumed read.0 in
     let (rest, left, is) = known_rest _ _ _ input consumed known in
     let nothing = known_end _ rest (read.1 c.if-count-eq0.true (omega arith)) left in
-    let whole : bytes ≡ input = sym (is ∙ ap (λ l. (bytes ++ take c.in-Ok.count c.read.new.buffer) ++ l) nothing ∙ append-nil (bytes ++ take c.in-Ok.count c.read.new.buffer) ∙ ap (λ l. bytes ++ l) none ∙ append-nil bytes) in
+    let whole : bytes ≡ input = sym (is ∙ ap (λ l. (bytes ++ take c.in-Ok.count c.read.new.buffer) ++ l) nothing
+    ∙ append-nil (bytes ++ take c.in-Ok.count c.read.new.buffer) ∙ ap (λ l. bytes ++ l) none ∙ append-nil bytes) in
     let end = at (g.W.Sink.held c.finish.new.writer) c.finish.new.self.lines (seen_as c.finish.new.server) [] in
-    let ends = Ends-finished c.flush.new.self.most c.args.max_reads (reads g.R.Source.calls g.R.Source.gave c.args.reader.now) (reads g.R.Source.calls g.R.Source.gave c.read.new.self) (g.R.Source.left c.read.new.self) (and_then start bytes) next end c.finish.result _ _ c.finish.ensures.failed fed_all c.finish.ensures.done in
-    let all = subst (λ (b : List ℕ). Ends c.flush.new.self.most c.args.max_reads (reads g.R.Source.calls g.R.Source.gave c.args.reader.now) (reads g.R.Source.calls g.R.Source.gave c.read.new.self) (g.R.Source.left c.read.new.self) (and_then start b) end c.finish.result) whole ends in
-    subst (λ (most : ℕ). Ends most c.args.max_reads (reads g.R.Source.calls g.R.Source.gave c.args.reader.now) (reads g.R.Source.calls g.R.Source.gave c.read.new.self) (g.R.Source.left c.read.new.self) (and_then start input) end c.finish.result) (flushed.most ∙ so_far.most) all
+    let ends = Ends-finished c.flush.new.self.most c.args.max_reads (reads g.R.Source.calls g.R.Source.gave c.args.reader.now)
+    (reads g.R.Source.calls g.R.Source.gave c.read.new.self) (g.R.Source.left c.read.new.self)
+    (and_then start bytes) next end c.finish.result _ _ c.finish.ensures.failed fed_all c.finish.ensures.done in
+    let all = subst (λ (b : List ℕ). Ends c.flush.new.self.most c.args.max_reads (reads g.R.Source.calls g.R.Source.gave c.args.reader.now)
+    (reads g.R.Source.calls g.R.Source.gave c.read.new.self) (g.R.Source.left c.read.new.self) (and_then start b) end c.finish.result) whole ends in
+    subst (λ (most : ℕ). Ends most c.args.max_reads (reads g.R.Source.calls g.R.Source.gave c.args.reader.now)
+    (reads g.R.Source.calls g.R.Source.gave c.read.new.self) (g.R.Source.left c.read.new.self) (and_then start input) end c.finish.result)
+    (flushed.most ∙ so_far.most) all
 
 pub returns-in_err-flush-clause-later : goal.returns-in_err-flush-clause-later
 returns-in_err-flush-clause-later g c = Fed-later _ _ c.reads.invariant.1.fed
@@ -77,14 +94,16 @@ returns-in_default-clause-later g c = Fed-later _ _ c.reads.invariant.1.fed
 
 pub returns-then-count-eq0-clause-later : goal.returns-then-count-eq0-clause-later
 returns-then-count-eq0-clause-later g c =
-    Later-trans (seen_as c.args.server.now) (seen_as c.reads.server) (seen_as c.finish.new.server) (Fed-later _ _ c.reads.invariant.1.fed) (Finishes-later _ _ _ _ c.finish.ensures.done)
+    Later-trans (seen_as c.args.server.now) (seen_as c.reads.server) (seen_as c.finish.new.server) (Fed-later _ _ c.reads.invariant.1.fed)
+    (Finishes-later _ _ _ _ c.finish.ensures.done)
 
 pub returns-clause-later : goal.returns-clause-later
 returns-clause-later g c = Fed-later _ _ c.reads.invariant.1.fed
 
 pub returns-in_err-feed-clause-later : goal.returns-in_err-feed-clause-later
 returns-in_err-feed-clause-later g c =
-    Later-trans (seen_as c.args.server.now) (seen_as c.reads.server) (seen_as c.feed.new.server) (Fed-later _ _ c.reads.invariant.1.fed) (Cut-later _ _ _ [] (Stops-cut _ _ _ _ [] (c.in_err-feed.ensures.fed [])))
+    Later-trans (seen_as c.args.server.now) (seen_as c.reads.server) (seen_as c.feed.new.server) (Fed-later _ _ c.reads.invariant.1.fed)
+    (Cut-later _ _ _ [] (Stops-cut _ _ _ _ [] (c.in_err-feed.ensures.fed [])))
 
 pub returns-in_err-feed-clause-ends : goal.returns-in_err-feed-clause-ends
 returns-in_err-feed-clause-ends g c = λ input known.
@@ -95,20 +114,27 @@ returns-in_err-feed-clause-ends g c = λ input known.
     let here = at (g.W.Sink.held c.reads.writer) c.reads.self.lines (seen_as c.reads.server) c.reads.self.begun in
     let next = at (g.W.Sink.held c.flush.new.writer) c.flush.new.self (seen_as c.reads.server) c.reads.self.begun in
     let flushed = c.in_ok-flush.ensures in
-    let fed : Fed here next = Fed-flushed (seen_as c.reads.server) (g.W.Sink.held c.reads.writer) (g.W.Sink.held c.flush.new.writer) c.reads.self.lines.output.gathered c.flush.new.self.output.gathered c.reads.self.begun c.reads.self.lines.count c.flush.new.self.count flushed.emptied flushed.bytes flushed.count in
+    let fed : Fed here next = Fed-flushed (seen_as c.reads.server) (g.W.Sink.held c.reads.writer)
+    (g.W.Sink.held c.flush.new.writer) c.reads.self.lines.output.gathered c.flush.new.self.output.gathered c.reads.self.begun c.reads.self.lines.count
+    c.flush.new.self.count flushed.emptied flushed.bytes flushed.count in
     let fed_all : Fed (and_then start bytes) next = Fed-trans (and_then start bytes) here next so_far.fed fed in
     let read = c.in-Ok.ensures.bytes in
     let chunk = take c.in-Ok.count c.read.new.buffer in
-    let consumed : Consumes (g.R.Source.left c.args.reader.now) (g.R.Source.left c.read.new.self) (bytes ++ chunk) = Consumes-trans _ _ _ bytes chunk so_far.consumed read.0 in
+    let consumed : Consumes (g.R.Source.left c.args.reader.now) (g.R.Source.left c.read.new.self) (bytes ++ chunk) =
+    Consumes-trans _ _ _ bytes chunk so_far.consumed read.0 in
     let (rest, left, is) = known_rest _ _ _ input consumed known in
     let after = at (g.W.Sink.held c.feed.new.writer) c.feed.new.self.lines (seen_as c.feed.new.server) c.feed.new.self.begun in
     let end = at (g.W.Sink.held c.feed.new.writer) c.feed.new.self.lines (seen_as c.feed.new.server) [] in
     let fault = c.in_err-feed.field-0.0 in
     let stops = Stops-read c.flush.new.self.most fault start here next after bytes chunk rest so_far.fed fed (c.in_err-feed.ensures.fed rest) in
     let ended = Stops-anywhere c.flush.new.self.most fault (and_then start (bytes ++ chunk)) after [] rest stops in
-    let ends = Ends-stopped c.flush.new.self.most c.args.max_reads (reads g.R.Source.calls g.R.Source.gave c.args.reader.now) (reads g.R.Source.calls g.R.Source.gave c.read.new.self) (g.R.Source.left c.read.new.self) fault (and_then start input) end c.from_residual-in_err-feed.result (SinkFails-unread (Unit {0}) _ _ fault c.in_err-feed.ensures.failed)
+    let ends = Ends-stopped c.flush.new.self.most c.args.max_reads (reads g.R.Source.calls g.R.Source.gave c.args.reader.now)
+    (reads g.R.Source.calls g.R.Source.gave c.read.new.self) (g.R.Source.left c.read.new.self) fault
+    (and_then start input) end c.from_residual-in_err-feed.result (SinkFails-unread (Unit {0}) _ _ fault c.in_err-feed.ensures.failed)
     (Stops-known start end (bytes ++ chunk) rest input is c.flush.new.self.most fault ended) (err_is _ _ c.from_residual-in_err-feed.ensures.1) in
-    subst (λ (most : ℕ). Ends most c.args.max_reads (reads g.R.Source.calls g.R.Source.gave c.args.reader.now) (reads g.R.Source.calls g.R.Source.gave c.read.new.self) (g.R.Source.left c.read.new.self) (and_then start input) end c.from_residual-in_err-feed.result) (flushed.most ∙ so_far.most) ends
+    subst (λ (most : ℕ). Ends most c.args.max_reads (reads g.R.Source.calls g.R.Source.gave c.args.reader.now)
+    (reads g.R.Source.calls g.R.Source.gave c.read.new.self) (g.R.Source.left c.read.new.self)
+    (and_then start input) end c.from_residual-in_err-feed.result) (flushed.most ∙ so_far.most) ends
 
 pub reads-preserved : goal.reads-preserved
 reads-preserved g c =
@@ -119,7 +145,9 @@ reads-preserved g c =
     let here = at (g.W.Sink.held c.reads.writer) c.reads.self.lines (seen_as c.reads.server) c.reads.self.begun in
     let next = at (g.W.Sink.held c.flush.new.writer) c.flush.new.self (seen_as c.reads.server) c.reads.self.begun in
     let flushed = c.in_ok-flush.ensures in
-    let fed : Fed here next = Fed-flushed (seen_as c.reads.server) (g.W.Sink.held c.reads.writer) (g.W.Sink.held c.flush.new.writer) c.reads.self.lines.output.gathered c.flush.new.self.output.gathered c.reads.self.begun c.reads.self.lines.count c.flush.new.self.count flushed.emptied flushed.bytes flushed.count in
+    let fed : Fed here next = Fed-flushed (seen_as c.reads.server) (g.W.Sink.held c.reads.writer)
+    (g.W.Sink.held c.flush.new.writer) c.reads.self.lines.output.gathered c.flush.new.self.output.gathered c.reads.self.begun c.reads.self.lines.count
+    c.flush.new.self.count flushed.emptied flushed.bytes flushed.count in
     let read = c.in-Ok.ensures.bytes in
     let chunk = take c.in-Ok.count c.read.new.buffer in
     let after = at (g.W.Sink.held c.feed.new.writer) c.feed.new.self.lines (seen_as c.feed.new.server) c.feed.new.self.begun in
@@ -184,7 +212,9 @@ pub returns-in_default-clause-written : goal.returns-in_default-clause-written
 returns-in_default-clause-written g c = λ reads. c.in_ok-flush.ensures.emptied
 
 pub returns-then-count-eq0-clause-written : goal.returns-then-count-eq0-clause-written
-returns-then-count-eq0-clause-written g c = λ reads. absurd (subst (λ (r : Result (Unit {0}) RunFault). SinkFails (g.W.Sink.failures c.flush.new.writer) (g.W.Sink.failures c.finish.new.writer) r) reads c.finish.ensures.failed)
+returns-then-count-eq0-clause-written g c =
+    λ reads. absurd (subst (λ (r : Result (Unit {0}) RunFault). SinkFails (g.W.Sink.failures c.flush.new.writer) (g.W.Sink.failures c.finish.new.writer) r)
+    reads c.finish.ensures.failed)
 
 pub returns-in_err-feed-clause-written : goal.returns-in_err-feed-clause-written
 returns-in_err-feed-clause-written g c = λ reads.
@@ -202,10 +232,17 @@ pub returns-in_default-clause-within : goal.returns-in_default-clause-within
 returns-in_default-clause-within g c = omega (arith, c.flush.new.self.within, c.in_ok-flush.ensures.most, c.reads.invariant.1.most)
 
 pub returns-then-count-eq0-clause-within : goal.returns-then-count-eq0-clause-within
-returns-then-count-eq0-clause-within g c = omega (arith, c.finish.new.self.lines.within, c.finish.ensures.most, c.in_ok-flush.ensures.most, c.reads.invariant.1.most)
+returns-then-count-eq0-clause-within g c =
+    omega (arith, c.finish.new.self.lines.within, c.finish.ensures.most, c.in_ok-flush.ensures.most, c.reads.invariant.1.most)
 
 pub returns-in_err-feed-clause-within : goal.returns-in_err-feed-clause-within
-returns-in_err-feed-clause-within g c = omega (arith, c.feed.new.self.lines.within, c.in_err-feed.ensures.most, c.in_ok-flush.ensures.most, c.reads.invariant.1.most)
+returns-in_err-feed-clause-within g c = omega (
+  arith,
+  c.feed.new.self.lines.within,
+  c.in_err-feed.ensures.most,
+  c.in_ok-flush.ensures.most,
+  c.reads.invariant.1.most,
+)
 
 pub returns-clause-within : goal.returns-clause-within
 returns-clause-within g c = omega (arith, c.reads.self.lines.within, c.reads.invariant.1.most)
@@ -213,16 +250,20 @@ returns-clause-within g c = omega (arith, c.reads.self.lines.within, c.reads.inv
 pub returns-in_err-flush-clause-asked : goal.returns-in_err-flush-clause-asked
 returns-in_err-flush-clause-asked g c =
     let so_far = c.reads.invariant.1 in
-    AsksSource-stopped c.args.max_reads (reads g.R.Source.calls g.R.Source.gave c.args.reader.now) (reads g.R.Source.calls g.R.Source.gave c.reads.reader) c.reads._reads 0
-    (omega (arith, so_far.asked)) (omega (arith, so_far.counted), omega (arith, so_far.gave)) (omega arith) Write c.from_residual.result (err_is _ _ c.from_residual.ensures.1)
+    AsksSource-stopped c.args.max_reads (reads g.R.Source.calls g.R.Source.gave c.args.reader.now)
+    (reads g.R.Source.calls g.R.Source.gave c.reads.reader) c.reads._reads 0
+    (omega (arith, so_far.asked)) (omega (arith, so_far.counted), omega (arith, so_far.gave)) (omega arith) Write c.from_residual.result
+    (err_is _ _ c.from_residual.ensures.1)
 
 -- the read that failed gave nothing
 pub returns-in_default-clause-asked : goal.returns-in_default-clause-asked
 returns-in_default-clause-asked g c =
     let so_far = c.reads.invariant.1 in
     let read = c.in_default.ensures in
-    AsksSource-stopped c.args.max_reads (reads g.R.Source.calls g.R.Source.gave c.args.reader.now) (reads g.R.Source.calls g.R.Source.gave c.read.new.self) c.reads._reads 1
-    (omega (arith, so_far.asked, read.asked)) (omega (arith, so_far.counted, read.asked), omega (arith, so_far.gave, read.gave)) (omega arith) Read (Err Read) refl
+    AsksSource-stopped c.args.max_reads (reads g.R.Source.calls g.R.Source.gave c.args.reader.now)
+    (reads g.R.Source.calls g.R.Source.gave c.read.new.self) c.reads._reads 1
+    (omega (arith, so_far.asked, read.asked)) (omega (arith, so_far.counted, read.asked), omega (arith, so_far.gave, read.gave)) (omega arith) Read
+    (Err Read) refl
 
 -- nor did the one that found the end
 pub returns-then-count-eq0-clause-asked : goal.returns-then-count-eq0-clause-asked
@@ -243,11 +284,14 @@ returns-in_err-feed-clause-asked g c =
     let so_far = c.reads.invariant.1 in
     let read = c.in-Ok.ensures in
     let some : 0 < c.in-Ok.count = omega arith in
-    AsksSource-stopped c.args.max_reads (reads g.R.Source.calls g.R.Source.gave c.args.reader.now) (reads g.R.Source.calls g.R.Source.gave c.read.new.self) (c.reads._reads + 1) 0
-    (omega (arith, so_far.asked, read.asked)) (omega (arith, so_far.counted, read.asked), omega (arith, so_far.gave, read.gave.0 some)) (omega arith) c.in_err-feed.field-0.0 c.from_residual-in_err-feed.result (err_is _ _ c.from_residual-in_err-feed.ensures.1)
+    AsksSource-stopped c.args.max_reads (reads g.R.Source.calls g.R.Source.gave c.args.reader.now) (reads g.R.Source.calls g.R.Source.gave c.read.new.self)
+    (c.reads._reads + 1) 0
+    (omega (arith, so_far.asked, read.asked)) (omega (arith, so_far.counted, read.asked), omega (arith, so_far.gave, read.gave.0 some))
+    (omega arith) c.in_err-feed.field-0.0 c.from_residual-in_err-feed.result (err_is _ _ c.from_residual-in_err-feed.ensures.1)
 
 pub returns-clause-asked : goal.returns-clause-asked
 returns-clause-asked g c =
     let so_far = c.reads.invariant.1 in
-    AsksSource-stopped c.args.max_reads (reads g.R.Source.calls g.R.Source.gave c.args.reader.now) (reads g.R.Source.calls g.R.Source.gave c.reads.reader) c.reads._reads 0
+    AsksSource-stopped c.args.max_reads (reads g.R.Source.calls g.R.Source.gave c.args.reader.now)
+    (reads g.R.Source.calls g.R.Source.gave c.reads.reader) c.reads._reads 0
     (omega (arith, so_far.asked)) (omega (arith, so_far.counted), omega (arith, so_far.gave)) (omega arith) Endless (Err Endless) refl
