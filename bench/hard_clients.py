@@ -174,7 +174,7 @@ class Pump:
             if len(self.held) < len(wanted) and wanted.startswith(self.held):
                 break
             if self.answered == self.sent or not self.held.startswith(wanted):
-                raise Failed(f"{self.name} is told {self.held[:300]!r}, and is to be told {wanted!r}")
+                raise Failed(f"{self.name} receives {self.held[:300]!r}, and {wanted!r} has to come")
             self.held = self.held[len(wanted) :]
             self.answered += 1
         return bool(piece)

@@ -116,6 +116,6 @@ def rage(pumps: Pumps, floods: List[socket.socket], told: List[socket.socket], s
             flood(link)
         pumps.drive(0.1)
 
-    wait_until(lambda: len(select.select(told, [], [], 0)[0]) == len(told), "all are told", go_on)
+    wait_until(lambda: len(select.select(told, [], [], 0)[0]) == len(told), "all receive something", go_on)
     until = time.monotonic() + seconds
     wait_until(lambda: time.monotonic() > until, "the time is over", go_on)

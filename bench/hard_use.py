@@ -4,8 +4,8 @@
 Usage: hard_use.py [--seed N] [--part OF] PROGRAM TRIAL [TRIAL..]
        hard_use.py [--seed N] [--seconds N] PROGRAM soak
 
-    rubbish   clients write 500,000 random lines and forgeries, cut at any byte; each is told what the program alone tells it
-    kills     20 workers are killed under load; nothing recorded is lost, and nothing is told twice
+    rubbish   clients write 500,000 random lines and forgeries, cut at any byte; each gets what the program alone writes
+    kills     20 workers are killed under load; nothing recorded is lost, and nothing is answered twice
     resume    10 fronts are killed under load, and started again with --resume; each command that was answered is there
     storm     half lines, clients that do not read, floods and storms of connections; memory is bounded, and others are served
     soak      clients come, go and vanish for 20 minutes, or --seconds; memory and files do not grow after the first quarter
@@ -113,9 +113,9 @@ def compare(name: str, told: List[bytes], wanted: List[bytes]) -> None:
     """Compares the lines that a client has received with those that had to come."""
     for at, (one, other) in enumerate(zip(told, wanted)):
         if one != other:
-            raise Failed(f"line {at + 1} that {name} is told is {one[:300]!r}, and has to be {other[:300]!r}")
+            raise Failed(f"line {at + 1} for {name} is {one[:300]!r}, and has to be {other[:300]!r}")
     if len(told) != len(wanted):
-        raise Failed(f"{name} is told {len(told)} lines, and has to be told {len(wanted)}")
+        raise Failed(f"{name} receives {len(told)} lines, and has to receive {len(wanted)}")
 
 
 def kills(run: Run) -> str:

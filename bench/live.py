@@ -226,8 +226,8 @@ def measure(given: argparse.Namespace) -> None:
             print(f"{given.clients} subscribers that wait ({said}), share of a processor: {told}", flush=True)
         kinds: Tuple[Tuple[str, str], ...] = (("live", "live"), ("asyncio", "live, asyncio"), ("polling", "not live"))
         for kind, said in kinds:
-            show(f"until a function is told ({said})", measured.times(kind, given.rounds))
-        show("until a line is told, over plain sockets", measured.plain_times(given.rounds))
+            show(f"until a function is called ({said})", measured.times(kind, given.rounds))
+        show("until a line arrives, over plain sockets", measured.plain_times(given.rounds))
     finally:
         measured.close()
 
