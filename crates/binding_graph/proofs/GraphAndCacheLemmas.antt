@@ -65,7 +65,6 @@ forgotten_in_step store marks graph cache at on step = record {
   right = λ part within. step.right part (λ q kept is. rest_within at cache.kept q kept (within q kept is));
   whole = λ q off. by q off (step.whole q off);
   last = λ q off. step.last q off ∙ ap (shows q) (sym (still q off));
-  there = step.there;
 }
   where
     apart : (q : Property) → is_marked (both marks cache.pending) q ≡ false → is_property at q ≡ false
@@ -88,7 +87,7 @@ forgotten_in_step store marks graph cache at on step = record {
 
 pub at_depth : (store : Store) (marks : Marks) (graph : Graph) (cache : Cache) (depth : ℕ) → IsInStep store marks graph cache
     → IsInStep store marks (record graph { depth = depth }) cache
-at_depth store marks graph cache depth step = record { right = step.right; whole = step.whole; last = step.last; there = step.there }
+at_depth store marks graph cache depth step = record { right = step.right; whole = step.whole; last = step.last }
 
 more_of_pending : (marks before pending : Marks) → AreMore before pending → AreMore (both marks before) (both marks pending)
 more_of_pending marks before pending are_more q on = both_marked marks pending q ∙ by (is_marked marks q) (sym (both_marked marks before q) ∙ on)

@@ -8,6 +8,7 @@ pub mod GraphAndCacheLemmas
 pub mod RemovalLemmas
 pub mod TouchedLemmas
 pub mod RowLemmas
+pub mod GoneLemmas
 pub mod DrainLemmas
 pub mod KnownLemmas
 pub mod SettlingLemmas

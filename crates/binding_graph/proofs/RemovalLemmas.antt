@@ -11,20 +11,22 @@ use Rattle.property_store.specs.Marks.{Marks, has_marks, is_marked, marks_at}
 use Rattle.property_store.specs.Store.{Store, without}
 use Rattle.property_store.specs.Table.{StoresView, store_at, with_store}
 use Rattle.binding_values.specs.declared.binding.Binding.{Binding}
+use Rattle.binding_values.specs.declared.eval_result.CacheEntry.{CacheEntry}
 use Rattle.binding_values.specs.EvalResult.{kept_of, known}
 use Rattle.binding_values.specs.Scene.{Cell}
 use Rattle.binding_values.specs.Stored.{fields_at, outcome_in, properties_in, scene_of}
 use Rattle.binding_values.proofs.ForCallers.{all_given}
-use Rattle.binding_values.specs.Right.{both}
-use Rattle.binding_values.proofs.ForCallers.{AreAlikeBut, stays_right, stays_whole, cell_gone, cell_stays, kept_objects, removal_is_alike}
+use Rattle.binding_values.specs.Right.{AreMore, both}
+use Rattle.binding_values.proofs.ForCallers.{AreAlikeBut, stays_right, stays_whole, cell_gone, kept_objects, removal_is_alike}
 use Rattle.binding_graph.specs.declared.change.Change.{Change}
 use Rattle.binding_graph.specs.declared.shown.Shown.{Shown}
 use Rattle.binding_graph.specs.Cache.{Cache, IsInStep, shown_by}
 use Rattle.binding_graph.specs.Drained.{IsDrained}
 use Rattle.binding_graph.specs.Graph.{Graph, all_shown, changes, has_turn, in_turn, is_open, notice, settled_changes, shown_as, shown_at, shown_now, warning}
 use Rattle.binding_graph.specs.Graph.{without_object}
-use Rattle.binding_graph.specs.GraphAndCache.{without_shown}
+use Rattle.binding_graph.specs.GraphAndCache.{StaysKept}
 use Rattle.binding_graph.proofs.FoundLemmas.{shown_of}
+use Rattle.binding_graph.proofs.SettlingLemmas.{drained_in_step}
 use Rattle.binding_graph.proofs.StepLemmas.{both_marked, more_in_step, more_of_both, nothing_marked, same_shown}
 use Rattle.binding_graph.proofs.TouchedLemmas.{found_filter}
 
@@ -41,38 +43,39 @@ module _ (store : Store) (marks : Marks) (graph : Graph) (cache : Cache) (object
       (λ number within. let q : Property = record { object = object; number = number } in both_marked marks cache.pending q
       ∙ or_right (is_marked marks q) _ (marked number within))
 
-  shown_without : (q : Property) → shown_at (filter (λ (shown : Shown). not (shown.at.object == object)) graph.last) q
-      ≡ cond (not (q.object == object)) (shown_at graph.last q) None
-  shown_without q = found_filter (λ p. not (p.object == object)) graph.last q
-
-  pub gone_in_step : IsInStep (without object store) marks (without_shown object (without_object object graph)) cache
+  pub gone_in_step : IsInStep (without object store) marks (without_object object graph) cache
   gone_in_step = record {
     right = stays_right (scene_of store graph.bindings) (scene_of (without object store) (kept_objects object graph.bindings)) all all (kept_of cache.kept)
         (λ q on. on) same step.right;
     whole = stays_whole (scene_of store graph.bindings) (scene_of (without object store) (kept_objects object graph.bindings)) all all (kept_of cache.kept)
         (λ q on. on) same step.whole;
-    last = λ q off. shown_without q ∙ ⊎_elim (own q) (others q off) (cases_Bool (q.object == object));
-    there = λ some q none. shown_without q ∙ ⊎_elim
-        (λ gone. ap (λ t. cond (not t) (shown_at graph.last q) None) gone)
-        (λ apart. ap (λ t. cond (not t) (shown_at graph.last q) None) apart ∙ step.there some q (cell_stays object store q apart ∙ none))
-        (cases_Bool (q.object == object));
+    last = λ q off. step.last q off
+        ∙ same_shown store (without object store) graph.bindings (kept_objects object graph.bindings) all (kept_of cache.kept) same q off;
   }
-    where
-      own : (q : Property) → (q.object == object) ≡ true → cond (not (q.object == object)) (shown_at graph.last q) None
-          ≡ shown_by (without object store) (kept_objects object graph.bindings) (kept_of cache.kept) q
-      own q gone =
-          ap (λ t. cond (not t) (shown_at graph.last q) None) gone
-          ∙ sym (ap (option_map (λ (cell : Cell). shown_as q cell.kind
-          (known (scene_of (without object store) (kept_objects object graph.bindings)) (kept_of cache.kept) q))) (cell_gone object store q gone))
 
-      others : (q : Property) → is_marked all q ≡ false → (q.object == object) ≡ false
-          → cond (not (q.object == object)) (shown_at graph.last q) None
-          ≡ shown_by (without object store) (kept_objects object graph.bindings) (kept_of cache.kept) q
-      others q off apart =
-          ap (λ t. cond (not t) (shown_at graph.last q) None) apart
-          ∙ (step.last q off ∙ same_shown store (without object store) graph.bindings (kept_objects object graph.bindings) all (kept_of cache.kept) same q off)
+-- nor does it matter what its properties showed
 
--- what its properties showed is nothing to what is told
+abbrev pub unshown : ℕ → List Shown → List Shown
+unshown object last = filter (λ (shown : Shown). not (shown.at.object == object)) last
+
+pub unshown_in_step : (store : Store) (marks : Marks) (graph : Graph) (cache : Cache) (object : ℕ) → IsInStep (without object store) marks graph cache
+    → IsInStep (without object store) marks (record graph { last = unshown object graph.last }) cache
+unshown_in_step store marks graph cache object step = record {
+  right = step.right;
+  whole = step.whole;
+  last = λ q off. found_filter (λ p. not (p.object == object)) graph.last q
+      ∙ ⊎_elim (own q) (λ apart. others q apart ∙ step.last q off) (cases_Bool (q.object == object));
+}
+  where
+    own : (q : Property) → (q.object == object) ≡ true → cond (not (q.object == object)) (shown_at graph.last q) None
+        ≡ shown_by (without object store) graph.bindings (kept_of cache.kept) q
+    own q gone =
+        ap (λ t. cond (not t) (shown_at graph.last q) None) gone
+        ∙ sym (ap (option_map (λ (cell : Cell). shown_as q cell.kind (known (scene_of (without object store) graph.bindings) (kept_of cache.kept) q)))
+        (cell_gone object store q gone))
+
+    others : (q : Property) → (q.object == object) ≡ false → cond (not (q.object == object)) (shown_at graph.last q) None ≡ shown_at graph.last q
+    others q apart = ap (λ t. cond (not t) (shown_at graph.last q) None) apart
 
 same_map : (f g : Shown → Option Change) (rows : List Shown) → All (λ shown. f shown ≡ g shown) rows → filter_map f rows ≡ filter_map g rows
 same_map f g [] all = refl
@@ -98,7 +101,7 @@ told_alike last other rows written all = ap₂ (λ warnings notices. warnings ++
     same_notice shown e = rw e refl
 
 pub told_without : (object : ℕ) (store : Store) (bindings : List Binding) (last : List Shown) (written : Option Property)
-    → changes (filter (λ (shown : Shown). not (shown.at.object == object)) last) (all_shown (without object store) bindings) written
+    → changes (unshown object last) (all_shown (without object store) bindings) written
     ≡ changes last (all_shown (without object store) bindings) written
 told_without object store bindings last written =
     told_alike last (filter (λ (shown : Shown). not (shown.at.object == object)) last) (all_shown (without object store) bindings) written
@@ -130,12 +133,12 @@ module _ (place object : ℕ) (old drained dropped new : StoresView) (is_place :
 
   -- what is told
   pub removed_told : (graph : Graph) → is_open graph ≡ false → (told : List Change)
-      → told ≡ changes (without_shown object (without_object object graph)).last
+      → told ≡ changes (unshown object graph.last)
       (all_shown (store_at new.shelves place) (without_object object graph).bindings) None
       → told ≡ settled_changes (without object (store_at old.shelves place)) (without_object object graph) None
   removed_told graph shut told is =
       is
-      ∙ (ap (λ store. changes (without_shown object (without_object object graph)).last (all_shown store (without_object object graph).bindings) None)
+      ∙ (ap (λ store. changes (unshown object graph.last) (all_shown store (without_object object graph).bindings) None)
       removed_store
       ∙ (told_without object (store_at old.shelves place) (without_object object graph).bindings graph.last None
       ∙ sym (ap (λ deep. cond deep [] (changes graph.last (all_shown (without object (store_at old.shelves place)) (without_object object graph).bindings)
@@ -150,3 +153,25 @@ module _ (place object : ℕ) (old drained dropped new : StoresView) (is_place :
       (ap (λ shelves. without object (store_at shelves place)) drains.shelves ∙ sym removed_store)
       (more_in_step step (more_of_both (marks_at drained.marks place) (marks_at new.marks place) cache.pending
       (λ q on. absurd (both_ways (is_marked (marks_at drained.marks place) q) (nothing_marked (marks_at drained.marks place) none q) on))))
+
+  -- so where a place was drained, and what was kept of the object's properties was let go
+  module _ (graph : Graph) (cache : Cache) (kept : List CacheEntry) (before pending : Marks) (none : has_marks (marks_at drained.marks place) ≡ false)
+      (marked : (number : ℕ) → number ≤ length (fields_at (store_at drained.shelves place) object)
+      → is_marked pending (record { object = object; number = number }) ≡ true)
+      (stays : StaysKept before cache.kept pending kept) (more : AreMore (both (marks_at old.marks place) cache.pending) before)
+      (step : IsInStep (store_at old.shelves place) (marks_at old.marks place) graph cache) where
+    abbrev left : Cache
+    left = record { kept = kept; pending = pending; evaluations = cache.evaluations }
+
+    gone : IsInStep (without object (store_at drained.shelves place)) (marks_at drained.marks place) (without_object object graph) left
+    gone = gone_in_step (store_at drained.shelves place) (marks_at drained.marks place) graph left object marked
+        (stays (store_at drained.shelves place) (marks_at drained.marks place) graph cache.evaluations
+        (drained_in_step old drained place graph cache before drains more step))
+
+    pub let_go_in_step : IsInStep (store_at new.shelves place) (marks_at new.marks place) (without_object object graph) left
+    let_go_in_step = removed_in_step (without_object object graph) left none gone
+
+    pub hidden_in_step : IsInStep (store_at new.shelves place) (marks_at new.marks place)
+        (record (without_object object graph) { last = unshown object graph.last }) left
+    hidden_in_step = removed_in_step (record (without_object object graph) { last = unshown object graph.last }) left none
+        (unshown_in_step (store_at drained.shelves place) (marks_at drained.marks place) (without_object object graph) left object gone)

@@ -2,20 +2,19 @@
 use Rattle.std.proofs.Common.{ℕ, ◌≡◌, ◌∙◌, ◌||◌, true, false, cond, List, Option, None, option_map, refl, sym, ap, ap₂}
 use Rattle.std.specs.Prelude.{if◌then◌else◌}
 use Rattle.std.specs.Option.{option_map_or}
-use Rattle.std.proofs.lemmas.Bool.{both_ways, false_from_ne_true, or_from, or_parts, or_right}
+use Rattle.std.proofs.lemmas.Bool.{both_ways, false_from_ne_true, or_right}
 use Rattle.property_store.specs.declared.property.Property.{Property}
 use Rattle.property_store.specs.Marks.{Marks, has_marks, is_marked, marks_at}
 use Rattle.property_store.specs.Property.{among}
 use Rattle.property_store.specs.Store.{IsSound, Store}
 use Rattle.property_store.specs.Table.{StoresView, store_at}
-use Rattle.property_store.proofs.ForCallers.{unmapped}
 use Rattle.binding_values.specs.declared.eval_result.CacheEntry.{CacheEntry}
 use Rattle.binding_values.specs.declared.eval_result.EvalResult.{EvalResult}
 use Rattle.binding_values.specs.Binds.{AreBindings}
 use Rattle.binding_values.specs.EvalResult.{at_hand, kept_of}
 use Rattle.binding_values.specs.Scene.{Cell}
 use Rattle.binding_values.specs.Sorted.{IsRising}
-use Rattle.binding_values.specs.Stored.{cell_in, outcome_in, scene_of}
+use Rattle.binding_values.specs.Stored.{cell_in, scene_of}
 use Rattle.binding_values.specs.Right.{AreMore, IsComplete, IsRightBut, IsWhole, both, only}
 use Rattle.binding_values.proofs.ForCallers.{complete_is_known}
 use Rattle.binding_graph.specs.declared.shown.Shown.{Shown}
@@ -75,16 +74,10 @@ module _ (store : Store) (marks : Marks) (graph : Graph) (cache : Cache) (none :
         by_kept kept = option_map (λ (cell : Cell). shown_as q cell.kind
             (option_map_or (λ (kept : EvalResult). kept.outcome) kept (at_hand (scene_of store graph.bindings) q))) (cell_in store q)
 
-    -- what is not there has shown nothing
-    gone : (q : Property) → among q touched ≡ true → shown_at (all_shown store graph.bindings) q ≡ None → shown_at graph.last q ≡ None
-    gone q on nothing =
-        step.there (or_from marks.all cache.pending.all (or_parts marks.all _ none).0 some) q
-        (unmapped (λ (cell : Cell). shown_as q cell.kind (outcome_in store graph.bindings q)) (cell_in store q)
-        (sym (found_in_all store graph.bindings q) ∙ nothing))
-
     pub told_so : (written : Option Property) → IsRising (λ (shown : Shown). shown.at) now
         → changes graph.last (all_shown store graph.bindings) written ≡ changes graph.last now written
     told_so written rising = changes_of_touched graph.last now (all_shown store graph.bindings) touched written rising all_rising found_so stayed
 
-    pub merged_so : (new : List Shown) → IsRising (λ (shown : Shown). shown.at) new → AreMerged now graph.last new → new ≡ all_shown store graph.bindings
-    merged_so new rising merged = merged_is_all graph.last now new (all_shown store graph.bindings) touched rising all_rising merged found_so stayed gone
+    pub merged_so : (new : List Shown) → IsRising (λ (shown : Shown). shown.at) new → AreMerged touched now graph.last new
+        → new ≡ all_shown store graph.bindings
+    merged_so new rising merged = merged_is_all graph.last now new (all_shown store graph.bindings) touched rising all_rising merged found_so stayed

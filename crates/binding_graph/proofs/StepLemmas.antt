@@ -1,9 +1,8 @@
 -- What is kept of bindings stays in step with every change of a store.
-use Rattle.std.proofs.Common.{◌≡◌, ◌≢◌, ◌∙◌, ◌+◌, ◌<◌, ◌≤◌, ◌==◌, ◌&&◌, ◌||◌, ℕ, suc, Bool, true, false, cond, not, List, [], ◌∷◌, Option, Some, None, Ok, Err}
+use Rattle.std.proofs.Common.{◌≡◌, ◌≢◌, ◌∙◌, ◌==◌, ◌||◌, ℕ, suc, Bool, true, false, cond, not, List, [], ◌∷◌, Option, Some, None, Ok, Err}
 use Rattle.std.proofs.Common.{is_some, length, nat_lt, option_map, slice_index_or, refl, sym, ap, ap₂, subst, ⊎_elim, arith}
 use Rattle.std.specs.Option.{option_map_or}
 use Rattle.std.proofs.lemmas.Bool.{both_ways, cases_Bool, eq-eqb, eqb-true, false_from_ne_true, ltb-false, or_cases, or_from, or_left, or_parts, or_right}
-use Rattle.std.proofs.lemmas.Bool.Decides.{nat_tests}
 use Rattle.std.proofs.lemmas.List.{get_or-set_other}
 use Rattle.std.proofs.lemmas.List.Folds.{list_any-append}
 use Rattle.shared_rows.specs.Table.{IsPlace}
@@ -22,7 +21,7 @@ use Rattle.binding_values.specs.declared.eval_result.EvalResult.{EvalResult}
 use Rattle.binding_values.specs.declared.property.BindingError.TheVariants.{BindingLoop, EvaluationError}
 use Rattle.binding_values.specs.EvalResult.{Keeping, kept_of}
 use Rattle.binding_values.specs.Scene.{Cell, Outcome, Scene}
-use Rattle.binding_values.specs.Stored.{cell_in, outcome_in, scene_of}
+use Rattle.binding_values.specs.Stored.{cell_in, scene_of}
 use Rattle.binding_values.specs.Right.{AreMore, DiffersAt, IsComplete, both}
 use Rattle.binding_values.proofs.ForCallers.{complete_is_known, complete_is_right, unmarked_is_complete, AreAlikeBut, alike, stays_right, stays_whole}
 use Rattle.binding_values.proofs.ForCallers.{addition_is_marked, all_may_change, dynamic_is_nothing, no_dynamic_is_nothing, write_is_marked}
@@ -52,29 +51,6 @@ more_of_both marks more pending are_more q on =
     ∙ ⊎_elim (λ one. or_left (is_marked more q) _ (are_more q one)) (λ other. or_right (is_marked more q) _ other)
     (or_cases (is_marked marks q) (is_marked pending q) (sym (both_marked marks pending q) ∙ on))
 
--- where all is marked at first and not in the end, a property is not marked any more
-
-abbrev above : List Property → ℕ
-above [] = 0
-above (p ∷ ps) = suc (p.object + above ps)
-
-abbrev property : ℕ → Property
-property object = record { object = object; number = 0 }
-
-beyond : (n : ℕ) (ps : List Property) → above ps ≤ n → among (property n) ps ≡ false
-beyond n [] most = refl
-beyond n (p ∷ ps) most = or_from (is_property (property n) p) (among (property n) ps) (other p.object p.number (omega (arith, most)))
-    (beyond n ps (omega (arith, most)))
-  where
-    other : (object number : ℕ) → object < n → (n == object && 0 == number) ≡ false
-    other object number less = grind (arith, nat_tests, less)
-
-all_before : (marks more : Marks) → AreMore marks more → more.all ≡ false → marks.all ≡ false
-all_before marks more are_more off =
-    let last = property (above more.each) in
-    false_from_ne_true marks.all
-    (λ on. both_ways (is_marked more last) (or_from more.all _ off (beyond (above more.each) more.each (omega arith))) (are_more last (or_left marks.all _ on)))
-
 -- in scenes that differ at marked properties alone, what is not marked shows the same by what is kept
 
 pub same_shown : (store other : Store) (bindings after : List Binding) (marks : Marks) (keeping : Keeping)
@@ -100,7 +76,6 @@ stays_where_marked store other marks more pending graph after cache are_more dif
   whole = stays_whole (scene_of store graph.bindings) (scene_of other after) (both marks cache.pending) (both more pending)
       (kept_of cache.kept) are_more same step.whole;
   last = λ q off. step.last q (was_clear q off) ∙ same_shown store other graph.bindings after (both more pending) (kept_of cache.kept) same q off;
-  there = λ some q none. step.there (all_before (both marks cache.pending) (both more pending) are_more some) q (differs.there some q none);
 }
   where
     same : AreAlikeBut (both more pending) (scene_of store graph.bindings) (scene_of other after)
@@ -140,7 +115,6 @@ complete_in_step store graph cache complete last marks = record {
   whole = λ q off. complete.whole q;
   last = λ q off. found q ∙ ap (λ outcome. option_map (λ (cell : Cell). shown_as q cell.kind outcome) (cell_in store q))
       (sym (complete_is_known (scene_of store graph.bindings) (kept_of cache.kept) complete q));
-  there = λ some q gone. found q ∙ ap (option_map (λ (cell : Cell). shown_as q cell.kind (outcome_in store graph.bindings q))) gone;
 }
   where
     found : (q : Property) → shown_at graph.last q ≡ shown_now store graph.bindings q
@@ -171,7 +145,6 @@ all_in_step store marks graph cache empty on = record {
   right = λ part within closed clear q kept is. absurd (nothing q kept (within q kept is));
   whole = λ q off. absurd (never q off);
   last = λ q off. absurd (never q off);
-  there = λ some q none. absurd (both_ways (marks.all || cache.pending.all) some (or_right marks.all _ on));
 }
   where
     nothing : (q : Property) (kept : EvalResult) → kept_of cache.kept q ≡ Some kept → ⊥
@@ -312,17 +285,6 @@ module _ (old new : StoresView) (place object : ℕ)
           (or_left (marks_at new.marks place).all _ all)) step
       by None e = same_in_step before (without object before) (marks_at old.marks place) (marks_at new.marks place) graph cache
           (nothing_without before object e) (at None e) step
-
--- so in the store that there is then
-pub removal_at : (old new : StoresView) (place object : ℕ) → HasMarks place
-    (cond (is_some (properties_of (store_at old.shelves place) object)) all_marks (marks_at old.marks place)) old.marks new.marks
-    → IsPlace old.shelves.table place → HasStore place (without object (store_at old.shelves place)) old new
-    → (graph : Graph) (cache : Cache) → IsInStep (store_at old.shelves place) (marks_at old.marks place) graph cache
-    → IsInStep (store_at new.shelves place) (marks_at new.marks place) graph cache
-removal_at old new place object marked is_place has graph cache step =
-    subst (λ store. IsInStep store (marks_at new.marks place) graph cache)
-    (sym (stands_there old new place (without object (store_at old.shelves place)) is_place has))
-    (removal_there old new place object marked graph cache step)
 
 pub removal_in_step : RemovalStaysInStep
 removal_in_step old new place object is_place has marked = changed_there old new place _ is_place has marked.others (removal_there old new place object marked)

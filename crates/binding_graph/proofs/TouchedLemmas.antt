@@ -187,16 +187,15 @@ changes_of_touched last now all touched written rising risen found stayed =
 -- with their rows in place of those of before, all is as it is now
 pub merged_is_all : (last now new all : List Shown) (touched : List Property) → IsRising (λ (shown : Shown). shown.at) new
     → IsRising (λ (shown : Shown). shown.at) all
-    → ((q : Property) → shown_at new q ≡ option_map_or Some (shown_at now q) (shown_at last q))
+    → ((q : Property) → shown_at new q ≡ option_map_or Some (shown_at now q) (if among q touched then None else shown_at last q))
     → ((q : Property) → shown_at now q ≡ (if among q touched then shown_at all q else None))
     → ((q : Property) → among q touched ≡ false → shown_at last q ≡ shown_at all q)
-    → ((q : Property) → among q touched ≡ true → shown_at all q ≡ None → shown_at last q ≡ None)
     → new ≡ all
-merged_is_all last now new all touched rising risen merged found stayed gone =
+merged_is_all last now new all touched rising risen merged found stayed =
     same_rows new all rising risen (λ q. merged q ∙ by q (among q touched) refl (shown_at all q) refl)
   where
     by : (q : Property) (t : Bool) → among q touched ≡ t → (shows : Option Shown) → shown_at all q ≡ shows
-        → option_map_or Some (shown_at now q) (shown_at last q) ≡ shown_at all q
-    by q true e None f = let none : shown_at now q ≡ None = found q ∙ rw (e, f) refl in rw (none, f) (gone q e f)
+        → option_map_or Some (shown_at now q) (cond (among q touched) None (shown_at last q)) ≡ shown_at all q
+    by q true e None f = let none : shown_at now q ≡ None = found q ∙ rw (e, f) refl in rw (none, e, f) refl
     by q true e (Some shown) f = let same : shown_at now q ≡ Some shown = found q ∙ rw (e, f) refl in rw (same, f) refl
-    by q false e shows f = let none : shown_at now q ≡ None = found q ∙ rw e refl in rw none (stayed q e)
+    by q false e shows f = let none : shown_at now q ≡ None = found q ∙ rw e refl in rw (none, e) (stayed q e)

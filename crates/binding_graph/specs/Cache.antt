@@ -1,5 +1,5 @@
 -- What is kept of a place from one settling to the next.
-use Rattle.std.specs.Prelude.{◌≡◌, ℕ, List, [], false, None, Option, option_map, slice_index_or}
+use Rattle.std.specs.Prelude.{◌≡◌, ℕ, List, [], false, Option, option_map, slice_index_or}
 use Rattle.property_store.specs.declared.property.Property.{Property}
 use Rattle.property_store.specs.Marks.{Marks, all_marks, is_marked}
 use Rattle.property_store.specs.Store.{Store}
@@ -37,5 +37,3 @@ pub record IsInStep (store : Store) (marks : Marks) (graph : Graph) (cache : Cac
   pub right : IsRightBut (scene_of store graph.bindings) (both marks cache.pending) (kept_of cache.kept)
   pub whole : IsWhole (scene_of store graph.bindings) (both marks cache.pending) (kept_of cache.kept)
   pub last : (q : Property) → is_marked (both marks cache.pending) q ≡ false → shown_at graph.last q ≡ shown_by store graph.bindings (kept_of cache.kept) q
-  -- unless all is marked, only properties that are there have shown something
-  pub there : (both marks cache.pending).all ≡ false → (q : Property) → cell_in store q ≡ None → shown_at graph.last q ≡ None

@@ -1,5 +1,5 @@
 -- The bindings of a place, and what is kept of them.
-use Rattle.std.specs.Prelude.{◌==◌, ℕ, List, filter, map, not}
+use Rattle.std.specs.Prelude.{ℕ, List, map}
 use Rattle.shared_rows.specs.Table.{Table}
 use Rattle.property_store.specs.Marks.{Marks, marks_at}
 use Rattle.property_store.specs.Store.{Store}
@@ -26,10 +26,6 @@ split table = record {
 -- it is in step with the store of a place
 abbrev pub IsAt : StoresView → ℕ → GraphAndCache → Type 0
 IsAt stores place pair = IsInStep (store_at stores.shelves place) (marks_at stores.marks place) pair.graph pair.cache
-
--- with what the properties of an object showed let go of
-abbrev pub without_shown : ℕ → Graph → Graph
-without_shown object graph = record graph { last = filter (λ shown. not (shown.at.object == object)) graph.last }
 
 -- where more is marked and less is kept, a place stays in step, whatever its store and its graph are
 abbrev pub StaysKept : Marks → List CacheEntry → Marks → List CacheEntry → Type 0

@@ -2,6 +2,7 @@
 #![tactic(auto, unfolding(crate::specs::Step::InStep))]
 
 ghost use Rattle.std.specs.Prelude.{◌≡◌, ◌+◌, ◌≤◌, [], IfOk, IsTrue, None, OnErr, OnOk, length};
+ghost use Rattle.std.specs.Option.{option_map};
 ghost use Rattle.std.specs.Result.{result_err};
 ghost use Rattle.shared_rows.specs.Table.{ChangesAt, IsPlace, MakesRoom, Opens};
 ghost use Rattle.plain_types.specs.Answers.{RefusedBy};
@@ -14,12 +15,13 @@ ghost use Rattle.binding_graph.specs.Drained.{IsDrained, IsStored};
 ghost use Rattle.binding_graph.specs.Graph.{IsSound, begin_refusal, begun, bind_refusal, bound, end_refusal, ended, is_bound, no_graph};
 ghost use Rattle.binding_graph.specs.Graph.{settled_changes, settled_graph, taken, unbound, value_in, without_object};
 ghost use Rattle.binding_graph.specs.Step.{InStep, LeavesInStep};
+ghost use Rattle.binding_values.specs.Scene.{term_at};
 ghost use Rattle.binding_values.specs.Stored.{is_bindable};
 ghost use Rattle.binding_graph.specs.Table.{OthersKept, graph_at, with_graph};
 
 use crate::change::Change;
 use crate::lazy_graph::LazyGraph;
-use binding_values::BindingError;
+use binding_values::{Binding, BindingError};
 use plain_types::{Code, Fault, Items};
 use property_store::{Property, Stores};
 use shared_rows::Places;
@@ -100,7 +102,23 @@ impl Bindings {
         ensures count { result ≡ length (graph_at self.now.graphs place).bindings }
         ensures sound { IsSound (graph_at self.now.graphs place) }
     {
-        self.graphs.get(place).count()
+        self.graphs.get(place).rows().len()
+    }
+
+    /// The bindings, by rising object and number.
+    pub fn rows(&self, place: usize) -> &[Binding]
+        requires { IsPlace self.now.graphs place }
+        ensures { result.now ≡ (graph_at self.now.graphs place).bindings }
+    {
+        self.graphs.get(place).rows()
+    }
+
+    /// The expression that a property is bound to.
+    pub fn expr_at(&self, place: usize, at: Property) -> Option<&Expr>
+        requires { IsPlace self.now.graphs place }
+        ensures { option_map (λ expr. expr.now) result ≡ term_at (graph_at self.now.graphs place).bindings at }
+    {
+        self.graphs.get(place).expr_at(at)
     }
 
     /// How many groups are open, each within the one before.
@@ -123,7 +141,7 @@ impl Bindings {
         requires { IsPlace self.now.graphs place }
         ensures { result ≡ is_bound (graph_at self.now.graphs place).bindings at }
     {
-        self.graphs.get(place).is_bound(at)
+        self.expr_at(place, at).is_some()
     }
 
     /// Binds a property to an expression, whatever it was bound to. More than `BINDINGS` are `Limit`.
@@ -186,7 +204,7 @@ impl Bindings {
         ensures short { IfOk result (λ found. IsShort found.0) }
     {
         let graph = self.graphs.get(place);
-        let _ = (stores.count(place), graph.count());
+        let _ = (stores.count(place), graph.rows().len());
         graph.value(self.alloc, stores, place, at)
     }
 
@@ -244,8 +262,8 @@ impl Bindings {
         self.graphs.get_mut(place).end()
     }
 
-    /// Takes an object out of the stores with its bindings, and tells what has changed by it, as `settle` does. Outside
-    /// of groups only bindings that its properties reach are evaluated again.
+    /// Takes an object out of the stores with its bindings, and tells what has changed by it, as `settle` does. Only
+    /// bindings that its properties reach are evaluated again, within a group when that ends.
     pub fn remove(
         &mut self,
         place: usize,

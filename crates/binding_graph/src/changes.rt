@@ -1,5 +1,5 @@
 //! Changes are found by a comparison of two showings.
-ghost use Rattle.std.specs.Prelude.{◌≡◌, ◌++◌, IfOk, OnOk, filter, filter_map};
+ghost use Rattle.std.specs.Prelude.{◌≡◌, ◌++◌, IfOk, IsTrue, OnOk, filter, filter_map};
 ghost use Rattle.variant_value.specs.Values.{is_same};
 ghost use Rattle.binding_graph.specs.Graph.{before, changes, has_turn, is_same_error, notice, warning};
 
@@ -24,10 +24,8 @@ fn is_same_error(a: BindingError, b: BindingError) -> bool
 fn error_before(last: &Showing, shown: &Shown) -> Option<BindingError>
     ensures { result ≡ (before last.now shown.now).error }
 {
-    match last.at(shown.at) {
-        Some(then) => then.error,
-        None => None,
-    }
+    let then = last.at(shown.at)?;
+    then.error
 }
 
 /// Whether a property showed this value before.
@@ -120,15 +118,20 @@ fn notify(
     Ok(())
 }
 
-/// Returns the changes: first all warnings, then all notifications, of the written property first.
+/// Returns the changes, where they are asked for: first all warnings, then all notifications, of the written property
+/// first.
 pub(crate) fn changes(
     alloc: Global,
+    tells: bool,
     last: &Showing,
     now: &Showing,
     written: Option<Property>,
 ) -> Result<Items<Change>, AllocError>
-    ensures { IfOk result (λ told. told ≡ changes last.now now.now written) }
+    ensures { IfOk result (λ told. IsTrue tells → told ≡ changes last.now now.now written) }
 {
+    if !tells {
+        return Ok(Items::new(alloc));
+    }
     let mut told = Vec::new(alloc);
     warn(last, now, written, true, &mut told)?;
     warn(last, now, written, false, &mut told)?;

@@ -6,7 +6,7 @@ ghost use Rattle.shared_rows.specs.Table.{IsPlace};
 ghost use Rattle.term_core.specs.Forms.{is_within_limits};
 ghost use Rattle.property_store.specs.Table.{store_at};
 ghost use Rattle.binding_graph.specs.Graph.{IsSound, bind_refusal, bound, end_refusal, ended, fresh, is_bound, is_open};
-ghost use Rattle.binding_graph.specs.Graph.{shown_at, shown_in, shown_now, unbound, value_in, without_object};
+ghost use Rattle.binding_graph.specs.Graph.{shown_at, shown_in, shown_now, unbound, value_in};
 ghost use Rattle.binding_graph.specs.GraphAndCache.{IsAt, StaysAt, no_graph_and_cache};
 
 use crate::pending::Pending;
@@ -65,12 +65,12 @@ impl BindingGraph {
         }
     }
 
-    pub(crate) fn count(&self) -> usize
-        ensures count { result ≡ length self.now.graph.bindings }
+    pub(crate) fn rows(&self) -> &[Binding]
+        ensures rows { result.now ≡ self.now.graph.bindings }
         ensures sound { IsSound self.now.graph }
     {
-        let _ = self.last.rows();
-        self.bindings.len()
+        let _ = (self.last.rows().len(), self.bindings.len());
+        self.bindings.rows()
     }
 
     pub(crate) fn depth(&self) -> u32
@@ -89,12 +89,6 @@ impl BindingGraph {
         ensures { result ≡ is_open self.now.graph }
     {
         self.depth > 0
-    }
-
-    pub(crate) fn is_bound(&self, at: Property) -> bool
-        ensures { result ≡ is_bound self.now.graph.bindings at }
-    {
-        self.bindings.expr_at(at).is_some()
     }
 
     /// Binds a property to an expression, whatever it was bound to.
@@ -119,16 +113,6 @@ impl BindingGraph {
         self.pending.mark_once(at);
         self.bindings.remove(at);
         self.kept.forget(at);
-    }
-
-    /// Binds no property of an object any longer.
-    pub(crate) fn drop_object(&mut self, object: u32)
-        ensures graph { self.new.graph ≡ without_object object self.old.graph }
-        ensures step { StaysAt self.old self.new }
-    {
-        self.bindings.remove_object(object);
-        self.kept.clear();
-        self.pending.mark_all();
     }
 
     /// Returns the value that a bound property shows in a group.
@@ -172,7 +156,7 @@ impl BindingGraph {
         requires step { IsAt stores.now place self.now }
         ensures { IfOk result (λ shown. shown ≡ shown_in (store_at stores.now.shelves place) self.now.graph at) }
     {
-        if !self.is_open() || !self.is_bound(at) {
+        if !self.is_open() || self.bindings.expr_at(at).is_none() {
             return self.shown_now(alloc, stores, place, at);
         }
         match cell_at(stores, place, at) {

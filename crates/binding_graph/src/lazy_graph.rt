@@ -1,9 +1,11 @@
 //! The graph of one place, made when it is needed.
 ghost use Rattle.std.specs.Prelude.{◌≡◌, ◌+◌, IfOk, IsSome, IsTrue, None, OnErr, OnOk, length};
+ghost use Rattle.std.specs.Option.{option_map};
 ghost use Rattle.std.specs.Result.{result_err};
 ghost use Rattle.shared_rows.specs.Table.{IsPlace};
 ghost use Rattle.plain_types.specs.Answers.{RefusedBy};
 ghost use Rattle.term_core.specs.Forms.{is_within_limits};
+ghost use Rattle.binding_values.specs.Scene.{term_at};
 ghost use Rattle.property_store.specs.Store.{without};
 ghost use Rattle.property_store.specs.Table.{store_at};
 ghost use Rattle.binding_graph.specs.Graph.{IsSound, begin_refusal, begun, bind_refusal, bound, end_refusal, ended, is_bound};
@@ -14,7 +16,7 @@ ghost use Rattle.binding_graph.specs.GraphAndCache.{IsAt, StaysAt, no_graph_and_
 
 use crate::change::Change;
 use crate::graph::BindingGraph;
-use binding_values::BindingError;
+use binding_values::{Binding, BindingError};
 use plain_types::{Code, Fault, Items};
 use property_store::{Property, Stores};
 use std::alloc::{AllocError, Global};
@@ -54,13 +56,22 @@ impl LazyGraph {
         LazyGraph { made: None }
     }
 
-    pub(crate) fn count(&self) -> usize
-        ensures count { result ≡ length self.now.graph.bindings }
+    pub(crate) fn rows(&self) -> &[Binding]
+        ensures rows { result.now ≡ self.now.graph.bindings }
         ensures sound { IsSound self.now.graph }
     {
         match &self.made {
-            Some(inner) => inner.count(),
-            None => 0,
+            Some(inner) => inner.rows(),
+            None => &[],
+        }
+    }
+
+    pub(crate) fn expr_at(&self, at: Property) -> Option<&Expr>
+        ensures { option_map (λ expr. expr.now) result ≡ term_at self.now.graph.bindings at }
+    {
+        match &self.made {
+            Some(inner) => inner.bindings.expr_at(at),
+            None => None,
         }
     }
 
@@ -82,19 +93,10 @@ impl LazyGraph {
         }
     }
 
-    pub(crate) fn is_bound(&self, at: Property) -> bool
-        ensures { result ≡ is_bound self.now.graph.bindings at }
-    {
-        match &self.made {
-            Some(inner) => inner.is_bound(at),
-            None => false,
-        }
-    }
-
     fn may_bind(&self, at: Property) -> Result<(), Code>
         ensures { result_err result ≡ bind_refusal self.now.graph at }
     {
-        if !self.is_bound(at) && self.count() >= BINDINGS {
+        if self.expr_at(at).is_none() && self.rows().len() >= BINDINGS {
             return Err(Code::Limit);
         }
         Ok(())

@@ -76,18 +76,12 @@ impl Pending {
         }
     }
 
-    fn is_marked(&self, at: Property) -> bool
-        ensures { result ≡ is_marked self.now at }
-    {
-        self.all || is_among(at, self.each.as_slice())
-    }
-
     /// Marks a property that may be marked already.
     pub(crate) fn mark_once(&mut self, at: Property)
         ensures kept { AreMore self.old self.new }
         ensures marked { is_marked self.new at ≡ true }
     {
-        if !self.is_marked(at) {
+        if !is_among(at, self.each.as_slice()) {
             self.mark(at);
         }
     }

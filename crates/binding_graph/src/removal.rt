@@ -1,15 +1,14 @@
 //! Objects that go, with their bindings.
-ghost use Rattle.std.specs.Prelude.{◌≡◌, ◌≤◌, ◌==◌, ℕ, IfOk, None, OnErr, OnOk, filter, length, not, true};
+ghost use Rattle.std.specs.Prelude.{◌≡◌, ◌≤◌, ℕ, IfOk, None, OnOk, length, true};
 ghost use Rattle.shared_rows.specs.Table.{IsPlace};
-ghost use Rattle.property_store.specs.Marks.{Marks, is_marked};
-ghost use Rattle.property_store.specs.Store.{Store, without};
+ghost use Rattle.property_store.specs.Marks.{is_marked};
+ghost use Rattle.property_store.specs.Store.{without};
 ghost use Rattle.property_store.specs.Table.{store_at};
 ghost use Rattle.binding_values.specs.Stored.{fields_at};
 ghost use Rattle.binding_values.specs.Right.{AreMore};
-ghost use Rattle.binding_graph.specs.Cache.{IsInStep};
 ghost use Rattle.binding_graph.specs.Graph.{settled_changes, settled_graph, without_object};
 ghost use Rattle.binding_graph.specs.Drained.{IsStored};
-ghost use Rattle.binding_graph.specs.GraphAndCache.{IsAt, StaysKept, without_shown};
+ghost use Rattle.binding_graph.specs.GraphAndCache.{IsAt, StaysKept};
 
 use crate::change::Change;
 use crate::graph::BindingGraph;
@@ -60,20 +59,8 @@ fn declared(stores: &Stores, place: usize, object: u32) -> usize
 }
 
 impl BindingGraph {
-    /// Lets go of an object that goes from the store, of its bindings and of what it showed. What has read its
-    /// properties is marked.
-    fn let_go(&mut self, object: u32, count: usize)
-        ensures graph { self.new.graph ≡ without_shown object (without_object object self.old.graph) }
-        ensures step { (store : Store) (marks : Marks) → length (fields_at store object) ≤ count
-            → IsInStep store marks self.old.graph self.old.cache → IsInStep (without object store) marks self.new.graph self.new.cache }
-    {
-        forget_object(&mut self.pending, &mut self.kept, object, count);
-        self.bindings.remove_object(object);
-        self.last.remove_object(object);
-    }
-
-    /// Takes an object out of the store with its bindings, and tells what has changed by it. Outside of groups only
-    /// what its properties reach is evaluated again.
+    /// Takes an object out of the store with its bindings, and tells what has changed by it. Its properties are marked:
+    /// what has read them is evaluated again, and what they showed goes, within a group when that ends.
     pub(crate) fn remove(
         &mut self,
         alloc: Global,
@@ -89,16 +76,16 @@ impl BindingGraph {
         ensures stores { IsStored place (without object (store_at stores.old.shelves place)) stores.old stores.new }
         ensures step { IsAt stores.new place self.new }
     {
-        if self.is_open() {
-            self.drop_object(object);
-            stores.drop_object(place, object);
-            return Ok(Items::new(alloc));
-        }
         drain(&mut self.pending, stores, place);
         let count = declared(stores, place, object);
-        self.let_go(object, count);
+        forget_object(&mut self.pending, &mut self.kept, object, count);
+        self.bindings.remove_object(object);
         stores.drop_object(place, object);
         let _ = stores.take_written(place);
+        if self.is_open() {
+            return Ok(Items::new(alloc));
+        }
+        self.last.remove_object(object);
         self.refresh(alloc, stores, place, true, None)
     }
 }

@@ -12,26 +12,9 @@ use crate::changes::changes;
 use crate::graph::BindingGraph;
 use crate::pending::drain;
 use crate::show::{show_all, show_touched};
-use crate::showing::Showing;
 use plain_types::Items;
 use property_store::{Property, Stores};
 use std::alloc::{AllocError, Global};
-
-/// Returns the changes, where they are asked for.
-fn tell(
-    alloc: Global,
-    tells: bool,
-    last: &Showing,
-    now: &Showing,
-    written: Option<Property>,
-) -> Result<Items<Change>, AllocError>
-    ensures { IfOk result (λ told. IsTrue tells → told ≡ changes last.now now.now written) }
-{
-    if !tells {
-        return Ok(Items::new(alloc));
-    }
-    changes(alloc, last, now, written)
-}
 
 impl BindingGraph {
     /// Evaluates all that is bound.
@@ -52,7 +35,7 @@ impl BindingGraph {
     {
         let made = self.kept.settle_all(alloc, stores, place, &self.bindings)?;
         let now = show_all(alloc, stores, place, &self.bindings, &self.kept)?;
-        let told = tell(alloc, tells, &self.last, &now, written)?;
+        let told = changes(alloc, tells, &self.last, &now, written)?;
         self.last = now;
         self.pending.take(alloc);
         self.evaluations = self.evaluations.saturating_add(made);
@@ -83,16 +66,10 @@ impl BindingGraph {
         let made = self
             .kept
             .settle(alloc, stores, place, &self.bindings, &mut touched)?;
-        let now = show_touched(
-            alloc,
-            stores,
-            place,
-            &self.bindings,
-            &self.kept,
-            touched.as_mut_slice(),
-        )?;
-        let told = tell(alloc, tells, &self.last, &now, written)?;
-        self.last.merge(now)?;
+        let sorted = touched.as_mut_slice();
+        let now = show_touched(alloc, stores, place, &self.bindings, &self.kept, sorted)?;
+        let told = changes(alloc, tells, &self.last, &now, written)?;
+        self.last.merge(alloc, now, sorted)?;
         self.pending.give_back(touched);
         self.evaluations = self.evaluations.saturating_add(made);
         Ok(told)

@@ -206,8 +206,9 @@ pub(crate) fn show_touched(
 ) -> Result<Showing, AllocError>
     requires ready { IsPlace stores.now.shelves.table place }
     requires complete { IsComplete (scene_of (store_at stores.now.shelves place) bindings.now) (kept_of kept.now) }
-    ensures { IfOk result (λ showing. (q : Property)
+    ensures shown { IfOk result (λ showing. (q : Property)
         → shown_at showing q ≡ (if among q touched.old then shown_now (store_at stores.now.shelves place) bindings.now q else None)) }
+    ensures same { (q : Property) → among q touched.new ≡ among q touched.old }
 {
     put_in_order(touched);
     show_each(alloc, stores, place, bindings, kept, touched)

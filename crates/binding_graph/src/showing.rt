@@ -1,16 +1,20 @@
 //! A showing lists the values that the properties of a place show.
-ghost use Rattle.std.specs.Prelude.{◌≡◌, ◌<◌, ◌≤◌, ◌==◌, ◌+◌, [], IsOk, OnErr, OnOk, filter, not, vec_len};
+ghost use Rattle.std.specs.Prelude.{◌≡◌, ◌<◌, ◌≤◌, ◌==◌, ◌+◌, ◌&&◌, [], IfOk, IsOk, OnErr, OnOk, filter, not, vec_len};
 ghost use Rattle.std.specs.Vec.{vec_capacity};
-ghost use Rattle.std.specs.Option.{option_map};
+ghost use Rattle.std.specs.Option.{is_some, option_map};
 ghost use Rattle.variant_value.specs.Values.{IsOfKind};
-ghost use Rattle.binding_graph.specs.Rows.{AreMerged, IsPut};
+ghost use Rattle.property_store.specs.Property.{among};
+ghost use Rattle.binding_graph.specs.Rows.{AreMerged, IsNoted, IsPut, is_gone, without_rows};
 ghost use Rattle.binding_graph.specs.Graph.{AreShown, shown_at};
 
+use crate::show::shown_as;
 use crate::shown::Shown;
 use binding_values::{count_before, is_at, row_at};
 use property_store::Property;
+use signature_core::Kind;
 use std::alloc::{AllocError, Global};
 use std::marker::Model;
+use variant_value::Value;
 
 /// A showing lists the values that properties show, by rising object and number.
 #[derive(Drop)]
@@ -38,9 +42,7 @@ impl Showing {
     pub(crate) fn new(alloc: Global) -> Showing
         ensures { result ≡ [] }
     {
-        Showing {
-            rows: Vec::new(alloc),
-        }
+        Showing::from_rows(Vec::new(alloc))
     }
 
     /// Rows that stand in order.
@@ -82,16 +84,57 @@ impl Showing {
         self.rows.retain(|shown| shown.at.object != object);
     }
 
-    /// Puts what other properties show in place of what these show.
-    pub(crate) fn merge(&mut self, now: Showing) -> Result<(), AllocError>
-        ensures merged { OnOk result (AreMerged now self.old self.new) }
+    /// Returns a row for each of these properties that shows something here and nothing now.
+    fn gone(&self, alloc: Global, now: &Showing, of: &[Property]) -> Result<Showing, AllocError>
+        ensures { IfOk result (λ gone. (q : Property) → is_some (shown_at gone q) ≡ (among q of.now && is_gone self.now now.now q)) }
+    {
+        let mut gone = Showing::new(alloc);
+        for at in of {
+            note(&mut gone, self, now, *at)?;
+        }
+        Ok(gone)
+    }
+
+    /// Puts what touched properties show in place of what they showed.
+    pub(crate) fn merge(
+        &mut self,
+        alloc: Global,
+        now: Showing,
+        touched: &[Property],
+    ) -> Result<(), AllocError>
+        ensures merged { OnOk result (AreMerged touched.now now self.old self.new) }
         ensures sound { OnOk result (AreShown self.new) }
         ensures err { OnErr result (self.new ≡ self.old) }
     {
+        let gone = self.gone(alloc, &now, touched)?;
         let Showing { rows: rest } = now;
         self.rows.reserve(rest.len())?;
+        remove_all(&mut self.rows, &gone);
         put_all(&mut self.rows, rest);
         Ok(())
+    }
+}
+
+/// Notes a property that has shown something and shows nothing now.
+fn note(gone: &mut Showing, last: &Showing, now: &Showing, at: Property) -> Result<(), AllocError>
+    ensures { OnOk result (IsNoted last.now now.now gone.old at gone.new) }
+{
+    if now.at(at).is_some() || last.at(at).is_none() {
+        return Ok(());
+    }
+    gone.put(shown_as(at, Kind::Bool, Ok(Value::Bool(false))))
+}
+
+/// Removes the rows of properties that are gone.
+fn remove_all(rows: &mut Vec<Shown>, gone: &Showing)
+    requires { AreShown rows.old.items }
+    ensures removed { rows.new.items ≡ without_rows gone.now rows.old.items }
+    ensures sound { AreShown rows.new.items }
+    ensures len { vec_len rows.new ≤ vec_len rows.old }
+    ensures capacity { vec_capacity rows.new ≡ vec_capacity rows.old }
+{
+    if !gone.rows().is_empty() {
+        rows.retain(|shown| gone.at(shown.at).is_none());
     }
 }
 
@@ -121,7 +164,7 @@ fn put_all(rows: &mut Vec<Shown>, rest: Vec<Shown>)
     requires sound { AreShown rows.old.items }
     requires fit { AreShown rest.items }
     requires room { vec_len rows.old + vec_len rest ≤ vec_capacity rows.old }
-    ensures merged { AreMerged rest.items rows.old.items rows.new.items }
+    ensures merged { AreMerged [] rest.items rows.old.items rows.new.items }
     ensures sound { AreShown rows.new.items }
 {
     for row in rest {

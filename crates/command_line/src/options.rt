@@ -166,4 +166,4 @@ Examples:
   metad --slice a < session      writes the lines by which a is told the same
 
 Documents: the manual page metad(1), and README.md and docs/ of the sources,
-which make install puts into share/doc/metad. docs/GUIDE.md is the way in."#;
+which make install puts into share/doc/metad. docs/TUTORIAL.md is the way in."#;

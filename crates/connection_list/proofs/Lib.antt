@@ -1,4 +1,5 @@
 pub mod LinkLemmas
+mod ListingLemmas
 pub mod KeyedLemmas
 pub mod WithoutLemmas
 pub mod RowsLemmas

@@ -1,13 +1,14 @@
 -- What contracts see of the connections of a place.
 use Rattle.std.specs.Prelude.{ℕ, ◌+◌, ◌-◌, ◌^◌, ◌<◌, ◌≤◌, Bool, not, nat_lt, nat_le, ◌==◌, ◌&&◌, if◌then◌else◌, List, [], ◌∷◌}
-use Rattle.std.specs.Prelude.{◌++◌, length, filter, find, map, All, AllPairs, Option, Some, None, option_and_then}
+use Rattle.std.specs.Prelude.{◌++◌, true, length, filter, find, map, take, All, AllPairs, Option, Some, None, option_and_then}
 use Rattle.std.specs.List.{list_any}
+use Rattle.std.specs.Option.{option_map_or}
 use Rattle.plain_types.specs.declared.code.Code.{Code}
 use Rattle.plain_types.specs.declared.code.Code.TheVariants.{ConnectedAlready, Limit, NumbersUsedUp}
 use Rattle.connection_list.specs.declared.connection.Connection.{Connection}
 use Rattle.connection_list.specs.declared.connection.NewConnection.{NewConnection}
-use Rattle.connection_list.specs.declared.limit.TheConstants.{CONNECTIONS}
-use Rattle.connection_list.specs.Ends.{same_ends, calls, calls_functor}
+use Rattle.connection_list.specs.declared.limit.TheConstants.{CONNECTIONS, LISTED}
+use Rattle.connection_list.specs.Ends.{same_ends, calls, calls_functor, touches}
 
 pub record Rows : Type 0 where
   -- the connections that stand, by rising number
@@ -75,6 +76,14 @@ with_state number state place = record place { rows = map (λ row. if is_of_func
 -- the state of the functor that the connection with this number calls; none where no such one stands
 abbrev pub state_of : ℕ → Rows → Option ℕ
 state_of number place = option_and_then (λ row. if calls_functor row.callee then Some row.state else None) (find (has_number number) place.rows)
+
+-- is a connection listed: it has a greater number, and the object at either end where one is named
+abbrev pub is_listed : Option ℕ → ℕ → Connection → Bool
+is_listed object after row = nat_lt after row.number && option_map_or (λ named. touches named row) object true
+
+-- the first of these connections that are listed
+abbrev pub listed : Option ℕ → ℕ → List Connection → List Connection
+listed object after rows = take LISTED (filter (is_listed object after) rows)
 
 -- does this signal of this object call the connection's callee, and is its number at most `up_to`
 abbrev pub is_sent : ℕ → ℕ → ℕ → Connection → Bool

@@ -7,11 +7,13 @@ mod connection;
 mod ends;
 mod limit;
 mod link;
+mod listing;
 mod pattern;
 mod routes;
 mod table;
 
 pub use connection::{Connection, NewConnection};
-pub use limit::CONNECTIONS;
+pub use limit::{CONNECTIONS, LISTED};
+pub use listing::EndCounts;
 pub use pattern::{Pattern, Receiver};
 pub use table::Connections;

@@ -20,9 +20,9 @@ use std::marker::Model;
 /// The connections of each place. A place is opened by `ready` and then `open`, and is never closed.
 #[derive(Drop)]
 pub struct Connections {
-    rows: SharedRows<Connection>,
-    routes: Places<LazyRoutes>,
-    alloc: Global,
+    pub(crate) rows: SharedRows<Connection>,
+    pub(crate) routes: Places<LazyRoutes>,
+    pub(crate) alloc: Global,
 }
 
 impl Model for Connections {

@@ -1,3 +1,4 @@
+pub mod EntryLemmas
 pub mod PlacedLemmas
 pub mod SeatLemmas
 pub mod LawLemmas

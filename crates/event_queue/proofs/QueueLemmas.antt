@@ -1,6 +1,6 @@
 -- The queues in rows and logs.
-use Rattle.std.proofs.Common.{◌≡◌, ◌≢◌, ◌∙◌, ℕ, ◌+◌, ◌-◌, ◌*◌, ◌^◌, ◌<◌, ◌≤◌, ◌==◌, ◌||◌, List, [], ◌∷◌, ◌++◌, length, drop, true, false, cond, None, Some, min}
-use Rattle.std.proofs.Common.{get_or, set, refl, sym, ap, subst, arith, ⊎_elim, rules}
+use Rattle.std.proofs.Common.{◌≡◌, ◌≢◌, ◌∙◌, ℕ, ◌+◌, ◌-◌, ◌*◌, ◌^◌, ◌<◌, ◌≤◌, ◌==◌, ◌||◌, List, [], ◌∷◌, ◌++◌, length, count_by, drop, true, false, cond, None}
+use Rattle.std.proofs.Common.{Some, min, get_or, set, refl, sym, ap, subst, arith, ⊎_elim, rules}
 use Rattle.std.proofs.lemmas.Grind.{common_steps}
 use Rattle.std.specs.List.{slice_get}
 use Rattle.std.proofs.lemmas.Bool.{cases_eq, cases_lt}
@@ -22,7 +22,8 @@ use Rattle.event_queue.specs.Inside.{AreCounted, AreLogged, HasEvents, HasWaitin
 use Rattle.event_queue.specs.Inside.{is_dropped, queue_of, waiting}
 use Rattle.event_queue.proofs.OrderLemmas.{has_waiting}
 use Rattle.event_queue.proofs.PlacedLemmas.{length_placed}
-use Rattle.event_queue.proofs.WaitLemmas.{back_going, counted_yet, dropped_length, dropped_waiting, few_counted, placed_counted, placed_waiting}
+use Rattle.event_queue.proofs.WaitLemmas.{back_going, counted_waiting, counted_yet, dropped_length, dropped_waiting, few_counted, placed_counted}
+use Rattle.event_queue.proofs.WaitLemmas.{placed_waiting}
 
 -- one change of a place after another
 module _ {old middle : Table (List (Keyed QueuedEvent))} {place : ℕ} {before between : ObjectCounts} {events : List Event}
@@ -73,6 +74,14 @@ module _ {rows : Table (List (Keyed QueuedEvent))} {logs : Table Log} (are : Are
       ap (λ (t : Table Queue). queue_at t place) (sym view_is)
       ∙ (paired_at queue_of rows.places logs.places place [] log (record { events = []; lost = 0; mismatched = 0 }) are.same of_rows
       ∙ ap (queue_of (rows_at rows place)) (sym (is log)))
+
+  -- how many of its events name an object
+  pub waits_for : {log : Log} → ((d : Log) → log ≡ get_or logs.places place d) → (object : ℕ)
+      → cond (is_dropped log.objects object) 0 (count_of log.objects object) ≡ count_by (λ event. object_of event == object) (queue_at table place).events
+  waits_for {log} is object =
+      ap (cond (is_dropped log.objects object) 0) ((subst (IsLogged (events_at rows place)) (sym (is log)) (are.each place log of_rows)).counted object)
+      ∙ (sym (counted_waiting log.objects object (events_at rows place))
+      ∙ ap (λ (q : Queue). count_by (λ event. object_of event == object) q.events) (sym (seen is)))
 
   -- and what holds of it
   pub logged : {log : Log} → ((d : Log) → log ≡ get_or logs.places place d) → IsLogged (events_at rows place) log

@@ -26,6 +26,23 @@ named object [] k d within is = absurd (omega arith)
 named object (event ∷ held) zero d within is = grind (arith, common_steps)
 named object (event ∷ held) (suc k) d within is = grind (arith, common_steps)
 
+-- of the events that wait those of an object are counted, which are none where they were dropped
+pub counted_waiting : (objects : ObjectCounts) (object : ℕ) (held : List Event)
+    → count_by (names object) (waiting objects held) ≡ cond (is_dropped objects object) 0 (count_by (names object) held)
+counted_waiting objects object [] = none (is_dropped objects object)
+  where
+    none : (dropped : Bool) → ◌≡◌ {A = ℕ} 0 (cond dropped 0 0)
+    none true = refl
+    none false = refl
+counted_waiting objects object (event ∷ held) =
+    grind (
+      arith,
+      nat_tests,
+      counted_waiting objects object held,
+      count_first (names object) event held,
+      count_first (names object) event (waiting objects held),
+    )
+
 -- tests that agree on the events of all rows
 agree : (one other : Event → Bool) (held : List Event) → ((k : ℕ) (d : Event) → k < length held → one (get_or held k d) ≡ other (get_or held k d))
     → filter one held ≡ filter other held

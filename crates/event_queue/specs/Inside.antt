@@ -1,23 +1,33 @@
 -- How the queues stand in rows and logs. No public clause cites this module.
 use Rattle.std.specs.Prelude.{◌≡◌, ℕ, ◌+◌, ◌*◌, ◌%◌, ◌^◌, ◌<◌, ◌≤◌, ◌==◌, ◌⊎◌, Bool, false, not}
-use Rattle.std.specs.Prelude.{if◌then◌else◌, List, [], length, map, filter, count_by, slice_index_or}
+use Rattle.std.specs.Prelude.{if◌then◌else◌, List, [], length, map, filter, count_by, slice_index_or, find}
 use Rattle.std.specs.List.{All, AllWithin}
-use Rattle.std.specs.Option.{unwrap_or}
-use Rattle.std.specs.Ordering.{nat_cmp}
-use Rattle.std.specs.BTreeMap.{get}
+use Rattle.std.specs.Option.{option_map_or}
+use Rattle.std.specs.Ordering.{nat_cmp, on}
+use Rattle.std.specs.declared.cmp.Ordering.{Ordering}
 use Rattle.shared_rows.specs.Table.{ChangesAt, Table}
 use Rattle.shared_rows.specs.Rows.{Keyed, rows_at}
 use Rattle.event_queue.specs.declared.event.Event.{Event}
 use Rattle.event_queue.specs.declared.event.QueuedEvent.{QueuedEvent}
 use Rattle.event_queue.specs.declared.object_counts.Count.{Count}
+use Rattle.event_queue.specs.declared.object_counts.Entry.{Entry}
 use Rattle.event_queue.specs.declared.object_counts.ObjectCounts.{ObjectCounts}
 use Rattle.event_queue.specs.declared.table.Log.{Log}
 use Rattle.event_queue.specs.declared.table.TheConstants.{EVENTS}
 use Rattle.event_queue.specs.Queue.{Queue, object_of, priority_of, rank_of}
 
+-- entries are ordered by their objects
+abbrev pub entry_cmp : Entry → Entry → Ordering
+entry_cmp = on (λ entry. entry.object) nat_cmp
+
+-- are two entries of one object
+abbrev pub is_of_same : Entry → Entry → Bool
+is_of_same = on (λ entry. entry.object) ◌==◌
+
 -- what is known of the rows that name an object
 abbrev pub count_at : ObjectCounts → ℕ → Count
-count_at objects object = unwrap_or (get nat_cmp objects.counts object) (record { rows = 0; is_dropped = false })
+count_at objects object =
+    option_map_or (λ entry. entry.count) (find (λ entry. entry.object == object) objects.entries.links) (record { rows = 0; is_dropped = false })
 
 -- how many rows are counted for an object
 abbrev pub count_of : ObjectCounts → ℕ → ℕ

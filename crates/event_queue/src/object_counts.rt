@@ -1,9 +1,14 @@
 //! How many rows of one place name each object.
 ghost use Rattle.std.specs.Prelude.{◌≡◌, ◌+◌, ◌-◌, ◌^◌, ◌<◌, ◌==◌, ◌||◌, ℕ, OnOk, OnErr, false, if◌then◌else◌};
-ghost use Rattle.event_queue.specs.Inside.{IsCounted, KeepsMarks, count_at, count_of, is_dropped};
+ghost use Rattle.std.proofs.Common.{rules};
+ghost use Rattle.std.specs.Cmp.{partial_order_from_own_ties};
+ghost use Rattle.std.specs.Cmp.Rules.{comparing};
+ghost use Rattle.std.specs.Ordering.{as_partial_cmp};
+ghost use Rattle.event_queue.specs.Inside.{IsCounted, KeepsMarks, count_at, count_of, entry_cmp, is_dropped, is_of_same};
 
+use shared_rows::Links;
 use std::alloc::{AllocError, Global};
-use std::collections::BTreeMap;
+use std::cmp::Ordering;
 
 /// A count tells how many rows name an object.
 #[derive(Clone, Copy)]
@@ -13,11 +18,63 @@ pub(crate) struct Count {
     pub(crate) is_dropped: bool,
 }
 
-/// How many rows name an object, for each object that any row names. The events of an object are dropped
-/// here, by a mark, and none of its rows is looked at.
+/// An object and its count. The object alone says where an entry stands.
+#[derive(Clone, Copy)]
+pub(crate) struct Entry {
+    object: u32,
+    count: Count,
+}
+
+impl PartialEq for Entry {
+    ghost eq = { is_of_same };
+
+    ghost laws = { Prim.search (comparing, rules) };
+
+    fn eq(&self, other: &Entry) -> bool {
+        self.object == other.object
+    }
+}
+
+impl Eq for Entry {
+    ghost laws = { Prim.search (comparing, rules) };
+}
+
+impl Ord for Entry {
+    ghost cmp = { entry_cmp };
+
+    ghost total = { Prim.search (comparing, rules) };
+
+    ghost matches_partial_cmp = { Prim.search (comparing, rules) };
+
+    ghost matches_eq = { Prim.search (comparing, rules) };
+
+    fn cmp(&self, other: &Entry) -> Ordering {
+        self.object.cmp(&other.object)
+    }
+}
+
+impl PartialOrd for Entry {
+    ghost partial_cmp = { as_partial_cmp entry_cmp };
+
+    ghost laws = { partial_order_from_own_ties (Prim.search (comparing, rules)) (Prim.search (comparing, rules)) };
+
+    fn partial_cmp(&self, other: &Entry) -> Option<Ordering> {
+        Some(self.cmp(other))
+    }
+}
+
+/// What an object has that no row names.
+const NO_ROWS: Count = Count {
+    rows: 0,
+    is_dropped: false,
+};
+
+/// How many rows name an object, for each object that any row names. Mostly one changes that stands near the
+/// one that changed last. The events of an object are dropped here, by a mark, and none of its rows is looked
+/// at.
 #[derive(Drop)]
 pub(crate) struct ObjectCounts {
-    counts: BTreeMap<u32, Count>,
+    entries: Links<Entry>,
 }
 
 impl ObjectCounts {
@@ -25,17 +82,25 @@ impl ObjectCounts {
         ensures { (object : ℕ) → count_of result object ≡ 0 }
     {
         ObjectCounts {
-            counts: BTreeMap::new(alloc),
+            entries: Links::new(alloc),
         }
     }
 
     pub(crate) fn count(&self, object: u32) -> Count
         ensures { result ≡ count_at self.now object }
     {
-        self.counts.get(&object).copied().unwrap_or(Count {
-            rows: 0,
-            is_dropped: false,
-        })
+        let probe = Entry {
+            object,
+            count: NO_ROWS,
+        };
+        let Some(entry) = self.entries.first_from(probe) else {
+            return NO_ROWS;
+        };
+        if entry.object == object {
+            entry.count
+        } else {
+            NO_ROWS
+        }
     }
 
     /// One row more names the object, and none of its rows is of a dropped event.
@@ -45,10 +110,11 @@ impl ObjectCounts {
         ensures marks { OnOk result ((other : ℕ) → is_dropped self.new other ≡ (if object == other then false else is_dropped self.old other)) }
         ensures err { OnErr result ((other : ℕ) → count_at self.new other ≡ count_at self.old other) }
     {
-        let rows = self.count(object).rows + 1;
-        let is_dropped = false;
-        self.counts.insert(object, Count { rows, is_dropped })?;
-        Ok(())
+        let count = Count {
+            rows: self.count(object).rows + 1,
+            is_dropped: false,
+        };
+        self.entries.insert(Entry { object, count })
     }
 
     /// One row fewer names the object. Was its event dropped?
@@ -59,17 +125,19 @@ impl ObjectCounts {
     {
         let Count { rows, is_dropped } = self.count(object);
         if rows <= 1 {
-            self.counts.remove(&object);
+            self.entries.remove(Entry {
+                object,
+                count: NO_ROWS,
+            });
             return is_dropped;
         }
-        let count = Count {
-            rows: rows - 1,
-            is_dropped,
-        };
-        // An object that is counted already takes no memory.
-        if self.counts.insert(object, count).is_err() {
-            unreachable!()
-        }
+        self.set(
+            object,
+            Count {
+                rows: rows - 1,
+                is_dropped,
+            },
+        );
         is_dropped
     }
 
@@ -84,15 +152,25 @@ impl ObjectCounts {
         if is_dropped || rows == 0 {
             return 0;
         }
-        let is_dropped = true;
-        // It is counted already, and takes no memory.
-        if self
-            .counts
-            .insert(object, Count { rows, is_dropped })
-            .is_err()
-        {
-            unreachable!()
-        }
+        self.set(
+            object,
+            Count {
+                rows,
+                is_dropped: true,
+            },
+        );
         rows
+    }
+
+    /// Gives an object that is counted another count, which takes no memory.
+    fn set(&mut self, object: u32, count: Count)
+        requires { 0 < count_of self.old object }
+        ensures { (other : ℕ) → count_at self.new other ≡ (if object == other then count else count_at self.old other) }
+    {
+        let old = Entry {
+            object,
+            count: self.count(object),
+        };
+        self.entries.replace(old, Entry { object, count });
     }
 }

@@ -1,8 +1,8 @@
 //! The queues of all places.
-ghost use Rattle.std.specs.Prelude.{◌≡◌, ◌≤◌, [], IfOk, OnOk, OnErr};
+ghost use Rattle.std.specs.Prelude.{◌≡◌, ◌≤◌, ◌==◌, [], IfOk, OnOk, OnErr, count_by};
 ghost use Rattle.std.specs.List.{slice_get};
 ghost use Rattle.shared_rows.specs.Table.{IsPlace, MakesRoom, Opens};
-ghost use Rattle.event_queue.specs.Queue.{IsSound, counts_of, dropped, empty_queue, has_room, enqueued, taken, with_lost, with_mismatched};
+ghost use Rattle.event_queue.specs.Queue.{IsSound, counts_of, dropped, empty_queue, has_room, object_of, enqueued, taken, with_lost, with_mismatched};
 ghost use Rattle.event_queue.specs.Table.{queue_at, with_queue};
 ghost use Rattle.event_queue.specs.Inside.{IsLogged};
 
@@ -175,6 +175,15 @@ impl Queues {
             lost: log.lost,
             mismatched: log.mismatched,
         }
+    }
+
+    /// How many events name an object. No event is looked at.
+    pub fn count_of(&self, place: usize, object: u32) -> u32
+        requires { IsPlace self.now place }
+        ensures { result ≡ count_by (λ event. object_of event == object) (queue_at self.now place).events }
+    {
+        let count = self.logs.get(place).objects.count(object);
+        if count.is_dropped { 0 } else { count.rows }
     }
 
     /// Counts one more event as lost.

@@ -7,3 +7,4 @@ pub mod Standing
 pub mod CopyLemmas
 pub mod Together
 pub mod ForCallers
+pub mod Reading

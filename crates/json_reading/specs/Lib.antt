@@ -1,3 +1,4 @@
 pub mod Fields
 pub mod Members
 pub mod Spelling
+pub mod Faults

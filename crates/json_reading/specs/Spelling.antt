@@ -1,9 +1,11 @@
 -- How members are spelled, where no value is a tree: by the tokens of `json`, and in a text. Only private clauses cite it.
-use Rattle.std.specs.Prelude.{◌≡◌, ℕ, ◌^◌, ◌<◌, ◌≤◌, List, [], ◌∷◌, ◌++◌, length, drop, map, decimal, ⊤}
+use Rattle.std.specs.Prelude.{◌≡◌, ℕ, ◌^◌, ◌<◌, ◌≤◌, List, [], ◌∷◌, ◌++◌, length, drop, map, decimal, ⊤, FitsSigned}
+use Rattle.std.specs.Int.{w64}
+use Rattle.std.specs.Fmt.{signed_decimal}
 use Rattle.json.specs.Token.{Token, begin_object, end_object, begin_array, end_array, key, string, number, boolean, null}
 use Rattle.json.specs.Print.{quoted, print}
 use Rattle.json_reading.specs.declared.field.Scalar.{Scalar}
-use Rattle.json_reading.specs.declared.field.Scalar.TheVariants.{Null, Truth, Number, Text}
+use Rattle.json_reading.specs.declared.field.Scalar.TheVariants.{Null, Truth, Number, Signed, Text}
 use Rattle.json_reading.specs.declared.field.Field.{Field}
 use Rattle.json_reading.specs.declared.field.Field.TheVariants as field
 use Rattle.json_reading.specs.declared.field.Member.{Member}
@@ -12,6 +14,7 @@ abbrev pub scalar_token : Scalar → Token
 scalar_token Null = null
 scalar_token (Truth t) = boolean t
 scalar_token (Number n) = number (decimal n)
+scalar_token (Signed z) = number (signed_decimal z)
 scalar_token (Text t) = string t.now
 
 abbrev pub field_tokens : Field → List Token
@@ -34,6 +37,7 @@ abbrev pub Fits : Scalar → Type 0
 Fits Null = ⊤
 Fits (Truth t) = ⊤
 Fits (Number n) = n < 2 ^ 64
+Fits (Signed z) = FitsSigned w64 z
 Fits (Text t) = ⊤
 
 abbrev pub AllFit : List Scalar → Type 0

@@ -34,13 +34,14 @@ impl Field<'_> {
     }
 }
 
-fn scalar_json(alloc: Global, scalar: &Scalar<'_>) -> Result<Value, AllocError>
+pub(crate) fn scalar_json(alloc: Global, scalar: &Scalar<'_>) -> Result<Value, AllocError>
     ensures { IfOk result (λ json. view json ≡ scalar_data scalar.now) }
 {
     Ok(match *scalar {
         Scalar::Null => Value::Null,
         Scalar::Truth(truth) => Value::Bool(truth),
         Scalar::Number(number) => Value::from(number),
+        Scalar::Signed(number) => Value::from(number),
         Scalar::Text(text) => Value::String(String::from_str(alloc, text)?),
     })
 }

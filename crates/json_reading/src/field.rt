@@ -11,6 +11,7 @@ pub enum Scalar<'a> {
     Null,
     Truth(bool),
     Number(u64),
+    Signed(i64),
     Text(&'a str),
 }
 
@@ -85,6 +86,7 @@ impl<'a> Field<'a> {
     {
         match self {
             Field::Plain(Scalar::Number(number)) => Some(*number),
+            Field::Plain(Scalar::Signed(number)) => u64::try_from(*number).ok(),
             Field::Plain(_) | Field::List(_) => None,
             Field::Tree(value) => value.as_u64(),
         }

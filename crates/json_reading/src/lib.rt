@@ -12,12 +12,14 @@ mod scan;
 mod stop;
 mod token;
 mod tree;
+mod value;
 
 pub use field::{Field, Member, Scalar};
-pub use find::value_at;
+pub use find::{is_word, value_at};
 pub use plain::plain_members;
 pub use read::{name_at, text_at};
 pub use scan::scan_members;
 pub use stop::Stop;
 pub use token::token_members;
 pub use tree::tree_members;
+pub use value::read_json;

@@ -1,7 +1,8 @@
 //! The members of a text, in the quickest way that gives them.
-ghost use Rattle.std.specs.Prelude.{◌≡◌, IfOk, IfSome, Some};
+ghost use Rattle.std.specs.Prelude.{◌≡◌, Err, IfOk, None, Some};
 ghost use Rattle.serde_json.specs.Data.{object};
 ghost use Rattle.serde_json.specs.Read.{read};
+ghost use Rattle.json_reading.specs.declared.stop.Stop.TheVariants.{NotJson};
 ghost use Rattle.json_reading.specs.Members.{members_in};
 
 use crate::field::Member;
@@ -9,27 +10,24 @@ use crate::scan::scan_members;
 use crate::stop::Stop;
 use crate::token::token_members;
 use json::Scratch;
-use std::alloc::{AllocError, Global};
+use std::alloc::Global;
 
 /// The members of the text, where they are borrowed from it: where it is an object, no part of
-/// it is nested more deeply than a list of its members, and its numbers are whole, without a
-/// sign and have 64 bits. Any other text is left to `serde_json`.
+/// it is nested more deeply than a list of its members, and its numbers are whole and have 64 bits,
+/// with their sign. Whether a text is no JSON is answered where the tokens show it. Any other text is
+/// left to `serde_json`.
 pub fn plain_members<'a>(
     alloc: Global,
     text: &'a str,
     scratch: &'a mut Scratch,
-) -> Result<Option<Vec<Member<'a>>>, AllocError>
-    ensures { IfOk result
-        (λ found. IfSome found
-        (λ members. read text.now ≡ Some (object (members_in members.items)))) }
+) -> Result<Vec<Member<'a>>, Stop>
+    ensures ok { IfOk result (λ members. read text.now ≡ Some (object (members_in members.items))) }
+    ensures not_json { result ≡ Err NotJson → read text.now ≡ None }
 {
-    let found = match scan_members(alloc, text) {
-        Err(Stop::Form) => token_members(alloc, text, scratch),
-        found => found,
-    };
-    match found {
-        Ok(members) => Ok(Some(members)),
-        Err(Stop::Memory) => Err(AllocError),
-        Err(_) => Ok(None),
+    match scan_members(alloc, text) {
+        Ok(members) => Ok(members),
+        Err(Stop::Nested) => Err(Stop::Nested),
+        Err(Stop::Memory) => Err(Stop::Memory),
+        Err(_) => token_members(alloc, text, scratch),
     }
 }

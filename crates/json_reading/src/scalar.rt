@@ -1,5 +1,7 @@
 //! Reading one value without parts, byte by byte.
-ghost use Rattle.std.specs.Prelude.{◌≡◌, ◌+◌, ◌≤◌, ◌<◌, ◌^◌, length, drop, get_or, codes, decimal, map, true, IfOk, IfSome};
+ghost use Rattle.std.specs.Prelude.{FitsSigned, ◌≡◌, ◌+◌, ◌≤◌, ◌<◌, ◌^◌, length, drop, get_or, codes, decimal, map, true, IfOk, IfSome};
+ghost use Rattle.std.specs.Int.{w64};
+ghost use Rattle.std.specs.Fmt.{signed_decimal};
 ghost use Rattle.std.specs.List.{prefix_len};
 ghost use Rattle.std.specs.Simd.Lanes.{mask_l};
 ghost use Rattle.json.specs.Run.{is_plain, is_stop};
@@ -105,6 +107,21 @@ pub(crate) fn scan_number(bytes: &[u8]) -> Option<(u64, usize)>
     Some((number, end))
 }
 
+/// The number below 0 that the bytes begin with, and where it ends. The least of 64 bits is left to `serde_json`.
+#[inline(never)]
+pub(crate) fn scan_negative(bytes: &[u8]) -> Option<(i64, usize)>
+    ensures { IfSome result (λ found. StandsAt bytes.now 0 (signed_decimal found.0) found.1 × FitsSigned w64 found.0) }
+{
+    if byte_at(bytes, 0) != b'-' {
+        return None;
+    }
+    let (number, len) = scan_number(&bytes[1..])?;
+    if number == 0 {
+        return None;
+    }
+    Some((-i64::try_from(number).ok()?, len + 1))
+}
+
 /// A word that the bytes begin with, and where it ends.
 #[inline(never)]
 fn scan_word<'a>(bytes: &[u8]) -> Option<(Scalar<'a>, usize)>
@@ -138,6 +155,10 @@ pub(crate) fn scan_scalar<'a>(text: &'a str, at: usize) -> Result<(Scalar<'a>, u
         b'0'..=b'9' => {
             let (number, len) = scan_number(&bytes[at..]).ok_or(Stop::Form)?;
             Ok((Scalar::Number(number), at + len))
+        }
+        b'-' => {
+            let (number, len) = scan_negative(&bytes[at..]).ok_or(Stop::Form)?;
+            Ok((Scalar::Signed(number), at + len))
         }
         b't' | b'f' | b'n' => {
             let (word, len) = scan_word(&bytes[at..]).ok_or(Stop::Form)?;

@@ -10,7 +10,9 @@ pub enum Stop {
     Form,
     /// The text has an array in an array, or an object in an object or an array.
     Nested,
-    /// Want of memory.
+    /// The text is no JSON.
+    NotJson,
+    /// Out of memory.
     Memory,
 }
 
@@ -38,11 +40,11 @@ impl<T: Drop> From<AllocFailed<T>> for Stop {
 
 impl From<Invalid> for Stop {
     ghost use Rattle.std.specs.Prelude.{◌≡◌};
-    ghost use Rattle.json_reading.specs.declared.stop.Stop.TheVariants.{Form};
+    ghost use Rattle.json_reading.specs.declared.stop.Stop.TheVariants.{NotJson};
 
-    ghost from_gives = { λ _ stop. stop ≡ Form };
+    ghost from_gives = { λ _ stop. stop ≡ NotJson };
 
     fn from(_error: Invalid) -> Stop {
-        Stop::Form
+        Stop::NotJson
     }
 }

@@ -1,5 +1,5 @@
 -- The object below another one that passes a test.
-use Rattle.std.specs.Prelude.{ℕ, suc, zero, ◌≡◌, ◌<◌, ◌==◌, ◌^◌, ◌&&◌, Bool, List, [], ◌∷◌, Option}
+use Rattle.std.specs.Prelude.{ℕ, suc, zero, ◌≡◌, ◌<◌, ◌==◌, ◌^◌, ◌&&◌, Bool, List, [], ◌∷◌, ◌++◌, Option}
 use Rattle.std.specs.Prelude.{Some, None, Result, IsFalse, IfOk, length, find, drop, nat_lt}
 use Rattle.std.specs.declared.alloc.AllocError.{AllocError}
 use Rattle.std.specs.List.{flat_map, list_any}
@@ -20,6 +20,15 @@ found_within (suc most) rows passes level = option_or (find passes level) (found
 -- the first match on the first level below the object that has one
 unfoldable pub found_below : List Row → ℕ → (ℕ → Bool) → Option ℕ
 found_below rows object passes = found_within (length rows) rows passes (children rows (Some object))
+
+-- these levels and those below, one behind another, for this many levels
+abbrev pub levels_from : ℕ → List Row → List ℕ → List ℕ
+levels_from zero rows level = []
+levels_from (suc most) rows level = level ++ levels_from most rows (children_of rows level)
+
+-- all below an object by depth, and those of one depth in preorder
+unfoldable pub below_by_depth : List Row → ℕ → List ℕ
+below_by_depth rows object = levels_from (length rows) rows (children rows (Some object))
 
 -- an object and all below it in preorder, on this many levels
 abbrev pub preorder_within : ℕ → List Row → ℕ → List ℕ

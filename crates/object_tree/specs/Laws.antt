@@ -1,5 +1,7 @@
 -- What changes leave of every forest.
-use Rattle.std.specs.Prelude.{◌≡◌, ◌+◌, ◌==◌, ℕ, Bool, not, [], ◌∷◌, ◌++◌, Option, None, filter}
+use Rattle.std.specs.Prelude.{◌≡◌, ◌+◌, ◌==◌, ℕ, Bool, not, List, [], ◌∷◌, ◌++◌, Option, None, filter, find}
+use Rattle.object_tree.specs.declared.row.Row.{Row}
+use Rattle.object_tree.specs.Finding.{below_by_depth, found_below}
 use Rattle.object_tree.specs.Rows.{numbers}
 use Rattle.object_tree.specs.Forest.{Forest, IsSound, empty_forest}
 use Rattle.object_tree.specs.Refusing.{add_refusal, set_parent_refusal}
@@ -23,3 +25,7 @@ pub record KeepsNumbers : Type 0 where
   pub by_marked : (forest : Forest) (object : ℕ) → numbers (marked forest object).rows ≡ numbers forest.rows
   pub by_blocked : (forest : Forest) (object : ℕ) (on : Bool) → numbers (with_blocked forest object on).rows ≡ numbers forest.rows
   pub by_removed : (forest : Forest) (object : ℕ) → numbers (removed forest object).rows ≡ filter (λ number. not (number == object)) (numbers forest.rows)
+
+-- the first of all objects below another one that pass is the one that is found there
+abbrev pub FirstIsFound : Type 0
+FirstIsFound = (rows : List Row) (object : ℕ) (passes : ℕ → Bool) → find passes (below_by_depth rows object) ≡ found_below rows object passes

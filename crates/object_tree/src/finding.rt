@@ -24,7 +24,7 @@ impl Forests {
     }
 
     /// Where children are looked for first: where the last change was.
-    fn near(&self, place: usize) -> Near
+    pub(crate) fn near(&self, place: usize) -> Near
         requires { IsPlace self.now place }
     {
         let children = &self.kinship(place).children;
@@ -33,7 +33,7 @@ impl Forests {
 
     /// The children of a parent, by age.
     #[inline(always)]
-    fn kids(&self, place: usize, parent: Option<u32>, near: Near) -> Kids<'_>
+    pub(crate) fn kids(&self, place: usize, parent: Option<u32>, near: Near) -> Kids<'_>
         requires { IsPlace self.now place }
         ensures kids { map (λ child. child.number) (kids_of result) ≡ children (forest_at self.now place).rows parent }
         ensures within { AreWithin result }
@@ -50,7 +50,7 @@ impl Forests {
     }
 
     /// The children of all of these, in their order.
-    fn children_of(&self, place: usize, level: &[u32]) -> Result<Vec<u32>, AllocError>
+    pub(crate) fn children_of(&self, place: usize, level: &[u32]) -> Result<Vec<u32>, AllocError>
         requires { IsPlace self.now place }
         ensures { IfOk result (λ found. found.items ≡ children_of (forest_at self.now place).rows level.now) }
     {

@@ -8,11 +8,12 @@ mod finding;
 mod forests;
 mod laws;
 mod lines;
+mod listing;
 mod moving;
 mod refusing;
 mod removing;
 mod row;
 
 pub use forests::Forests;
-pub use laws::changes_keep_forests_sound;
+pub use laws::{changes_keep_forests_sound, first_of_all_is_found};
 pub use row::{DEPTH, OBJECTS, Row};

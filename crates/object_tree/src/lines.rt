@@ -18,7 +18,7 @@ impl Forests {
 
     /// On which level an object stands.
     #[tactic(auto, unfolding(crate::specs::Lines::line))]
-    fn depth(&self, place: usize, number: u32) -> usize
+    pub fn depth(&self, place: usize, number: u32) -> usize
         requires { IsPlace self.now place }
         ensures value { result ≡ depth (forest_at self.now place).rows number }
         ensures bound { result ≤ length (forest_at self.now place).rows }

@@ -1,7 +1,7 @@
 -- Joins that are taken out one after another, from the last to the first.
 use Rattle.std.proofs.Common.{◌≡◌, ◌∙◌, ℕ, zero, suc, ◌<◌, ◌≤◌, Bool, true, false, not, List, [], ◌∷◌, drop, filter, remove, length, get_or, refl, sym, ap}
 use Rattle.std.proofs.Common.{subst, arith}
-use Rattle.std.specs.List.{list_any}
+use Rattle.std.specs.List.{count_by, list_any}
 use Rattle.std.proofs.lemmas.Bool.{or_parts}
 use Rattle.std.proofs.lemmas.List.Edits.{length-remove}
 use Rattle.shared_rows.specs.Table.{ChangesAt, IsPlace, Table}
@@ -10,12 +10,12 @@ use Rattle.publish_board.specs.declared.join.Going.{Going}
 use Rattle.publish_board.specs.declared.join.Going.TheVariants.{All, Object}
 use Rattle.publish_board.specs.declared.join.Join.{Join}
 use Rattle.publish_board.specs.declared.joiners.Joiners.{Joiners}
-use Rattle.publish_board.specs.Rows.{is_from}
-use Rattle.publish_board.specs.Desk.{Desk, names_session, no_desk, without_object}
+use Rattle.publish_board.specs.Desk.{Desk, no_desk, without_object}
 use Rattle.publish_board.specs.Table.{desk_at, with_desk}
 use Rattle.publish_board.specs.Going.{goes, gone}
 use Rattle.publish_board.specs.Inside.{without_join, without_publications}
 use Rattle.publish_board.specs.Joiners.{AreListed}
+use Rattle.publish_board.specs.Topics.{is_of}
 use Rattle.publish_board.proofs.ListedLemmas.{with_other}
 
 module _ (p : Join → Bool) where
@@ -128,10 +128,10 @@ module _ (joiners : Joiners) (old now : Table Desk) (place : ℕ) (is_place : Is
   pub cleared : AreListed joiners now → AreListed joiners (with_desk now place no_desk)
   cleared listed = with_other joiners now listed place
       (changes_open no_desk old now place (changes_with no_desk old now place (gone All (desk_at old place)) is_place out) is_place) joiners no_desk
-      (λ name at differ. refl) (λ name.
-      listed name place ∙ ap (names_session name)
+      (λ topic at differ. refl) (λ topic.
+      listed topic place ∙ ap (λ (desk : Desk). count_by (is_of topic) desk.joins)
       (ap (λ (t : Table Desk). desk_at t place) out ∙ with_there no_desk old place (gone All (desk_at old place)) is_place)
-      ∙ ap (list_any (is_from name)) (all_gone (desk_at old place).joins))
+      ∙ ap (count_by (is_of topic)) (all_gone (desk_at old place).joins))
 
 -- another desk is put at the place then
 pub put_after : (old now : Table Desk) (place : ℕ) (first last : Desk) → now ≡ with_desk old place first → with_desk now place last ≡ with_desk old place last

@@ -1,5 +1,5 @@
 pub mod DeskLemmas
-pub mod AmongLemmas
+pub mod PlaceLemmas
 pub mod JoinersLemmas
 pub mod ListedLemmas
 pub mod GoingLemmas

@@ -8,7 +8,7 @@ use Rattle.signature_core.specs.Kinds.{fits}
 use Rattle.publish_board.specs.declared.join.Join.{Join}
 use Rattle.publish_board.specs.declared.lazy_desk.Counts.{Counts}
 use Rattle.publish_board.specs.declared.publication.Publication.{Publication}
-use Rattle.publish_board.specs.Rows.{has_name, is_from, is_join}
+use Rattle.publish_board.specs.Rows.{has_name, is_from, is_join, listens}
 
 pub record Desk : Type 0 where
   -- what the session publishes, in the order of making
@@ -52,6 +52,10 @@ left desk from name object method = record desk { joins = filter (λ join. not (
 -- does a join name the session
 abbrev pub names_session : List ℕ → Desk → Bool
 names_session from desk = list_any (is_from from) desk.joins
+
+-- does a join listen to what the session publishes under the name
+abbrev pub listens_to : List ℕ → List ℕ → Desk → Bool
+listens_to from name desk = list_any (listens from name) desk.joins
 
 -- without what an object publishes, and without the joins that call it
 abbrev pub without_object : ℕ → Desk → Desk

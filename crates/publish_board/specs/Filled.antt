@@ -1,12 +1,15 @@
--- No name without a place stands in the lists. No public clause cites this module.
-use Rattle.std.specs.Prelude.{◌≡◌, ℕ, ◌==◌, Bool, false, List, bytes_eq, length}
+-- No topic without a place stands in the lists. No public clause cites this module.
+use Rattle.std.specs.Prelude.{◌≡◌, ◌==◌, Bool, false, length}
 use Rattle.std.specs.Option.{option_map_or}
 use Rattle.indexmap.specs.IndexMap.{IndexMap, get}
 use Rattle.shared_rows.specs.Links.{Linked}
+use Rattle.publish_board.specs.declared.listed.Listed.{Listed}
+use Rattle.publish_board.specs.declared.topic.Topic.{Topic}
+use Rattle.publish_board.specs.Topics.{is_same}
 
--- does the name stand there without a place
-abbrev pub is_empty_at : {S : Type 0} → IndexMap (List ℕ) (Linked ℕ) S → List ℕ → Bool
-is_empty_at lists name = option_map_or (λ list. length list.links == 0) (get bytes_eq lists name) false
+-- does the topic stand there without a place
+abbrev pub is_empty_at : {S : Type 0} → IndexMap Topic (Linked Listed) S → Topic → Bool
+is_empty_at lists topic = option_map_or (λ list. length list.links == 0) (get is_same lists topic) false
 
-abbrev pub AreFilled : {S : Type 0} → IndexMap (List ℕ) (Linked ℕ) S → Type 0
-AreFilled lists = (name : List ℕ) → is_empty_at lists name ≡ false
+abbrev pub AreFilled : {S : Type 0} → IndexMap Topic (Linked Listed) S → Type 0
+AreFilled lists = (topic : Topic) → is_empty_at lists topic ≡ false

@@ -1,30 +1,32 @@
--- Which places are listed under which name. No public clause cites this module.
-use Rattle.std.specs.Prelude.{◌≡◌, ℕ, ◌<◌, ◌≤◌, ◌==◌, ◌&&◌, Bool, true, false, List, Option, Some, None, bytes_eq}
-use Rattle.std.specs.List.{list_any}
+-- Which places are listed under which topic. No public clause cites this module.
+use Rattle.std.specs.Prelude.{◌≡◌, ℕ, ◌<◌, ◌≤◌, ◌==◌, ◌&&◌, Bool, true, false, Option, Some, None, count_by, nat_lt}
 use Rattle.std.specs.Option.{option_map_or}
 use Rattle.indexmap.specs.IndexMap.{get}
 use Rattle.shared_rows.specs.Table.{Table}
 use Rattle.publish_board.specs.declared.joiners.Joiners.{Joiners}
-use Rattle.publish_board.specs.Desk.{Desk, names_session}
+use Rattle.publish_board.specs.declared.topic.Topic.{Topic}
+use Rattle.publish_board.specs.Desk.{Desk}
+use Rattle.publish_board.specs.Listed.{count_in}
 use Rattle.publish_board.specs.Table.{desk_at}
+use Rattle.publish_board.specs.Topics.{is_of, is_same}
 
--- is the place among these
-abbrev pub is_among : List ℕ → ℕ → Bool
-is_among places place = list_any (λ other. other == place) places
+-- how many joins of a place are listed under the topic
+abbrev pub count_at : Joiners → Topic → ℕ → ℕ
+count_at joiners topic place = option_map_or (λ list. count_in list.links place) (get is_same joiners.lists topic) 0
 
--- is the place listed under the name
-abbrev pub is_listed : Joiners → List ℕ → ℕ → Bool
-is_listed joiners name place = option_map_or (λ list. is_among list.links place) (get bytes_eq joiners.lists name) false
+-- is the place listed under the topic
+abbrev pub is_listed : Joiners → Topic → ℕ → Bool
+is_listed joiners topic place = nat_lt 0 (count_at joiners topic place)
 
--- is one name and place another
-abbrev pub is_pair : List ℕ → ℕ → List ℕ → ℕ → Bool
-is_pair name place other at = bytes_eq name other && place == at
+-- is one topic and place another
+abbrev pub is_pair : Topic → ℕ → Topic → ℕ → Bool
+is_pair topic place other at = is_same topic other && place == at
 
 -- the first number from `least` on that passes a test, or that none passes
 abbrev pub IsFirstOf : (ℕ → Bool) → ℕ → Option ℕ → Type 0
 IsFirstOf test least (Some first) = (least ≤ first) × (test first ≡ true) × ((other : ℕ) → least ≤ other → other < first → test other ≡ false)
 IsFirstOf test least None = (other : ℕ) → least ≤ other → test other ≡ false
 
--- a place is listed under the names of the sessions that it joins, and under no others
+-- of each topic as many joins of a place are listed as it has
 abbrev pub AreListed : Joiners → Table Desk → Type 0
-AreListed joiners desks = (name : List ℕ) (place : ℕ) → is_listed joiners name place ≡ names_session name (desk_at desks place)
+AreListed joiners desks = (topic : Topic) (place : ℕ) → count_at joiners topic place ≡ count_by (is_of topic) (desk_at desks place).joins

@@ -1,4 +1,6 @@
 pub mod Rows
+pub mod Topics
+pub mod Listed
 pub mod Desk
 pub mod Table
 pub mod Going

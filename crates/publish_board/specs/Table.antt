@@ -1,7 +1,7 @@
 -- What contracts see of the desks of all places.
-use Rattle.std.specs.Prelude.{ℕ, ◌<◌, ◌≤◌, Option, Some, None, IsFalse, IsTrue, List, slice_index_or}
+use Rattle.std.specs.Prelude.{ℕ, Bool, ◌<◌, ◌≤◌, Option, Some, None, IsFalse, IsTrue, List, slice_index_or}
 use Rattle.shared_rows.specs.Table.{IsPlace, Table, with_place}
-use Rattle.publish_board.specs.Desk.{Desk, names_session, no_desk}
+use Rattle.publish_board.specs.Desk.{Desk, listens_to, names_session, no_desk}
 
 -- the desk of a place
 abbrev pub desk_at : Table Desk → ℕ → Desk
@@ -15,14 +15,26 @@ with_desk table place desk = with_place table place desk
 abbrev pub names_at : Table Desk → List ℕ → ℕ → Type 0
 names_at table from place = IsTrue (names_session from (desk_at table place))
 
--- this place joins the session, and of those from `least` on it is the first
-pub record IsFirstJoiner (table : Table Desk) (from : List ℕ) (least place : ℕ) : Type 0 where
+-- the desk of this place passes a test, and of those from `least` on it is the first
+pub record IsFirstWith (test : Desk → Bool) (table : Table Desk) (least place : ℕ) : Type 0 where
   pub is_place : IsPlace table place
   pub from_least : least ≤ place
-  pub joins : IsTrue (names_session from (desk_at table place))
-  pub before : (other : ℕ) → least ≤ other → other < place → IsFalse (names_session from (desk_at table other))
+  pub joins : IsTrue (test (desk_at table place))
+  pub before : (other : ℕ) → least ≤ other → other < place → IsFalse (test (desk_at table other))
+
+-- the first place from `least` on whose desk passes a test, or that there is none
+abbrev pub IsNextWith : (Desk → Bool) → Table Desk → ℕ → Option ℕ → Type 0
+IsNextWith test table least (Some place) = IsFirstWith test table least place
+IsNextWith test table least None = (other : ℕ) → least ≤ other → IsPlace table other → IsFalse (test (desk_at table other))
+
+-- this place joins the session, and of those from `least` on it is the first
+abbrev pub IsFirstJoiner : Table Desk → List ℕ → ℕ → ℕ → Type 0
+IsFirstJoiner table from = IsFirstWith (names_session from) table
 
 -- the first place from `least` on that joins the session, or that there is none
 abbrev pub IsNextJoiner : Table Desk → List ℕ → ℕ → Option ℕ → Type 0
-IsNextJoiner table from least (Some place) = IsFirstJoiner table from least place
-IsNextJoiner table from least None = (other : ℕ) → least ≤ other → IsPlace table other → IsFalse (names_session from (desk_at table other))
+IsNextJoiner table from = IsNextWith (names_session from) table
+
+-- the first place from `least` on that joins what the session publishes under the name, or that there is none
+abbrev pub IsNextListener : Table Desk → List ℕ → List ℕ → ℕ → Option ℕ → Type 0
+IsNextListener table from name = IsNextWith (listens_to from name) table

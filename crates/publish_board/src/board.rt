@@ -6,7 +6,7 @@ ghost use Rattle.plain_types.specs.Answers.{RefusedBy};
 ghost use Rattle.publish_board.specs.Rows.{has_name, is_join, listens, names_of, publishes};
 ghost use Rattle.publish_board.specs.Desk.{IsSound, counts_of, join_refusal, with_join, left, names_session, no_desk};
 ghost use Rattle.publish_board.specs.Desk.{publish_refusal, published, unpublished, without_object};
-ghost use Rattle.publish_board.specs.Table.{IsNextJoiner, desk_at, with_desk};
+ghost use Rattle.publish_board.specs.Table.{IsNextJoiner, IsNextListener, desk_at, with_desk};
 ghost use Rattle.publish_board.specs.Going.{gone};
 ghost use Rattle.publish_board.specs.Inside.{without_join};
 
@@ -14,6 +14,7 @@ use crate::join::{Going, Join, listening};
 use crate::joiners::Joiners;
 use crate::lazy_desk::{Counts, LazyDesk};
 use crate::publication::{Publication, names_of};
+use crate::topic::Sought;
 use plain_types::{Fault, Items, Text};
 use shared_rows::Places;
 use signature_core::Kind;
@@ -128,11 +129,10 @@ impl Board {
         ensures ok { OnOk result (self.new ≡ with_desk self.old place (with_join (desk_at self.old place) join)) }
         ensures err { OnErr result (self.new ≡ self.old) }
     {
-        let from = join.from.copy(self.alloc)?;
         let desk = self.desks.get_mut(place);
         let position = desk.joins().len();
         desk.add_join(self.alloc, join)?;
-        if let Err(error) = self.joiners.add(from, place) {
+        if let Err(error) = self.joiners.add(&desk.joins()[position], place) {
             desk.remove_join(position);
             return Err(error);
         }
@@ -194,9 +194,7 @@ impl Board {
     {
         let desk = self.desks.get_mut(place);
         let join = desk.remove_join(position);
-        if !desk.names(&join.from) {
-            self.joiners.remove(&join.from, place);
-        }
+        self.joiners.remove(&join, place);
     }
 
     /// How many publications and joins a place has.
@@ -274,6 +272,26 @@ impl Board {
     pub fn next_joiner(&self, from: &Text, least: usize) -> Option<usize>
         ensures { IsNextJoiner self.now from.now least result }
     {
-        self.joiners.next(from, least)
+        let session = Sought { from, name: None };
+        self.joiners.next(session, least, &mut usize::MAX)
+    }
+
+    /// The first place from `least` on with a join that listens to what the session `from` publishes under
+    /// `name`. No other place is walked. Where `near` comes from the last call with these names, they are
+    /// mostly not hashed again; before the first call it is `usize::MAX`.
+    pub fn next_listener(
+        &self,
+        from: &Text,
+        name: &Text,
+        least: usize,
+        near: &mut usize,
+    ) -> Option<usize>
+        ensures { IsNextListener self.now from.now name.now least result }
+    {
+        let publication = Sought {
+            from,
+            name: Some(name),
+        };
+        self.joiners.next(publication, least, near)
     }
 }

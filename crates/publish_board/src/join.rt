@@ -1,9 +1,11 @@
 //! Joins.
-ghost use Rattle.std.specs.Prelude.{◌≡◌, IfOk, filter};
+ghost use Rattle.std.specs.Prelude.{◌≡◌, IfOk, None, Some, filter};
 ghost use Rattle.std.specs.List.{list_any};
 ghost use Rattle.publish_board.specs.Rows.{listens};
 ghost use Rattle.publish_board.specs.Going.{goes};
+ghost use Rattle.publish_board.specs.Topics.{topic_of};
 
+use crate::topic::Sought;
 use plain_types::{Items, Text};
 use signature_core::Kind;
 use std::alloc::{AllocError, Global};
@@ -20,10 +22,31 @@ pub struct Join {
 }
 
 impl Join {
-    pub(crate) fn listens(&self, from: &Text, name: &Text) -> bool
+    /// Whether it listens to what the session of the name `from` publishes under `name`.
+    pub fn listens(&self, from: &Text, name: &Text) -> bool
         ensures { result ≡ listens from.now name.now self.now }
     {
         self.from == *from && self.name == *name
+    }
+
+    /// The session that it names, as a topic.
+    pub(crate) fn session(&self) -> Sought<'_>
+        ensures { topic_of result ≡ record { from = self.now.from; name = None } }
+    {
+        Sought {
+            from: &self.from,
+            name: None,
+        }
+    }
+
+    /// What that publishes under the name of the join, as a topic.
+    pub(crate) fn publication(&self) -> Sought<'_>
+        ensures { topic_of result ≡ record { from = self.now.from; name = Some self.now.name } }
+    {
+        Sought {
+            from: &self.from,
+            name: Some(&self.name),
+        }
     }
 
     /// An equal join in a value of its own.

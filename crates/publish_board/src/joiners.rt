@@ -1,27 +1,33 @@
-//! Which places join the sessions of each name.
-ghost use Rattle.std.specs.Prelude.{◌≡◌, ◌&&◌, ◌||◌, ℕ, List, OnOk, OnErr, false, not};
+//! Which places have joins of each topic.
+ghost use Rattle.std.specs.Prelude.{◌≡◌, ◌+◌, ◌-◌, ◌^◌, ◌<◌, ◌&&◌, ◌==◌, ℕ, OnOk, OnErr, if◌then◌else◌};
+ghost use Rattle.std.specs.Option.{option_copied};
+ghost use Rattle.indexmap.specs.IndexMap.{get};
 ghost use Rattle.publish_board.specs.Filled.{AreFilled};
+ghost use Rattle.publish_board.specs.Topics.{is_of, is_same, topic_of};
+ghost use Rattle.publish_board.specs.declared.topic.Topic.{Topic as TopicValue};
 
-use indexmap::IndexMap;
-use plain_types::Text;
+use crate::join::Join;
+use crate::listed::{Listed, list_one, unlist_one};
+use crate::topic::{Sought, Topic};
+use indexmap::{Equivalent, IndexMap};
 use shared_rows::Links;
 use std::alloc::{AllocError, Global};
 use std::hash::RandomState;
 
-/// For each name that any place joins, these places by rising number. Clients choose the names, so
+/// For each topic of any join, the places with such joins by rising number. Clients choose the names, so
 /// they are hashed with keys that no client knows.
 #[derive(Drop)]
 pub(crate) struct Joiners {
-    lists: IndexMap<Text, Links<usize>, RandomState>,
+    lists: IndexMap<Topic, Links<Listed>, RandomState>,
     alloc: Global,
     ghost filled: { AreFilled lists },
 }
 
 impl Joiners {
-    ghost use Rattle.publish_board.specs.Joiners.{IsFirstOf, is_listed, is_pair};
+    ghost use Rattle.publish_board.specs.Joiners.{IsFirstOf, count_at, is_listed, is_pair};
 
     pub(crate) fn new(alloc: Global, hashing: RandomState) -> Joiners
-        ensures { (name : List ℕ) (place : ℕ) → is_listed result name place ≡ false }
+        ensures { (topic : TopicValue) (place : ℕ) → count_at result topic place ≡ 0 }
     {
         Joiners {
             lists: IndexMap::with_hasher(alloc, hashing),
@@ -29,40 +35,88 @@ impl Joiners {
         }
     }
 
-    /// The first of the places of a name from `least` on.
-    pub(crate) fn next(&self, name: &Text, least: usize) -> Option<usize>
-        ensures { IsFirstOf (is_listed self.now name.now) least result }
+    /// The first of the places of a topic from `least` on. The topic is looked for at the position `near`
+    /// first, which then is its own.
+    pub(crate) fn next(&self, topic: Sought, least: usize, near: &mut usize) -> Option<usize>
+        ensures { IsFirstOf (is_listed self.now (topic_of topic.entry)) least result }
     {
-        self.lists.get(name)?.first_from(least)
+        let list = self.list_near(topic, near)?;
+        let probe = Listed {
+            place: least,
+            further: 0,
+        };
+        match list.first_from(probe) {
+            Some(listed) => Some(listed.place),
+            None => None,
+        }
     }
 
-    /// Lists a place under a name.
-    pub(crate) fn add(&mut self, name: Text, place: usize) -> Result<(), AllocError>
-        ensures ok { OnOk result ((other : List ℕ) (at : ℕ)
-            → is_listed self.new other at ≡ (is_listed self.old other at || is_pair name place other at)) }
-        ensures err { OnErr result ((other : List ℕ) (at : ℕ) → is_listed self.new other at ≡ is_listed self.old other at) }
+    fn list_near(&self, topic: Sought, near: &mut usize) -> Option<&Links<Listed>>
+        ensures { option_copied result ≡ get is_same self.now.lists (topic_of topic.entry) }
     {
-        if let Some(list) = self.lists.get_mut(&name) {
-            return list.insert(place);
+        if let Some((there, list)) = self.lists.get_index(*near) {
+            if topic.equivalent(there) {
+                return Some(list);
+            }
         }
-        let mut list = Links::new(self.alloc);
-        list.insert(place)?;
-        self.lists.insert(name, list)?;
+        let (at, _, list) = self.lists.get_full(topic)?;
+        *near = at;
+        Some(list)
+    }
+
+    /// Lists a join of a place under both of its topics.
+    pub(crate) fn add(&mut self, join: &Join, place: usize) -> Result<(), AllocError>
+        requires { (topic : TopicValue) → count_at self.old topic place < 2 ^ 32 }
+        ensures ok { OnOk result ((topic : TopicValue) (at : ℕ)
+            → count_at self.new topic at ≡ count_at self.old topic at + (if is_of topic join.now && place == at then 1 else 0)) }
+        ensures err { OnErr result ((topic : TopicValue) (at : ℕ) → count_at self.new topic at ≡ count_at self.old topic at) }
+    {
+        self.list(join.session(), place)?;
+        if let Err(error) = self.list(join.publication(), place) {
+            self.unlist(join.session(), place);
+            return Err(error);
+        }
         Ok(())
     }
 
-    /// Lists a place no longer under a name, which goes with its last place. This takes no memory.
-    pub(crate) fn remove(&mut self, name: &Text, place: usize)
-        ensures { (other : List ℕ) (at : ℕ)
-            → is_listed self.new other at ≡ (is_listed self.old other at && not (is_pair name.now place other at)) }
+    /// Lists a join of a place no longer. This takes no memory.
+    pub(crate) fn remove(&mut self, join: &Join, place: usize)
+        ensures { (topic : TopicValue) (at : ℕ)
+            → count_at self.new topic at ≡ count_at self.old topic at - (if is_of topic join.now && place == at then 1 else 0) }
     {
-        let Some(list) = self.lists.get_mut(name) else {
+        self.unlist(join.session(), place);
+        self.unlist(join.publication(), place);
+    }
+
+    /// Lists one more join of a place under a topic.
+    fn list(&mut self, topic: Sought, place: usize) -> Result<(), AllocError>
+        requires { count_at self.old (topic_of topic) place < 2 ^ 32 }
+        ensures ok { OnOk result ((other : TopicValue) (at : ℕ)
+            → count_at self.new other at ≡ count_at self.old other at + (if is_pair (topic_of topic.entry) place other at then 1 else 0)) }
+        ensures err { OnErr result ((other : TopicValue) (at : ℕ) → count_at self.new other at ≡ count_at self.old other at) }
+    {
+        if let Some(list) = self.lists.get_mut(topic) {
+            return list_one(list, place);
+        }
+        let topic = topic.to_topic(self.alloc)?;
+        let mut list = Links::new(self.alloc);
+        list.insert(Listed { place, further: 0 })?;
+        self.lists.insert(topic, list)?;
+        Ok(())
+    }
+
+    /// Lists one join of a place under a topic no longer; the topic goes with its last place.
+    fn unlist(&mut self, topic: Sought, place: usize)
+        ensures { (other : TopicValue) (at : ℕ)
+            → count_at self.new other at ≡ count_at self.old other at - (if is_pair (topic_of topic.entry) place other at then 1 else 0) }
+    {
+        let Some(list) = self.lists.get_mut(topic) else {
             return;
         };
-        list.remove(place);
+        unlist_one(list, place);
         let was_last = list.is_empty();
         if was_last {
-            self.lists.swap_remove(name);
+            self.lists.swap_remove(topic);
         }
     }
 }

@@ -21,7 +21,8 @@ impl Publication {
         self.name == *name
     }
 
-    pub(crate) fn publishes(&self, object: u32, signal: u32) -> bool
+    /// Whether it is of this signal of this object.
+    pub fn publishes(&self, object: u32, signal: u32) -> bool
         ensures { result ≡ publishes object signal self.now }
     {
         self.object == object && self.signal == signal

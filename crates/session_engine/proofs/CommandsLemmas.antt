@@ -20,7 +20,7 @@ use Rattle.session_model.specs.declared.command.Command.TheVariants as c
 use Rattle.session_model.specs.declared.query.Query.{Query}
 use Rattle.session_model.specs.Asked.{Ask, Asked, Reset, asked}
 use Rattle.session_model.specs.declared.operation.Operation.{Operation}
-use Rattle.session_model.specs.Operations.{behind, operation_answer, operation_refusal, found_refusal, with_operation}
+use Rattle.session_model.specs.Operations.{operation_answer, operation_refusal, found_refusal, with_operation}
 use Rattle.session_model.specs.Signals.{does_found}
 use Rattle.session_model.specs.Execution as doing
 use Rattle.session_model.specs.Effects.{ended, replies, unless}
@@ -42,7 +42,8 @@ use Rattle.session_tables.proofs.ForCallers.{changes_same, changes_twice, change
 use Rattle.session_tables.proofs.ForCallers.{placed_shaped, session_unchanged, shaped_changed, shaped_twice}
 use Rattle.session_effects.specs.declared.session_context.SessionContext.{SessionContext}
 use Rattle.dispatch.specs.declared.command_output.CommandOutput.{CommandOutput}
-use Rattle.session_engine.specs.Commands.{Obeys, OthersHear, Performs, Reads, its_effect, its_refusal, reply_after, reply_lines}
+use Rattle.session_engine.specs.Commands.{Obeys, OthersHear, Performs, its_effect, its_refusal, reply_after, reply_lines}
+use Rattle.session_queries.specs.Reads.{Reads}
 use Rattle.dispatch.specs.Prefix.{IsPrefix}
 use Rattle.dispatch.specs.CommandOutput.{doing_at, fresh_output}
 use Rattle.dispatch.proofs.ForCallers.{front_none, front_same}
@@ -219,26 +220,6 @@ pub on_refused : {P : Type 0} (fault : Fault) → P → OnRefused {T = ℕ} (Err
 on_refused (Refused code) h = h
 on_refused Memory h = tt
 
--- a query that is refused
-pub refused_reading : (caller : SessionContext) (query : Query) (tables : Tables) (code : Code) (result : Result Answer Fault)
-    → IsErrAnd result (λ fault. fault ≡ Refused code)
-    → query_answer caller.setup.now.classes (state_at tables caller.place) query ≡ Err code → Reads caller query tables result
-refused_reading caller query tables code (Ok answer) h refused = absurd h
-refused_reading caller query tables code (Err fault) h refused = subst (λ fault. Reads caller query tables (Err fault)) (sym h) (record { returns = refused })
-
--- and one for which memory was wanted
-pub starved_reading : (caller : SessionContext) (query : Query) (tables : Tables) (result : Result Answer Fault) → IsErrAnd result (λ fault. fault ≡ Memory)
-    → Reads caller query tables result
-starved_reading caller query tables (Ok answer) h = absurd h
-starved_reading caller query tables (Err fault) h = subst (λ fault. Reads caller query tables (Err fault)) (sym h) (record { returns = tt })
-
--- where an operation is looked for, the first of two refusals, or what stands behind it
-pub behind_first : {A : Type 0} (a : Option Code) (found : Found A) (code : Code) → Some code ≡ a → behind a found ≡ Err code
-behind_first a found code e = sym (ap (λ a. behind a found) e)
-
-pub behind_second : {A : Type 0} (a : Option Code) (found : Found A) → None ≡ a → behind a found ≡ found
-behind_second a found e = sym (ap (λ a. behind a found) e)
-
 -- a command does the operation that was found
 pub operation_performed : (caller : SessionContext) (asked : Asked) (found : Found Operation) (operation : Operation) (old new : Tables)
     (result : Result Answer Fault) → IsPlaced old caller.place
@@ -298,7 +279,7 @@ reads caller query tables output result fresh read = replies_alone caller (Ask q
     state : State
     state = state_at tables caller.place
 
-    by : (result : Result Answer Fault) → Answers result (query_answer settings.classes state query)
+    by : (result : Result Answer Fault) → Answers result (query_answer settings state query)
         → Returns (its_refusal caller (Ask query) tables) (λ answer. its_effect caller (Ask query) tables ≡ replies state answer) result
     by (Ok answer) read = (query_passed settings caller.name.now state query answer read, query_replies settings caller.name.now state query answer read)
     by (Err (Refused code)) read = query_refused settings caller.name.now state query code read

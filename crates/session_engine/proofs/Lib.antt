@@ -6,7 +6,6 @@ pub mod CommandsLemmas
 pub mod ToldLemmas
 pub mod BindingsLemmas
 pub mod PropertiesLemmas
-pub mod QueriesLemmas
 pub mod InvocationLemmas
 pub mod SparedLemmas
 pub mod ItemsLemmas

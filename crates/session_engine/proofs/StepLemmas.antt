@@ -46,7 +46,7 @@ on_some None h = tt
 on_none : {T : Type 0} (P : Type 0) (value : Option T) → value ≡ None → OnSome value P
 on_none P value e = subst (λ value. OnSome value P) (sym e) tt
 
-pub some_none : {T : Type 0} (x : T) → Some x ≡ None → ⊥
+some_none : {T : Type 0} (x : T) → Some x ≡ None → ⊥
 some_none x e = cc
 
 -- what is refused is no value

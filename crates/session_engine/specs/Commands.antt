@@ -3,16 +3,14 @@ use Rattle.std.specs.Prelude.{◌≡◌, ℕ, Bool, eqb, List, [], ◌∷◌, Op
 use Rattle.isolation.specs.Machine.{Effect}
 use Rattle.class_table.specs.declared.class.Class.{Class}
 use Rattle.plain_types.specs.declared.code.Code.{Code}
-use Rattle.plain_types.specs.Answers.{Answers, OnDone, OnMemory}
+use Rattle.plain_types.specs.Answers.{OnDone, OnMemory}
 use Rattle.plain_types.specs.declared.fault.Fault.{Fault}
 use Rattle.session_model.specs.declared.line.Answer.{Answer}
 use Rattle.session_model.specs.declared.line.Line.{Line}
 use Rattle.session_model.specs.declared.line.Line.TheVariants.{Reply}
 use Rattle.session_model.specs.declared.command.Command.{Command}
 use Rattle.session_model.specs.declared.command.Command.TheVariants as c
-use Rattle.session_model.specs.declared.query.Query.{Query}
 use Rattle.session_model.specs.Asked.{Asked}
-use Rattle.session_model.specs.Queries.{query_answer}
 use Rattle.session_model.specs.Refusing.{refusal}
 use Rattle.session_model.specs.State.{State}
 use Rattle.session_model.specs.Thread.{does, performs}
@@ -76,10 +74,6 @@ pub record OthersHear (classes : List Class) (from : List ℕ) (place : ℕ) (po
   pub hear : (at : ℕ) → IsFalse (eqb at place) → IsPlaced old at → ReceivesPosts classes from posts (session_at old at) (session_at new at)
   pub all : IsFalse failing → (at : ℕ) → IsFalse (eqb at place) → IsPlaced old at → session_at new at ≡ after_posts classes from posts (session_at old at)
   pub one : IsTrue failing → (at : ℕ) × IsFalse (eqb at place) × IsPlaced old at × IsFalse (failed_at old at) × IsTrue (failed_at new at)
-
--- a query returns exactly its answer, or why it is refused, unless memory was wanted
-pub record Reads (caller : SessionContext) (query : Query) (tables : Tables) (result : Result Answer Fault) : Type 0 where
-  pub returns : Answers result (query_answer caller.setup.now.classes (state_at tables caller.place) query)
 
 -- a command of a session that has not failed; `failing` says whether another session has failed by its posts,
 -- and `lines` what is told by what the call returns

@@ -13,13 +13,13 @@ use crate::events::spin;
 use crate::invocation::invoke;
 use crate::operations::{block, delete_later, set_parent};
 use crate::properties::set;
-use crate::queries::answer;
 use crate::sharing::{join, leave, publish, renew, reset, unpublish};
 use crate::trees::{delete_object, new_object};
 use dispatch::{CallContext, CommandOutput, FunctorTable};
 use plain_types::{Code, ConnectionType, Fault, Items};
 use session_effects::{Options, SessionContext};
 use session_model::{Answer, Command, Line};
+use session_queries::answer;
 use session_tables::Tables;
 use std::alloc::{AllocError, Global};
 

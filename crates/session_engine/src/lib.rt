@@ -10,7 +10,6 @@ mod invocation;
 mod item;
 mod operations;
 mod properties;
-mod queries;
 mod sharing;
 mod trees;
 

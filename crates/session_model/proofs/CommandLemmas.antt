@@ -46,7 +46,7 @@ performed_keeps settings self state (Bind target property to) passed = bind_keep
 performed_keeps settings self state (Unbind target property) passed = unbind_keeps settings state target property
 performed_keeps settings self state Begin passed = begin_keeps settings state passed
 performed_keeps settings self state End passed = end_keeps settings state
-performed_keeps settings self state (Ask query) passed = told_one settings state (Ask query) (answers state (query_answer settings.classes state query)) refl
+performed_keeps settings self state (Ask query) passed = told_one settings state (Ask query) (answers state (query_answer settings state query)) refl
     (stays settings state (Ask query))
 performed_keeps settings self state Reset passed = reset_keeps settings state
 

@@ -36,15 +36,14 @@ spun_last settings state =
 
 -- a query is refused, or replies what it is answered
 module _ (settings : Settings) (self : List ℕ) (state : State) (query : Query) where
-  pub query_refused : (code : Code) → query_answer settings.classes state query ≡ Err code → refusal settings self state (Ask query) ≡ Some code
+  pub query_refused : (code : Code) → query_answer settings state query ≡ Err code → refusal settings self state (Ask query) ≡ Some code
   unfolding refusal
   query_refused code is = ap result_err is
 
-  pub query_passed : (answer : Answer) → query_answer settings.classes state query ≡ Ok answer → refusal settings self state (Ask query) ≡ None
+  pub query_passed : (answer : Answer) → query_answer settings state query ≡ Ok answer → refusal settings self state (Ask query) ≡ None
   unfolding refusal
   query_passed answer is = ap result_err is
 
-  pub query_replies : (answer : Answer) → query_answer settings.classes state query ≡ Ok answer
-      → performs settings self state (Ask query) ≡ replies state answer
+  pub query_replies : (answer : Answer) → query_answer settings state query ≡ Ok answer → performs settings self state (Ask query) ≡ replies state answer
   unfolding performs
   query_replies answer is = ap (answers state) is

@@ -27,6 +27,13 @@ pub mod Signals
 pub mod Events
 pub mod Sharing
 pub mod Binding
+pub mod FunctorDescriptions
+pub mod SharingDescriptions
+pub mod ObjectDescriptions
+pub mod ClassDescriptions
+pub mod ConnectionDescriptions
+pub mod PropertyDescriptions
+pub mod BindingDescriptions
 pub mod Queries
 pub mod Refusing
 pub mod Thread

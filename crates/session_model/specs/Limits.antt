@@ -9,7 +9,7 @@ use Rattle.class_table.specs.declared.file.TheConstants.{FILE_BYTES}
 use Rattle.class_table.specs.Declaring.{q_object}
 use Rattle.class_table.specs.Lookup.{method_text}
 use Rattle.stored_slots.specs.declared.limit.TheConstants.{FUNCTORS}
-use Rattle.connection_list.specs.declared.limit.TheConstants.{CONNECTIONS}
+use Rattle.connection_list.specs.declared.limit.TheConstants.{CONNECTIONS, LISTED}
 use Rattle.publish_board.specs.declared.lazy_desk.TheConstants.{PUBLICATIONS, JOINS}
 use Rattle.object_tree.specs.declared.row.TheConstants.{OBJECTS, DEPTH}
 use Rattle.event_queue.specs.declared.table.TheConstants.{EVENTS}
@@ -41,6 +41,8 @@ pub record AreTheLimits : Type 0 where
   pub properties : PROPERTIES ≡ 64
   pub parameters : PARAMS ≡ 10
   pub actions_of_a_body : ACTIONS ≡ 32
+  -- the connections that one reply lists at most
+  pub listed_connections : LISTED ≡ 1000
   -- a name, and the functors of a server
   pub functors : FUNCTORS ≡ 256
   pub bytes_of_a_name : NAME_BYTES ≡ 64

@@ -63,4 +63,4 @@ refusal settings self state (Bind target property to) = binding_refusal state (a
 refusal settings self state (Unbind target property) = result_err (asked_property state target property)
 refusal settings self state Begin = begin_refusal state.graph
 refusal settings self state End = end_refusal state.graph
-refusal settings self state (Ask query) = result_err (query_answer settings.classes state query)
+refusal settings self state (Ask query) = result_err (query_answer settings state query)

@@ -48,7 +48,7 @@ performs settings self state (Bind target property to) = binds_found settings st
 performs settings self state (Unbind target property) = unbinds_found settings state (asked_property state target property)
 performs settings self state Begin = begins state
 performs settings self state End = ends settings state
-performs settings self state (Ask query) = answers state (query_answer settings.classes state query)
+performs settings self state (Ask query) = answers state (query_answer settings state query)
 
 -- what a command does
 unfoldable pub does : Settings → List ℕ → State → Asked → Effect State Line Post

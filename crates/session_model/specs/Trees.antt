@@ -1,11 +1,11 @@
 -- What the commands that make and delete objects do, where they are not refused; and the object that is looked for.
-use Rattle.std.specs.Prelude.{◌+◌, ◌&&◌, ℕ, Bool, true, false, List, [], ◌∷◌, Option, Some, None, option_map}
+use Rattle.std.specs.Prelude.{◌+◌, ◌&&◌, ℕ, Bool, true, false, List, [], ◌∷◌, Option, Some, None, filter, option_map}
 use Rattle.std.specs.Option.{option_map_or}
 use Rattle.isolation.specs.Machine.{Effect}
 use Rattle.class_table.specs.declared.class.Class.{Class}
 use Rattle.class_table.specs.Lookup.{inherits}
 use Rattle.object_tree.specs.Rows.{row_of}
-use Rattle.object_tree.specs.Finding.{found_below}
+use Rattle.object_tree.specs.Finding.{below_by_depth, found_below}
 use Rattle.session_model.specs.declared.line.Answer.TheVariants.{Number, Truth}
 use Rattle.session_model.specs.declared.line.Line.{Line}
 use Rattle.session_model.specs.declared.post.Post.{Post}
@@ -33,6 +33,12 @@ has_title state (Some wanted) number = is_text wanted (title_of state number)
 abbrev pub is_of_class : List Class → State → Option ℕ → ℕ → Bool
 is_of_class classes state None number = true
 is_of_class classes state (Some base) number = option_map_or (λ row. inherits classes row.class base) (row_of state.forest.rows number) false
+
+-- all objects below another one, of this title and of this class, the nearest first
+abbrev pub all_found_in : List Class → State → ℕ → Option (List ℕ) → Option (List ℕ) → List ℕ
+all_found_in classes state target title class =
+    let base = option_map (class_index classes) class in
+    filter (λ number. has_title state title number && is_of_class classes state base number) (below_by_depth state.forest.rows target)
 
 -- the nearest object below another one, of this title and of this class
 abbrev pub found_in : List Class → State → ℕ → Option (List ℕ) → Option (List ℕ) → Option ℕ

@@ -10,9 +10,11 @@ ghost use Rattle.session_model.specs.Laws.{ActsInPlace, KeepsDeclared, KeepsFitt
 mod boxed;
 mod call;
 mod command;
+mod descriptions;
 mod limits;
 mod line;
 mod meta;
+mod named_property;
 mod operation;
 mod post;
 mod query;
@@ -20,9 +22,15 @@ mod query;
 pub use boxed::Boxed;
 pub use call::{Call, DESTROYED, NESTED_SIGNALS, OBJECT_NAME};
 pub use command::{Command, Tagged};
+pub use descriptions::{
+    CalleeDescription, ClassDescription, ConnectionDescription, DeclaredMethod, DeclaredProperty,
+    FunctorDescription, JoinDescription, ObjectDescription, PropertyDescription,
+    PublicationDescription,
+};
 pub use limits::limits_are_these;
 pub use line::{Answer, Line, Spin, Status};
 pub use meta::MetaObject;
+pub use named_property::NamedProperty;
 pub use operation::Operation;
 pub use post::Post;
 pub use query::Query;

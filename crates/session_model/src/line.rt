@@ -1,9 +1,15 @@
 //! Clients are told lines.
 use crate::boxed::Boxed;
 use crate::call::Call;
+use crate::descriptions::{
+    ClassDescription, ConnectionDescription, FunctorDescription, JoinDescription,
+    ObjectDescription, PropertyDescription, PublicationDescription,
+};
 use crate::meta::MetaObject;
+use crate::named_property::NamedProperty;
 use binding_values::BindingError;
 use plain_types::{Code, Items, Text};
+use term_core::Expr;
 use variant_value::Value;
 
 /// A command replies with an answer.
@@ -25,6 +31,18 @@ pub enum Answer {
     Meta(Boxed<MetaObject>),
     Spun(Spin),
     Status(Status),
+    Functors(Items<FunctorDescription>),
+    Publications(Items<PublicationDescription>),
+    Joins(Items<JoinDescription>),
+    Object(Boxed<ObjectDescription>),
+    /// The answer describes a class, with what declares each of its parts.
+    Class(Boxed<ClassDescription>),
+    Connections(Items<ConnectionDescription>),
+    Properties(Items<PropertyDescription>),
+    /// The bound properties.
+    Bindings(Items<NamedProperty>),
+    /// The expression that a property is bound to, where it is bound.
+    Binding(Option<Boxed<Expr>>),
 }
 
 /// The answer tells how many events were taken, and how many are left.

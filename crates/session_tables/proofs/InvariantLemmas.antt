@@ -9,22 +9,15 @@ use Rattle.property_store.specs.Store.{Properties, Store, changed}
 use Rattle.property_store.specs.Table.{StoreTable, StoresView, store_at, with_store}
 use Rattle.binding_values.specs.declared.binding.Binding.{Binding}
 use Rattle.binding_graph.specs.declared.shown.Shown.{Shown}
-use Rattle.binding_graph.specs.Graph.{Graph, all_shown, begun, ended, is_open}
+use Rattle.binding_graph.specs.Graph.{Graph, all_shown, begun, ended, is_open, settled_graph}
 use Rattle.binding_graph.specs.Step.{InStep}
 use Rattle.binding_graph.specs.Table.{Graphs, graph_at, with_graph}
 use Rattle.session_model.specs.State.{closed}
 use Rattle.session_model.proofs.ForCallers.{showing_same}
 use Rattle.session_tables.specs.Bound.{all_closed}
-use Rattle.session_tables.specs.Settled.{AllSettled, IsSettled, kept_of, settled_in}
+use Rattle.session_tables.specs.Settled.{AllSettled, IsSettled}
 
--- what is kept of a place stays with a change of an object that leaves its declared properties
-pub kept_same : (change : Properties → Properties) (object : ℕ) → ((of : Properties) → (change of).object ≡ of.object)
-    → ((of : Properties) → (change of).fields ≡ of.fields) → ((of : Properties) → (change of).values ≡ of.values)
-    → (store : Store) (bindings : List Binding) → kept_of (changed change object store) bindings ≡ kept_of store bindings
-kept_same change object same fields values store [] = refl
-kept_same change object same fields values store (first ∷ rest) = showing_same change object same fields values store (first ∷ rest)
-
--- so all stay settled with it
+-- all stay settled with a change of an object that leaves its declared properties
 pub settled_changed : (change : Properties → Properties) (object : ℕ) → ((of : Properties) → (change of).object ≡ of.object)
     → ((of : Properties) → (change of).fields ≡ of.fields) → ((of : Properties) → (change of).values ≡ of.values)
     → (stores new : StoresView) (bindings : Graphs) (place : ℕ) → IsPlace stores.shelves.table place → AllSettled stores bindings
@@ -33,10 +26,10 @@ settled_changed change object same fields values stores new bindings place shelf
     record { step = step; each = λ at. ⊎_elim (here at) (λ e. elsewhere at (λ same. absurd (grind (arith, same, e)))) (cases_Bool (eqb at place)) }
   where
     at_place : IsSettled (store_at new.shelves place) (graph_at bindings.graphs place)
-    at_place shut =
-        all.each place shut
-        ∙ (sym (kept_same change object same fields values (store_at stores.shelves place) (graph_at bindings.graphs place).bindings)
-        ∙ ap (λ store. kept_of store (graph_at bindings.graphs place).bindings)
+    at_place shut some =
+        all.each place shut some
+        ∙ (sym (showing_same change object same fields values (store_at stores.shelves place) (graph_at bindings.graphs place).bindings)
+        ∙ ap (λ store. all_shown store (graph_at bindings.graphs place).bindings)
         (sym (ap (λ (stores : StoreTable). store_at stores place) is ∙ column.with_there [] stores.shelves.table place _ shelf)))
 
     here : (at : ℕ) → eqb at place ≡ true → IsSettled (store_at new.shelves at) (graph_at bindings.graphs at)
@@ -57,13 +50,13 @@ seen_put graphs place graph = ap (λ places. let table : Table Graph = record { 
     by (first ∷ rest) (suc place) = ap (λ rest. closed first ∷ rest) (by rest place)
 
 -- what is kept outside of groups is not seen
-pub closed_settled : (store : Store) (graph : Graph) → closed (settled_in store graph) ≡ closed graph
+pub closed_settled : (store : Store) (graph : Graph) → closed (settled_graph store graph) ≡ closed graph
 closed_settled store graph = by (is_open graph) refl
   where
-    by : (deep : Bool) → is_open graph ≡ deep → closed (cond deep graph (record graph { last = kept_of store graph.bindings })) ≡ closed graph
+    by : (deep : Bool) → is_open graph ≡ deep → closed (cond deep graph (record graph { last = all_shown store graph.bindings })) ≡ closed graph
     by true e = refl
     by false e =
-        ap (λ deep. cond deep (record graph { last = kept_of store graph.bindings }) (record graph { last = [] })) e
+        ap (λ deep. cond deep (record graph { last = all_shown store graph.bindings }) (record graph { last = [] })) e
         ∙ sym (ap (λ deep. cond deep graph (record graph { last = [] })) e)
 
 -- other bindings are seen as they are

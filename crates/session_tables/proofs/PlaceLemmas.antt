@@ -1,7 +1,6 @@
 -- Graphs of places that are settled.
-use Rattle.std.proofs.Common.{◌≡◌, ◌∙◌, ℕ, zero, suc, Bool, true, false, cond, List, [], ◌∷◌, length, nat_le, nat_lt, Result, Ok, Err, IfOk, IfSome, OnOk}
-use Rattle.std.proofs.Common.{OnErr, Option, None, Some, refl, sym, ap, arith}
-use Rattle.std.proofs.lemmas.Bool.Decides.{nat_tests}
+use Rattle.std.proofs.Common.{◌≡◌, ◌∙◌, ℕ, Bool, true, false, cond, List, [], length, nat_le, Result, Ok, Err, IfOk, IfSome, OnOk}
+use Rattle.std.proofs.Common.{OnErr, Option, None, Some, refl, sym, ap}
 use Rattle.plain_types.specs.Answers.{RefusedBy}
 use Rattle.plain_types.specs.declared.code.Code.{Code}
 use Rattle.plain_types.specs.declared.code.Code.TheVariants.{Limit}
@@ -17,52 +16,27 @@ use Rattle.property_store.specs.declared.property.Property.{Property}
 use Rattle.binding_graph.specs.declared.shown.Shown.{Shown}
 use Rattle.binding_graph.specs.Graph as graphs
 use Rattle.binding_graph.specs.Graph.{Graph, all_shown, is_open, no_graph, settled_changes, settled_graph}
-use Rattle.session_tables.specs.Settled.{IsSettled, kept_of, settled_in}
-
--- where nothing is bound and no group is open, nothing is left of it
-pub settled_idle : (store : Store) (graph : Graph) → length graph.bindings ≡ 0 → graph.depth ≡ 0 → settled_in store graph ≡ no_graph
-settled_idle store graph none shut = by graph.bindings refl graph.depth refl
-  where
-    made : List Binding → ℕ → Graph
-    made bindings depth = cond (is_open (record { bindings = bindings; last = graph.last; depth = depth }))
-        (record { bindings = bindings; last = graph.last; depth = depth }) (record { bindings = bindings; last = kept_of store bindings; depth = depth })
-
-    by : (bindings : List Binding) → graph.bindings ≡ bindings → (depth : ℕ) → graph.depth ≡ depth → settled_in store graph ≡ no_graph
-    by [] e zero f = ap (λ bindings. made bindings graph.depth) e ∙ ap (made []) f
-    by [] e (suc depth) f = absurd (let same : suc depth ≡ 0 = sym f ∙ shut in cc)
-    by (first ∷ rest) e depth f = absurd (let same : suc (length rest) ≡ 0 = sym (ap length e) ∙ none in cc)
-
--- else it is settled as it always is
-pub settled_bound : (store : Store) (graph : Graph) → (length graph.bindings ≡ 0 → ⊥) → settled_in store graph ≡ settled_graph store graph
-settled_bound store graph some = by graph.bindings refl
-  where
-    by : (bindings : List Binding) → graph.bindings ≡ bindings → settled_in store graph ≡ settled_graph store graph
-    by [] e = absurd (some (ap length e))
-    by (first ∷ rest) e = ap (λ last. cond (is_open graph) graph (record graph { last = last })) (ap (kept_of store) e ∙ ap (all_shown store) (sym e))
-
-pub settled_deep : (store : Store) (graph : Graph) → is_open graph ≡ true → settled_in store graph ≡ settled_graph store graph
-settled_deep store graph deep = ap (λ deep. cond deep graph (record graph { last = kept_of store graph.bindings })) deep
-    ∙ sym (ap (λ deep. cond deep graph (record graph { last = all_shown store graph.bindings })) deep)
+use Rattle.session_tables.specs.Settled.{IsSettled}
 
 -- what is settled where something is bound keeps what is shown
 pub noted : (store : Store) (graph : Graph) → (length graph.bindings ≡ 0 → ⊥) → IsSettled store graph → settled_graph store graph ≡ graph
-noted store graph some settled = sym (settled_bound store graph some) ∙ by (is_open graph) refl
+noted store graph some settled = by (is_open graph) refl
   where
-    by : (deep : Bool) → is_open graph ≡ deep → cond deep graph (record graph { last = kept_of store graph.bindings }) ≡ graph
+    by : (deep : Bool) → is_open graph ≡ deep → cond deep graph (record graph { last = all_shown store graph.bindings }) ≡ graph
     by true e = refl
-    by false e = ap (λ last. record graph { last = last }) (sym (settled e))
+    by false e = ap (λ last. record graph { last = last }) (sym (settled e some))
 
 -- what was kept before other bindings are settled is no part of what is kept then
 pub settled_again : (store other : Store) (graph : Graph) (change : List Binding → List Binding)
-    → settled_in other (record (settled_graph store graph) { bindings = change (settled_graph store graph).bindings })
-    ≡ settled_in other (record graph { bindings = change graph.bindings })
+    → settled_graph other (record (settled_graph store graph) { bindings = change (settled_graph store graph).bindings })
+    ≡ settled_graph other (record graph { bindings = change graph.bindings })
 settled_again store other graph change = by (is_open graph) refl
   where
     after : Graph → Graph
-    after graph = settled_in other (record graph { bindings = change graph.bindings })
+    after graph = settled_graph other (record graph { bindings = change graph.bindings })
 
     kept : Graph
-    kept = record { bindings = change graph.bindings; last = kept_of other (change graph.bindings); depth = graph.depth }
+    kept = record { bindings = change graph.bindings; last = all_shown other (change graph.bindings); depth = graph.depth }
 
     by : (deep : Bool) → is_open graph ≡ deep → after (cond deep graph (record graph { last = all_shown store graph.bindings })) ≡ after graph
     by true e = refl
@@ -84,8 +58,8 @@ module _ (store other : Store) (old noted changed new : Table Graph) (place : �
 
   pub settled_after : noted ≡ with_graph old place (settled_graph store (graph_at old place))
       → changed ≡ with_graph noted place (changes (graph_at noted place))
-      → new ≡ with_graph changed place (settled_in other (graph_at changed place))
-      → new ≡ with_graph old place (settled_in other (changes (graph_at old place)))
+      → new ≡ with_graph changed place (settled_graph other (graph_at changed place))
+      → new ≡ with_graph old place (settled_graph other (changes (graph_at old place)))
   settled_after first second third =
       let one = column.changes_with no_graph old noted place _ there first in
       let still = column.changes_open no_graph old noted place one there in
@@ -95,7 +69,7 @@ module _ (store other : Store) (old noted changed new : Table Graph) (place : �
       let at_changed : graph_at changed place ≡ changes (settled_graph store (graph_at old place)) = ap (λ table. graph_at table place) second
       ∙ (column.with_there no_graph noted place _ still ∙ ap changes at_noted) in
       third
-      ∙ (ap (with_graph changed place) (ap (settled_in other) at_changed ∙ settled_again store other (graph_at old place) change)
+      ∙ (ap (with_graph changed place) (ap (settled_graph other) at_changed ∙ settled_again store other (graph_at old place) change)
       ∙ column.with_after no_graph old changed place _ (column.changes_twice no_graph old noted changed place one two))
 
 -- a place that is noted, and then bound otherwise and settled at once
@@ -108,11 +82,11 @@ module _ (store other : Store) (old noted : Table Graph) (place : ℕ) (change :
   place_noted = column.changes_open no_graph old noted place (column.changes_with no_graph old noted place _ there is) there
 
   pub settled_at_once : (new : Table Graph) → new ≡ with_graph noted place
-      (settled_in other (record (graph_at noted place) { bindings = change (graph_at noted place).bindings }))
-      → new ≡ with_graph old place (settled_in other (record (graph_at old place) { bindings = change (graph_at old place).bindings }))
+      (settled_graph other (record (graph_at noted place) { bindings = change (graph_at noted place).bindings }))
+      → new ≡ with_graph old place (settled_graph other (record (graph_at old place) { bindings = change (graph_at old place).bindings }))
   settled_at_once new e =
       e
-      ∙ (ap (with_graph noted place) (ap (λ graph. settled_in other (record graph { bindings = change graph.bindings })) at_noted
+      ∙ (ap (with_graph noted place) (ap (λ graph. settled_graph other (record graph { bindings = change graph.bindings })) at_noted
       ∙ settled_again store other (graph_at old place) change)
       ∙ column.with_after no_graph old noted place _ (column.changes_with no_graph old noted place _ there is))
 
@@ -135,47 +109,6 @@ pub where_ok_too : {T E P Q : Type 0} (result : Result T E) → (P → Q) → On
 where_ok_too (Ok value) so holds = so holds
 where_ok_too (Err error) so holds = tt
 
--- a place that is settled
-module _ (store : Store) (graph : Graph) (now : Table Graph) (place : ℕ) (is : graph_at now place ≡ settled_graph store graph) where
-  same_bindings : (graph_at now place).bindings ≡ graph.bindings
-  same_bindings = ap (λ (graph : Graph). graph.bindings) is ∙ by (is_open graph)
-    where
-      by : (deep : Bool) → (cond deep graph (record graph { last = all_shown store graph.bindings })).bindings ≡ graph.bindings
-      by true = refl
-      by false = refl
-
-  same_depth : (graph_at now place).depth ≡ graph.depth
-  same_depth = ap (λ (graph : Graph). graph.depth) is ∙ by (is_open graph)
-    where
-      by : (deep : Bool) → (cond deep graph (record graph { last = all_shown store graph.bindings })).depth ≡ graph.depth
-      by true = refl
-      by false = refl
-
-  stays_as : settled_in store graph ≡ settled_graph store graph → now ≡ with_graph now place (settled_in store graph)
-  stays_as same = sym (column.with_same no_graph now place) ∙ ap (with_graph now place) (is ∙ sym same)
-
-  pub left_idle : (new : Table Graph) → length (graph_at now place).bindings ≡ 0 → (graph_at now place).depth ≡ 0 → new ≡ with_graph now place no_graph
-      → new ≡ with_graph now place (settled_in store graph)
-  left_idle new none shut e = e ∙ ap (with_graph now place) (sym (settled_idle store graph (ap length (sym same_bindings) ∙ none) (sym same_depth ∙ shut)))
-
-  pub left_bound : (length (graph_at now place).bindings ≡ 0 → ⊥) → now ≡ with_graph now place (settled_in store graph)
-  left_bound some = stays_as (settled_bound store graph (λ none. some (ap length same_bindings ∙ none)))
-
-  pub left_deep : ((graph_at now place).depth ≡ 0 → ⊥) → now ≡ with_graph now place (settled_in store graph)
-  left_deep deep = stays_as (settled_deep store graph (opened graph.depth refl))
-    where
-      opened : (depth : ℕ) → graph.depth ≡ depth → is_open graph ≡ true
-      opened zero e = absurd (deep (same_depth ∙ e))
-      opened (suc depth) e = let positive : nat_lt 0 (suc depth) ≡ true = grind (arith, nat_tests) in ap (λ depth. nat_lt 0 depth) e ∙ positive
-
--- so after it was settled
-pub settled_then : (store : Store) (graph : Graph) (old now new : Table Graph) (place : ℕ) → IsPlace old place
-    → now ≡ with_graph old place (settled_graph store graph) →
-    (graph_at now place ≡ settled_graph store graph → new ≡ with_graph now place (settled_in store graph)) → new ≡ with_graph old place (settled_in store graph)
-settled_then store graph old now new place there is tidied =
-    tidied (ap (λ table. graph_at table place) is ∙ column.with_there no_graph old place _ there)
-    ∙ column.with_after no_graph old now place _ (column.changes_with no_graph old now place _ there is)
-
 -- what is told after a place was noted and bound otherwise
 pub told_after : (store other : Store) (graph : Graph) (change : List Binding → List Binding) (written : Option Property)
     → settled_changes other (record (settled_graph store graph) { bindings = change (settled_graph store graph).bindings }) written
@@ -196,10 +129,10 @@ told_after store other graph change written = by (is_open graph) refl
 
 -- a place that is changed and settled
 pub settled_once : (store : Store) (old changed new : Table Graph) (place : ℕ) (graph : Graph) → IsPlace old place → changed ≡ with_graph old place graph
-    → new ≡ with_graph changed place (settled_in store (graph_at changed place)) → new ≡ with_graph old place (settled_in store graph)
+    → new ≡ with_graph changed place (settled_graph store (graph_at changed place)) → new ≡ with_graph old place (settled_graph store graph)
 settled_once store old changed new place graph there first second =
     second
-    ∙ (ap (with_graph changed place) (ap (settled_in store) (ap (λ table. graph_at table place) first ∙ column.with_there no_graph old place graph there))
+    ∙ (ap (with_graph changed place) (ap (settled_graph store) (ap (λ table. graph_at table place) first ∙ column.with_there no_graph old place graph there))
     ∙ column.with_after no_graph old changed place _ (column.changes_with no_graph old changed place graph there first))
 
 pub if_ok_too : {T E : Type 0} (P Q : T → Type 0) (result : Result T E) → ((value : T) → P value → Q value) → IfOk result P → IfOk result Q

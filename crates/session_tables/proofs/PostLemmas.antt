@@ -24,7 +24,7 @@ use Rattle.class_table.specs.declared.class.Class.{Class}
 use Rattle.signature_core.specs.declared.kind.Kind.{Kind}
 use Rattle.publish_board.specs.declared.join.Join.{Join}
 use Rattle.publish_board.specs.declared.publication.Publication.{Publication}
-use Rattle.publish_board.specs.Desk.{names_session, no_desk}
+use Rattle.publish_board.specs.Desk.{no_desk}
 use Rattle.publish_board.specs.Rows.{publishes}
 use Rattle.publish_board.specs.Table.{desk_at}
 use Rattle.session_model.specs.declared.post.Post.{Post}
@@ -35,7 +35,7 @@ use Rattle.session_tables.specs.Session.{Session, failed_session}
 use Rattle.session_tables.specs.Tables.{ChangesOnly, IsPlaced, failed_at, session_at, state_at, with_session}
 use Rattle.session_tables.specs.Reaching.{ReceivesPosts, Reaches, ReachesBy, after_posts, only_at, takes, takes_some}
 use Rattle.session_tables.proofs.TablesLemmas.{changes_same, changes_twice, session_there}
-use Rattle.session_tables.proofs.ReachingLemmas.{after_posts-none, after_posts_stranger, placed_shaped, reaches_by_twice, reaches_changed, session_unchanged}
+use Rattle.session_tables.proofs.ReachingLemmas.{after_posts-none, placed_shaped, reaches_by_twice, reaches_changed, session_unchanged}
 use Rattle.session_tables.proofs.ReachingLemmas.{shaped_changed}
 
 module _ (classes : List Class) (rows : List Row) (from : List ℕ) (post : Post) where
@@ -202,10 +202,10 @@ module _ (classes : List Class) (from : List ℕ) (place : ℕ) where
       none : (at : ℕ) → [] ≡ below 0 posts at
       none at = let past : ltb at 0 ≡ false = grind (arith, nat_tests) in sym (cond-false (ltb at 0) posts [] past)
 
-  -- sessions that do not join this one have heard it as they are
+  -- sessions that the posts leave as they are have heard them
   pub reaches_strangers : (posts : List Post) (least end : ℕ) (old now : Tables) (before after : Bool) → least ≤ end
       → ((at : ℕ) → least ≤ at → session_at now at ≡ session_at old at)
-      → ((at : ℕ) → least ≤ at → at < end → IsPlaced old at → names_session from (state_at now at).desk ≡ false)
+      → ((at : ℕ) → least ≤ at → at < end → IsPlaced old at → after_posts classes from posts (session_at now at) ≡ session_at now at)
       → ReachesBy classes from place (below least posts) old now before after → ReachesBy classes from place (below end posts) old now before after
   reaches_strangers posts least end old now before after up rest strange reaches = record {
     shape = reaches.shape;
@@ -221,8 +221,7 @@ module _ (classes : List Class) (from : List ℕ) (place : ℕ) where
           let from_least : least ≤ at = grind (arith, nat_tests, e) in
           let below_end : at < end = grind (arith, nat_tests, within) in
           let same = rest at from_least in
-          same ∙ sym (after_posts_stranger classes from posts (session_at old at)
-          (sym (ap (λ (session : Session). names_session from session.state.desk) same) ∙ strange at from_least below_end placed))
+          sym (strange at from_least below_end placed) ∙ ap (after_posts classes from posts) same
       past at e false within placed =
           let from_least : least ≤ at = grind (arith, nat_tests, e) in
           rest at from_least ∙ sym (after_posts-none classes from (session_at old at))

@@ -2,17 +2,20 @@
 use Rattle.std.proofs.Common.{◌≡◌, ◌≢◌, inl, inr, ℕ, Bool, true, false, true≢false, cond, eqb, IsFalse, IsTrue, List, [], ◌∷◌, ◌++◌, get_or, refl, sym, ap}
 use Rattle.std.proofs.Common.{subst, ◌∙◌, arith}
 use Rattle.std.specs.List.{list_any}
-use Rattle.std.proofs.lemmas.Bool.{cond-true, or_left, or_right}
+use Rattle.std.proofs.lemmas.Bool.{cond-true, or_left, or_parts, or_right}
 use Rattle.std.proofs.lemmas.List.{get_or-set_other}
 use Rattle.std.proofs.lemmas.List.Folds.{list_any-append}
 use Rattle.class_table.specs.declared.class.Class.{Class}
 use Rattle.binding_graph.specs.Graph.{no_graph}
 use Rattle.connection_list.specs.Rows.{no_rows}
-use Rattle.event_queue.specs.Queue.{empty_queue}
+use Rattle.event_queue.specs.Queue.{Queue, empty_queue, with_mismatched}
 use Rattle.object_tree.specs.Forest.{empty_forest}
 use Rattle.shared_rows.proofs.ForCallers as column
 use Rattle.session_model.specs.declared.post.Post.{Post}
-use Rattle.publish_board.specs.Desk.{Desk, names_session, no_desk}
+use Rattle.publish_board.specs.declared.join.Join.{Join}
+use Rattle.publish_board.specs.Desk.{Desk, listens_to, names_session, no_desk}
+use Rattle.publish_board.specs.Rows.{listens}
+use Rattle.session_model.specs.Arriving.{is_matched, joined_call, reached, reached_by, with_call}
 use Rattle.session_model.specs.State.{State}
 use Rattle.session_model.specs.Thread.{arrive_all, arrives, joins_name}
 use Rattle.session_model.proofs.ForCallers.{arrive_all-append, post_stranger}
@@ -207,3 +210,26 @@ after_posts_stranger classes from posts session unnamed = by session.failed refl
         ≡ session
     by true e = refl
     by false e = ap (λ state. record { state = state; failed = false }) (all posts) ∙ ap (λ failed. record { state = session.state; failed = failed }) (sym e)
+
+-- nor does one that does not listen to what is posted
+pub after_post_unheard : (classes : List Class) (from : List ℕ) (post : Post) (session : Session) → listens_to from post.name session.state.desk ≡ false
+    → after_posts classes from (post ∷ []) session ≡ session
+unfolding arrives
+after_post_unheard classes from post session unheard = by session.failed refl
+  where
+    passed : (queue : Queue) (join : Join) → listens from post.name join ≡ false → reached classes session.state.forest.rows from post queue join ≡ queue
+    passed queue join e = ap (λ b. cond b (cond (is_matched post.kinds join)
+        (with_call queue (joined_call classes session.state.forest.rows post.arguments join)) (with_mismatched queue)) queue) e
+
+    all : (joins : List Join) (queue : Queue) → list_any (listens from post.name) joins ≡ false
+        → reached_by classes session.state.forest.rows from post queue joins ≡ queue
+    all [] queue none = refl
+    all (join ∷ joins) queue none =
+        let parts = or_parts (listens from post.name join) (list_any (listens from post.name) joins) none in
+        ap (λ queue. reached_by classes session.state.forest.rows from post queue joins) (passed queue join parts.0) ∙ all joins queue parts.1
+
+    by : (failed : Bool) → session.failed ≡ failed
+        → cond failed session (record { state = arrive_all classes session.state from (post ∷ []); failed = false }) ≡ session
+    by true e = refl
+    by false e = ap (λ queue. record { state = record session.state { queue = queue }; failed = false })
+        (all session.state.desk.joins session.state.queue unheard) ∙ ap (λ failed. record { state = session.state; failed = failed }) (sym e)

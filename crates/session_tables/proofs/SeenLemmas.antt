@@ -7,12 +7,11 @@ use Rattle.property_store.specs.Table.{StoreTable, store_at, with_store}
 use Rattle.binding_values.specs.declared.binding.Binding.{Binding}
 use Rattle.binding_graph.specs.declared.change.Change.{Change}
 use Rattle.property_store.specs.declared.property.Property.{Property}
-use Rattle.binding_graph.specs.Graph.{Graph, all_shown, changes, is_open, no_graph}
+use Rattle.binding_graph.specs.Graph.{Graph, all_shown, changes, is_open, no_graph, settled_graph}
 use Rattle.binding_graph.specs.Table.{Graphs, graph_at, with_graph}
 use Rattle.session_model.specs.State.{closed}
 use Rattle.session_tables.specs.Bound.{BoundShelves, ChangesBound, all_closed, bound_at, seen_of, with_bound}
 use Rattle.session_tables.specs.WriteChanges.{told_at, told_of}
-use Rattle.session_tables.specs.Settled.{kept_of, settled_in}
 use Rattle.session_tables.proofs.InvariantLemmas.{closed_bound, closed_settled, seen_put}
 use Rattle.session_tables.proofs.SettledLemmas.{closed_at, closed_bindings, closed_depth}
 
@@ -53,10 +52,10 @@ module _ (stores new : StoreTable) (bindings after : Graphs) (place : ℕ) where
 
   -- with other bindings, settled
   pub settled_seen : (store : Store) (change : List Binding → List Binding) → new ≡ with_store stores place store
-      → after.graphs ≡ with_graph bindings.graphs place (settled_in store (with_bindings change (graph_at bindings.graphs place)))
+      → after.graphs ≡ with_graph bindings.graphs place (settled_graph store (with_bindings change (graph_at bindings.graphs place)))
       → seen_of new after ≡ with_bound (seen_of stores bindings) place store (with_bindings change (bound_at (seen_of stores bindings) place))
   settled_seen store change first second =
-      put_seen store (settled_in store (with_bindings change (graph_at bindings.graphs place)))
+      put_seen store (settled_graph store (with_bindings change (graph_at bindings.graphs place)))
       (with_bindings change (bound_at (seen_of stores bindings) place)) first second
       (closed_settled store (with_bindings change (graph_at bindings.graphs place))
       ∙ (closed_bound (graph_at bindings.graphs place) change ∙ ap (with_bindings change) (sym (closed_at bindings.graphs place))))
@@ -84,7 +83,7 @@ module _ (stores new : StoreTable) (bindings after : Graphs) (place : ℕ) where
         (column.changes_with no_graph bindings.graphs after.graphs place graph there second)
 
     pub put_told : (store : Store) (change : List Binding → List Binding) (written : Option Property) → new ≡ with_store stores place store
-        → after.graphs ≡ with_graph bindings.graphs place (settled_in store (with_bindings change (graph_at bindings.graphs place)))
+        → after.graphs ≡ with_graph bindings.graphs place (settled_graph store (with_bindings change (graph_at bindings.graphs place)))
         → told_at place (seen_of stores bindings) (seen_of new after) written
         ≡ cond (is_open (graph_at bindings.graphs place)) []
         (changes (all_shown (store_at stores place) (graph_at bindings.graphs place).bindings)
@@ -104,7 +103,7 @@ module _ (stores new : StoreTable) (bindings after : Graphs) (place : ℕ) where
         told = cond (is_open old) [] (changes (all_shown (store_at stores place) old.bindings) (all_shown store (change old.bindings)) written)
 
         by : (deep : Bool) → told_of (store_at stores place) old store
-            (cond deep (with_bindings change old) (record (with_bindings change old) { last = kept_of store (change old.bindings) })) written ≡ told
+            (cond deep (with_bindings change old) (record (with_bindings change old) { last = all_shown store (change old.bindings) })) written ≡ told
         by true = refl
         by false = refl
 

@@ -1,26 +1,16 @@
 -- What stores and bindings have to do with each other.
-use Rattle.std.specs.Prelude.{◌≡◌, ◌==◌, ◌&&◌, ℕ, Bool, List, [], ◌∷◌, length, IsFalse, if◌then◌else◌}
+use Rattle.std.specs.Prelude.{◌≡◌, ◌==◌, ◌&&◌, ℕ, Bool, [], length, IsFalse}
 use Rattle.shared_rows.specs.Table.{ChangesAt, IsPlace}
 use Rattle.property_store.specs.Store.{Store}
 use Rattle.property_store.specs.Table.{StoresView, store_at}
-use Rattle.binding_values.specs.declared.binding.Binding.{Binding}
-use Rattle.binding_graph.specs.declared.shown.Shown.{Shown}
 use Rattle.binding_graph.specs.Graph.{Graph, all_shown, is_open, no_graph}
 use Rattle.binding_graph.specs.Step.{InStep}
 use Rattle.binding_graph.specs.Table.{Graphs, graph_at}
 
--- what is kept of a place where no group is open: what is shown, and nothing where nothing is bound
-abbrev pub kept_of : Store → List Binding → List Shown
-kept_of store [] = []
-kept_of store (first ∷ rest) = all_shown store (first ∷ rest)
-
--- so the graph of a place is determined by what is bound, what is stored and the groups
+-- where something is bound and no group is open, a place keeps what its properties show; where nothing is bound, it
+-- may keep what they showed before
 abbrev pub IsSettled : Store → Graph → Type 0
-IsSettled store graph = IsFalse (is_open graph) → graph.last ≡ kept_of store graph.bindings
-
--- the graph that is so
-abbrev pub settled_in : Store → Graph → Graph
-settled_in store graph = if is_open graph then graph else record graph { last = kept_of store graph.bindings }
+IsSettled store graph = IsFalse (is_open graph) → (length graph.bindings ≡ 0 → ⊥) → graph.last ≡ all_shown store graph.bindings
 
 -- every place is so
 pub record AllSettled (stores : StoresView) (bindings : Graphs) : Type 0 where

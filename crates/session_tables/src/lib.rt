@@ -7,6 +7,7 @@ mod bindings;
 mod bound_stores;
 mod desks;
 mod events;
+mod listing;
 mod named;
 mod posts;
 mod properties;

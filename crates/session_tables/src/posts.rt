@@ -4,7 +4,6 @@ ghost use Rattle.std.specs.List.{list_any};
 ghost use Rattle.shared_rows.specs.Table.{IsPlace};
 ghost use Rattle.event_queue.specs.Table.{queue_at, with_queue};
 ghost use Rattle.object_tree.specs.Table.{forest_at};
-ghost use Rattle.publish_board.specs.Rows.{listens, publishes};
 ghost use Rattle.publish_board.specs.Table.{desk_at};
 ghost use Rattle.session_model.specs.Arriving.{is_matched, kinds_of, posts_by, reached, reached_by, with_call};
 ghost use Rattle.session_tables.specs.Reaching.{FailsBy, Reaches, ReachesBy, after_posts, only_at, post_at, post_in, posts_at, takes};
@@ -15,7 +14,7 @@ use class_table::ClassTable;
 use event_queue::{Event, Priority, QueuedCall, Queues};
 use object_tree::Forests;
 use plain_types::{Callee, Text};
-use publish_board::{Join, Publication};
+use publish_board::Join;
 use session_model::Post;
 use signature_core::{Kind, fits};
 use std::alloc::{AllocError, Global};
@@ -46,6 +45,9 @@ impl Tables {
             self.old self.new failing result }
         ensures own { state_at self.new sending.now.place ≡ state_at self.old sending.now.place }
     {
+        let Some(_) = self.desks.next_joiner(sending.from, 0) else {
+            return failing;
+        };
         let count = self.desks.publications(sending.place).len();
         let mut failing = failing;
         'publications: for index in 0..count {
@@ -64,14 +66,19 @@ impl Tables {
         ensures own { state_at self.new sending.now.place ≡ state_at self.old sending.now.place }
     {
         let row = &self.desks.publications(sending.place)[index];
-        if !is_of(row, sending) {
+        if !row.publishes(sending.object, sending.signal) {
             return failing;
         }
         let count = self.failed.len();
         let mut failing = failing;
         let mut least = 0;
+        let mut near = usize::MAX;
         'joiners: while least < count {
-            let Some(at) = self.desks.next_joiner(sending.from, least) else {
+            let row = &self.desks.publications(sending.place)[index];
+            let Some(at) = self
+                .desks
+                .next_listener(sending.from, &row.name, least, &mut near)
+            else {
                 break;
             };
             failing = self.reach(sending, index, at, failing);
@@ -147,13 +154,6 @@ impl Tables {
     }
 }
 
-/// Whether a publication is of the signal that is sent.
-fn is_of(row: &Publication, sending: &Sending) -> bool
-    ensures { result ≡ publishes sending.now.object sending.now.signal row.now }
-{
-    row.object == sending.object && row.signal == sending.signal
-}
-
 /// A post on its way, and the name of the session that has sent it.
 #[derive(Clone, Copy)]
 struct Posting<'a> {
@@ -201,7 +201,7 @@ fn arrive_by(
     ensures err { OnErr result (queues.new ≡ queues.old) }
     ensures taken { OnErr result (IsTrue (takes posting.now.from.now (post_in posting.now) join.now)) }
 {
-    if !listens(join, posting.from, posting.name) {
+    if !join.listens(posting.from, posting.name) {
         return Ok(());
     }
     if !is_matched(join, posting.kinds) {
@@ -244,13 +244,6 @@ fn enqueue_call(queues: &mut Queues, at: usize, call: QueuedCall) -> Result<(), 
         queues.note_lost(at);
     }
     Ok(())
-}
-
-/// Whether a join names what the session of this name publishes under this one.
-fn listens(join: &Join, from: &Text, name: &Text) -> bool
-    ensures { result ≡ listens from.now name.now join.now }
-{
-    join.from == *from && join.name == *name
 }
 
 /// Whether these are the kinds that a join names.

@@ -1,20 +1,22 @@
 //! These calls read what is stored at a place, shown there and bound.
 ghost use Rattle.std.specs.Prelude.{◌≡◌, IfOk, IfSome, IsFalse};
-ghost use Rattle.std.specs.Option.{option_map_or};
+ghost use Rattle.std.specs.Option.{option_map, option_map_or};
 ghost use Rattle.shared_rows.specs.Table.{IsPlace};
 ghost use Rattle.variant_value.specs.declared.value.Value.TheVariants.{Invalid};
 ghost use Rattle.variant_value.specs.Values.{IsShort};
 ghost use Rattle.property_store.specs.Store.{dynamic_names};
 ghost use Rattle.binding_graph.specs.Graph.{is_bound, value_in};
+ghost use Rattle.binding_values.specs.Scene.{term_at};
 ghost use Rattle.session_model.specs.State.{is_text};
 ghost use Rattle.session_tables.specs.Bound.{bound_at, stored_at};
 ghost use Rattle.session_tables.specs.Reading.{bound_named, named_in};
 
 use crate::bound_stores::BoundStores;
-use binding_values::BindingError;
+use binding_values::{Binding, BindingError};
 use plain_types::{Items, Text};
 use property_store::Property;
 use std::alloc::AllocError;
+use term_core::Expr;
 use variant_value::Value;
 
 impl BoundStores {
@@ -32,6 +34,22 @@ impl BoundStores {
         ensures { result ≡ is_bound (bound_at self.now place).bindings at }
     {
         self.bindings.is_bound(place, at)
+    }
+
+    /// The bindings, by rising object and number.
+    pub fn bindings(&self, place: usize) -> &[Binding]
+        requires { IsPlace self.now.graphs place }
+        ensures { result.now ≡ (bound_at self.now place).bindings }
+    {
+        self.bindings.rows(place)
+    }
+
+    /// The expression that a property is bound to.
+    pub fn expr_at(&self, place: usize, at: Property) -> Option<&Expr>
+        requires { IsPlace self.now.graphs place }
+        ensures { option_map (λ expr. expr.now) result ≡ term_at (bound_at self.now place).bindings at }
+    {
+        self.bindings.expr_at(place, at)
     }
 
     /// Returns the value that a declared property shows, and the error for which it is the default of its kind;
@@ -84,11 +102,7 @@ impl BoundStores {
         }
         let (number, _) = self.stores.declared(place, object, name)?;
         let at = Property { object, number };
-        if self.is_bound(place, at) {
-            Some(at)
-        } else {
-            None
-        }
+        self.is_bound(place, at).then_some(at)
     }
 
     /// Whether a declared property shows this text.

@@ -4,16 +4,16 @@ ghost use Rattle.std.specs.Prelude.{◌≡◌, IfOk, IfSome, IsTrue, Some, None,
 ghost use Rattle.shared_rows.specs.Table.{IsPlace};
 ghost use Rattle.plain_types.specs.Answers.{RefusedBy};
 ghost use Rattle.term_core.specs.Forms.{is_within_limits};
-ghost use Rattle.property_store.specs.Store.{Store, fitting, without, written};
+ghost use Rattle.property_store.specs.Store.{fitting, without, written};
 ghost use Rattle.variant_value.specs.Values.{IsShort};
-ghost use Rattle.property_store.specs.Table.{StoresView, store_at, with_store};
-ghost use Rattle.binding_graph.specs.Graph.{Graph, bind_refusal, bound, end_refusal, ended, no_graph};
+ghost use Rattle.property_store.specs.Table.{store_at, with_store};
+ghost use Rattle.binding_graph.specs.Graph.{bind_refusal, bound, end_refusal, ended, no_graph};
 ghost use Rattle.binding_graph.specs.Graph.{settled_changes, settled_graph, taken, unbound, without_object};
 ghost use Rattle.binding_graph.specs.Step.{InStep};
 ghost use Rattle.binding_values.specs.Stored.{is_bindable};
 ghost use Rattle.binding_graph.specs.Table.{graph_at, with_graph};
 ghost use Rattle.session_tables.specs.WriteChanges.{told_of};
-ghost use Rattle.session_tables.specs.Settled.{ChangesInStep, IsInStepAt, IsSettledAt, LeavesStores, settled_in};
+ghost use Rattle.session_tables.specs.Settled.{ChangesInStep, IsInStepAt, IsSettledAt, LeavesStores};
 
 use binding_graph::{Bindings, Change, law_steps};
 use plain_types::{Fault, Items};
@@ -22,19 +22,7 @@ use std::alloc::AllocError;
 use term_core::Expr;
 use variant_value::Value;
 
-/// Keeps nothing of a place that is settled, where nothing is bound and no group is open.
-fn tidy(bindings: &mut Bindings, place: usize)
-    requires { IsPlace bindings.old.graphs place }
-    ensures tidied { (store : Store) (graph : Graph) → graph_at bindings.old.graphs place ≡ settled_graph store graph
-        → bindings.new.graphs ≡ with_graph bindings.old.graphs place (settled_in store graph) }
-    ensures step { (stores : StoresView) → InStep stores bindings.old → InStep stores bindings.new }
-{
-    if bindings.count(place) == 0 && bindings.depth(place) == 0 {
-        bindings.clear(place);
-    }
-}
-
-/// Settles a place, and keeps nothing where nothing is bound and no group is open.
+/// Settles a place.
 pub(crate) fn settle(
     stores: &mut Stores,
     bindings: &mut Bindings,
@@ -44,17 +32,15 @@ pub(crate) fn settle(
     requires ready { IsInStepAt place stores.old bindings.old }
     ensures told { IfOk result (λ told. told ≡ settled_changes (store_at stores.old.shelves place) (graph_at bindings.old.graphs place) written) }
     ensures ok { OnOk result (bindings.new.graphs
-        ≡ with_graph bindings.old.graphs place (settled_in (store_at stores.old.shelves place) (graph_at bindings.old.graphs place))) }
+        ≡ with_graph bindings.old.graphs place (settled_graph (store_at stores.old.shelves place) (graph_at bindings.old.graphs place))) }
     ensures stores { stores.new.shelves ≡ stores.old.shelves }
     ensures err { OnErr result (bindings.new.graphs ≡ bindings.old.graphs) }
     ensures step { InStep stores.new bindings.new }
 {
-    let told = bindings.settle(place, stores, written)?;
-    tidy(bindings, place);
-    Ok(told)
+    bindings.settle(place, stores, written)
 }
 
-/// Keeps what properties show, where nothing is bound.
+/// Keeps what properties show, where nothing is bound. It looks again at what has changed since that was kept last.
 pub(crate) fn note(
     stores: &mut Stores,
     bindings: &mut Bindings,
@@ -90,7 +76,7 @@ pub(crate) fn bind(
     ensures told { IfOk result (λ told. told ≡ told_of (store_at stores.old.shelves place) (graph_at bindings.old.graphs place)
         (store_at stores.old.shelves place) (bound (graph_at bindings.old.graphs place) at expr) (Some at)) }
     ensures ok { OnOk result (bindings.new.graphs ≡ with_graph bindings.old.graphs place
-        (settled_in (store_at stores.old.shelves place) (bound (graph_at bindings.old.graphs place) at expr))) }
+        (settled_graph (store_at stores.old.shelves place) (bound (graph_at bindings.old.graphs place) at expr))) }
     ensures stays { LeavesStores place stores.old stores.new bindings.old bindings.new }
 {
     note(stores, bindings, place)?;
@@ -109,7 +95,7 @@ pub(crate) fn unbind(
     ensures told { IfOk result (λ told. told ≡ told_of (store_at stores.old.shelves place) (graph_at bindings.old.graphs place)
         (taken (store_at stores.old.shelves place) (graph_at bindings.old.graphs place) at) (unbound (graph_at bindings.old.graphs place) at) (Some at)) }
     ensures ok { OnOk result (bindings.new.graphs ≡ with_graph bindings.old.graphs place
-        (settled_in (taken (store_at stores.old.shelves place) (graph_at bindings.old.graphs place) at) (unbound (graph_at bindings.old.graphs place) at))) }
+        (settled_graph (taken (store_at stores.old.shelves place) (graph_at bindings.old.graphs place) at) (unbound (graph_at bindings.old.graphs place) at))) }
     ensures stores { OnOk result (stores.new.shelves
         ≡ with_store stores.old.shelves place (taken (store_at stores.old.shelves place) (graph_at bindings.old.graphs place) at)) }
     ensures stays { ChangesInStep place stores.old stores.new bindings.old bindings.new }
@@ -134,7 +120,7 @@ pub(crate) fn write(
     ensures told { IfOk result (λ told. told ≡ told_of (store_at stores.old.shelves place) (graph_at bindings.old.graphs place)
         (written (store_at stores.old.shelves place) at.object at.number value) (unbound (graph_at bindings.old.graphs place) at) (Some at)) }
     ensures ok { OnOk result (bindings.new.graphs ≡ with_graph bindings.old.graphs place
-        (settled_in (written (store_at stores.old.shelves place) at.object at.number value) (unbound (graph_at bindings.old.graphs place) at))) }
+        (settled_graph (written (store_at stores.old.shelves place) at.object at.number value) (unbound (graph_at bindings.old.graphs place) at))) }
     ensures stores { OnOk result (stores.new.shelves
         ≡ with_store stores.old.shelves place (written (store_at stores.old.shelves place) at.object at.number value)) }
     ensures stays { ChangesInStep place stores.old stores.new bindings.old bindings.new }
@@ -157,14 +143,12 @@ pub(crate) fn remove(
     ensures told { IfOk result (λ told. told ≡ told_of (store_at stores.old.shelves place) (graph_at bindings.old.graphs place)
         (without object (store_at stores.old.shelves place)) (without_object object (graph_at bindings.old.graphs place)) None) }
     ensures ok { OnOk result (bindings.new.graphs ≡ with_graph bindings.old.graphs place
-        (settled_in (without object (store_at stores.old.shelves place)) (without_object object (graph_at bindings.old.graphs place)))) }
+        (settled_graph (without object (store_at stores.old.shelves place)) (without_object object (graph_at bindings.old.graphs place)))) }
     ensures stores { OnOk result (stores.new.shelves ≡ with_store stores.old.shelves place (without object (store_at stores.old.shelves place))) }
     ensures stays { ChangesInStep place stores.old stores.new bindings.old bindings.new }
 {
     note(stores, bindings, place)?;
-    let told = bindings.remove(place, stores, object)?;
-    tidy(bindings, place);
-    Ok(told)
+    Ok(bindings.remove(place, stores, object)?)
 }
 
 /// Ends the group that was opened last, and tells, where it was the outermost, what has changed since that
@@ -180,7 +164,7 @@ pub(crate) fn end(
     ensures depth { IfOk result (λ left. left.0 ≡ (ended (graph_at bindings.old.graphs place)).depth) }
     ensures told { IfOk result (λ told. told.1 ≡ settled_changes (store_at stores.old.shelves place) (ended (graph_at bindings.old.graphs place)) None) }
     ensures ok { OnOk result (bindings.new.graphs
-        ≡ with_graph bindings.old.graphs place (settled_in (store_at stores.old.shelves place) (ended (graph_at bindings.old.graphs place)))) }
+        ≡ with_graph bindings.old.graphs place (settled_graph (store_at stores.old.shelves place) (ended (graph_at bindings.old.graphs place)))) }
     ensures stays { LeavesStores place stores.old stores.new bindings.old bindings.new }
 {
     let left = bindings.end(place, stores)?;

@@ -134,7 +134,12 @@ impl Tables {
     }
 
     /// Whether an object has this title, where one is wanted.
-    fn has_title(&self, place: usize, object: u32, title: &Option<Text>) -> Result<bool, AllocError>
+    pub(crate) fn has_title(
+        &self,
+        place: usize,
+        object: u32,
+        title: &Option<Text>,
+    ) -> Result<bool, AllocError>
         requires { IsPlaced self.now place }
         ensures { IfOk result (λ has. has ≡ has_title (state_at self.now place) title.now object) }
     {
@@ -145,7 +150,7 @@ impl Tables {
     }
 
     /// Whether an object is of this class or one below it, where one is wanted.
-    fn is_of_class(
+    pub(crate) fn is_of_class(
         &self,
         classes: &ClassTable,
         place: usize,

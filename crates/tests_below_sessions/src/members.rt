@@ -7,7 +7,7 @@ use std::test::Fail;
 /// A text, with what scanning and what reading tokens make of it.
 type Served = (&'static str, &'static str, &'static str);
 
-const TEXTS: [Served; 33] = [
+const TEXTS: [Served; 36] = [
     (r#"{"a":1}"#, "read", "read"),
     (
         r#"{"a":0,"b":"","c":null,"d":true,"e":false}"#,
@@ -21,30 +21,33 @@ const TEXTS: [Served; 33] = [
     (r#"{"a":"\n"}"#, "form", "read"),
     (r#"{"\u0061":1}"#, "form", "read"),
     (r#"{"a":18446744073709551616}"#, "form", "form"),
-    (r#"{"a":01}"#, "form", "form"),
-    (r#"{"a":-1}"#, "form", "form"),
+    (r#"{"a":01}"#, "form", "no JSON"),
+    (r#"{"a":-1,"b":[-20]}"#, "read", "read"),
+    (r#"{"a": -9223372036854775807}"#, "form", "read"),
+    (r#"{"a":-9223372036854775808}"#, "form", "form"),
+    (r#"{"a":-0}"#, "form", "form"),
     (r#"{"a":1.5}"#, "form", "form"),
     (r#"{"a":1e2}"#, "form", "form"),
     (r#"{"a":[],"b":[1,"x",null,true,false]}"#, "read", "read"),
     (r#"{"a":[ 1 , "\u00e9" ]}"#, "form", "read"),
-    (r#"{"a":[1,]}"#, "form", "form"),
-    (r#"{"a":[,1]}"#, "form", "form"),
-    (r#"{"a":[1 2]}"#, "form", "form"),
-    (r#"{"a":[1}"#, "form", "form"),
-    (r#"{"a":[1]]}"#, "form", "form"),
+    (r#"{"a":[1,]}"#, "form", "no JSON"),
+    (r#"{"a":[,1]}"#, "form", "no JSON"),
+    (r#"{"a":[1 2]}"#, "form", "no JSON"),
+    (r#"{"a":[1}"#, "form", "no JSON"),
+    (r#"{"a":[1]]}"#, "form", "no JSON"),
     (r#"{"a":{}}"#, "nested", "nested"),
     (r#"{"a":[[]]}"#, "nested", "nested"),
     (r#"{"a":[{}]}"#, "nested", "nested"),
-    (r#"{"a":1,}"#, "form", "form"),
-    (r#"{,"a":1}"#, "form", "form"),
-    (r#"{"a":1}}"#, "form", "form"),
-    (r#"{"a":1} 1"#, "form", "form"),
-    (r#"{"a":1"#, "form", "form"),
-    (r#"{"a"}"#, "form", "form"),
-    (r#"{"a":tru}"#, "form", "form"),
-    (r#"{"a":truer}"#, "form", "form"),
+    (r#"{"a":1,}"#, "form", "no JSON"),
+    (r#"{,"a":1}"#, "form", "no JSON"),
+    (r#"{"a":1}}"#, "form", "no JSON"),
+    (r#"{"a":1} 1"#, "form", "no JSON"),
+    (r#"{"a":1"#, "form", "no JSON"),
+    (r#"{"a"}"#, "form", "no JSON"),
+    (r#"{"a":tru}"#, "form", "no JSON"),
+    (r#"{"a":truer}"#, "form", "no JSON"),
     (r#"[1]"#, "form", "form"),
-    ("", "form", "form"),
+    ("", "form", "no JSON"),
 ];
 
 fn outcome<T>(read: &Result<T, Stop>) -> &'static str {
@@ -52,6 +55,7 @@ fn outcome<T>(read: &Result<T, Stop>) -> &'static str {
         Ok(_) => "read",
         Err(Stop::Form) => "form",
         Err(Stop::Nested) => "nested",
+        Err(Stop::NotJson) => "no JSON",
         Err(Stop::Memory) => "memory",
     }
 }

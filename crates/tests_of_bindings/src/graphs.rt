@@ -510,7 +510,7 @@ const COMES_AND_GOES: &[Case] = &[
     (0, Count, 2),
     (0, Evaluations, 5),
     (0, Settle(0, 0), 0),
-    // In a group all is, at its end, and nothing is told before.
+    // In a group that happens at its end, and nothing is told before. The group's beginning evaluates what was written.
     (0, Add(9), 0),
     (0, Settle(0, 0), 0),
     (0, Evaluations, 6),
@@ -520,7 +520,7 @@ const COMES_AND_GOES: &[Case] = &[
     (0, ValueOf(1, 0), 40),
     (0, End, 0),
     (0, Settle(0, 0), 1102_2100),
-    (0, Evaluations, 9),
+    (0, Evaluations, 8),
     (1, Evaluations, 1),
 ];
 

@@ -1,6 +1,6 @@
 -- What is found at the keys of a command, one member after another.
 use Rattle.std.proofs.Common.{◌≡◌, ◌≢◌, ℕ, zero, suc, ◌+◌, ◌<◌, drop, ◌≤◌, ◌&&◌, ◌||◌, Bool, true, false, List, [], ◌∷◌, ◌++◌, Option, Some, None, get_or, set}
-use Rattle.std.proofs.Common.{length, map, codes, bytes_eq, option_map, true≢false, take, subst, refl, sym, ap, ◌∙◌, arith, ⊎_elim}
+use Rattle.std.proofs.Common.{length, codes, bytes_eq, option_map, true≢false, take, subst, refl, sym, ap, ◌∙◌, arith, ⊎_elim}
 use Rattle.std.specs.List.{list_all, list_any}
 use Rattle.std.proofs.lemmas.Bool.{and_parts, cases_eq, false_from_ne_true, not-true}
 use Rattle.std.proofs.lemmas.Grind.{common_steps, get_or-set_at}
@@ -12,10 +12,7 @@ use Rattle.serde_json.specs.Find.{get, get_member}
 use Rattle.json_reading.specs.declared.field.Member.{Member}
 use Rattle.json_reading.specs.Members.{data_of, members_in}
 use Rattle.json_reading.proofs.ForCallers.{found_at_last, found_before_last}
-use Rattle.wire_commands.specs.declared.commands.Word.{Word}
-use Rattle.wire_commands.specs.declared.commands.Word.TheVariants as word
 use Rattle.wire_commands.specs.declared.keys.Key.{Key as KeyInCode}
-use Rattle.wire_commands.specs.Commands.{form_of}
 use Rattle.wire_commands.specs.Found.{AreFound, are_distinct, held_as, with_common, words_of}
 use Rattle.wire_commands.specs.Held.{has_only, held_at, is_known}
 use Rattle.wire_commands.proofs.HeldLemmas.{only_known}
@@ -53,36 +50,6 @@ common_by words at w distinct within false is common = differs (with_common word
 common_differs : (words : List (List ℕ)) (at : ℕ) (w : List ℕ) → are_distinct (with_common words) ≡ true → at < length words
     → (bytes_eq w (codes "do") || bytes_eq w (codes "session")) ≡ true → bytes_eq w (get_or words at []) ≡ false
 common_differs words at w distinct within common = common_by words at w distinct within (bytes_eq w (codes "do")) refl common
-
--- the keys of each command are distinct
-pub forms_are_distinct : (w : Word) → are_distinct (with_common (map key_word (form_of w).keys)) ≡ true
-forms_are_distinct word.New = refl
-forms_are_distinct word.Delete = refl
-forms_are_distinct word.SetParent = refl
-forms_are_distinct word.Children = refl
-forms_are_distinct word.Find = refl
-forms_are_distinct word.Set = refl
-forms_are_distinct word.Get = refl
-forms_are_distinct word.DynamicNames = refl
-forms_are_distinct word.Bind = refl
-forms_are_distinct word.Unbind = refl
-forms_are_distinct word.BindingError = refl
-forms_are_distinct word.Begin = refl
-forms_are_distinct word.End = refl
-forms_are_distinct word.Meta = refl
-forms_are_distinct word.Connect = refl
-forms_are_distinct word.ConnectFunctor = refl
-forms_are_distinct word.Disconnect = refl
-forms_are_distinct word.Invoke = refl
-forms_are_distinct word.Spin = refl
-forms_are_distinct word.DeleteLater = refl
-forms_are_distinct word.Block = refl
-forms_are_distinct word.Status = refl
-forms_are_distinct word.Publish = refl
-forms_are_distinct word.Unpublish = refl
-forms_are_distinct word.Join = refl
-forms_are_distinct word.Leave = refl
-forms_are_distinct word.Reset = refl
 
 -- ---- a member more
 

@@ -1,3 +1,6 @@
+pub mod FamilyLemmas
+pub mod FormLemmas
 pub mod FoundLemmas
 pub mod HeldLemmas
 pub mod NamedLemmas
+pub mod PropertyKeys

@@ -1,22 +1,33 @@
 -- A command uses names for what it sets, publishes and joins.
-use Rattle.std.proofs.Common.{ℕ, Bool, true, false, List, [], ◌∷◌, Option, Some, None, IfSome, IsTrue, codes, map, option_map, refl}
+use Rattle.std.proofs.Common.{ℕ, ◌&&◌, Bool, true, false, List, [], ◌∷◌, ◌++◌, Option, Some, None, IfSome, IsTrue, bytes_eq, codes, if◌then◌else◌, is_some, map}
+use Rattle.std.proofs.Common.{option_and_then, option_map, refl}
+use Rattle.std.specs.Option.{option_map_or}
 use Rattle.std.proofs.lemmas.Bool.{cond_both}
 use Rattle.plain_types.specs.Names.{is_name}
 use Rattle.serde_json.specs.Data.{Data}
-use Rattle.serde_json.specs.Find.{get, as_str}
-use Rattle.json_reading.specs.Fields.{◌>>=◌, text_at, when}
+use Rattle.serde_json.specs.Find.{get, as_array, as_bool, as_null, as_str}
+use Rattle.json_reading.specs.Fields.{◌>>=◌, elements_of, text_at, when}
 use Rattle.session_model.specs.Asked.{Asked}
 use Rattle.session_model.specs.Named.{IsNamedAsked}
-use Rattle.wire_commands.specs.declared.commands.Word.{Word}
-use Rattle.wire_commands.specs.declared.commands.Word.TheVariants as w
+use Rattle.plain_types.specs.Modes.{mode_named}
+use Rattle.plain_types.specs.declared.connection_type.ConnectionType.{ConnectionType}
+use Rattle.plain_types.specs.declared.connection_type.ConnectionType.TheVariants.{Auto, Direct, Queued}
+use Rattle.event_queue.specs.declared.event.Priority.{Priority}
 use Rattle.wire_commands.specs.declared.keys.Holds.{Holds}
 use Rattle.wire_commands.specs.declared.keys.Holds.TheVariants as h
-use Rattle.wire_commands.specs.Commands.{asked_of, form_of, word_named}
-use Rattle.wire_commands.specs.Held.{Held, absent, number, text, all_held, has_only, held_at, held_by, json_of, list_of, mode_of, number_of, priority_for}
-use Rattle.wire_commands.specs.Held.{reads, text_of}
+use Rattle.wire_commands.specs.Bindings as bindings
+use Rattle.wire_commands.specs.Classes as classes
+use Rattle.wire_commands.specs.Commands.{asked_of, all_forms}
+use Rattle.wire_commands.specs.Events as events
+use Rattle.wire_commands.specs.Form.{Form, asked_by, asked_in, form_named}
+use Rattle.wire_commands.specs.Held.{Held, absent, any, list, mode, none, number, priority, text, truth, all_held, has_only, held_at, held_by, number_in}
+use Rattle.wire_commands.specs.Held.{has_property_keys, object_property, priority_in, reads}
 use Rattle.wire_commands.specs.Keys.{Key, key_word, needed, optional}
+use Rattle.wire_commands.specs.Properties as properties
+use Rattle.wire_commands.specs.Sharing as sharing
 use Rattle.wire_commands.specs.Sharing.{texts_of}
-use Rattle.wire_commands.specs.Signals.{disconnect_of}
+use Rattle.wire_commands.specs.Signals as signals
+use Rattle.wire_commands.specs.Trees as trees
 
 abbrev IsNamed : Option Asked → Type 0
 IsNamed asked = IfSome asked IsNamedAsked
@@ -30,117 +41,155 @@ found P (Some x) next each = each x
 asks : {A : Type 0} (o : Option A) (next : A → Option Asked) → ((x : A) → IsNamed (next x)) → IsNamed (o >>= next)
 asks = found IsNamedAsked
 
-mapped : {A : Type 0} (made : A → Asked) (o : Option A) → ((x : A) → IsNamedAsked (made x)) → IsNamed (option_map made o)
-mapped made None each = tt
-mapped made (Some x) each = each x
+mapped_to : {A B : Type 0} (P : B → Type 0) (made : A → B) (o : Option A) → ((x : A) → P (made x)) → IfSome (option_map made o) P
+mapped_to P made None each = tt
+mapped_to P made (Some x) each = each x
 
--- a text that is read as a name is one
-abbrev HoldsName : Holds → Held → Type 0
-HoldsName h.Name (text name) = IsTrue (is_name name)
-HoldsName holds held = Unit {0}
+-- this holds of whatever is read as a key holds it
+abbrev OfEach : Holds → (Held → Type 0) → Type 0
+OfEach h.Name P = (name : List ℕ) → IsTrue (is_name name) → P (text name)
+OfEach h.Text P = (t : List ℕ) → P (text t)
+OfEach h.Number P = (n : ℕ) → P (number n)
+OfEach h.NumberOrNull P = P none × ((n : ℕ) → P (number n))
+OfEach h.Truth P = (t : Bool) → P (truth t)
+OfEach h.Mode P = P (mode Auto) × P (mode Direct) × P (mode Queued)
+OfEach h.Priority P = (p : Priority) → P (priority p)
+OfEach h.List P = (elements : List Data) → P (list elements)
+OfEach h.Property P = (n : ℕ) (name : List ℕ) → P (object_property n name)
+OfEach h.Any P = (json : Data) → P (any json)
 
-anything : (o : Option Held) → IfSome o (λ held. Unit {0})
-anything None = tt
-anything (Some held) = tt
-
-reads_keep : (holds : Holds) (json : Data) → IfSome (reads holds json) (HoldsName holds)
-reads_keep h.Name json = found (HoldsName h.Name) (as_str json) (λ name. when (is_name name) (text name)) (λ name. by name (is_name name) (λ is. is))
-  where
-    by : (name : List ℕ) (is : Bool) → (IsTrue is → IsTrue (is_name name)) → IfSome (when is (text name)) (HoldsName h.Name)
-    by name true named = named refl
-    by name false named = tt
-reads_keep h.Text json = anything (reads h.Text json)
-reads_keep h.Number json = anything (reads h.Number json)
-reads_keep h.NumberOrNull json = anything (reads h.NumberOrNull json)
-reads_keep h.Truth json = anything (reads h.Truth json)
-reads_keep h.Mode json = anything (reads h.Mode json)
-reads_keep h.Priority json = anything (reads h.Priority json)
-reads_keep h.List json = anything (reads h.List json)
-reads_keep h.Any json = anything (reads h.Any json)
-
--- so it is at a key that must be there
-abbrev IsAt : Key → Held → Type 0
-IsAt (needed word holds) held = HoldsName holds held
-IsAt (optional word holds) held = Unit {0}
-
-at_key : (json : Data) (key : Key) → IfSome (held_at json key) (IsAt key)
-at_key json (needed word holds) = found (HoldsName holds) (get word json) (reads holds) (reads_keep holds)
-at_key json (optional word holds) = anything (held_at json (optional word holds))
+-- and of whatever is held at a key
+abbrev AtKey : Key → (Held → Type 0) → Type 0
+AtKey (needed word holds) P = OfEach holds P
+AtKey (optional word holds) P = P absent × OfEach holds P
 
 -- what is asked with what is held at these keys uses names for what it sets, publishes and joins
 abbrev AsksNamed : List Key → (List Held → Option Asked) → Type 0
 AsksNamed [] asks = IsNamed (asks [])
-AsksNamed (key ∷ keys) asks = (first : Held) → IsAt key first → AsksNamed keys (λ rest. asks (first ∷ rest))
+AsksNamed (key ∷ keys) asks = AtKey key (λ first. AsksNamed keys (λ rest. asks (first ∷ rest)))
+
+-- so does what is asked in each of these forms
+abbrev AskNamed : List Form → Type 0
+AskNamed [] = Unit {0}
+AskNamed (form ∷ forms) = AsksNamed form.keys form.asks × AskNamed forms
+
+trees_named : AskNamed trees.forms
+unfolding trees.forms
+trees_named = search
+
+properties_named : AskNamed properties.forms
+unfolding properties.forms
+properties_named = search
+
+bindings_named : AskNamed bindings.forms
+unfolding bindings.forms
+bindings_named = search
+
+classes_named : AskNamed classes.forms
+unfolding classes.forms
+classes_named = search
+
+signals_named : AskNamed signals.forms
+unfolding signals.forms
+signals_named = search
+
+events_named : AskNamed events.forms
+unfolding events.forms
+events_named = search
+
+-- the texts of an array are there, or nothing is asked
+joins_named : AsksNamed sharing.join.keys sharing.join.asks
+joins_named = λ from session name named elements target method. asks (texts_of elements) _ (λ kinds. (session, named))
+
+sharing_named : AskNamed sharing.forms
+unfolding sharing.forms
+sharing_named = search (joins_named)
+
+-- a key that is read holds one of these
+read_at : (holds : Holds) (P : Held → Type 0) → OfEach holds P → (json : Data) → IfSome (reads holds json) P
+read_at h.Name P each json = found P (as_str json) (λ name. when (is_name name) (text name)) (λ name. by name (is_name name) (λ is. is))
+  where
+    by : (name : List ℕ) (is : Bool) → (IsTrue is → IsTrue (is_name name)) → IfSome (when is (text name)) P
+    by name true named = each name (named refl)
+    by name false named = tt
+read_at h.Text P each json = mapped_to P text (as_str json) each
+read_at h.Number P each json = mapped_to P number (number_in json) each
+read_at h.NumberOrNull P each json =
+    cond_both (is_some (as_null json)) (Some none) (option_map number (number_in json)) (λ held. IfSome held P)
+    (λ is. each.0) (λ other. mapped_to P number (number_in json) each.1)
+read_at h.Truth P each json = mapped_to P truth (as_bool json) each
+read_at h.Mode P each json = mapped_to P mode (option_and_then mode_named (as_str json)) by
+  where
+    by : (m : ConnectionType) → P (mode m)
+    by Auto = each.0
+    by Direct = each.1
+    by Queued = each.2
+read_at h.Priority P each json = mapped_to P priority (priority_in json) each
+read_at h.List P each json = by (is_some (as_array json))
+  where
+    by : (is : Bool) → IfSome (when is (list (elements_of json))) P
+    by true = each (elements_of json)
+    by false = tt
+read_at h.Property P each json =
+    found P (get (codes "object") json) _ (λ target. found P (get (codes "property") json) _ (λ named. found P (number_in target) _ (λ n.
+    found P (as_str named) _ (λ name. by n name (is_name name && has_property_keys json)))))
+  where
+    by : (n : ℕ) (name : List ℕ) (is : Bool) → IfSome (when is (object_property n name)) P
+    by n name true = each n name
+    by n name false = tt
+read_at h.Any P each json = each json
+
+held_there : (key : Key) (P : Held → Type 0) → AtKey key P → (json : Data) → IfSome (held_at json key) P
+held_there (needed word holds) P each json = found P (get word json) (reads holds) (read_at holds P each)
+held_there (optional word holds) P each json = by (get word json)
+  where
+    by : (value : Option Data) → IfSome (option_map_or (reads holds) value (Some absent)) P
+    by None = each.0
+    by (Some value) = read_at holds P each.1 value
 
 all_named : (json : Data) (keys : List Key) (asks : List Held → Option Asked) → AsksNamed keys asks → IsNamed (all_held json keys >>= asks)
 all_named json [] asks each = each
-all_named json (key ∷ keys) asks each = by (held_at json key) (at_key json key) (λ first is. all_named json keys (λ rest. asks (first ∷ rest)) (each first is))
+all_named json (key ∷ keys) asks each = by (held_at json key) (held_there key _ each json) (λ first. all_named json keys (λ rest. asks (first ∷ rest)))
   where
     behind : (first : Held) (rest : Option (List Held)) → IsNamed (rest >>= λ rest. asks (first ∷ rest))
         → IsNamed ((rest >>= λ rest. Some (first ∷ rest)) >>= asks)
     behind first None named = tt
     behind first (Some rest) named = named
 
-    by : (first : Option Held) → IfSome first (IsAt key) → ((first : Held) → IsAt key first → IsNamed (all_held json keys >>= λ rest. asks (first ∷ rest)))
+    by : (first : Option Held) → IfSome first (λ first. AsksNamed keys (λ rest. asks (first ∷ rest)))
+        → ((first : Held) → AsksNamed keys (λ rest. asks (first ∷ rest)) → IsNamed (all_held json keys >>= λ rest. asks (first ∷ rest)))
         → IsNamed ((first >>= λ first. all_held json keys >>= λ rest. Some (first ∷ rest)) >>= asks)
-    by None is later = tt
-    by (Some first) is later = behind first (all_held json keys) (later first is)
+    by None each later = tt
+    by (Some first) each later = behind first (all_held json keys) (later first each)
 
--- what is asked with a text that was read as a name
-names : (held : Held) → HoldsName h.Name held → (next : List ℕ → Option Asked) → ((name : List ℕ) → IsTrue (is_name name) → IsNamed (next name))
-    → IsNamed (text_of held >>= next)
-names (text name) is next each = each name is
-names _ is next each = tt
+-- what is asked in such a form
+form_asks : (json : Data) (form : Form) → AsksNamed form.keys form.asks → IsNamed (asked_in form json)
+unfolding asked_in held_by
+form_asks json form each =
+    cond_both (has_only (map key_word form.keys) json) (all_held json form.keys) None (λ held. IsNamed (held >>= form.asks))
+    (λ only. all_named json form.keys form.asks each) (λ more. tt)
 
-disconnects : (connection sender signal receiver method : Held) → IsNamed (disconnect_of (connection ∷ sender ∷ signal ∷ receiver ∷ method ∷ []))
-disconnects (number connection) absent absent absent absent = tt
-disconnects absent (number sender) signal absent absent = tt
-disconnects absent (number sender) signal (number receiver) method = tt
-disconnects _ _ _ _ _ = tt
+-- or by a word in such forms
+word_asks : (json : Data) (word : List ℕ) (forms : List Form) → AskNamed forms → IsNamed (asked_by forms word json >>= λ asked. asked)
+unfolding asked_by
+word_asks json word [] each = tt
+word_asks json word (form ∷ forms) each = by (bytes_eq word form.word) (form_asks json form each.0) (word_asks json word forms each.1)
+  where
+    by : (same : Bool) → IsNamed (asked_in form json) → IsNamed (option_map (λ form. asked_in form json) (form_named forms word) >>= λ asked. asked)
+        → IsNamed (option_map (λ form. asked_in form json) (if same then Some form else form_named forms word) >>= λ asked. asked)
+    by true here later = here
+    by false here later = later
 
--- so it is with every command
-form_named : (word : Word) → AsksNamed (form_of word).keys (form_of word).asks
-form_named w.New = λ class a parent b. mapped _ (text_of class) (λ name. tt)
-form_named w.Delete = λ target a. mapped _ (number_of target) (λ number. tt)
-form_named w.SetParent = λ target a parent b. mapped _ (number_of target) (λ number. tt)
-form_named w.Children = λ target a. tt
-form_named w.Find = λ target a name b class c. mapped _ (number_of target) (λ number. tt)
-form_named w.Set = λ target a property is value c. asks (number_of target) _ (λ of. names property is _ (λ name named. asks (json_of value) _ (λ json. named)))
-form_named w.Get = λ target a property b. asks (number_of target) _ (λ number. asks (text_of property) _ (λ name. tt))
-form_named w.DynamicNames = λ target a. mapped _ (number_of target) (λ number. tt)
-form_named w.Bind = λ target a property b to c. asks (number_of target) _ (λ number. asks (text_of property) _ (λ name. asks (json_of to) _ (λ json. tt)))
-form_named w.Unbind = λ target a property b. asks (number_of target) _ (λ number. asks (text_of property) _ (λ name. tt))
-form_named w.BindingError = λ target a property b. asks (number_of target) _ (λ number. asks (text_of property) _ (λ name. tt))
-form_named w.Begin = tt
-form_named w.End = tt
-form_named w.Meta = λ class a. mapped _ (text_of class) (λ name. tt)
-form_named w.Connect = λ sender a signal b receiver c method d calls e unique f single g.
-    asks (number_of sender) _ (λ from. asks (text_of signal) _ (λ sent. asks (number_of receiver) _ (λ to. asks (text_of method) _ (λ called. tt))))
-form_named w.ConnectFunctor = λ sender a signal b context c functor d calls e unique f single g.
-    asks (number_of sender) _ (λ from. asks (text_of signal) _ (λ sent. asks (number_of context) _ (λ to. asks (text_of functor) _ (λ called. tt))))
-form_named w.Disconnect = λ connection a sender b signal c receiver d method e. disconnects connection sender signal receiver method
-form_named w.Invoke = λ target a method b args c calls d soon e.
-    asks (number_of target) _ (λ to. asks (priority_for (mode_of calls) soon) _
-    (λ priority. asks (text_of method) _ (λ called. asks (list_of args) _ (λ given. tt))))
-form_named w.Spin = tt
-form_named w.DeleteLater = λ target a. mapped _ (number_of target) (λ number. tt)
-form_named w.Block = λ target a on b. mapped _ (number_of target) (λ number. tt)
-form_named w.Status = tt
-form_named w.Publish = λ target a signal b name is. asks (number_of target) _ (λ of. asks (text_of signal) _ (λ sent. names name is _ (λ called named. named)))
-form_named w.Unpublish = λ name a. mapped _ (text_of name) (λ name. tt)
-form_named w.Join = λ from own name other types c target d method e.
-    names from own _ (λ whose session. names name other _
-    (λ published named. asks (list_of types) _
-    (λ elements. asks (texts_of elements) _ (λ kinds. asks (number_of target) _ (λ of. asks (text_of method) _ (λ called. (session, named)))))))
-form_named w.Leave = λ from a name b target c method d.
-    asks (text_of from) _ (λ whose. asks (text_of name) _ (λ named. asks (number_of target) _ (λ of. asks (text_of method) _ (λ called. tt))))
-form_named w.Reset = tt
+both_named : (forms others : List Form) → AskNamed forms → AskNamed others → AskNamed (forms ++ others)
+both_named [] others each rest = rest
+both_named (form ∷ forms) others each rest = (each.0, both_named forms others each.1 rest)
+
+all_forms_named : AskNamed all_forms
+all_forms_named =
+    both_named _ sharing.forms (both_named _ events.forms (both_named _ signals.forms (both_named _ classes.forms
+    (both_named _ bindings.forms (both_named trees.forms properties.forms trees_named properties_named) bindings_named)
+    classes_named) signals_named) events_named) sharing_named
 
 pub asked_named : (json : Data) → IfSome (asked_of json) IsNamedAsked
 unfolding asked_of
-asked_named json = asks (text_at (codes "do") json) _ (λ name. asks (word_named name) _ (λ word. by word))
-  where
-    by : (word : Word) → IsNamed (held_by json (form_of word).keys >>= (form_of word).asks)
-    by word =
-        cond_both (has_only (map key_word (form_of word).keys) json) (all_held json (form_of word).keys) None (λ held. IsNamed (held >>= (form_of word).asks))
-        (λ only. all_named json (form_of word).keys (form_of word).asks (form_named word)) (λ more. tt)
+asked_named json = asks (text_at (codes "do") json) _ (λ word. word_asks json word all_forms all_forms_named)

@@ -2,11 +2,11 @@
 use Rattle.std.specs.Prelude.{List, [], ◌∷◌, Option, Some, None, codes}
 use Rattle.json_reading.specs.Fields.{◌>>=◌}
 use Rattle.session_model.specs.Asked.{Ask, Asked, Begin, Bind, End, Unbind}
-use Rattle.session_model.specs.declared.query.Query.TheVariants.{BindingError}
-use Rattle.wire_commands.specs.declared.keys.Holds.TheVariants.{Name, Number, Any}
+use Rattle.session_model.specs.declared.query.Query.TheVariants.{Binding, BindingError, Bindings}
+use Rattle.wire_commands.specs.declared.keys.Holds.TheVariants.{Name, Number, Property, Any}
 use Rattle.wire_commands.specs.Form.{Form}
-use Rattle.wire_commands.specs.Held.{Held, json_of, number_of, text_of}
-use Rattle.wire_commands.specs.Keys.{needed}
+use Rattle.wire_commands.specs.Held.{Held, json_of, number_of, property_of, text_of}
+use Rattle.wire_commands.specs.Keys.{needed, optional}
 
 -- `bind` binds a property to an expression, which may be any JSON
 abbrev pub bind_of : List Held → Option Asked
@@ -42,6 +42,25 @@ binding_error_of held = None
 abbrev pub binding_error : Form
 binding_error = record { word = codes "bindingError"; keys = needed (codes "object") Number ∷ needed (codes "property") Name ∷ []; asks = binding_error_of }
 
+-- `binding` tells the expression that a property is bound to
+abbrev pub binding_of : List Held → Option Asked
+binding_of (target ∷ property ∷ []) = do
+  number ← number_of target
+  name ← text_of property
+  Some (Ask (Binding number name))
+binding_of held = None
+
+abbrev pub binding : Form
+binding = record { word = codes "binding"; keys = needed (codes "object") Number ∷ needed (codes "property") Name ∷ []; asks = binding_of }
+
+-- `bindings` tells which properties are bound
+abbrev pub bindings_of : List Held → Option Asked
+bindings_of (after ∷ []) = Some (Ask (Bindings (property_of after)))
+bindings_of held = None
+
+abbrev pub bindings : Form
+bindings = record { word = codes "bindings"; keys = optional (codes "after") Property ∷ []; asks = bindings_of }
+
 -- `begin` begins a group
 abbrev pub begin_of : List Held → Option Asked
 begin_of [] = Some Begin
@@ -57,3 +76,7 @@ end_of held = None
 
 abbrev pub end : Form
 end = record { word = codes "end"; keys = []; asks = end_of }
+
+-- the forms of these commands
+unfoldable pub forms : List Form
+forms = bind ∷ unbind ∷ binding_error ∷ binding ∷ bindings ∷ begin ∷ end ∷ []

@@ -39,3 +39,7 @@ status_of held = None
 
 abbrev pub status : Form
 status = record { word = codes "status"; keys = []; asks = status_of }
+
+-- the forms of these commands
+unfoldable pub forms : List Form
+forms = spin ∷ delete_later ∷ block ∷ status ∷ []

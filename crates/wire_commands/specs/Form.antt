@@ -1,7 +1,14 @@
 -- The form of a command.
-use Rattle.std.specs.Prelude.{ℕ, List, Option}
-use Rattle.session_model.specs.Asked.{Asked}
-use Rattle.wire_commands.specs.Held.{Held}
+use Rattle.std.specs.Prelude.{◌≡◌, ℕ, List, Option, Some, None, Result, IfOk, bytes_eq, option_map}
+use Rattle.std.specs.declared.alloc.AllocError.{AllocError}
+use Rattle.std.specs.List.{find}
+use Rattle.serde_json.specs.Data.{Data, object}
+use Rattle.json_reading.specs.Fields.{◌>>=◌}
+use Rattle.json_reading.specs.declared.field.Member.{Member}
+use Rattle.json_reading.specs.Members.{members_in}
+use Rattle.session_model.specs.Asked.{Asked, asked}
+use Rattle.session_model.specs.declared.command.Command.{Command}
+use Rattle.wire_commands.specs.Held.{Held, held_by}
 use Rattle.wire_commands.specs.Keys.{Key}
 
 -- what a command is called, its keys beside those that every command has, and what it asks with what is held at them
@@ -9,3 +16,29 @@ pub record Form : Type 0 where
   pub word : List ℕ
   pub keys : List Key
   pub asks : List Held → Option Asked
+
+-- what JSON asks in a form
+unfoldable pub asked_in : Form → Data → Option Asked
+asked_in form json = held_by json form.keys >>= form.asks
+
+-- in each form of these keys JSON asks what the form asks with this, if anything
+abbrev pub AreHeld : List Key → Data → Option (List Held) → Type 0
+AreHeld keys json held = (form : Form) → form.keys ≡ keys → asked_in form json ≡ (held >>= form.asks)
+
+-- the form of a word
+abbrev pub form_named : List Form → List ℕ → Option Form
+form_named forms word = find (λ form. bytes_eq word form.word) forms
+
+-- what JSON asks by a word in one of these forms; nothing, where the word is none of theirs
+unfoldable pub asked_by : List Form → List ℕ → Data → Option (Option Asked)
+asked_by forms word json = option_map (λ form. asked_in form json) (form_named forms word)
+
+-- a command asks what the members ask in a form
+abbrev pub Asks : Form → List Member → Option Command → Type 0
+Asks form members command = option_map asked command ≡ asked_in form (object (members_in members))
+
+-- what is read by a word: nothing where it is none of these forms, and else what the members ask in its form, unless
+-- memory runs out
+abbrev pub AsksBy : List Form → List ℕ → List Member → Option (Result (Option Command) AllocError) → Type 0
+AsksBy forms word members None = asked_by forms word (object (members_in members)) ≡ None
+AsksBy forms word members (Some read) = IfOk read (λ command. asked_by forms word (object (members_in members)) ≡ Some (option_map asked command))

@@ -1,4 +1,4 @@
--- What is found at keys, in front of how they hold it. Only private clauses cite it.
+-- What is found at keys, in front of how they hold it. But for `are_distinct`, only private clauses cite it.
 use Rattle.std.specs.Prelude.{◌≡◌, ◌&&◌, ◌<◌, ℕ, Bool, true, not, List, [], ◌∷◌, bytes_eq, codes, get_or}
 use Rattle.std.specs.Prelude.{length, map, Option, Some, None, option_and_then, option_map}
 use Rattle.std.specs.List.{list_any}

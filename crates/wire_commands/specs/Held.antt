@@ -11,6 +11,7 @@ use Rattle.plain_types.specs.declared.connection_type.ConnectionType.TheVariants
 use Rattle.event_queue.specs.declared.event.Priority.{Priority}
 use Rattle.event_queue.specs.declared.event.Priority.TheVariants.{Low, Normal, High}
 use Rattle.plain_types.specs.Modes.{mode_named}
+use Rattle.session_model.specs.declared.named_property.NamedProperty.{NamedProperty}
 use Rattle.json_reading.specs.Fields.{◌>>=◌, when, all_keys, elements_of}
 use Rattle.json_reading.specs.Members.{data_of}
 use Rattle.wire_commands.specs.declared.held.Held.{Held as HeldInCode}
@@ -29,6 +30,7 @@ pub data Held : Type 0 where
   mode : ConnectionType → Held
   priority : Priority → Held
   list : List Data → Held
+  object_property : ℕ → List ℕ → Held
   any : Data → Held
 
 abbrev pub held_seen : HeldInCode → Held
@@ -40,6 +42,7 @@ held_seen (code.Truth t) = truth t
 held_seen (code.Mode m) = mode m
 held_seen (code.Priority p) = priority p
 held_seen (code.List field) = list (elements_of (data_of field.now))
+held_seen (code.Property n name) = object_property n name.now
 held_seen (code.Any field) = any (data_of field.now)
 
 -- the number that is held, if one is
@@ -73,6 +76,11 @@ abbrev pub list_of : Held → Option (List Data)
 list_of (list elements) = Some elements
 list_of held = None
 
+-- the property that is held, if one is
+abbrev pub property_of : Held → Option NamedProperty
+property_of (object_property n name) = Some (record { object = n; property = name })
+property_of held = None
+
 -- the JSON that is held, if any is
 abbrev pub json_of : Held → Option Data
 json_of (any json) = Some json
@@ -100,6 +108,22 @@ priority_numbered other = None
 abbrev pub priority_in : Data → Option Priority
 priority_in json = option_and_then priority_numbered (signed_in json)
 
+-- is JSON an object with no keys but these two
+abbrev pub is_property_key : List ℕ → Bool
+is_property_key key = bytes_eq key (codes "object") || bytes_eq key (codes "property")
+
+abbrev pub has_property_keys : Data → Bool
+has_property_keys json = option_map_or (all_keys is_property_key) (as_object json) false
+
+-- the property that a value names, by an object with the number of its object and its name
+abbrev pub property_in : Data → Option Held
+property_in json = do
+  target ← get (codes "object") json
+  named ← get (codes "property") json
+  n ← number_in target
+  name ← as_str named
+  when (is_name name && has_property_keys json) (object_property n name)
+
 -- a value, as a key holds it
 abbrev pub reads : Holds → Data → Option Held
 reads h.Name json = do
@@ -112,6 +136,7 @@ reads h.Truth json = option_map truth (as_bool json)
 reads h.Mode json = option_map mode (option_and_then mode_named (as_str json))
 reads h.Priority json = option_map priority (priority_in json)
 reads h.List json = when (is_some (as_array json)) (list (elements_of json))
+reads h.Property json = property_in json
 reads h.Any json = Some (any json)
 
 -- what JSON holds at a key
@@ -136,5 +161,5 @@ unfoldable pub has_only : List (List ℕ) → Data → Bool
 has_only keys json = option_map_or (all_keys (is_known keys)) (as_object json) false
 
 -- what JSON holds at these keys, where it has no others
-abbrev pub held_by : Data → List Key → Option (List Held)
+unfoldable pub held_by : Data → List Key → Option (List Held)
 held_by json keys = if has_only (map key_word keys) json then all_held json keys else None

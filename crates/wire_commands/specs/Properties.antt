@@ -2,7 +2,7 @@
 use Rattle.std.specs.Prelude.{List, [], ◌∷◌, Option, Some, None, codes, option_map}
 use Rattle.json_reading.specs.Fields.{◌>>=◌}
 use Rattle.session_model.specs.Asked.{Asked, Ask, Set}
-use Rattle.session_model.specs.declared.query.Query.TheVariants.{Get, DynamicNames}
+use Rattle.session_model.specs.declared.query.Query.TheVariants.{Get, DynamicNames, Properties}
 use Rattle.wire_commands.specs.declared.keys.Holds.TheVariants.{Name, Number, Any}
 use Rattle.wire_commands.specs.Form.{Form}
 use Rattle.wire_commands.specs.Held.{Held, json_of, number_of, text_of}
@@ -38,3 +38,15 @@ dynamic_names_of held = None
 
 abbrev pub dynamic_names : Form
 dynamic_names = record { word = codes "dynamicNames"; keys = needed (codes "object") Number ∷ []; asks = dynamic_names_of }
+
+-- `properties` lists the properties of an object
+abbrev pub properties_of : List Held → Option Asked
+properties_of (target ∷ []) = option_map (λ number. Ask (Properties number)) (number_of target)
+properties_of held = None
+
+abbrev pub properties : Form
+properties = record { word = codes "properties"; keys = needed (codes "object") Number ∷ []; asks = properties_of }
+
+-- the forms of these commands
+unfoldable pub forms : List Form
+forms = set ∷ get ∷ dynamic_names ∷ properties ∷ []

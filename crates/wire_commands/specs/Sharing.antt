@@ -1,9 +1,10 @@
 -- The commands of publications and joins, and the one that begins anew.
-use Rattle.std.specs.Prelude.{ℕ, List, [], ◌∷◌, Option, Some, None, codes, option_map}
+use Rattle.std.specs.Prelude.{ℕ, List, [], ◌∷◌, Option, Some, None, codes, option_and_then, option_map}
 use Rattle.serde_json.specs.Data.{Data}
 use Rattle.serde_json.specs.Find.{as_str}
 use Rattle.json_reading.specs.Fields.{◌>>=◌}
-use Rattle.session_model.specs.Asked.{Asked, Join, Leave, Publish, Reset, Unpublish}
+use Rattle.session_model.specs.Asked.{Asked, Ask, Join, Leave, Publish, Reset, Unpublish}
+use Rattle.session_model.specs.declared.query.Query.TheVariants.{Joins, Publications}
 use Rattle.wire_commands.specs.declared.keys.Holds.TheVariants.{Name, Number, Text, List as AList}
 use Rattle.wire_commands.specs.Form.{Form}
 use Rattle.wire_commands.specs.Held.{Held, number_of, text_of, list_of}
@@ -44,11 +45,10 @@ texts_of (json ∷ rest) = do
 -- `join` lets what a session publishes under a name call a method of an object
 abbrev pub join_of : List Held → Option Asked
 join_of (from ∷ name ∷ types ∷ target ∷ method ∷ []) = do
+  of ← number_of target
   whose ← text_of from
   named ← text_of name
-  elements ← list_of types
-  kinds ← texts_of elements
-  of ← number_of target
+  kinds ← option_and_then texts_of (list_of types)
   called ← text_of method
   Some (Join whose named kinds of called)
 join_of held = None
@@ -64,9 +64,9 @@ join = record {
 -- `leave` takes the joins out that were made with these four
 abbrev pub leave_of : List Held → Option Asked
 leave_of (from ∷ name ∷ target ∷ method ∷ []) = do
+  of ← number_of target
   whose ← text_of from
   named ← text_of name
-  of ← number_of target
   called ← text_of method
   Some (Leave whose named of called)
 leave_of held = None
@@ -85,3 +85,23 @@ reset_of held = None
 
 abbrev pub reset : Form
 reset = record { word = codes "reset"; keys = []; asks = reset_of }
+
+-- `publications` lists what the session publishes
+abbrev pub publications_of : List Held → Option Asked
+publications_of [] = Some (Ask Publications)
+publications_of held = None
+
+abbrev pub publications : Form
+publications = record { word = codes "publications"; keys = []; asks = publications_of }
+
+-- `joins` lists what the session joins
+abbrev pub joins_of : List Held → Option Asked
+joins_of [] = Some (Ask Joins)
+joins_of held = None
+
+abbrev pub joins : Form
+joins = record { word = codes "joins"; keys = []; asks = joins_of }
+
+-- the forms of these commands
+unfoldable pub forms : List Form
+forms = publish ∷ unpublish ∷ join ∷ leave ∷ reset ∷ publications ∷ joins ∷ []

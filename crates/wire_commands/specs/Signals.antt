@@ -1,7 +1,8 @@
 -- The commands of signals and slots.
 use Rattle.std.specs.Prelude.{List, [], ◌∷◌, Option, Some, None, codes}
 use Rattle.json_reading.specs.Fields.{◌>>=◌}
-use Rattle.session_model.specs.Asked.{Asked, Connect, ConnectFunctor, DisconnectOne, Disconnect, Invoke}
+use Rattle.session_model.specs.Asked.{Asked, Ask, Connect, ConnectFunctor, DisconnectOne, Disconnect, Invoke}
+use Rattle.session_model.specs.declared.query.Query.TheVariants.{Connections}
 use Rattle.wire_commands.specs.declared.keys.Holds.TheVariants.{Name, Number, Text, Truth, Mode, Priority, List as AList}
 use Rattle.wire_commands.specs.Form.{Form}
 use Rattle.wire_commands.specs.Held.{Held, absent, number, number_of, text_of, truth_of, mode_of, priority_for, list_of}
@@ -75,3 +76,15 @@ invoke = record {
       needed (codes "args") AList ∷ optional (codes "type") Mode ∷ optional (codes "priority") Priority ∷ [];
   asks = invoke_of;
 }
+
+-- `connections` lists connections
+abbrev pub connections_of : List Held → Option Asked
+connections_of (target ∷ after ∷ []) = Some (Ask (Connections (number_of target) (number_of after)))
+connections_of held = None
+
+abbrev pub connections : Form
+connections = record { word = codes "connections"; keys = optional (codes "object") Number ∷ optional (codes "after") Number ∷ []; asks = connections_of }
+
+-- the forms of these commands
+unfoldable pub forms : List Form
+forms = connect ∷ connect_functor ∷ disconnect ∷ invoke ∷ connections ∷ []

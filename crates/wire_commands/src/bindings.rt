@@ -1,27 +1,52 @@
 //! The commands of bindings and groups.
-ghost use Rattle.std.specs.Prelude.{◌≡◌, IfOk, map, option_map};
-ghost use Rattle.session_model.specs.Asked.{asked};
-ghost use Rattle.wire_commands.specs.Held.{held_seen};
-ghost use Rattle.wire_commands.specs.Bindings.{begin_of, bind_of, binding_error_of, end_of, unbind_of};
+#![tactic(auto, unfolding(crate::specs::Form::asked_by, crate::specs::Bindings::forms))]
 
-use crate::held::Held;
+ghost use Rattle.std.specs.Prelude.{IfOk};
+ghost use Rattle.wire_commands.specs.Form.{Asks, AsksBy};
+ghost use Rattle.wire_commands.specs.Bindings.{begin, bind, binding, binding_error, bindings, end, forms, unbind};
+
+use crate::held::{Held, held_by};
 use crate::keys::{Holds, Key};
+use json_reading::Member;
 use session_model::{Command, Query};
 use std::alloc::{AllocError, Global};
 
-pub(crate) const BIND: [Key; 3] = [
+/// Reads a command of bindings and groups. Answers nothing where the word is none of theirs.
+#[inline(always)]
+pub(crate) fn read(
+    alloc: Global,
+    word: &str,
+    members: &[Member<'_>],
+) -> Option<Result<Option<Command>, AllocError>>
+    ensures { AsksBy forms word.now members.now result }
+{
+    Some(match word {
+        "bind" => bind(alloc, members),
+        "unbind" => unbind(alloc, members),
+        "bindingError" => binding_error(alloc, members),
+        "binding" => binding(alloc, members),
+        "bindings" => bindings(alloc, members),
+        "begin" => Ok(begin(members)),
+        "end" => Ok(end(members)),
+        _ => return None,
+    })
+}
+
+const BIND: [Key; 3] = [
     Key::Needed("object", Holds::Number),
     Key::Needed("property", Holds::Name),
     Key::Needed("to", Holds::Any),
 ];
 
 /// `bind`: an object, a property and an expression, which may be any JSON.
-pub(crate) fn bind_of(alloc: Global, held: &[Held<'_, '_>]) -> Result<Option<Command>, AllocError>
-    ensures { IfOk result (λ command. option_map asked command ≡ bind_of (map held_seen held.now)) }
+fn bind(alloc: Global, members: &[Member<'_>]) -> Result<Option<Command>, AllocError>
+    ensures { IfOk result (Asks bind members.now) }
 {
-    let [object, property, to] = held else {
+    let mut held = [Held::Absent; 3];
+    if !held_by(members, &BIND, &mut held) {
         return Ok(None);
-    };
+    }
+    let [object, property, to] = held;
     let Some(object) = object.number() else {
         return Ok(None);
     };
@@ -35,39 +60,40 @@ pub(crate) fn bind_of(alloc: Global, held: &[Held<'_, '_>]) -> Result<Option<Com
     }
 }
 
-pub(crate) const UNBIND: [Key; 2] = [
+const UNBIND: [Key; 2] = [
     Key::Needed("object", Holds::Number),
     Key::Needed("property", Holds::Name),
 ];
 
 /// `unbind`: an object and a property.
-pub(crate) fn unbind_of(alloc: Global, held: &[Held<'_, '_>]) -> Result<Option<Command>, AllocError>
-    ensures { IfOk result (λ command. option_map asked command ≡ unbind_of (map held_seen held.now)) }
+fn unbind(alloc: Global, members: &[Member<'_>]) -> Result<Option<Command>, AllocError>
+    ensures { IfOk result (Asks unbind members.now) }
 {
-    let [object, property] = held else {
+    let mut held = [Held::Absent; 2];
+    if !held_by(members, &UNBIND, &mut held) {
         return Ok(None);
-    };
+    }
+    let [object, property] = held;
     match (object.number(), property.text(alloc)?) {
         (Some(object), Some(property)) => Ok(Some(Command::Unbind { object, property })),
         _ => Ok(None),
     }
 }
 
-pub(crate) const BINDING_ERROR: [Key; 2] = [
+const BINDING_ERROR: [Key; 2] = [
     Key::Needed("object", Holds::Number),
     Key::Needed("property", Holds::Name),
 ];
 
 /// `bindingError`: an object and a property.
-pub(crate) fn binding_error_of(
-    alloc: Global,
-    held: &[Held<'_, '_>],
-) -> Result<Option<Command>, AllocError>
-    ensures { IfOk result (λ command. option_map asked command ≡ binding_error_of (map held_seen held.now)) }
+fn binding_error(alloc: Global, members: &[Member<'_>]) -> Result<Option<Command>, AllocError>
+    ensures { IfOk result (Asks binding_error members.now) }
 {
-    let [object, property] = held else {
+    let mut held = [Held::Absent; 2];
+    if !held_by(members, &BINDING_ERROR, &mut held) {
         return Ok(None);
-    };
+    }
+    let [object, property] = held;
     match (object.number(), property.text(alloc)?) {
         (Some(object), Some(property)) => {
             Ok(Some(Command::Ask(Query::BindingError { object, property })))
@@ -76,26 +102,63 @@ pub(crate) fn binding_error_of(
     }
 }
 
-pub(crate) const BEGIN: [Key; 0] = [];
+const BINDING: [Key; 2] = [
+    Key::Needed("object", Holds::Number),
+    Key::Needed("property", Holds::Name),
+];
+
+/// `binding`: an object and a property.
+fn binding(alloc: Global, members: &[Member<'_>]) -> Result<Option<Command>, AllocError>
+    ensures { IfOk result (Asks binding members.now) }
+{
+    let mut held = [Held::Absent; 2];
+    if !held_by(members, &BINDING, &mut held) {
+        return Ok(None);
+    }
+    let [object, property] = held;
+    match (object.number(), property.text(alloc)?) {
+        (Some(object), Some(property)) => {
+            Ok(Some(Command::Ask(Query::Binding { object, property })))
+        }
+        _ => Ok(None),
+    }
+}
+
+const BINDINGS: [Key; 1] = [Key::Optional("after", Holds::Property)];
+
+/// `bindings`: nothing more, or the property that the list begins after.
+fn bindings(alloc: Global, members: &[Member<'_>]) -> Result<Option<Command>, AllocError>
+    ensures { IfOk result (Asks bindings members.now) }
+{
+    let mut held = [Held::Absent; 1];
+    if !held_by(members, &BINDINGS, &mut held) {
+        return Ok(None);
+    }
+    let [after] = held;
+    let after = after.property(alloc)?;
+    Ok(Some(Command::Ask(Query::Bindings { after })))
+}
+
+const BEGIN: [Key; 0] = [];
 
 /// `begin`: nothing more.
-pub(crate) fn begin_of(held: &[Held<'_, '_>]) -> Option<Command>
-    ensures { option_map asked result ≡ begin_of (map held_seen held.now) }
+fn begin(members: &[Member<'_>]) -> Option<Command>
+    ensures { Asks begin members.now result }
 {
-    let [] = held else {
+    if !held_by(members, &BEGIN, &mut []) {
         return None;
-    };
+    }
     Some(Command::Begin)
 }
 
-pub(crate) const END: [Key; 0] = [];
+const END: [Key; 0] = [];
 
 /// `end`: nothing more.
-pub(crate) fn end_of(held: &[Held<'_, '_>]) -> Option<Command>
-    ensures { option_map asked result ≡ end_of (map held_seen held.now) }
+fn end(members: &[Member<'_>]) -> Option<Command>
+    ensures { Asks end members.now result }
 {
-    let [] = held else {
+    if !held_by(members, &END, &mut []) {
         return None;
-    };
+    }
     Some(Command::End)
 }

@@ -1,63 +1,87 @@
 //! The commands of the event loop.
-ghost use Rattle.std.specs.Prelude.{◌≡◌, map, option_map};
-ghost use Rattle.session_model.specs.Asked.{asked};
-ghost use Rattle.wire_commands.specs.Held.{held_seen};
-ghost use Rattle.wire_commands.specs.Events.{block_of, delete_later_of, spin_of, status_of};
+#![tactic(auto, unfolding(crate::specs::Form::asked_by, crate::specs::Events::forms))]
 
-use crate::held::Held;
+ghost use Rattle.wire_commands.specs.Form.{Asks, AsksBy};
+ghost use Rattle.wire_commands.specs.Events.{block, delete_later, forms, spin, status};
+
+use crate::held::{Held, held_by};
 use crate::keys::{Holds, Key};
+use json_reading::Member;
 use session_model::{Command, Query};
+use std::alloc::{AllocError, Global};
 
-pub(crate) const SPIN: [Key; 0] = [];
+/// Reads a command of the event loop. Answers nothing where the word is none of theirs.
+#[inline(always)]
+pub(crate) fn read(
+    alloc: Global,
+    word: &str,
+    members: &[Member<'_>],
+) -> Option<Result<Option<Command>, AllocError>>
+    ensures { AsksBy forms word.now members.now result }
+{
+    Some(match word {
+        "spin" => Ok(spin(members)),
+        "deleteLater" => Ok(delete_later(members)),
+        "block" => Ok(block(members)),
+        "status" => Ok(status(members)),
+        _ => return None,
+    })
+}
+
+const SPIN: [Key; 0] = [];
 
 /// `spin`: nothing more.
-pub(crate) fn spin_of(held: &[Held<'_, '_>]) -> Option<Command>
-    ensures { option_map asked result ≡ spin_of (map held_seen held.now) }
+fn spin(members: &[Member<'_>]) -> Option<Command>
+    ensures { Asks spin members.now result }
 {
-    let [] = held else {
+    if !held_by(members, &SPIN, &mut []) {
         return None;
-    };
+    }
     Some(Command::Spin)
 }
 
-pub(crate) const DELETE_LATER: [Key; 1] = [Key::Needed("object", Holds::Number)];
+const DELETE_LATER: [Key; 1] = [Key::Needed("object", Holds::Number)];
 
 /// `deleteLater`: an object.
-pub(crate) fn delete_later_of(held: &[Held<'_, '_>]) -> Option<Command>
-    ensures { option_map asked result ≡ delete_later_of (map held_seen held.now) }
+fn delete_later(members: &[Member<'_>]) -> Option<Command>
+    ensures { Asks delete_later members.now result }
 {
-    let [object] = held else {
+    let mut held = [Held::Absent; 1];
+    if !held_by(members, &DELETE_LATER, &mut held) {
         return None;
-    };
+    }
+    let [object] = held;
     let object = object.number()?;
     Some(Command::DeleteLater { object })
 }
 
-pub(crate) const BLOCK: [Key; 2] = [
+const BLOCK: [Key; 2] = [
     Key::Needed("object", Holds::Number),
     Key::Needed("on", Holds::Truth),
 ];
 
 /// `block`: an object, and whether its signals are blocked.
-pub(crate) fn block_of(held: &[Held<'_, '_>]) -> Option<Command>
-    ensures { option_map asked result ≡ block_of (map held_seen held.now) }
+fn block(members: &[Member<'_>]) -> Option<Command>
+    ensures { Asks block members.now result }
 {
-    let [object, on] = held else {
+    let mut held = [Held::Absent; 2];
+    if !held_by(members, &BLOCK, &mut held) {
         return None;
-    };
+    }
+    let [object, on] = held;
     let object = object.number()?;
     let on = on.truth();
     Some(Command::Block { object, on })
 }
 
-pub(crate) const STATUS: [Key; 0] = [];
+const STATUS: [Key; 0] = [];
 
 /// `status`: nothing more.
-pub(crate) fn status_of(held: &[Held<'_, '_>]) -> Option<Command>
-    ensures { option_map asked result ≡ status_of (map held_seen held.now) }
+fn status(members: &[Member<'_>]) -> Option<Command>
+    ensures { Asks status members.now result }
 {
-    let [] = held else {
+    if !held_by(members, &STATUS, &mut []) {
         return None;
-    };
+    }
     Some(Command::Ask(Query::Status))
 }

@@ -7,7 +7,7 @@ ghost use Rattle.wire_commands.specs.Found.{AreFound, are_distinct, with_common,
 ghost use Rattle.wire_commands.specs.Held.{has_only};
 
 use crate::keys::Key;
-use json_reading::{Field, Member};
+use json_reading::{Field, Member, is_word};
 
 /// Puts the value that the members have at each of the keys to the place of the key. Answers whether there are
 /// no further keys. Keys mostly come in the order in which a command names them.
@@ -41,7 +41,7 @@ pub(crate) fn find_values<'m, 'a>(
 fn is_common(word: &str) -> bool
     ensures { result ≡ (bytes_eq word.now (codes "do") || bytes_eq word.now (codes "session")) }
 {
-    word == "do" || word == "session"
+    is_word(word, "do") || is_word(word, "session")
 }
 
 /// The place of a key, which is looked for at the expected place first.
@@ -50,7 +50,7 @@ fn place_of(word: &str, keys: &[Key], expected: usize) -> Option<usize>
     ensures { MatchOption result (list_any (bytes_eq word.now) (words_of keys.now) ≡ false)
         (λ place. (place < length keys.now) × (get_or (words_of keys.now) place [] ≡ word.now)) }
 {
-    if expected < keys.len() && word == keys[expected].word() {
+    if expected < keys.len() && is_word(word, keys[expected].word()) {
         return Some(expected);
     }
     any_place_of(word, keys)
@@ -62,7 +62,7 @@ fn any_place_of(word: &str, keys: &[Key]) -> Option<usize>
         (λ place. (place < length keys.now) × (get_or (words_of keys.now) place [] ≡ word.now)) }
 {
     'keys: for (place, key) in keys.iter().enumerate() {
-        if word == key.word() {
+        if is_word(word, key.word()) {
             return Some(place);
         }
     }

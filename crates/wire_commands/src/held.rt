@@ -1,20 +1,24 @@
 //! A line holds values at the keys of its command.
-ghost use Rattle.std.specs.Prelude.{◌≡◌, ◌≤◌, IfOk, None, Some, if◌then◌else◌, length, map, option_map, take, true};
+ghost use Rattle.std.specs.Prelude.{◌≡◌, ◌≤◌, IfOk, None, Some, if◌then◌else◌, length, map, option_map, true};
 ghost use Rattle.serde_json.specs.Data.{object};
 ghost use Rattle.serde_json.specs.View.{view};
 ghost use Rattle.json_reading.specs.Members.{data_of, members_in};
 ghost use Rattle.wire_commands.specs.Found.{are_distinct, held_as, with_common, words_of};
-ghost use Rattle.wire_commands.specs.Keys.{Key, key_seen};
+ghost use Rattle.wire_commands.specs.Form.{AreHeld};
+ghost use Rattle.wire_commands.specs.Keys.{key_seen};
 ghost use Rattle.wire_commands.specs.declared.keys.TheConstants.{MOST_KEYS};
-ghost use Rattle.wire_commands.specs.Held.{held_by, held_seen, json_of, list_of, mode_of, number_in, number_of};
+ghost use Rattle.wire_commands.specs.Held.{held_seen, json_of, list_of, mode_of, number_in, number_of};
+ghost use Rattle.wire_commands.specs.Held.{property_of};
 ghost use Rattle.wire_commands.specs.Held.{priority_for, priority_in, reads, signed_in, text_of, truth_of};
 
 use crate::found::find_values;
 use crate::keys::{Holds, Key, MOST_KEYS};
+use crate::named_property::property_in;
 use event_queue::Priority;
 use json_reading::{Field, Member, Scalar};
 use plain_types::{ConnectionType, Items, Text, is_name};
 use serde_json::Value;
+use session_model::NamedProperty;
 use std::alloc::{AllocError, Global};
 
 /// A key holds one of these.
@@ -30,6 +34,8 @@ pub enum Held<'m, 'a> {
     Priority(Priority),
     /// The value is an array.
     List(&'m Field<'a>),
+    /// A property of the object of this number.
+    Property(u32, &'a str),
     Any(&'m Field<'a>),
 }
 
@@ -97,6 +103,19 @@ impl Held<'_, '_> {
         }
     }
 
+    /// A property with a copy of its name, where one is held.
+    pub(crate) fn property(&self, alloc: Global) -> Result<Option<NamedProperty>, AllocError>
+        ensures { IfOk result (λ property. property ≡ property_of (held_seen self.now)) }
+    {
+        match self {
+            Held::Property(object, name) => Ok(Some(NamedProperty {
+                object: *object,
+                property: Text::from_str(alloc, name)?,
+            })),
+            _ => Ok(None),
+        }
+    }
+
     /// A copy of the JSON, where some is held.
     pub(crate) fn json(&self, alloc: Global) -> Result<Option<Value>, AllocError>
         ensures { IfOk result (λ json. option_map view json ≡ json_of (held_seen self.now)) }
@@ -108,18 +127,17 @@ impl Held<'_, '_> {
     }
 }
 
-/// Puts what the members hold at each of the keys into the front of the room. Answers whether each
-/// is held as it must be, and there are no further keys.
+/// Puts what the members hold at each of the keys into the room. Answers whether each is held as it must be,
+/// and there are no further keys.
 pub(crate) fn held_by<'m, 'a>(
     members: &'m [Member<'a>],
     keys: &[Key],
     room: &mut [Held<'m, 'a>],
 ) -> bool
     requires few { length keys.now ≤ MOST_KEYS }
-    requires room { length keys.now ≤ length room.old }
+    requires room { length room.old ≡ length keys.now }
     requires distinct { are_distinct (with_common (words_of keys.now)) ≡ true }
-    ensures held { (if result then Some (map held_seen (take (length keys.now) room.new)) else None)
-        ≡ held_by (object (members_in members.now)) (map key_seen keys.now) }
+    ensures held { AreHeld (map key_seen keys.now) (object (members_in members.now)) (if result then Some (map held_seen room.new) else None) }
     ensures room { length room.new ≡ length room.old }
 {
     let mut found = [None; MOST_KEYS];
@@ -167,12 +185,13 @@ fn read<'m, 'a>(holds: Holds, field: &'m Field<'a>) -> Option<Held<'m, 'a>>
         Holds::Priority => Some(Held::Priority(priority_in(field)?)),
         Holds::List if field.is_list() => Some(Held::List(field)),
         Holds::List => None,
+        Holds::Property => property_in(field),
         Holds::Any => Some(Held::Any(field)),
     }
 }
 
 /// The number of an object or of a connection that the value is.
-fn number_in(field: &Field<'_>) -> Option<u32>
+pub(crate) fn number_in(field: &Field<'_>) -> Option<u32>
     ensures { result ≡ number_in (data_of field.now) }
 {
     match field.as_number()? {
@@ -199,6 +218,7 @@ fn signed_in(field: &Field<'_>) -> Option<i64>
 {
     match field {
         Field::Plain(Scalar::Number(number)) => i64::try_from(*number).ok(),
+        Field::Plain(Scalar::Signed(number)) => Some(*number),
         Field::Plain(_) | Field::List(_) => None,
         Field::Tree(value) => value.as_i64(),
     }

@@ -22,6 +22,8 @@ pub enum Holds {
     Priority,
     /// An array of any JSON.
     List,
+    /// A property of an object: an object with exactly the keys `object`, a number, and `property`, a name.
+    Property,
     /// Any JSON.
     Any,
 }

@@ -1,27 +1,49 @@
 //! The commands of properties.
-ghost use Rattle.std.specs.Prelude.{◌≡◌, IfOk, map, option_map};
-ghost use Rattle.session_model.specs.Asked.{asked};
-ghost use Rattle.wire_commands.specs.Held.{held_seen};
-ghost use Rattle.wire_commands.specs.Properties.{set_of, get_of, dynamic_names_of};
+#![tactic(auto, unfolding(crate::specs::Form::asked_by, crate::specs::Properties::forms))]
 
-use crate::held::Held;
+ghost use Rattle.std.specs.Prelude.{IfOk};
+ghost use Rattle.wire_commands.specs.Form.{Asks, AsksBy};
+ghost use Rattle.wire_commands.specs.Properties.{dynamic_names, forms, get, properties, set};
+
+use crate::held::{Held, held_by};
 use crate::keys::{Holds, Key};
+use json_reading::Member;
 use session_model::{Command, Query};
 use std::alloc::{AllocError, Global};
 
-pub(crate) const SET: [Key; 3] = [
+/// Reads a command of properties. Answers nothing where the word is none of theirs.
+#[inline(always)]
+pub(crate) fn read(
+    alloc: Global,
+    word: &str,
+    members: &[Member<'_>],
+) -> Option<Result<Option<Command>, AllocError>>
+    ensures { AsksBy forms word.now members.now result }
+{
+    Some(match word {
+        "set" => set(alloc, members),
+        "get" => get(alloc, members),
+        "dynamicNames" => Ok(dynamic_names(members)),
+        "properties" => Ok(properties(members)),
+        _ => return None,
+    })
+}
+
+const SET: [Key; 3] = [
     Key::Needed("object", Holds::Number),
     Key::Needed("property", Holds::Name),
     Key::Needed("value", Holds::Any),
 ];
 
 /// `set`: an object, a property and a value, which may be any JSON.
-pub(crate) fn set_of(alloc: Global, held: &[Held<'_, '_>]) -> Result<Option<Command>, AllocError>
-    ensures { IfOk result (λ command. option_map asked command ≡ set_of (map held_seen held.now)) }
+fn set(alloc: Global, members: &[Member<'_>]) -> Result<Option<Command>, AllocError>
+    ensures { IfOk result (Asks set members.now) }
 {
-    let [object, property, value] = held else {
+    let mut held = [Held::Absent; 3];
+    if !held_by(members, &SET, &mut held) {
         return Ok(None);
-    };
+    }
+    let [object, property, value] = held;
     let Some(object) = object.number() else {
         return Ok(None);
     };
@@ -35,33 +57,52 @@ pub(crate) fn set_of(alloc: Global, held: &[Held<'_, '_>]) -> Result<Option<Comm
     }
 }
 
-pub(crate) const GET: [Key; 2] = [
+const GET: [Key; 2] = [
     Key::Needed("object", Holds::Number),
     Key::Needed("property", Holds::Name),
 ];
 
 /// `get`: an object and a property.
-pub(crate) fn get_of(alloc: Global, held: &[Held<'_, '_>]) -> Result<Option<Command>, AllocError>
-    ensures { IfOk result (λ command. option_map asked command ≡ get_of (map held_seen held.now)) }
+fn get(alloc: Global, members: &[Member<'_>]) -> Result<Option<Command>, AllocError>
+    ensures { IfOk result (Asks get members.now) }
 {
-    let [object, property] = held else {
+    let mut held = [Held::Absent; 2];
+    if !held_by(members, &GET, &mut held) {
         return Ok(None);
-    };
+    }
+    let [object, property] = held;
     match (object.number(), property.text(alloc)?) {
         (Some(object), Some(property)) => Ok(Some(Command::Ask(Query::Get { object, property }))),
         _ => Ok(None),
     }
 }
 
-pub(crate) const DYNAMIC_NAMES: [Key; 1] = [Key::Needed("object", Holds::Number)];
+const DYNAMIC_NAMES: [Key; 1] = [Key::Needed("object", Holds::Number)];
 
 /// `dynamicNames`: an object.
-pub(crate) fn dynamic_names_of(held: &[Held<'_, '_>]) -> Option<Command>
-    ensures { option_map asked result ≡ dynamic_names_of (map held_seen held.now) }
+fn dynamic_names(members: &[Member<'_>]) -> Option<Command>
+    ensures { Asks dynamic_names members.now result }
 {
-    let [object] = held else {
+    let mut held = [Held::Absent; 1];
+    if !held_by(members, &DYNAMIC_NAMES, &mut held) {
         return None;
-    };
+    }
+    let [object] = held;
     let object = object.number()?;
     Some(Command::Ask(Query::DynamicNames { object }))
+}
+
+const PROPERTIES: [Key; 1] = [Key::Needed("object", Holds::Number)];
+
+/// `properties`: an object.
+fn properties(members: &[Member<'_>]) -> Option<Command>
+    ensures { Asks properties members.now result }
+{
+    let mut held = [Held::Absent; 1];
+    if !held_by(members, &PROPERTIES, &mut held) {
+        return None;
+    }
+    let [object] = held;
+    let object = object.number()?;
+    Some(Command::Ask(Query::Properties { object }))
 }

@@ -1,33 +1,57 @@
 //! The commands of publications and joins, and the one that begins anew.
-ghost use Rattle.std.specs.Prelude.{◌≡◌, IfOk, map, option_and_then, option_map};
-ghost use Rattle.serde_json.specs.View.{view};
-ghost use Rattle.session_model.specs.Asked.{asked};
-ghost use Rattle.wire_commands.specs.Held.{held_seen, list_of};
-ghost use Rattle.wire_commands.specs.Sharing.{join_of, leave_of, publish_of, reset_of, texts_of, unpublish_of};
+#![tactic(auto, unfolding(crate::specs::Form::asked_by, crate::specs::Sharing::forms))]
 
-use crate::held::Held;
+ghost use Rattle.std.specs.Prelude.{◌≡◌, IfOk, map, option_and_then};
+ghost use Rattle.serde_json.specs.View.{view};
+ghost use Rattle.wire_commands.specs.Form.{Asks, AsksBy};
+ghost use Rattle.wire_commands.specs.Held.{held_seen, list_of};
+ghost use Rattle.wire_commands.specs.Sharing.{forms, join, joins, leave, publications, publish, reset, texts_of, unpublish};
+
+use crate::held::{Held, held_by};
 use crate::keys::{Holds, Key};
+use json_reading::Member;
 use plain_types::{Items, Text};
 use serde_json::Value;
-use session_model::Command;
+use session_model::{Command, Query};
 use std::alloc::{AllocError, Global};
 
-pub(crate) const PUBLISH: [Key; 3] = [
+/// Reads a command of publications and joins, or the one that begins anew. Answers nothing where the word is none
+/// of theirs.
+#[inline(always)]
+pub(crate) fn read(
+    alloc: Global,
+    word: &str,
+    members: &[Member<'_>],
+) -> Option<Result<Option<Command>, AllocError>>
+    ensures { AsksBy forms word.now members.now result }
+{
+    Some(match word {
+        "publish" => publish(alloc, members),
+        "unpublish" => unpublish(alloc, members),
+        "join" => join(alloc, members),
+        "leave" => leave(alloc, members),
+        "reset" => Ok(reset(members)),
+        "publications" => Ok(publications(members)),
+        "joins" => Ok(joins(members)),
+        _ => return None,
+    })
+}
+
+const PUBLISH: [Key; 3] = [
     Key::Needed("object", Holds::Number),
     Key::Needed("signal", Holds::Text),
     Key::Needed("name", Holds::Name),
 ];
 
 /// `publish`: an object, a signal of it, and a name.
-pub(crate) fn publish_of(
-    alloc: Global,
-    held: &[Held<'_, '_>],
-) -> Result<Option<Command>, AllocError>
-    ensures { IfOk result (λ command. option_map asked command ≡ publish_of (map held_seen held.now)) }
+fn publish(alloc: Global, members: &[Member<'_>]) -> Result<Option<Command>, AllocError>
+    ensures { IfOk result (Asks publish members.now) }
 {
-    let [object, signal, name] = held else {
+    let mut held = [Held::Absent; 3];
+    if !held_by(members, &PUBLISH, &mut held) {
         return Ok(None);
-    };
+    }
+    let [object, signal, name] = held;
     let Some(object) = object.number() else {
         return Ok(None);
     };
@@ -41,25 +65,24 @@ pub(crate) fn publish_of(
     }))
 }
 
-pub(crate) const UNPUBLISH: [Key; 1] = [Key::Needed("name", Holds::Name)];
+const UNPUBLISH: [Key; 1] = [Key::Needed("name", Holds::Name)];
 
 /// `unpublish`: a name.
-pub(crate) fn unpublish_of(
-    alloc: Global,
-    held: &[Held<'_, '_>],
-) -> Result<Option<Command>, AllocError>
-    ensures { IfOk result (λ command. option_map asked command ≡ unpublish_of (map held_seen held.now)) }
+fn unpublish(alloc: Global, members: &[Member<'_>]) -> Result<Option<Command>, AllocError>
+    ensures { IfOk result (Asks unpublish members.now) }
 {
-    let [name] = held else {
+    let mut held = [Held::Absent; 1];
+    if !held_by(members, &UNPUBLISH, &mut held) {
         return Ok(None);
-    };
+    }
+    let [name] = held;
     let Some(name) = name.text(alloc)? else {
         return Ok(None);
     };
     Ok(Some(Command::Unpublish { name }))
 }
 
-pub(crate) const JOIN: [Key; 5] = [
+const JOIN: [Key; 5] = [
     Key::Needed("from", Holds::Name),
     Key::Needed("name", Holds::Name),
     Key::Needed("types", Holds::List),
@@ -69,19 +92,21 @@ pub(crate) const JOIN: [Key; 5] = [
 
 /// `join`: a session, a name under which it publishes, the types of what it publishes so, and an object with
 /// a method that is called.
-pub(crate) fn join_of(alloc: Global, held: &[Held<'_, '_>]) -> Result<Option<Command>, AllocError>
-    ensures { IfOk result (λ command. option_map asked command ≡ join_of (map held_seen held.now)) }
+fn join(alloc: Global, members: &[Member<'_>]) -> Result<Option<Command>, AllocError>
+    ensures { IfOk result (Asks join members.now) }
 {
-    let [from, name, types, object, method] = held else {
+    let mut held = [Held::Absent; 5];
+    if !held_by(members, &JOIN, &mut held) {
         return Ok(None);
-    };
+    }
+    let [from, name, types, object, method] = held;
     let Some(object) = object.number() else {
         return Ok(None);
     };
     let (Some(from), Some(name)) = (from.text(alloc)?, name.text(alloc)?) else {
         return Ok(None);
     };
-    let (Some(types), Some(method)) = (texts_in(alloc, types)?, method.text(alloc)?) else {
+    let (Some(types), Some(method)) = (texts_in(alloc, &types)?, method.text(alloc)?) else {
         return Ok(None);
     };
     Ok(Some(Command::Join {
@@ -117,7 +142,7 @@ fn texts_of(alloc: Global, elements: &[Value]) -> Result<Option<Items<Text>>, Al
     Ok(Some(texts))
 }
 
-pub(crate) const LEAVE: [Key; 4] = [
+const LEAVE: [Key; 4] = [
     Key::Needed("from", Holds::Name),
     Key::Needed("name", Holds::Name),
     Key::Needed("object", Holds::Number),
@@ -125,12 +150,14 @@ pub(crate) const LEAVE: [Key; 4] = [
 ];
 
 /// `leave`: what a join was made with, but for its types.
-pub(crate) fn leave_of(alloc: Global, held: &[Held<'_, '_>]) -> Result<Option<Command>, AllocError>
-    ensures { IfOk result (λ command. option_map asked command ≡ leave_of (map held_seen held.now)) }
+fn leave(alloc: Global, members: &[Member<'_>]) -> Result<Option<Command>, AllocError>
+    ensures { IfOk result (Asks leave members.now) }
 {
-    let [from, name, object, method] = held else {
+    let mut held = [Held::Absent; 4];
+    if !held_by(members, &LEAVE, &mut held) {
         return Ok(None);
-    };
+    }
+    let [from, name, object, method] = held;
     let Some(object) = object.number() else {
         return Ok(None);
     };
@@ -148,14 +175,38 @@ pub(crate) fn leave_of(alloc: Global, held: &[Held<'_, '_>]) -> Result<Option<Co
     }))
 }
 
-pub(crate) const RESET: [Key; 0] = [];
+const RESET: [Key; 0] = [];
 
 /// `reset`: nothing more.
-pub(crate) fn reset_of(held: &[Held<'_, '_>]) -> Option<Command>
-    ensures { option_map asked result ≡ reset_of (map held_seen held.now) }
+fn reset(members: &[Member<'_>]) -> Option<Command>
+    ensures { Asks reset members.now result }
 {
-    let [] = held else {
+    if !held_by(members, &RESET, &mut []) {
         return None;
-    };
+    }
     Some(Command::Reset)
+}
+
+const PUBLICATIONS: [Key; 0] = [];
+
+/// `publications`: nothing more.
+fn publications(members: &[Member<'_>]) -> Option<Command>
+    ensures { Asks publications members.now result }
+{
+    if !held_by(members, &PUBLICATIONS, &mut []) {
+        return None;
+    }
+    Some(Command::Ask(Query::Publications))
+}
+
+const JOINS: [Key; 0] = [];
+
+/// `joins`: nothing more.
+fn joins(members: &[Member<'_>]) -> Option<Command>
+    ensures { Asks joins members.now result }
+{
+    if !held_by(members, &JOINS, &mut []) {
+        return None;
+    }
+    Some(Command::Ask(Query::Joins))
 }

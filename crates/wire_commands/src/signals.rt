@@ -1,15 +1,36 @@
 //! The commands of signals and slots.
-ghost use Rattle.std.specs.Prelude.{◌≡◌, IfOk, map, option_map};
-ghost use Rattle.session_model.specs.Asked.{asked};
-ghost use Rattle.wire_commands.specs.Held.{held_seen};
-ghost use Rattle.wire_commands.specs.Signals.{connect_of, connect_functor_of, disconnect_of, invoke_of};
+#![tactic(auto, unfolding(crate::specs::Form::asked_by, crate::specs::Signals::forms))]
 
-use crate::held::Held;
+ghost use Rattle.std.specs.Prelude.{IfOk};
+ghost use Rattle.wire_commands.specs.Form.{Asks, AsksBy};
+ghost use Rattle.wire_commands.specs.Signals.{connect, connect_functor, connections, disconnect, forms, invoke};
+
+use crate::held::{Held, held_by};
 use crate::keys::{Holds, Key};
-use session_model::Command;
+use json_reading::Member;
+use session_model::{Command, Query};
 use std::alloc::{AllocError, Global};
 
-pub(crate) const CONNECT: [Key; 7] = [
+/// Reads a command of signals and slots. Answers nothing where the word is none of theirs.
+#[inline(always)]
+pub(crate) fn read(
+    alloc: Global,
+    word: &str,
+    members: &[Member<'_>],
+) -> Option<Result<Option<Command>, AllocError>>
+    ensures { AsksBy forms word.now members.now result }
+{
+    Some(match word {
+        "connect" => connect(alloc, members),
+        "connectFunctor" => connect_functor(alloc, members),
+        "disconnect" => disconnect(alloc, members),
+        "invoke" => invoke(alloc, members),
+        "connections" => Ok(connections(members)),
+        _ => return None,
+    })
+}
+
+const CONNECT: [Key; 7] = [
     Key::Needed("sender", Holds::Number),
     Key::Needed("signal", Holds::Text),
     Key::Needed("receiver", Holds::Number),
@@ -20,15 +41,14 @@ pub(crate) const CONNECT: [Key; 7] = [
 ];
 
 /// `connect`: a signal of a sender, a method of a receiver, and how its calls are made.
-pub(crate) fn connect_of(
-    alloc: Global,
-    held: &[Held<'_, '_>],
-) -> Result<Option<Command>, AllocError>
-    ensures { IfOk result (λ command. option_map asked command ≡ connect_of (map held_seen held.now)) }
+fn connect(alloc: Global, members: &[Member<'_>]) -> Result<Option<Command>, AllocError>
+    ensures { IfOk result (Asks connect members.now) }
 {
-    let [sender, signal, receiver, method, mode, unique, single] = held else {
+    let mut held = [Held::Absent; 7];
+    if !held_by(members, &CONNECT, &mut held) {
         return Ok(None);
-    };
+    }
+    let [sender, signal, receiver, method, mode, unique, single] = held;
     let (Some(sender), Some(receiver)) = (sender.number(), receiver.number()) else {
         return Ok(None);
     };
@@ -46,7 +66,7 @@ pub(crate) fn connect_of(
     }))
 }
 
-pub(crate) const CONNECT_FUNCTOR: [Key; 7] = [
+const CONNECT_FUNCTOR: [Key; 7] = [
     Key::Needed("sender", Holds::Number),
     Key::Needed("signal", Holds::Text),
     Key::Needed("context", Holds::Number),
@@ -57,15 +77,14 @@ pub(crate) const CONNECT_FUNCTOR: [Key; 7] = [
 ];
 
 /// `connectFunctor`: a signal of a sender, a functor with its context, and how its calls are made.
-pub(crate) fn connect_functor_of(
-    alloc: Global,
-    held: &[Held<'_, '_>],
-) -> Result<Option<Command>, AllocError>
-    ensures { IfOk result (λ command. option_map asked command ≡ connect_functor_of (map held_seen held.now)) }
+fn connect_functor(alloc: Global, members: &[Member<'_>]) -> Result<Option<Command>, AllocError>
+    ensures { IfOk result (Asks connect_functor members.now) }
 {
-    let [sender, signal, context, functor, mode, unique, single] = held else {
+    let mut held = [Held::Absent; 7];
+    if !held_by(members, &CONNECT_FUNCTOR, &mut held) {
         return Ok(None);
-    };
+    }
+    let [sender, signal, context, functor, mode, unique, single] = held;
     let (Some(sender), Some(context)) = (sender.number(), context.number()) else {
         return Ok(None);
     };
@@ -83,7 +102,7 @@ pub(crate) fn connect_functor_of(
     }))
 }
 
-pub(crate) const DISCONNECT: [Key; 5] = [
+const DISCONNECT: [Key; 5] = [
     Key::Optional("connection", Holds::Number),
     Key::Optional("sender", Holds::Number),
     Key::Optional("signal", Holds::Text),
@@ -93,16 +112,15 @@ pub(crate) const DISCONNECT: [Key; 5] = [
 
 /// `disconnect`: a connection alone, or a sender and what matches; a method is named only beside a
 /// receiver.
-pub(crate) fn disconnect_of(
-    alloc: Global,
-    held: &[Held<'_, '_>],
-) -> Result<Option<Command>, AllocError>
-    ensures { IfOk result (λ command. option_map asked command ≡ disconnect_of (map held_seen held.now)) }
+fn disconnect(alloc: Global, members: &[Member<'_>]) -> Result<Option<Command>, AllocError>
+    ensures { IfOk result (Asks disconnect members.now) }
 {
-    let [connection, sender, signal, receiver, method] = held else {
+    let mut held = [Held::Absent; 5];
+    if !held_by(members, &DISCONNECT, &mut held) {
         return Ok(None);
-    };
-    match (*connection, *sender, *signal, *receiver, *method) {
+    }
+    let [connection, sender, signal, receiver, method] = held;
+    match (connection, sender, signal, receiver, method) {
         (Held::Number(connection), Held::Absent, Held::Absent, Held::Absent, Held::Absent) => {
             Ok(Some(Command::DisconnectOne { connection }))
         }
@@ -126,7 +144,7 @@ pub(crate) fn disconnect_of(
     }
 }
 
-pub(crate) const INVOKE: [Key; 5] = [
+const INVOKE: [Key; 5] = [
     Key::Needed("object", Holds::Number),
     Key::Needed("method", Holds::Text),
     Key::Needed("args", Holds::List),
@@ -135,12 +153,14 @@ pub(crate) const INVOKE: [Key; 5] = [
 ];
 
 /// `invoke`: a method of an object, what it is given, how it is called, and how soon where it is queued.
-pub(crate) fn invoke_of(alloc: Global, held: &[Held<'_, '_>]) -> Result<Option<Command>, AllocError>
-    ensures { IfOk result (λ command. option_map asked command ≡ invoke_of (map held_seen held.now)) }
+fn invoke(alloc: Global, members: &[Member<'_>]) -> Result<Option<Command>, AllocError>
+    ensures { IfOk result (Asks invoke members.now) }
 {
-    let [object, method, args, mode, priority] = held else {
+    let mut held = [Held::Absent; 5];
+    if !held_by(members, &INVOKE, &mut held) {
         return Ok(None);
-    };
+    }
+    let [object, method, args, mode, priority] = held;
     let Some(object) = object.number() else {
         return Ok(None);
     };
@@ -158,4 +178,23 @@ pub(crate) fn invoke_of(alloc: Global, held: &[Held<'_, '_>]) -> Result<Option<C
         })),
         _ => Ok(None),
     }
+}
+
+const CONNECTIONS: [Key; 2] = [
+    Key::Optional("object", Holds::Number),
+    Key::Optional("after", Holds::Number),
+];
+
+/// `connections`: an object, and a number of a connection, where these are given.
+fn connections(members: &[Member<'_>]) -> Option<Command>
+    ensures { Asks connections members.now result }
+{
+    let mut held = [Held::Absent; 2];
+    if !held_by(members, &CONNECTIONS, &mut held) {
+        return None;
+    }
+    let [object, after] = held;
+    let object = object.number();
+    let after = after.number();
+    Some(Command::Ask(Query::Connections { object, after }))
 }

@@ -1,26 +1,52 @@
 //! The commands of trees of objects.
-ghost use Rattle.std.specs.Prelude.{◌≡◌, IfOk, map, option_map};
-ghost use Rattle.session_model.specs.Asked.{asked};
-ghost use Rattle.wire_commands.specs.Held.{held_seen};
-ghost use Rattle.wire_commands.specs.Trees.{new_of, delete_of, set_parent_of, children_of, find_of};
+#![tactic(auto, unfolding(crate::specs::Form::asked_by, crate::specs::Trees::forms))]
 
-use crate::held::Held;
+ghost use Rattle.std.specs.Prelude.{IfOk};
+ghost use Rattle.wire_commands.specs.Form.{Asks, AsksBy};
+ghost use Rattle.wire_commands.specs.Trees.{children, delete, describe_object, find, find_all, forms, new, parent, set_parent};
+
+use crate::held::{Held, held_by};
 use crate::keys::{Holds, Key};
+use json_reading::Member;
 use session_model::{Command, Query};
 use std::alloc::{AllocError, Global};
 
-pub(crate) const NEW: [Key; 2] = [
+/// Reads a command of trees of objects. Answers nothing where the word is none of theirs.
+#[inline(always)]
+pub(crate) fn read(
+    alloc: Global,
+    word: &str,
+    members: &[Member<'_>],
+) -> Option<Result<Option<Command>, AllocError>>
+    ensures { AsksBy forms word.now members.now result }
+{
+    Some(match word {
+        "new" => new(alloc, members),
+        "delete" => Ok(delete(members)),
+        "setParent" => Ok(set_parent(members)),
+        "children" => Ok(children(members)),
+        "find" => find(alloc, members),
+        "parent" => Ok(parent(members)),
+        "findAll" => find_all(alloc, members),
+        "object" => Ok(describe_object(members)),
+        _ => return None,
+    })
+}
+
+const NEW: [Key; 2] = [
     Key::Needed("class", Holds::Name),
     Key::Optional("parent", Holds::Number),
 ];
 
 /// `new`: a class, and a parent where one is named.
-pub(crate) fn new_of(alloc: Global, held: &[Held<'_, '_>]) -> Result<Option<Command>, AllocError>
-    ensures { IfOk result (λ command. option_map asked command ≡ new_of (map held_seen held.now)) }
+fn new(alloc: Global, members: &[Member<'_>]) -> Result<Option<Command>, AllocError>
+    ensures { IfOk result (Asks new members.now) }
 {
-    let [class, parent] = held else {
+    let mut held = [Held::Absent; 2];
+    if !held_by(members, &NEW, &mut held) {
         return Ok(None);
-    };
+    }
+    let [class, parent] = held;
     let Some(class) = class.text(alloc)? else {
         return Ok(None);
     };
@@ -28,62 +54,70 @@ pub(crate) fn new_of(alloc: Global, held: &[Held<'_, '_>]) -> Result<Option<Comm
     Ok(Some(Command::New { class, parent }))
 }
 
-pub(crate) const DELETE: [Key; 1] = [Key::Needed("object", Holds::Number)];
+const DELETE: [Key; 1] = [Key::Needed("object", Holds::Number)];
 
 /// `delete`: an object.
-pub(crate) fn delete_of(held: &[Held<'_, '_>]) -> Option<Command>
-    ensures { option_map asked result ≡ delete_of (map held_seen held.now) }
+fn delete(members: &[Member<'_>]) -> Option<Command>
+    ensures { Asks delete members.now result }
 {
-    let [object] = held else {
+    let mut held = [Held::Absent; 1];
+    if !held_by(members, &DELETE, &mut held) {
         return None;
-    };
+    }
+    let [object] = held;
     let object = object.number()?;
     Some(Command::Delete { object })
 }
 
-pub(crate) const SET_PARENT: [Key; 2] = [
+const SET_PARENT: [Key; 2] = [
     Key::Needed("object", Holds::Number),
     Key::Needed("parent", Holds::NumberOrNull),
 ];
 
 /// `setParent`: an object, and its parent or null.
-pub(crate) fn set_parent_of(held: &[Held<'_, '_>]) -> Option<Command>
-    ensures { option_map asked result ≡ set_parent_of (map held_seen held.now) }
+fn set_parent(members: &[Member<'_>]) -> Option<Command>
+    ensures { Asks set_parent members.now result }
 {
-    let [object, parent] = held else {
+    let mut held = [Held::Absent; 2];
+    if !held_by(members, &SET_PARENT, &mut held) {
         return None;
-    };
+    }
+    let [object, parent] = held;
     let object = object.number()?;
     let parent = parent.number();
     Some(Command::SetParent { object, parent })
 }
 
-pub(crate) const CHILDREN: [Key; 1] = [Key::Optional("object", Holds::Number)];
+const CHILDREN: [Key; 1] = [Key::Optional("object", Holds::Number)];
 
 /// `children`: an object, or none for the roots.
-pub(crate) fn children_of(held: &[Held<'_, '_>]) -> Option<Command>
-    ensures { option_map asked result ≡ children_of (map held_seen held.now) }
+fn children(members: &[Member<'_>]) -> Option<Command>
+    ensures { Asks children members.now result }
 {
-    let [object] = held else {
+    let mut held = [Held::Absent; 1];
+    if !held_by(members, &CHILDREN, &mut held) {
         return None;
-    };
+    }
+    let [object] = held;
     let object = object.number();
     Some(Command::Ask(Query::Children { object }))
 }
 
-pub(crate) const FIND: [Key; 3] = [
+const FIND: [Key; 3] = [
     Key::Needed("object", Holds::Number),
     Key::Optional("name", Holds::Text),
     Key::Optional("class", Holds::Name),
 ];
 
 /// `find`: an object, and a name and a class where these are given.
-pub(crate) fn find_of(alloc: Global, held: &[Held<'_, '_>]) -> Result<Option<Command>, AllocError>
-    ensures { IfOk result (λ command. option_map asked command ≡ find_of (map held_seen held.now)) }
+fn find(alloc: Global, members: &[Member<'_>]) -> Result<Option<Command>, AllocError>
+    ensures { IfOk result (Asks find members.now) }
 {
-    let [object, name, class] = held else {
+    let mut held = [Held::Absent; 3];
+    if !held_by(members, &FIND, &mut held) {
         return Ok(None);
-    };
+    }
+    let [object, name, class] = held;
     let Some(object) = object.number() else {
         return Ok(None);
     };
@@ -94,4 +128,61 @@ pub(crate) fn find_of(alloc: Global, held: &[Held<'_, '_>]) -> Result<Option<Com
         name,
         class,
     })))
+}
+
+const PARENT: [Key; 1] = [Key::Needed("object", Holds::Number)];
+
+/// `parent`: an object.
+fn parent(members: &[Member<'_>]) -> Option<Command>
+    ensures { Asks parent members.now result }
+{
+    let mut held = [Held::Absent; 1];
+    if !held_by(members, &PARENT, &mut held) {
+        return None;
+    }
+    let [object] = held;
+    let object = object.number()?;
+    Some(Command::Ask(Query::Parent { object }))
+}
+
+const FIND_ALL: [Key; 3] = [
+    Key::Needed("object", Holds::Number),
+    Key::Optional("name", Holds::Text),
+    Key::Optional("class", Holds::Name),
+];
+
+/// `findAll`: an object, and a name and a class where these are given.
+fn find_all(alloc: Global, members: &[Member<'_>]) -> Result<Option<Command>, AllocError>
+    ensures { IfOk result (Asks find_all members.now) }
+{
+    let mut held = [Held::Absent; 3];
+    if !held_by(members, &FIND_ALL, &mut held) {
+        return Ok(None);
+    }
+    let [object, name, class] = held;
+    let Some(object) = object.number() else {
+        return Ok(None);
+    };
+    let name = name.text(alloc)?;
+    let class = class.text(alloc)?;
+    Ok(Some(Command::Ask(Query::FindAll {
+        object,
+        name,
+        class,
+    })))
+}
+
+const OBJECT: [Key; 1] = [Key::Needed("object", Holds::Number)];
+
+/// `object`: an object.
+fn describe_object(members: &[Member<'_>]) -> Option<Command>
+    ensures { Asks describe_object members.now result }
+{
+    let mut held = [Held::Absent; 1];
+    if !held_by(members, &OBJECT, &mut held) {
+        return None;
+    }
+    let [object] = held;
+    let object = object.number()?;
+    Some(Command::Ask(Query::Object { object }))
 }

@@ -1,5 +1,8 @@
 pub mod CommandLemmas
 pub mod Plain
+pub mod DescriptionTexts
+mod ExpressionTexts
+mod ExpressionReading
 pub mod LineTexts
 pub mod CountTexts
 pub mod Cutting

@@ -1,5 +1,9 @@
 pub mod Command
 pub mod Input
+pub mod Json
+pub mod Descriptions
+pub mod Terms
+pub mod Rereading
 pub mod Text
 pub mod Shown
 pub mod Parts

@@ -1,5 +1,5 @@
 -- A line's text in parts.
-use Rattle.std.specs.Prelude.{ℕ, Bool, true, false, List, ◌++◌, codes}
+use Rattle.std.specs.Prelude.{ℕ, Bool, true, false, List, ◌++◌, codes, is_none}
 use Rattle.std.specs.List.{list_all}
 use Rattle.session_model.specs.declared.line.Answer.{Answer}
 use Rattle.session_model.specs.declared.line.Answer.TheVariants as answer
@@ -30,6 +30,15 @@ is_plain_answer (answer.Names names) = false
 is_plain_answer (answer.Meta meta) = false
 is_plain_answer (answer.Spun spin) = false
 is_plain_answer (answer.Status status) = false
+is_plain_answer (answer.Functors functors) = false
+is_plain_answer (answer.Publications publications) = false
+is_plain_answer (answer.Joins joins) = false
+is_plain_answer (answer.Object described) = false
+is_plain_answer (answer.Class described) = false
+is_plain_answer (answer.Connections rows) = false
+is_plain_answer (answer.Properties properties) = false
+is_plain_answer (answer.Bindings bindings) = false
+is_plain_answer (answer.Binding term) = is_none term
 
 -- the lines that are given in parts
 abbrev pub has_parts : Line → Bool

@@ -5,6 +5,11 @@ use Rattle.serde_json.specs.Data.{string}
 use Rattle.serde_json.specs.Written.{compact_text}
 use Rattle.wire_format.specs.declared.shown.Shown.{Shown}
 use Rattle.wire_format.specs.declared.shown.Shown.TheVariants.{Word, Text, Numbers, Names, Meta, Spun, Status}
+use Rattle.wire_format.specs.declared.shown.Shown.TheVariants.{Functors, Publications, Joins, Object, Class, Connections, Properties}
+use Rattle.wire_format.specs.declared.shown.Shown.TheVariants.{Bindings, Expression}
+use Rattle.wire_format.specs.Descriptions.{json_of_class, json_of_connection, json_of_functor, json_of_join}
+use Rattle.wire_format.specs.Descriptions.{json_of_object, json_of_property, json_of_publication}
+use Rattle.wire_format.specs.Terms.{json_of_named_property, json_of_term}
 use Rattle.wire_format.specs.Text.{array_of, is_plain_byte, json_of_meta, json_of_number, json_of_spin, json_of_status}
 
 abbrev pub text_of_shown : Shown → List ℕ
@@ -15,6 +20,15 @@ text_of_shown (Names names) = compact_text (array_of string names.now)
 text_of_shown (Meta meta) = compact_text (json_of_meta meta.now)
 text_of_shown (Spun spin) = compact_text (json_of_spin spin.now)
 text_of_shown (Status status) = compact_text (json_of_status status.now)
+text_of_shown (Functors functors) = compact_text (array_of json_of_functor functors.now)
+text_of_shown (Publications publications) = compact_text (array_of json_of_publication publications.now)
+text_of_shown (Joins joins) = compact_text (array_of json_of_join joins.now)
+text_of_shown (Object described) = compact_text (json_of_object described.now)
+text_of_shown (Class described) = compact_text (json_of_class described.now)
+text_of_shown (Connections rows) = compact_text (array_of json_of_connection rows.now)
+text_of_shown (Properties properties) = compact_text (array_of json_of_property properties.now)
+text_of_shown (Bindings bindings) = compact_text (array_of json_of_named_property bindings.now)
+text_of_shown (Expression expr) = compact_text (json_of_term expr.now)
 
 -- a word, or a text in which JSON escapes nothing
 abbrev pub is_plain_shown : Shown → Bool
@@ -25,3 +39,12 @@ is_plain_shown (Names names) = false
 is_plain_shown (Meta meta) = false
 is_plain_shown (Spun spin) = false
 is_plain_shown (Status status) = false
+is_plain_shown (Functors functors) = false
+is_plain_shown (Publications publications) = false
+is_plain_shown (Joins joins) = false
+is_plain_shown (Object described) = false
+is_plain_shown (Class described) = false
+is_plain_shown (Connections rows) = false
+is_plain_shown (Properties properties) = false
+is_plain_shown (Bindings bindings) = false
+is_plain_shown (Expression expr) = false

@@ -10,36 +10,19 @@ use Rattle.binding_values.specs.declared.property.BindingError.TheVariants.{Bind
 use Rattle.session_model.specs.declared.line.Answer.{Answer}
 use Rattle.session_model.specs.declared.line.Answer.TheVariants.{Number, Found, Numbers, Truth, BindingError as StoodFor}
 use Rattle.session_model.specs.declared.line.Answer.TheVariants.{Value, Names, Meta, Spun, Status as Counted}
+use Rattle.session_model.specs.declared.line.Answer.TheVariants.{Functors, Publications, Joins, Object, Class, Connections}
+use Rattle.session_model.specs.declared.line.Answer.TheVariants.{Properties, Bindings, Binding}
 use Rattle.session_model.specs.declared.line.Spin.{Spin}
 use Rattle.session_model.specs.declared.line.Status.{Status}
 use Rattle.session_model.specs.declared.line.Line.{Line}
 use Rattle.session_model.specs.declared.line.Line.TheVariants.{Reply, Error, Call, Warning, BindingWarning}
 use Rattle.session_model.specs.declared.meta.MetaObject.{MetaObject}
 use Rattle.variant_value.specs.Values.{json_of}
+pub use Rattle.wire_format.specs.Json.{array_of, error_name, json_of_found, json_of_name, json_of_number}
+use Rattle.wire_format.specs.Descriptions.{json_of_class, json_of_connection, json_of_functor, json_of_join}
+use Rattle.wire_format.specs.Descriptions.{json_of_object, json_of_property, json_of_publication}
+use Rattle.wire_format.specs.Terms.{json_of_expression, json_of_named_property}
 use Rattle.wire_format.specs.declared.fault.LineFault.{LineFault}
-
--- a number in JSON
-abbrev pub json_of_number : ℕ → Data
-json_of_number n = number (unsigned n)
-
--- a name, or null where there is none
-abbrev pub json_of_name : Option (List ℕ) → Data
-json_of_name None = null
-json_of_name (Some name) = string name
-
--- a list as an array, each element in JSON
-abbrev pub array_of : {A : Type 0} → (A → Data) → List A → Data
-array_of json elements = array (items_of (map json elements))
-
--- a number, or null where there is none
-abbrev pub json_of_found : Option ℕ → Data
-json_of_found None = null
-json_of_found (Some n) = json_of_number n
-
--- the name of the error that a bound property stands for
-abbrev pub error_name : BindingError → List ℕ
-error_name BindingLoop = codes "BindingLoop"
-error_name EvaluationError = codes "EvaluationError"
 
 -- what there is in a class, in JSON, its keys in byte order
 abbrev pub json_of_meta : MetaObject → Data
@@ -84,6 +67,15 @@ json_of_answer (Names names) = array_of string names
 json_of_answer (Meta meta) = json_of_meta meta
 json_of_answer (Spun spin) = json_of_spin spin
 json_of_answer (Counted status) = json_of_status status
+json_of_answer (Functors functors) = array_of json_of_functor functors
+json_of_answer (Publications publications) = array_of json_of_publication publications
+json_of_answer (Joins joins) = array_of json_of_join joins
+json_of_answer (Object described) = json_of_object described
+json_of_answer (Class described) = json_of_class described
+json_of_answer (Connections rows) = array_of json_of_connection rows
+json_of_answer (Properties properties) = array_of json_of_property properties
+json_of_answer (Bindings bindings) = array_of json_of_named_property bindings
+json_of_answer (Binding term) = json_of_expression term
 
 -- the session that a line names, in front of what it tells behind that
 abbrev pub in_session : List ℕ → Members → Members

@@ -4,9 +4,12 @@
 #![tactic(auto)]
 
 ghost use Rattle.wire_format.specs.Output.{LeavingOutLines, LeavingOutStrangers};
+ghost use Rattle.wire_format.specs.Rereading.{AreReadAgain};
 
 mod adapter;
 mod calls;
+mod descriptions;
+mod expressions;
 mod fault;
 mod line;
 mod parts;
@@ -35,4 +38,10 @@ pub use writing::{line_text, write_line};
 pub fn sessions_are_isolated()
     ensures leaving_out { LeavingOutLines }
     ensures strangers { LeavingOutStrangers }
+{}
+
+/// What is written for the expression of a binding is read as the same expression: whoever copies the reply of
+/// `binding` into `bind` binds the same.
+pub fn expressions_are_read_again()
+    ensures { AreReadAgain }
 {}

@@ -11,9 +11,8 @@ ghost use Rattle.wire_format.specs.Command.{Gives, command_by, command_in, comma
 use crate::fault::{LineFault, ReadError};
 use crate::line::LINE_BYTES;
 use json::Scratch;
-use json_reading::{Member, name_at, plain_members, text_at, tree_members};
+use json_reading::{Member, Stop, name_at, plain_members, read_json, text_at, tree_members};
 use plain_types::{Code, Text};
-use serde_json::Value;
 use session_model::{Command, Tagged};
 use std::alloc::{AllocError, Global};
 use wire_commands::command_in;
@@ -26,9 +25,14 @@ pub fn read_line(alloc: Global, scratch: &mut Scratch, line: &[u8]) -> Result<Ta
     ensures { Gives tag result (command_of line.now) }
 {
     let text = text_in(line)?;
-    match plain_members(alloc, text, scratch)? {
-        Some(members) => tagged_in(alloc, &members),
-        None => read_tree(alloc, text),
+    let stop = match plain_members(alloc, text, scratch) {
+        Ok(members) => return tagged_in(alloc, &members),
+        Err(stop) => stop,
+    };
+    match stop {
+        Stop::NotJson => Err(unreadable()),
+        Stop::Memory => Err(ReadError::Memory),
+        Stop::Form | Stop::Nested => read_tree(alloc, scratch, text),
     }
 }
 
@@ -50,13 +54,11 @@ fn text_in(line: &[u8]) -> Result<&str, ReadError>
 /// The command that a text is that is read as a tree.
 #[inline(never)]
 #[tactic(auto, using(crate::proofs::CommandLemmas::no_object, crate::proofs::CommandLemmas::an_object))]
-fn read_tree(alloc: Global, text: &str) -> Result<Tagged, ReadError>
+fn read_tree(alloc: Global, scratch: &mut Scratch, text: &str) -> Result<Tagged, ReadError>
     ensures { Gives tag result (command_by (ok_or (read text.now) unreadable)) }
 {
-    let tree = match Value::from_str(alloc, text) {
-        Ok(tree) => tree,
-        Err(error) if error.is_memory() => return Err(ReadError::Memory),
-        Err(_) => return Err(unreadable()),
+    let Some(tree) = read_json(alloc, text, scratch)? else {
+        return Err(unreadable());
     };
     match tree_members(alloc, &tree)? {
         Some(members) => tagged_in(alloc, &members),

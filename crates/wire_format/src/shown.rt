@@ -10,7 +10,12 @@ ghost use Rattle.wire_format.specs.Text.{error_name, json_of_answer, json_of_fou
 use binding_values::BindingError;
 use itoa::Buffer as Digits;
 use plain_types::Text;
-use session_model::{Answer, MetaObject, Spin, Status};
+use session_model::{
+    Answer, ClassDescription, ConnectionDescription, FunctorDescription, JoinDescription,
+    MetaObject, NamedProperty, ObjectDescription, PropertyDescription, PublicationDescription,
+    Spin, Status,
+};
+use term_core::Expr;
 use variant_value::Value;
 
 /// An answer is written as one of these.
@@ -25,6 +30,15 @@ pub(crate) enum Shown<'a> {
     Meta(&'a MetaObject),
     Spun(&'a Spin),
     Status(&'a Status),
+    Functors(&'a [FunctorDescription]),
+    Publications(&'a [PublicationDescription]),
+    Joins(&'a [JoinDescription]),
+    Object(&'a ObjectDescription),
+    Class(&'a ClassDescription),
+    Connections(&'a [ConnectionDescription]),
+    Properties(&'a [PropertyDescription]),
+    Bindings(&'a [NamedProperty]),
+    Expression(&'a Expr),
 }
 
 /// Returns how an answer is written. The digits of a number are lent.
@@ -43,6 +57,16 @@ pub(crate) fn shown_as<'a>(answer: &'a Answer, digits: &'a mut Digits) -> Shown<
         Answer::Meta(meta) => Shown::Meta(meta.get()),
         Answer::Spun(spin) => Shown::Spun(spin),
         Answer::Status(status) => Shown::Status(status),
+        Answer::Functors(functors) => Shown::Functors(functors.as_slice()),
+        Answer::Publications(publications) => Shown::Publications(publications.as_slice()),
+        Answer::Joins(joins) => Shown::Joins(joins.as_slice()),
+        Answer::Object(described) => Shown::Object(described.get()),
+        Answer::Class(described) => Shown::Class(described.get()),
+        Answer::Connections(rows) => Shown::Connections(rows.as_slice()),
+        Answer::Properties(properties) => Shown::Properties(properties.as_slice()),
+        Answer::Bindings(bindings) => Shown::Bindings(bindings.as_slice()),
+        Answer::Binding(Some(expr)) => Shown::Expression(expr.get()),
+        Answer::Binding(None) => Shown::Word("null"),
     }
 }
 
@@ -62,14 +86,14 @@ pub(crate) fn shown_value<'a>(value: &'a Value, digits: &'a mut Digits) -> Shown
     }
 }
 
-fn truth_word(truth: bool) -> &'static str
+pub(crate) fn truth_word(truth: bool) -> &'static str
     ensures { result.now ≡ compact_text (boolean truth) }
 {
     if truth { "true" } else { "false" }
 }
 
 /// A number, or `null` where there is none.
-fn found_word<'a>(found: Option<u32>, digits: &'a mut Digits) -> &'a str
+pub(crate) fn found_word<'a>(found: Option<u32>, digits: &'a mut Digits) -> &'a str
     ensures { result.now ≡ compact_text (json_of_found found) }
 {
     match found {

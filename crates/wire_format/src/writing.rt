@@ -8,6 +8,8 @@ ghost use Rattle.wire_format.specs.Shown.{text_of_shown};
 ghost use Rattle.wire_format.specs.Text.{array_of, error_name, json_of_meta, json_of_name, json_of_number};
 ghost use Rattle.wire_format.specs.Text.{json_of_spin, json_of_status, text_of_line, is_plain_byte};
 
+use crate::descriptions::{Written, push_array};
+use crate::expressions::push_expression;
 use crate::shown::{Shown, error_name, shown_as, shown_value};
 use binding_values::BindingError;
 use itoa::Buffer as Digits;
@@ -241,6 +243,15 @@ fn push_shown(alloc: Global, buffer: &mut String, shown: Shown<'_>) -> Result<()
         Shown::Meta(meta) => push_meta(alloc, buffer, meta),
         Shown::Spun(spin) => push_spin(buffer, spin),
         Shown::Status(status) => push_status(buffer, status),
+        Shown::Functors(functors) => push_array(alloc, buffer, functors),
+        Shown::Publications(publications) => push_array(alloc, buffer, publications),
+        Shown::Joins(joins) => push_array(alloc, buffer, joins),
+        Shown::Object(described) => described.push(alloc, buffer),
+        Shown::Class(described) => described.push(alloc, buffer),
+        Shown::Connections(rows) => push_array(alloc, buffer, rows),
+        Shown::Properties(properties) => push_array(alloc, buffer, properties),
+        Shown::Bindings(bindings) => push_array(alloc, buffer, bindings),
+        Shown::Expression(expr) => push_expression(alloc, buffer, expr),
     }
 }
 
@@ -301,7 +312,7 @@ fn push_status(buffer: &mut String, status: &Status) -> Result<(), AllocError>
 }
 
 /// Appends a number behind its key, which comes with what stands before it.
-fn push_count(buffer: &mut String, key: &str, number: u64) -> Result<(), AllocError>
+pub(crate) fn push_count(buffer: &mut String, key: &str, number: u64) -> Result<(), AllocError>
     ensures { OnOk result (string_bytes buffer.new
         ≡ string_bytes buffer.old ++ (key.now ++ compact_text (json_of_number number))) }
 {
@@ -310,7 +321,7 @@ fn push_count(buffer: &mut String, key: &str, number: u64) -> Result<(), AllocEr
 }
 
 #[inline(always)]
-fn push_number(buffer: &mut String, number: u32) -> Result<(), AllocError>
+pub(crate) fn push_number(buffer: &mut String, number: u32) -> Result<(), AllocError>
     ensures { OnOk result (string_bytes buffer.new
         ≡ string_bytes buffer.old ++ compact_text (json_of_number number)) }
 {
@@ -333,7 +344,11 @@ fn push_numbers(buffer: &mut String, numbers: &[u32]) -> Result<(), AllocError>
 }
 
 /// Appends a name, or `null` where there is none.
-fn push_name(alloc: Global, buffer: &mut String, name: &Option<Text>) -> Result<(), AllocError>
+pub(crate) fn push_name(
+    alloc: Global,
+    buffer: &mut String,
+    name: &Option<Text>,
+) -> Result<(), AllocError>
     ensures { OnOk result (string_bytes buffer.new
         ≡ string_bytes buffer.old ++ compact_text (json_of_name name.now)) }
 {
@@ -359,7 +374,7 @@ fn push_texts(alloc: Global, buffer: &mut String, texts: &[Text]) -> Result<(), 
 }
 
 /// Appends a text between quotes, with what JSON escapes in it.
-fn push_text(alloc: Global, buffer: &mut String, text: &str) -> Result<(), AllocError>
+pub(crate) fn push_text(alloc: Global, buffer: &mut String, text: &str) -> Result<(), AllocError>
     ensures { OnOk result
         (string_bytes buffer.new ≡ string_bytes buffer.old ++ compact_text (string text.now)) }
 {

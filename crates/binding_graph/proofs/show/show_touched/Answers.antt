@@ -18,8 +18,8 @@ module _ (store : Store) (bindings : List Binding) where
       → AreShownOf (λ q. among q other) showing
   as_touched one other same showing are q = are q ∙ ap (λ t. if t then shown_now store bindings q else None) (same q)
 
-pub returns : goal.returns
-returns c =
+pub returns-clause-shown : goal.returns-clause-shown
+returns-clause-shown c =
     let store = store_at c.args.stores.now.shelves c.args.place in
     IfOk-weaker c.show_each.result (AreShownOf store c.args.bindings.now (λ q. among q c.put_in_order.new.properties))
     (AreShownOf store c.args.bindings.now (λ q. among q c.args.touched.now))

@@ -12,8 +12,8 @@ looks_at_last : (ms : List Member) (left next : ℕ) (m : Member) → next ≡ l
     → take next ms ≡ take left ms ++ m ∷ []
 looks_at_last ms left next m is within item = ap (λ k. take k ms) is ∙ take_more ms left m within ∙ ap (λ y. take left ms ++ y ∷ []) (sym item)
 
-pub returns-then-eq : goal.returns-then-eq
-returns-then-eq c =
+pub returns-then-is_word : goal.returns-then-is_word
+returns-then-is_word c =
     let key = c.args.key.now in
     let ms = c.args.members.now in
     let left = c.left.left - 1 in

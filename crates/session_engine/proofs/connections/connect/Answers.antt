@@ -4,7 +4,8 @@ use Rattle.session_model.specs.Operations.{found_refusal}
 use Rattle.session_model.specs.Methods.{◌>>=◌}
 use Rattle.session_model.proofs.ForCallers.{performs_connect, refusal_connect}
 use Rattle.session_tables.specs.Tables.{state_at}
-use Rattle.session_engine.proofs.CommandsLemmas.{behind_first, behind_second, operation_performed, found_fault, stopped}
+use Rattle.session_queries.proofs.ForCallers.{behind_first, behind_second}
+use Rattle.session_engine.proofs.CommandsLemmas.{operation_performed, found_fault, stopped}
 use Rattle.session_engine.proofs.connections.connect.Goals as goal
 
 pub returns-in_err-check_living : goal.returns-in_err-check_living

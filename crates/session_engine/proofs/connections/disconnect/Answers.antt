@@ -4,7 +4,8 @@ use Rattle.session_model.specs.Operations.{found_refusal}
 use Rattle.session_model.specs.Methods.{◌>>=◌}
 use Rattle.session_model.proofs.ForCallers.{performs_disconnect, refusal_disconnect}
 use Rattle.session_tables.specs.Tables.{state_at}
-use Rattle.session_engine.proofs.CommandsLemmas.{behind_first, behind_second, operation_performed, found_fault, stopped}
+use Rattle.session_queries.proofs.ForCallers.{behind_first, behind_second}
+use Rattle.session_engine.proofs.CommandsLemmas.{operation_performed, found_fault, stopped}
 use Rattle.session_engine.proofs.connections.disconnect.Goals as goal
 
 pub returns-in_err-check_object : goal.returns-in_err-check_object

@@ -10,7 +10,8 @@ use Rattle.session_model.proofs.ForCallers.{performs_join, refusal_join}
 use Rattle.session_effects.specs.Setup.{settings_of}
 use Rattle.session_tables.specs.Tables.{state_at}
 use Rattle.session_tables.proofs.ForCallers.{changes_same}
-use Rattle.session_engine.proofs.CommandsLemmas.{behind_first, behind_second, found_fault, made_fault, on_refused, replied, starved, stopped}
+use Rattle.session_queries.proofs.ForCallers.{behind_first, behind_second}
+use Rattle.session_engine.proofs.CommandsLemmas.{found_fault, made_fault, on_refused, replied, starved, stopped}
 use Rattle.session_engine.proofs.sharing.join.Goals as goal
 
 -- what is asked for where these are the kinds that its types name

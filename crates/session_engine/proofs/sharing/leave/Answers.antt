@@ -7,7 +7,8 @@ use Rattle.session_model.specs.Sharing.{leaves}
 use Rattle.session_model.specs.State.{with_desk}
 use Rattle.session_model.proofs.ForCallers.{performs_leave, refusal_leave}
 use Rattle.session_tables.specs.Tables.{state_at}
-use Rattle.session_engine.proofs.CommandsLemmas.{behind_first, behind_second, found_fault, replied, stopped}
+use Rattle.session_queries.proofs.ForCallers.{behind_first, behind_second}
+use Rattle.session_engine.proofs.CommandsLemmas.{found_fault, replied, stopped}
 use Rattle.session_engine.proofs.sharing.leave.Goals as goal
 
 pub returns-in_err-check_object : goal.returns-in_err-check_object

@@ -4,7 +4,8 @@ use Rattle.session_model.specs.Sharing.{publication_refusal, publishes_found}
 use Rattle.session_model.proofs.ForCallers.{performs_publish, refusal_publish}
 use Rattle.session_tables.specs.Tables.{state_at}
 use Rattle.session_tables.proofs.ForCallers.{changes_same}
-use Rattle.session_engine.proofs.CommandsLemmas.{behind_first, behind_second, found_fault, made_fault, on_refused, replied, starved, stopped}
+use Rattle.session_queries.proofs.ForCallers.{behind_first, behind_second}
+use Rattle.session_engine.proofs.CommandsLemmas.{found_fault, made_fault, on_refused, replied, starved, stopped}
 use Rattle.session_engine.proofs.sharing.publish.Goals as goal
 
 pub returns-in_err-check_object : goal.returns-in_err-check_object

@@ -5,11 +5,11 @@ use Rattle.plain_types.specs.contracts.items.Items as items
 use Rattle.binding_graph.specs.contracts.change.Change as change
 use Rattle.property_store.specs.Table.{StoreTable, store_at}
 use Rattle.shared_rows.proofs.ForCallers as column
-use Rattle.binding_graph.specs.Graph.{bind_refusal, no_graph}
+use Rattle.binding_graph.specs.Graph.{bind_refusal, no_graph, settled_changes, settled_graph}
 use Rattle.binding_values.specs.Binds.{with_binding}
 use Rattle.binding_graph.specs.Table.{graph_at, with_graph}
-use Rattle.session_tables.specs.Settled.{settled_in}
-use Rattle.session_tables.proofs.PlaceLemmas.{changes_thrice, if_some_then, none_refused, refusal_noted, refused_as, refused_noted, settled_after}
+use Rattle.session_tables.proofs.PlaceLemmas.{changed_at, changes_thrice, if_some_then, none_refused}
+use Rattle.session_tables.proofs.PlaceLemmas.{refusal_noted, refused_as, refused_noted, settled_after, told_after}
 use Rattle.session_tables.proofs.settling.bind.Goals as goal
 
 pub returns-in_err-note-clause-refused : goal.returns-in_err-note-clause-refused
@@ -67,6 +67,20 @@ returns-in_err-settle-clause-stays c = record {
   step = search rules;
 }
 
+pub returns-clause-told : goal.returns-clause-told
+returns-clause-told c =
+    let place = c.args.place in
+    let old = c.args.bindings.now.graphs in
+    let store = store_at c.args.stores.now.shelves place in
+    let its : graph_at c.bind.new.self.graphs place ≡ record (settled_graph store (graph_at old place))
+    { bindings = with_binding (record { at = c.args.at; expr = c.args.expr }) (settled_graph store (graph_at old place)).bindings } =
+    changed_at store store old c.note.new.bindings.graphs c.bind.new.self.graphs c.settle.new.bindings.graphs place
+    (with_binding (record { at = c.args.at; expr = c.args.expr })) c.requires.ready.graph c.in_ok-note.ensures.ok c.in_ok-bind.ensures.ok in
+    c.in_ok-settle.ensures.told
+    ∙ (ap (λ (stores : StoreTable). settled_changes (store_at stores place) (graph_at c.bind.new.self.graphs place) (Some c.args.at)) c.note.ensures.stores
+    ∙ (ap (λ graph. settled_changes store graph (Some c.args.at)) its
+    ∙ told_after store store (graph_at old place) (with_binding (record { at = c.args.at; expr = c.args.expr })) (Some c.args.at)))
+
 pub returns-clause-ok : goal.returns-clause-ok
 returns-clause-ok c =
     let stores = c.args.stores.now.shelves in
@@ -75,7 +89,7 @@ returns-clause-ok c =
     settled_after (store_at stores place) (store_at stores place) old c.note.new.bindings.graphs c.bind.new.self.graphs c.settle.new.bindings.graphs place
     (with_binding (record { at = c.args.at; expr = c.args.expr })) c.requires.ready.graph c.in_ok-note.ensures.ok c.in_ok-bind.ensures.ok
     (c.in_ok-settle.ensures.ok ∙ ap (λ (stores : StoreTable). with_graph c.bind.new.self.graphs place
-    (settled_in (store_at stores place) (graph_at c.bind.new.self.graphs place))) c.note.ensures.stores)
+    (settled_graph (store_at stores place) (graph_at c.bind.new.self.graphs place))) c.note.ensures.stores)
 
 pub returns-clause-stays : goal.returns-clause-stays
 returns-clause-stays c = record {

@@ -1,16 +1,15 @@
-use Rattle.std.proofs.Common.{◌≡◌, ◌∙◌, ◌==◌, List, None, ap, filter, not, rules}
+use Rattle.std.proofs.Common.{ℕ, ◌≡◌, ◌∙◌, ◌==◌, List, None, ap, filter, not, rules}
 use Rattle.shared_rows.proofs.ForCallers as column
 use Rattle.property_store.specs.Store.{without}
 use Rattle.property_store.specs.Table.{store_at}
 use Rattle.binding_values.specs.declared.binding.Binding.{Binding}
 use Rattle.binding_graph.specs.Graph.{no_graph, settled_changes, settled_graph, without_object}
-use Rattle.binding_graph.specs.Table.{graph_at, with_graph}
-use Rattle.session_tables.specs.Settled.{settled_in}
-use Rattle.session_tables.proofs.PlaceLemmas.{at_noted, place_noted, settled_at_once, settled_then, told_after}
+use Rattle.binding_graph.specs.Table.{graph_at}
+use Rattle.session_tables.proofs.PlaceLemmas.{at_noted, settled_at_once, told_after}
 use Rattle.session_tables.proofs.settling.remove.Goals as goal
 
-pub returns-in_err-told-clause-stays : goal.returns-in_err-told-clause-stays
-returns-in_err-told-clause-stays c =
+pub returns-in_err-remove-clause-stays : goal.returns-in_err-remove-clause-stays
+returns-in_err-remove-clause-stays c =
     let old = c.args.bindings.now.graphs in
     record {
       layouts = search rules;
@@ -21,23 +20,8 @@ returns-in_err-told-clause-stays c =
       step = search rules;
     }
 
-module _ (c : goal.After-tidy) where
-  abbrev change : List Binding → List Binding
-  change = filter (λ (binding : Binding). not (binding.at.object == c.args.object))
-
-  graphs_so : c.tidy.new.bindings.graphs ≡ with_graph c.args.bindings.now.graphs c.args.place
-      (settled_in (without c.args.object (store_at c.args.stores.now.shelves c.args.place))
-      (without_object c.args.object (graph_at c.args.bindings.now.graphs c.args.place)))
-  graphs_so =
-      let store = store_at c.args.stores.now.shelves c.args.place in
-      let other = without c.args.object store in
-      let old = c.args.bindings.now.graphs in
-      let noted = c.note.new.bindings.graphs in
-      let graph = without_object c.args.object (graph_at noted c.args.place) in
-      settled_at_once store other old noted c.args.place change c.requires.ready.graph c.in_ok-note.ensures.ok c.tidy.new.bindings.graphs
-      (settled_then other graph noted c.remove.new.self.graphs c.tidy.new.bindings.graphs c.args.place
-      (place_noted store other old noted c.args.place change c.requires.ready.graph c.in_ok-note.ensures.ok)
-      (rw c.note.ensures.stores at c.in_ok-told.ensures.ok) (c.tidy.ensures.tidied other graph))
+abbrev change : ℕ → List Binding → List Binding
+change object = filter (λ (binding : Binding). not (binding.at.object == object))
 
 pub returns-clause-told : goal.returns-clause-told
 returns-clause-told c =
@@ -45,19 +29,23 @@ returns-clause-told c =
     let other = without c.args.object store in
     let old = c.args.bindings.now.graphs in
     let at : graph_at c.note.new.bindings.graphs c.args.place ≡ settled_graph store (graph_at old c.args.place) =
-    at_noted store other old c.note.new.bindings.graphs c.args.place (change c) c.requires.ready.graph c.in_ok-note.ensures.ok in
+    at_noted store other old c.note.new.bindings.graphs c.args.place (change c.args.object) c.requires.ready.graph c.in_ok-note.ensures.ok in
     let noted : settled_changes other (without_object c.args.object (graph_at c.note.new.bindings.graphs c.args.place)) None
     ≡ settled_changes other (without_object c.args.object (settled_graph store (graph_at old c.args.place))) None =
     ap (λ graph. settled_changes other (without_object c.args.object graph) None) at in
-    (rw c.note.ensures.stores at c.in_ok-told.ensures.told) ∙ (noted ∙ told_after store other (graph_at old c.args.place) (change c) None)
+    (rw c.note.ensures.stores at c.in_ok-remove.ensures.told) ∙ (noted ∙ told_after store other (graph_at old c.args.place) (change c.args.object) None)
 
 pub returns-clause-ok : goal.returns-clause-ok
-returns-clause-ok c = graphs_so c
+returns-clause-ok c =
+    let store = store_at c.args.stores.now.shelves c.args.place in
+    let other = without c.args.object store in
+    settled_at_once store other c.args.bindings.now.graphs c.note.new.bindings.graphs c.args.place (change c.args.object) c.requires.ready.graph
+    c.in_ok-note.ensures.ok c.remove.new.self.graphs (rw c.note.ensures.stores at c.in_ok-remove.ensures.ok)
 
 pub returns-clause-stays : goal.returns-clause-stays
 returns-clause-stays c = record {
   layouts = search rules;
   stores = search rules;
-  graphs = column.changes_with no_graph c.args.bindings.now.graphs c.tidy.new.bindings.graphs c.args.place _ c.requires.ready.graph (graphs_so c);
+  graphs = column.changes_with no_graph c.args.bindings.now.graphs c.remove.new.self.graphs c.args.place _ c.requires.ready.graph (returns-clause-ok c);
   step = search rules;
 }

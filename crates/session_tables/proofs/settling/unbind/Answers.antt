@@ -1,13 +1,32 @@
-use Rattle.std.proofs.Common.{◌≡◌, ◌∙◌, ap, filter, not, rules}
+use Rattle.std.proofs.Common.{◌≡◌, ◌∙◌, Some, ap, filter, not, rules}
 use Rattle.property_store.specs.Table.{store_at}
-use Rattle.binding_graph.specs.Graph.{taken}
+use Rattle.binding_graph.specs.Graph.{settled_changes, settled_graph, taken}
 use Rattle.binding_graph.specs.Table.{graph_at, with_graph}
 use Rattle.binding_values.specs.declared.binding.Binding.{Binding}
 use Rattle.property_store.specs.Property.{is_property}
-use Rattle.session_tables.specs.Settled.{settled_in}
 use Rattle.session_tables.proofs.TakenLemmas.{took_at}
-use Rattle.session_tables.proofs.PlaceLemmas.{changes_either, changes_thrice, settled_after, where_ok_too}
+use Rattle.session_tables.proofs.PlaceLemmas.{changed_at, changes_either, changes_thrice, if_ok_too, settled_after, told_after, where_ok_too}
 use Rattle.session_tables.proofs.settling.unbind.Goals as goal
+
+pub returns-clause-told : goal.returns-clause-told
+returns-clause-told c =
+    let stores = c.args.stores.now.shelves in
+    let place = c.args.place in
+    let old = c.args.bindings.now.graphs in
+    let store = store_at stores place in
+    let new = taken store (graph_at old place) c.args.at in
+    let after : store_at c.take.new.stores.shelves place ≡ new =
+    took_at stores c.note.new.stores.shelves c.take.new.stores.shelves old c.note.new.bindings.graphs place c.args.at c.requires.ready.store
+    c.requires.ready.graph c.note.ensures.stores c.in_ok-note.ensures.ok c.in_ok-take.ensures.stored.shelves in
+    let its : graph_at c.take.new.self.graphs place ≡ record (settled_graph store (graph_at old place))
+    { bindings = filter (λ (binding : Binding). not (is_property c.args.at binding.at)) (settled_graph store (graph_at old place)).bindings } =
+    changed_at store store old c.note.new.bindings.graphs c.take.new.self.graphs c.settle.new.bindings.graphs place
+    (filter (λ (binding : Binding). not (is_property c.args.at binding.at))) c.requires.ready.graph c.in_ok-note.ensures.ok c.in_ok-take.ensures.graph in
+    if_ok_too _ _ c.settle.result
+    (λ told is. is ∙ (ap (λ store. settled_changes store (graph_at c.take.new.self.graphs place) (Some c.args.at)) after
+    ∙ (ap (λ graph. settled_changes new graph (Some c.args.at)) its
+    ∙ told_after store new (graph_at old place) (filter (λ (binding : Binding). not (is_property c.args.at binding.at))) (Some c.args.at))))
+    c.settle.ensures.told
 
 pub returns-clause-ok : goal.returns-clause-ok
 returns-clause-ok c =
@@ -22,7 +41,7 @@ returns-clause-ok c =
     (λ is. settled_after store (taken store (graph_at old place) c.args.at) old c.note.new.bindings.graphs c.take.new.self.graphs c.settle.new.bindings.graphs
     place
     (filter (λ (binding : Binding). not (is_property c.args.at binding.at))) c.requires.ready.graph c.in_ok-note.ensures.ok c.in_ok-take.ensures.graph
-    (is ∙ ap (λ store. with_graph c.take.new.self.graphs place (settled_in store (graph_at c.take.new.self.graphs place))) after))
+    (is ∙ ap (λ store. with_graph c.take.new.self.graphs place (settled_graph store (graph_at c.take.new.self.graphs place))) after))
     c.settle.ensures.ok
 
 pub returns-clause-stays : goal.returns-clause-stays

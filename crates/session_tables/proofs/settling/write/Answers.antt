@@ -6,7 +6,6 @@ use Rattle.binding_values.specs.declared.binding.Binding.{Binding}
 use Rattle.binding_graph.specs.Graph.{settled_changes, settled_graph}
 use Rattle.property_store.specs.Property.{is_property}
 use Rattle.binding_graph.specs.Table.{graph_at, with_graph}
-use Rattle.session_tables.specs.Settled.{settled_in}
 use Rattle.session_tables.proofs.SettledLemmas.{where_ok}
 use Rattle.session_tables.proofs.TakenLemmas.{wrote_at, wrote_is}
 use Rattle.session_tables.proofs.PlaceLemmas.{changed_at, changes_either, changes_thrice, if_ok_too, settled_after, told_after, where_ok_too}
@@ -47,7 +46,7 @@ returns-clause-ok c =
     where_ok_too c.settle.result
     (λ is. settled_after store new old c.note.new.bindings.graphs c.take.new.self.graphs c.settle.new.bindings.graphs place
     (filter (λ (binding : Binding). not (is_property c.args.at binding.at))) c.requires.ready.graph c.in_ok-note.ensures.ok c.in_ok-take.ensures.graph
-    (is ∙ ap (λ store. with_graph c.take.new.self.graphs place (settled_in store (graph_at c.take.new.self.graphs place))) after))
+    (is ∙ ap (λ store. with_graph c.take.new.self.graphs place (settled_graph store (graph_at c.take.new.self.graphs place))) after))
     c.settle.ensures.ok
 
 pub returns-clause-stores : goal.returns-clause-stores

@@ -25,5 +25,5 @@ returns-clause-value c = rw (← c.self.view_is)
 
 pub returns-clause-short : goal.returns-clause-short
 returns-clause-short c = carried c.value.result _
-    (value_short (store_at c.args.stores.now.shelves c.args.place) c.count.ensures.sound c.get-graph.result.now.graph c.count-2.ensures.sound c.args.at)
+    (value_short (store_at c.args.stores.now.shelves c.args.place) c.count.ensures.sound c.get-graph.result.now.graph c.rows.ensures.sound c.args.at)
     c.value.ensures

@@ -2,10 +2,9 @@ use Rattle.std.proofs.Common.{◌≡◌, ◌∙◌, [], sym, ap}
 use Rattle.shared_rows.proofs.ForCallers as column
 use Rattle.property_store.specs.Store.{added}
 use Rattle.property_store.specs.Table.{StoreTable, fields_of, store_at, with_store}
-use Rattle.binding_graph.specs.Graph.{no_graph}
+use Rattle.binding_graph.specs.Graph.{no_graph, settled_graph}
 use Rattle.binding_graph.specs.Table.{graph_at}
 use Rattle.session_tables.specs.Bound.{bound_at, seen_of}
-use Rattle.session_tables.specs.Settled.{settled_in}
 use Rattle.session_tables.proofs.BoundLemmas.{closed_place}
 use Rattle.session_tables.proofs.InvariantLemmas.{closed_settled}
 use Rattle.session_tables.proofs.SeenLemmas.{forgotten_changes, put_changes, put_seen}
@@ -36,7 +35,7 @@ returns-in-Ok-clause-ok c =
     let new : c.settle.new.stores.shelves ≡ with_store stores place store = c.settle.ensures.stores ∙ c.in_ok-add_object.ensures.ok in
     rw (← c.self.view_is)
     (put_seen stores c.settle.new.stores.shelves bindings c.settle.new.bindings place store
-    (settled_in (store_at c.add_object.new.self.shelves place) (graph_at bindings.graphs place))
+    (settled_graph (store_at c.add_object.new.self.shelves place) (graph_at bindings.graphs place))
     (bound_at (seen_of stores bindings) place) new c.in-Ok.ensures.ok
     (closed_settled (store_at c.add_object.new.self.shelves place) (graph_at bindings.graphs place) ∙ sym (closed_at bindings.graphs place)))
 

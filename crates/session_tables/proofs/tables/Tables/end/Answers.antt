@@ -1,11 +1,10 @@
 use Rattle.std.proofs.Common.{◌∙◌, [], refl, sym, ap}
 use Rattle.shared_rows.proofs.ForCallers as column
 use Rattle.property_store.specs.Table.{StoreTable, store_at}
-use Rattle.binding_graph.specs.Graph.{ended}
+use Rattle.binding_graph.specs.Graph.{ended, settled_graph}
 use Rattle.binding_graph.specs.Table.{graph_at}
 use Rattle.session_model.specs.State.{closed}
 use Rattle.session_tables.specs.Bound.{bound_at, seen_of, stored_at}
-use Rattle.session_tables.specs.Settled.{settled_in}
 use Rattle.session_tables.proofs.BoundLemmas.{graph_there, only_here, put_state, shelf_there}
 use Rattle.session_tables.proofs.InvariantLemmas.{closed_ended, closed_settled}
 use Rattle.session_tables.proofs.SettledLemmas.{closed_at}
@@ -24,7 +23,7 @@ returns-in-Ok-clause-ok c =
     (put_state (of_columns c.self.inside.0.0 (seen_of c.self.inside.0.1.0.stores.shelves c.self.inside.0.1.0.bindings) c.self.inside.0.1.1.0
     c.self.inside.0.1.1.1.0 c.self.inside.0.1.1.1.1.0 c.self.inside.0.1.1.1.1.1.0) place stores bindings refl (rw (← c.self.view_is) at c.requires)
     (λ of. stored_at of place) (λ of. closed (ended (bound_at of place))) (seen_of new c.end.new.bindings)
-    (put_seen stores new bindings c.end.new.bindings place store (settled_in store (ended (graph_at bindings.graphs place)))
+    (put_seen stores new bindings c.end.new.bindings place store (settled_graph store (ended (graph_at bindings.graphs place)))
     (closed (ended (bound_at (seen_of stores bindings) place))) (settled_store stores new place c.end.ensures.stays.stores) c.in-Ok.ensures.ok
     (closed_settled store (ended (graph_at bindings.graphs place))
     ∙ (sym (closed_ended (graph_at bindings.graphs place)) ∙ ap (λ graph. closed (ended graph)) (sym (closed_at bindings.graphs place))))))

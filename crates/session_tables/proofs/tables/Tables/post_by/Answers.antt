@@ -1,17 +1,20 @@
 use Rattle.std.proofs.Common.{◌≡◌, ◌≤◌, ◌<◌, ◌+◌, ◌-◌, ℕ, true, false, eqb, length, ap, sym, subst, ◌∙◌, IsFalse, arith}
 use Rattle.std.proofs.lemmas.Bool.Decides.{nat_tests}
 use Rattle.shared_rows.specs.Table.{IsPlace}
-use Rattle.publish_board.specs.Desk.{names_session}
-use Rattle.publish_board.specs.Table.{IsFirstJoiner, desk_at}
+use Rattle.publish_board.specs.Desk.{listens_to}
+use Rattle.publish_board.specs.Table.{IsFirstWith, desk_at}
 use Rattle.session_model.specs.State.{State}
-use Rattle.session_tables.specs.Reaching.{Reaches, ReachesBy, only_at, post_at}
+use Rattle.session_model.specs.Arriving.{post_of}
+use Rattle.session_tables.specs.Reaching.{Reaches, ReachesBy, after_posts, only_at, post_at}
+use Rattle.session_tables.specs.Tables.{session_at}
 use Rattle.session_tables.proofs.PostLemmas.{post_row, posts_row, reaches_all, reaches_next, reaches_strangers}
-use Rattle.session_tables.proofs.ReachingLemmas.{placed_shaped, session_unchanged}
+use Rattle.session_tables.proofs.ReachingLemmas.{after_post_unheard, placed_shaped, session_unchanged}
 use Rattle.session_tables.proofs.tables.Tables.post_by.Goals as goal
 
 pub joiners-smaller : goal.joiners-smaller
 joiners-smaller c =
-    let first : IsFirstJoiner c.joiners.self.desks c.args.sending.now.from.now c.joiners.least c.in-Some.at = c.in-Some.ensures in
+    let its = c.index-publications-index-in-joiners.result in
+    let first : IsFirstWith (listens_to c.args.sending.now.from.now its.name) c.joiners.self.desks c.joiners.least c.in-Some.at = c.in-Some.ensures in
     let there = first.is_place in
     let up = first.from_least in
     let desks = (c.joiners.invariant.reaches.shape.even c.requires.placed.7).desks in
@@ -33,7 +36,12 @@ joiners-preserved c =
     let kinds = c.args.sending.now.kinds.now in
     let args = c.args.sending.now.args.now in
     let posts = post_at (desk_at old.desks place) c.args.index kinds args in
-    let first : IsFirstJoiner now.desks from least at = c.in-Some.ensures in
+    let its = c.index-publications-index-in-joiners.result in
+    let alike = ap (λ (state : State). state.desk.publications) c.joiners.invariant.own in
+    let mine = post_row c.publications-in-joiners.result.now (desk_at old.desks place).publications c.args.index kinds args its
+    (c.publications-in-joiners.ensures ∙ alike)
+    c.requires.within c.index-publications-index-in-joiners.is in
+    let first : IsFirstWith (listens_to from its.name) now.desks least at = c.in-Some.ensures in
     let there = first.is_place in
     let up = first.from_least in
     let desks = (c.joiners.invariant.reaches.shape.even c.requires.placed.7).desks in
@@ -41,7 +49,9 @@ joiners-preserved c =
     record {
       reaches = reaches_next classes from place posts at old now new c.args.failing c.joiners.failing c.reach-failing.result c.requires.placed
           (reaches_strangers classes from place posts least at old now c.args.failing c.joiners.failing up c.joiners.invariant.rest
-          (λ other from_least under placed. first.before other from_least under) c.joiners.invariant.reaches)
+          (λ other from_least under placed. subst (λ posts. after_posts classes from posts (session_at now other) ≡ session_at now other) (sym mine)
+          (after_post_unheard classes from (post_of kinds args its) (session_at now other) (first.before other from_least under)))
+          c.joiners.invariant.reaches)
           (subst (λ desk. ReachesBy classes from place (only_at at (post_at desk c.args.index kinds args)) now new c.joiners.failing c.reach-failing.result)
           (ap (λ (state : State). state.desk) c.joiners.invariant.own) c.reach-failing.ensures.reaches);
       rest = λ other above.
@@ -66,17 +76,24 @@ returns-in_default-clause-reaches c =
     let shape = c.joiners.invariant.reaches.shape in
     let within = c.joiners.invariant.within in
     let places = shape.places in
+    let its = c.index-publications-index-in-joiners.result in
+    let alike = ap (λ (state : State). state.desk.publications) c.joiners.invariant.own in
+    let mine = post_row c.publications-in-joiners.result.now (desk_at old.desks place).publications c.args.index kinds args its
+    (c.publications-in-joiners.ensures ∙ alike)
+    c.requires.within c.index-publications-index-in-joiners.is in
     let none : (other : ℕ) → c.joiners.least ≤ other → IsPlace now.desks other
-    → IsFalse (names_session from (desk_at now.desks other)) = c.in_default.ensures in
+    → IsFalse (listens_to from its.name (desk_at now.desks other)) = c.in_default.ensures in
     let one = post_row c.publications.result.now (desk_at old.desks place).publications c.args.index kinds args row c.publications.ensures c.requires.within
     c.index-publications-index.is in
     let sent = posts_row c.publications.result.now (desk_at old.desks place).publications c.args.index c.args.sending.now.object c.args.sending.now.signal kinds
-    args row true c.publications.ensures c.requires.within c.index-publications-index.is (sym c.is_of.ensures ∙ c.if-not-is_of.false) in
+    args row true c.publications.ensures c.requires.within c.index-publications-index.is (sym c.publishes.ensures ∙ c.if-not-publishes.false) in
     subst (λ posts. Reaches classes from place posts old now c.args.failing c.joiners.failing) (one ∙ sym sent)
     (reaches_all classes from place posts end old now c.args.failing c.joiners.failing (omega arith)
     (reaches_strangers classes from place posts c.joiners.least end old now c.args.failing c.joiners.failing
     (omega (arith, within, places)) c.joiners.invariant.rest
-    (λ other up under placed. none other up (placed_shaped old now other shape placed).5) c.joiners.invariant.reaches))
+    (λ other up under placed. subst (λ posts. after_posts classes from posts (session_at now other) ≡ session_at now other) (sym mine)
+    (after_post_unheard classes from (post_of kinds args its) (session_at now other) (none other up (placed_shaped old now other shape placed).5)))
+    c.joiners.invariant.reaches))
 
 pub returns-after-joiners-clause-reaches : goal.returns-after-joiners-clause-reaches
 returns-after-joiners-clause-reaches c =
@@ -94,6 +111,6 @@ returns-after-joiners-clause-reaches c =
     let one = post_row c.publications.result.now (desk_at old.desks place).publications c.args.index kinds args row c.publications.ensures c.requires.within
     c.index-publications-index.is in
     let sent = posts_row c.publications.result.now (desk_at old.desks place).publications c.args.index c.args.sending.now.object c.args.sending.now.signal kinds
-    args row true c.publications.ensures c.requires.within c.index-publications-index.is (sym c.is_of.ensures ∙ c.if-not-is_of.false) in
+    args row true c.publications.ensures c.requires.within c.index-publications-index.is (sym c.publishes.ensures ∙ c.if-not-publishes.false) in
     subst (λ posts. Reaches classes from place posts old now c.args.failing c.joiners.failing) (one ∙ sym sent)
     (reaches_all classes from place posts c.joiners.least old now c.args.failing c.joiners.failing (omega (arith, past, count)) c.joiners.invariant.reaches)

@@ -1,0 +1,4 @@
+pub mod ReadingLemmas
+pub mod QueriesLemmas
+pub mod ForCallers
+pub mod BindingsLemmas

@@ -1,0 +1,14 @@
+use Rattle.std.proofs.Common.{Ok, sym, ap, ◌∙◌}
+use Rattle.session_model.specs.declared.line.Answer.TheVariants as a
+use Rattle.session_queries.proofs.ReadingLemmas.{behind_first, behind_second, refused_reading}
+use Rattle.session_queries.proofs.queries.children.Goals as goal
+
+pub returns-in_err-check_named : goal.returns-in_err-check_named
+returns-in_err-check_named c = refused_reading _ _ _ c.in_err-check_named.field-0.0 _ c.from_residual.ensures.1
+    (behind_first _ _ _ c.in_err-check_named.ensures)
+
+pub returns : goal.returns
+returns c = record {
+  returns = behind_second _ _ c.in_ok-check_named.ensures
+      ∙ ap (λ numbers. Ok (a.Numbers numbers)) (sym (c.from_vec.ensures ∙ c.in_ok-found.ensures));
+}
