@@ -1,0 +1,10 @@
+/// The suites of tests, by their names.
+#pragma once
+
+class QObject;
+
+QObject *connectionTests();
+QObject *failureTests();
+QObject *jsonTests();
+QObject *objectTests();
+QObject *sessionTests();
