@@ -35,6 +35,7 @@ for program in "$@"; do
         ;;
     python3=*) need_python "${program#python3=}" ;;
     objdump) has objdump || missing "objdump, which says what a program needs; install binutils (Debian: apt-get install binutils)." ;;
+    flake8) has flake8 || missing "flake8, which reads the sources in Python; install it (Debian: apt-get install flake8)." ;;
     dpkg-deb) has dpkg-deb || missing "dpkg-deb, which makes packages for Debian; install dpkg, or use make dist instead." ;;
     *) has "$program" || missing "$program; install it with your system's packages." ;;
     esac

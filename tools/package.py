@@ -37,6 +37,7 @@ metad {version}, for x86-64 Linux with glibc {glibc} or later; the tools need Py
 
 This folder may stand anywhere. With its bin/ on the path there are metad, metad-front, metad-shell, metad-check,
 metad-explain, metad-slice and metad-inspect; with share/metad/python on PYTHONPATH programs in Python find the client.
+Programs in JavaScript import share/metad/js/index.mjs.
 man -l share/man/man1/metad.1 shows the manual page, and share/doc/metad/README.md leads to the documents. sha256sum
 -c SHA256SUMS compares all files.
 """
@@ -55,7 +56,7 @@ Description: server of live objects with the meta-object system of Qt 6
  others, queued events and publications between sessions, in one server whose
  sessions are isolated. Commands come in as JSON, one a line, and replies, calls
  and warnings go out as JSON lines. With a front for many clients of a socket, a
- line editor, a checker of class files and a client for Python.
+ line editor, a checker of class files, and clients for Python and JavaScript.
 """
 
 COPYRIGHT = "The owner of metad has not chosen a licence yet.\n"

@@ -1,5 +1,5 @@
 #!/usr/bin/env python3
-"""Writes the tables of the documents that are made of sources: in docs/ARCHITECTURE.md the crates, lowest first.
+"""Writes the tables of the documents that are made of sources: in docs/internals/ARCHITECTURE.md the crates, lowest first.
 
 A table stands between two comments of the page, `<!-- table: NAME -->` and `<!-- end of table -->`; what else the page
 has stays. With --check nothing is written, and the status is 1 where a table is not what the sources make of it.
@@ -14,7 +14,7 @@ from pathlib import Path
 from typing import Callable, Dict, List, Set
 
 ROOT = Path(__file__).resolve().parent.parent
-ARCHITECTURE = Path("docs", "ARCHITECTURE.md")
+ARCHITECTURE = Path("docs", "internals", "ARCHITECTURE.md")
 BETWEEN = r"(<!-- table: {} -->\n).*?(<!-- end of table -->\n)"
 SENTENCE = re.compile(r"(.+?)\.(?= |$)")
 

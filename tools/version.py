@@ -13,7 +13,9 @@ CHANGES = Path("CHANGELOG.md")
 UNRELEASED = "## Unreleased\n"
 PLACES = [
     SAID,
+    Path("clients/js/package.json"),
     Path("README.md"),
+    Path("clients/qt/CMakeLists.txt"),
     Path("crates/command_line/src/options.rt"),
     Path("man/metad.1"),
     Path("examples/kubernetes/README.md"),

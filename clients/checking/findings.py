@@ -124,4 +124,3 @@ class Findings:
     def in_order(self) -> list[Finding]:
         """All that is found, by its place in the text."""
         return sorted(self.found, key=lambda it: (it.node.at, not it.is_fault, it.code))
-

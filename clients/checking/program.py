@@ -19,22 +19,23 @@ COLOURS = {True: "\033[31m", False: "\033[33m"}  # of faults and of warnings
 MARKED, PLAIN = "\033[1m", "\033[0m"
 
 HELP = """\
-Faults are what metad refuses a class file for; docs/PROTOCOL.md has their codes, C01 to C09. metad names the
-first that it comes to, by the order of its reading, which is not that of the lines: that one is marked. Behind a
-fault of JSON, and in a file that is too large, nothing else is looked for.
+Faults are what metad refuses a class file for. docs/PROTOCOL.md lists their codes, C01 to C09. metad reports only the
+first fault in its own order of reading, which may not be the first in the file: that one is marked. If the file is no
+JSON or too large, nothing else is checked.
 
-Warnings are of what metad takes and is surely not meant. But for W01 they are looked for where there is no fault.
+Warnings are about things that metad accepts but that are probably mistakes. Except for W01, they are checked only if
+there is no fault.
 {mistakes}
-An object that is named by sender, child or a number may be of any class of the file; self is of the class of its
-slot, or of one below it. A property that no class declares is warned of where its name is much like a declared one
-and is not both written and read; with --declared it is warned of in any case.
+An object that is named by sender, child or a number may have any class of the file. self has the class of the slot, or
+a class below it. A property that no class declares is warned about if its name is similar to a declared one and it is
+not both written and read; with --declared it always is.
 
-With --format json each finding is a line with the keys file, line, column, path, code, severity (error or warning),
-message, class, slot, action and named, which is true where metad names this fault. Lines and columns count from 1,
-and a column is one character. Text is in colour on a terminal, and never where NO_COLOR is set.
+With --format json, each finding is a line with the keys file, line, column, path, code, severity (error or warning),
+message, class, slot, action and named (true if metad reports this fault). Lines and columns count from 1; a column is
+one character. Text is coloured on a terminal, unless NO_COLOR is set.
 
-Exit status: 0 where no file has a fault, 1 where one has (with --strict also where one has a warning), 2 where a
-file cannot be read or the output cannot be written, and after a mistake in the command line."""
+Exit status: 0 if no file has a fault; 1 if one has (with --strict also for a warning); 2 if a file cannot be read or
+the output cannot be written, and after a mistake in the command line."""
 
 
 class Stop(Exception):

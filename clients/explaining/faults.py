@@ -41,6 +41,10 @@ def are_texts(value: Any) -> bool:
     return isinstance(value, list) and all(map(is_text, value))
 
 
+def is_place(value: Any) -> bool:
+    return isinstance(value, dict) and value.keys() == {"object", "property"} and is_number(value["object"]) and is_name(value["property"])
+
+
 A_NAME: Check = ("a name: a letter or _, then letters, digits and _, at most 64", is_name)
 A_NUMBER: Check = (f"a whole number from 1 to {NUMBER_MOST}", is_number)
 A_TEXT: Check = ("a text", is_text)
@@ -57,7 +61,9 @@ CHECKS: Dict[str, Check] = {
     "priority": ("-1, 0 or 1", is_priority),
 }
 OTHERWISE: Dict[Tuple[str, str], Check] = {
-    ("find", "name"): A_TEXT,
+    **dict.fromkeys((("find", "name"), ("findAll", "name")), A_TEXT),
+    ("connections", "after"): A_NUMBER,
+    ("bindings", "after"): ("an object with the keys object and property: a number and a name", is_place),
     ("setParent", "parent"): (f"null or {A_NUMBER[0]}", lambda value: value is None or is_number(value)),
 }
 

@@ -132,8 +132,10 @@ def tell(session: Objects, word: str, asked: Asked, target: int, reply: Any) -> 
         session.posted.add(target)
     elif word == "children":
         session.list_below(target, reply)
-    elif word == "find" and reply is not None:
-        session.stand([reply])
+    elif word in ("find", "findAll", "parent"):
+        session.stand(reply if word == "findAll" else [it for it in (reply,) if it is not None])
+    elif word == "object" and reply["parent"] is not None:
+        session.stand([reply["parent"]])
     elif word == "status":
         session.count(reply["objects"], reply["queued"])
     elif word in ("set", "get") and asked["property"] == OBJECT_NAME:

@@ -15,26 +15,22 @@ from .telling import Said, Telling
 NAME = os.path.basename(sys.argv[0])
 
 HELP = """\
-Each line is shown as it is, and below it what it means. With --commands each command is shown before
-the lines that it leads to, and they are explained by it: of a refusal it is also said which key of the
-command is wrong or which of its objects are missing, and what to do.
+Each line is shown, and below it what it means. With --commands, each command is shown before its lines and used to
+explain them. For a refusal you then also see which key of the command is wrong or which object is missing, and what
+to do.
 
-What --tree knows. The commands say which objects are made, moved and deleted, and the replies whether
-that was done; a reply of `children` says what stands below an object then. But a slot or a functor that is
-called may move and delete objects, and no line says so: behind a command that calls one, as a `set` does
-whose change a slot is told of, it is not known where the objects stand, nor whether they stand, until
-later replies tell it. Only `deleteLater()`, which every object has, is known to do nothing before the
-next `spin`. So the tree of a session whose slots were called is whole again after a `children` for the
-roots and one for each object.
-With --classes it is known what slots do. Those that move and delete nothing leave the tree as it is, and others
-are followed where it is sure what they have done: where no action of theirs was refused, none that moves or
-deletes stands in a branch of `when`, and the lines say in which order they were done.
-Objects are drawn in the order of `children`, each with its class and its name where these are known. A name
-that is bound is not, as it changes with other properties.
-A `?` behind an object says that it may be gone, a `...` that there may be more below it.
+What --tree knows: the commands say which objects are made, moved and deleted, and the replies say whether that was
+done. But slots and functors can move and delete objects too, and no line reports it. After a command that calls one,
+the tree is uncertain until later replies of `children` confirm it: one for the roots and one for each object make it
+certain again. The slot `deleteLater()` is known to do nothing before the next `spin`.
+With --classes, slots are followed. Those that move and delete nothing leave the tree certain. Others are followed if
+no action of theirs was refused, no move or deletion is in a branch of `when`, and the lines show their order.
+Objects are drawn in the order of `children`, with class and name if these are known. A name that is bound is not
+shown, because it changes with other properties. A `?` after an object means that it may be gone, and `...` that it
+may have more children.
 
-Exit status: 0 at the end of the input, 1 where something cannot be read or written, or the commands
-are not those of the input, 2 after a mistake in the command line."""
+Exit status: 0 at the end of the input; 1 if something cannot be read or written, or if the commands do not belong to
+the input; 2 after a mistake in the command line."""
 
 
 class Stop(Exception):

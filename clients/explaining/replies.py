@@ -5,9 +5,8 @@ from __future__ import annotations
 from typing import Any, Dict, Sequence
 
 from .expressions import spelled
+from .reads import Asked, sought_by
 from .words import arguments, counted, in_error, listed, misfit, plain, shown
-
-Asked = Dict[str, Any]  # what a command holds at its keys
 
 OBJECT_NAME = "objectName"  # the property that every class declares
 
@@ -40,12 +39,9 @@ def said_of_children(asked: Asked, reply: Any) -> str:
 
 
 def said_of_find(asked: Asked, reply: Any) -> str:
-    sought = [f"named {shown(asked['name'])}"] if "name" in asked else []
-    sought += [f"of class {plain(asked['class'])}"] if "class" in asked else []
-    which = "".join(f" {it}" for it in sought)
     if reply is None:
-        return f"there is no object{which} below object {asked['object']}"
-    return f"object {reply} is the first{which} below object {asked['object']}"
+        return f"there is no object{sought_by(asked)} below object {asked['object']}"
+    return f"object {reply} is the first{sought_by(asked)} below object {asked['object']}"
 
 
 # ---- properties ----

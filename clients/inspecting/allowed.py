@@ -7,17 +7,10 @@ import re
 from typing import Any, Dict, FrozenSet
 
 from explaining.held import is_deep
+from explaining.known_commands import LINE_BYTES as LINE_MOST
+from explaining.known_commands import READING
 
-LINE_MOST = 65_536  # bytes of a command with its session, which the server reads as one line
 NAME = re.compile(r"[A-Za-z_][A-Za-z0-9_]{0,63}")
-READING: Dict[str, FrozenSet[str]] = {
-    "children": frozenset(("object",)),
-    "get": frozenset(("object", "property")),
-    "meta": frozenset(("class",)),
-    "status": frozenset(),
-    "bindingError": frozenset(("object", "property")),
-    "dynamicNames": frozenset(("object",)),
-}  # commands that change nothing, and the keys that each may have
 WRITING: Dict[str, FrozenSet[str]] = {
     "invoke": frozenset(("object", "method", "args", "type")),
     "set": frozenset(("object", "property", "value")),

@@ -240,5 +240,3 @@ def fits(posting: Posting, call: Call) -> bool:
     if posting.args is UNKNOWN:
         return True
     return len(posting.args) >= len(call.args) and all(a is UNKNOWN or a == b for a, b in zip(posting.args, call.args))
-
-

@@ -7,6 +7,7 @@ from typing import Any, Callable, Dict, Iterator, List, Set, Tuple
 from explaining.commands import Command
 from explaining.held import is_number
 from explaining.knowledge import Knowledge
+from explaining.known_commands import NAMES
 from explaining.lines import Call as CallLine
 from explaining.lines import Error, Line, Reply
 from explaining.words import Misfit
@@ -18,6 +19,7 @@ from .entries import Call, Entry
 from .evaluating import settle_doubted
 from .forms import reads_of
 from .session import UNKNOWN, Binding, Cell, Connection, Join, Living, Session, Spot
+from .told import BY_NAME
 
 FAILING = ("E20", "E21")
 OBJECT_NAME = "objectName"
@@ -29,12 +31,13 @@ class Learning:
     def __init__(self, classes: Classes) -> None:
         self.classes = classes
         self.knowledge = Knowledge(classes.slots)
-        self.by_word: Dict[str, Callable[[Session, Entry], None]] = {
-            "set": self.do_set, "get": self.do_get, "dynamicNames": self.do_dynamic_names, "bind": self.do_bind,
-            "unbind": self.do_unbind, "bindingError": self.do_binding_error, "connect": self.do_connect,
-            "connectFunctor": self.do_connect, "disconnect": self.do_disconnect, "block": self.do_block,
+        self.by_name: Dict[str, Callable[[Session, Entry], None]] = {
+            "set": self.do_set, "get": self.do_get, "dynamic_names": self.do_dynamic_names, "bind": self.do_bind,
+            "unbind": self.do_unbind, "binding_error": self.do_binding_error, "connect": self.do_connect,
+            "connect_functor": self.do_connect, "disconnect": self.do_disconnect, "block": self.do_block,
             "publish": self.do_publish, "unpublish": self.do_unpublish, "join": self.do_join, "leave": self.do_leave,
             "status": self.do_status, "begin": self.do_group, "end": self.do_group,
+            **BY_NAME,
         }  # fmt: skip
 
     # ---- the command as a whole ----
@@ -79,7 +82,7 @@ class Learning:
 
     def know_rest(self, session: Session, entry: Entry, trace: Trace) -> None:
         """Learns what the command has done beside that, and then what its calls have."""
-        learn = self.by_word.get(entry.word)
+        learn = self.by_name.get(NAMES.get(entry.word, ""))
         if learn:
             try:
                 learn(session, entry)
@@ -173,7 +176,7 @@ class Learning:
             session.doubt(spot)
         for spot in {**written, **told}:
             values = [*written.get(spot, ()), *told.get(spot, ())]
-            is_sure = all(it is not UNKNOWN and it == values[0] and type(it) is type(values[0]) for it in values)
+            is_sure = all(it is not UNKNOWN and it == values[0] and type(it) is type(values[0]) for it in values)  # noqa: E721
             if spot in written and entry.word != "bind" and spot in session.bindings and is_sure:
                 session.unbind(spot)
             elif spot in written:
@@ -329,6 +332,7 @@ def fail(session: Session) -> None:
     for table in tables:
         table.clear()
     session.loose.clear()
+    session.unread.clear()
     session.joins, session.failed, session.queued, session.is_queue_sure = [], True, 0, True
     session.postings.clear()
 

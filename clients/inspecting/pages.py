@@ -11,6 +11,7 @@ from .entries import Entry
 from .evaluating import settle_errors
 from .feed import Asking
 from .happened import Sought
+from .looking import Looks
 from .replay import Replay
 from .world import World
 
@@ -51,6 +52,7 @@ class Pages:
         self.leave = leave
         self.words = words
         self.replay = replay
+        self.looks = Looks(asking.ask)
         self.gets: Dict[str, Callable[[World, Asked], Any]] = {
             "about": self.about, "sessions": self.sessions, "tree": self.tree, "object": self.object, "lines": self.lines,
             "entry": self.entry, "chain": self.chain, "emissions": self.emissions, "slots": self.slots, "graph": self.graph,
@@ -99,10 +101,18 @@ class Pages:
     def tree(self, world: World, asked: Asked) -> Optional[Json]:
         start, count = number_in(asked, "from", 0), number_in(asked, "count", 60)
         closed: Set[int] = {int(it) for it in asked.get("closed", "").split(",") if it.isdecimal() and len(it) < 16}
-        return views.tree(world, asked["session"], start or 0, count or 0, closed, asked.get("sought", ""))
+        found = views.tree(world, asked["session"], start or 0, count or 0, closed, asked.get("sought", ""))
+        return self.with_wanted(world, found, asked["session"], None)
 
     def object(self, world: World, asked: Asked) -> Optional[Json]:
-        return views.object_of(world, asked["session"], number_in(asked, "number", 0) or 0)
+        number = number_in(asked, "number", 0) or 0
+        return self.with_wanted(world, views.object_of(world, asked["session"], number), asked["session"], number)
+
+    def with_wanted(self, world: World, found: Optional[Json], session: str, number: Optional[int]) -> Optional[Json]:
+        """What is known, with how much of it may be asked for by `look`."""
+        if found is None:
+            return None
+        return {**found, "wanted": len(self.looks.wanted(world, session, number)) if self.leave.ask else 0}
 
     def sought(self, asked: Asked) -> Sought:
         """Which commands are sought."""
@@ -147,7 +157,9 @@ class Pages:
             return self.ask(session_in(asked), asked["command"])
         if name == "ask_tree" and self.leave.ask:
             return self.ask_tree(session_in(asked))
-        raise Refused(403 if name == "ask_tree" else 404)
+        if name == "look" and self.leave.ask:
+            return self.looks.look(self.own_world, session_in(asked), object_in(asked))
+        raise Refused(403 if name in ("ask_tree", "look") else 404)
 
     def ask(self, session: str, command: Json) -> Json:
         """Gives a command in the name of a session, where that is allowed, and answers with what was told to it."""
@@ -177,6 +189,14 @@ def session_in(asked: Json) -> str:
     if not is_session(name):
         raise Refused(400)
     return str(name)
+
+
+def object_in(asked: Json) -> Optional[int]:
+    """The object that is asked for, or None for the tree of a session."""
+    number = asked.get("object")
+    if number is not None and (not isinstance(number, int) or isinstance(number, bool) or number < 1):
+        raise Refused(400)
+    return number
 
 
 def line_in(asked: Json) -> int:

@@ -26,14 +26,13 @@ WAITING_MOST = 64
 NICENESS = 5  # the picture gives way to the server
 
 HELP = """\
-RECORD is an input of metad, as it was given: a file, or what `metad-front --record` has written. PROGRAM is the
-server, and ARGS the words that it was given. PROGRAM is run on RECORD once, and what it tells is shown as a page,
-line by line, forward and back. Where the page is stands on standard error; it is there until this is interrupted.
+RECORD is the input of a metad: any file of commands, or what `metad-front --record` has written. PROGRAM is the server,
+and ARGS are the words that it was given. PROGRAM runs on RECORD once, and the page shows its output line by line,
+forwards and backwards. The address of the page is printed on standard error. It is there until you press Ctrl-C.
 
-A server that runs is shown by `metad-front --inspect PORT`, which starts this program by itself.
+`metad-front --inspect PORT` shows a running server. It starts this program.
 
-Exit status: 0 after an interrupt, 1 where something cannot be read, bound or run, 2 after a mistake in the command
-line."""
+Exit status: 0 after an interrupt; 1 if something cannot be read, opened or run; 2 after a mistake in the command line."""
 
 
 def parser() -> argparse.ArgumentParser:

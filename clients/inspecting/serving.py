@@ -232,5 +232,3 @@ def serve(door: socket.socket, token: str, pages: Pages) -> Server:
     server = Server(door, token, pages)
     threading.Thread(target=server.serve_forever, kwargs={"poll_interval": 0.5}, daemon=True).start()
     return server
-
-

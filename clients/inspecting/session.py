@@ -126,6 +126,7 @@ class Session:
     errors_before: Dict[Spot, Cell] = field(default_factory=dict)  # those when the group began that is open
     in_doubt: Set[Spot] = field(default_factory=set)  # those that the command that is learnt from may have ended
     loose: Set[Spot] = field(default_factory=set)  # bound properties that a slot may have written, and so may not be bound
+    unread: Set[Spot] = field(default_factory=set)  # bound properties whose expressions are not known
     doubted: Dict[str, int] = field(default_factory=dict)  # up to which object a property may have been written unseen
     blocked: Dict[int, Optional[bool]] = field(default_factory=dict)
     publications: Dict[str, Spot] = field(default_factory=dict)
@@ -264,6 +265,7 @@ class Session:
         binding = self.bindings.pop(spot, None)
         self.errors.pop(spot, None)
         self.loose.discard(spot)
+        self.unread.discard(spot)
         for read in binding.reads if binding else ():
             self.without(self.readers, read, spot)  # type: ignore[arg-type]
 
@@ -301,6 +303,7 @@ class Session:
                 self.unbind(spot)
             self.errors = {spot: cell for spot, cell in self.errors.items() if spot[0] not in gone}
             self.loose = {spot for spot in self.loose if spot[0] not in gone}
+            self.unread = {spot for spot in self.unread if spot[0] not in gone}
             self.publications = {name: spot for name, spot in self.publications.items() if spot[0] not in gone}
             self.joins = [it for it in self.joins if it.object not in gone]
 

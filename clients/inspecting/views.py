@@ -6,8 +6,8 @@ from typing import Any, Callable, Dict, List, Optional, Set, Tuple
 
 from explaining.objects import ROOT
 
-from . import graphs
-from .classes import Classes
+from . import described, graphs
+from .described import chain_of, properties_of
 from .effects import cell_of
 from .evaluating import settle_errors
 from .forms import formula
@@ -163,18 +163,20 @@ def told(value: Any) -> Any:
     return {"large": str(value)} if is_large else value
 
 
-def property_row(classes: Classes, session: Session, spot: Spot) -> Json:
-    declared = classes.property(session.objects.classes.get(spot[0]), spot[1])
+def property_row(world: World, session: Session, spot: Spot) -> Json:
+    classes, class_name = world.classes, session.objects.classes.get(spot[0])
+    declared = next((it for it in properties_of(classes, world.described, class_name) if it.name == spot[1]), None)
     binding, error = session.bindings.get(spot), session.errors.get(spot)
     return {
         "name": spot[1],
         "type": declared.kind if declared else None,
         "notify": declared.notify if declared else None,
         "bindable": declared.is_bindable if declared else None,
-        "dynamic": declared is None and session.objects.classes.get(spot[0]) in classes,
+        "dynamic": declared is None and (class_name in classes or class_name in world.described),
         **value_of(cell_of(classes, session, spot)),
         "binding": formula(binding.form, spot[0]) if binding else None,
         "bound_by": binding.entry if binding else None,
+        "bound": spot in session.bindings or spot in session.unread,
         "error": [error.value, error.is_sure, error.entry] if error else None,
         "readers": [list(it) for it in sorted(session.readers.get(spot, ()))[:20]],
     }
@@ -205,9 +207,9 @@ def object_of(world: World, name: str, number: int) -> Optional[Json]:
     objects, classes = session.objects, world.classes
     settle_errors(classes, session, world.entries.count)
     class_name = objects.classes.get(number)
-    declared = [it.name for it in classes.properties(class_name)]
+    declared = [it.name for it in properties_of(classes, world.described, class_name)]
     names = [*declared, *sorted(set(session.of_object.get(number, ())).difference(declared))]
-    rows = [property_row(classes, session, (number, it)) for it in names]
+    rows = [property_row(world, session, (number, it)) for it in names]
     keys = sorted(session.by_end.get(number, ()))
     ends = [session.connections[it] for it in keys]
     return {
@@ -216,8 +218,8 @@ def object_of(world: World, name: str, number: int) -> Optional[Json]:
         "is_there": number in objects.classes,
         "sure": number in objects.sure,
         "class": class_name,
-        "chain": [it.name for it in reversed(classes.chain(class_name))],
-        "class_known": class_name in classes,
+        "chain": chain_of(classes, world.described, class_name),
+        "class_known": class_name in classes or class_name in world.described,
         "name": objects.names.get(number),
         "parent": objects.parents.get(number),
         "children": objects.below.get(number, [])[:LISTED_MOST],
@@ -234,8 +236,11 @@ def object_of(world: World, name: str, number: int) -> Optional[Json]:
 
 
 def methods_of(world: World, class_name: Optional[str]) -> List[Json]:
-    """The methods of a class: of the class file, or as `meta` has told them."""
+    """The methods of a class: of the class file, or as `describe` or `meta` has told them."""
     found = world.classes.methods(class_name)
+    if class_name is not None and class_name not in world.classes and class_name in world.described:
+        told_of = described.methods_of(world.described, class_name)
+        return [{"text": text, "kind": kind, "of": of, "body": None} for text, kind, of in told_of]
     if class_name in world.classes or class_name not in world.met:
         return [{"text": text, "kind": kind, "of": of, "body": world.classes.body(of, text)} for text, kind, of in found]
     texts = world.met[class_name or ""].get("methods", [])

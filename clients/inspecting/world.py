@@ -11,6 +11,7 @@ from typing import Any, Deque, Dict, Iterator, List, Optional, Sequence, Set, Tu
 from explaining.held import is_deep
 
 from .classes import Classes
+from .described import Described, as_meta, is_description
 from .effects import count_of
 from .entries import CALLS_MOST, TEXT_MOST, Call, Entries, Entry, Warned
 from .learning import Learning, settle_queue
@@ -34,6 +35,7 @@ class World:
         self.entries = Entries()
         self.under_way: Deque[Entry] = deque()
         self.met: Dict[str, Any] = {}  # what `meta` has told of classes
+        self.described: Described = {}  # what `describe` has told of them
         self.listeners: Dict[str, Set[str]] = {}  # by a session's name, those that have joined it
         self.slots: Dict[str, Dict[Tuple[str, str], List[int]]] = {}  # of a session, by class and slot: calls, commands, time, worst, its entry
         self.departed: Dict[str, None] = {}  # names whose clients have gone, the oldest first, and whose reset was not seen
@@ -131,6 +133,9 @@ class World:
         """Learns what a command has done to its session, and to those that listen to it."""
         if entry.word == "meta" and isinstance(entry.reply, dict):
             self.met[entry.asked.get("class", "")] = entry.reply
+        elif entry.word == "describe" and is_description(entry.reply):
+            self.described[entry.asked.get("class", "")] = entry.reply
+            self.met[entry.asked.get("class", "")] = as_meta(entry.reply)
         trace = self.learning.trace(session, entry)
         may_post = bool(session.publications) and trace.may_post_unseen(entry.word == "spin")
         posted = [it for event, spot in trace.postings() for it in self.addressed(session, event, spot)] if entry.error is None else []
@@ -155,7 +160,7 @@ class World:
 
     def know_listening(self, session: Session, entry: Optional[Entry] = None) -> None:
         """Keeps which sessions listen to which, where that may have changed."""
-        if len(session.joins) == session.joined and (entry is None or entry.word != "join"):
+        if len(session.joins) == session.joined and (entry is None or entry.word not in ("join", "joins")):
             return
         sources = {it.source for it in session.joins}
         for name in session.sources - sources:

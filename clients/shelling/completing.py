@@ -8,6 +8,7 @@ from typing import List, Optional
 
 import metad
 
+from .form_commands import BEFORE_CLASS
 from .forms import FORMS, OWN_FORMS, TRUTHS, WAYS
 from .shell import Shell
 
@@ -18,7 +19,7 @@ except ImportError:  # lines can be typed all the same
 
 DELIMITERS = " \t=<>+-&(,"  # between words that are completed
 LINES_MOST = 1_000  # of the history
-BEFORE_CLASS = ("new", "meta", "class")
+ALL_MOST, FEW = 4_096, 20  # the most objects whose numbers are offered, if a digit is typed and if nothing is
 INNER_WORDS = ("in", "as", "to", "for", "name", "class", *WAYS, *TRUTHS)
 
 
@@ -46,14 +47,16 @@ def candidates(shell: Shell, before: str, word: str) -> List[str]:
         found = members(shell, word.split(".", 1)[0], is_first=not words)
     elif not words:
         found = [*(f"{it} " if " " in usage else it for it, usage in usages()), *(f"{it}." for it in names(shell))]
-    elif words[-1] in BEFORE_CLASS:
+    elif words[-1] in (*BEFORE_CLASS, "class"):
         found = shell.classes()
     elif words[-1] == "help":
         found = [it for it, _ in usages()]
     elif words[-1] == "session":
         found = list(shell.sessions)
+    elif words in (["ls"], ["tree"], ["show"]):
+        found = [*names(shell), *numbers(shell, word)]
     else:
-        found = [*names(shell), *INNER_WORDS]
+        found = [*names(shell), *numbers(shell, word), *INNER_WORDS]
     return sorted({it for it in found if it.startswith(word)})
 
 
@@ -68,6 +71,24 @@ def names(shell: Shell) -> List[str]:
     return [name for name, number in known.numbers.items() if number not in known.gone]
 
 
+def numbers(shell: Shell, word: str) -> List[str]:
+    """The numbers of objects that begin with what is typed. If nothing is typed, all numbers, but only of few objects."""
+    if word and not word.isdigit():
+        return []
+    try:
+        return shell.looking.numbers(ALL_MOST if word else FEW)
+    except metad.Refused:
+        return []  # by a server that does not tell them, or a session that has failed
+
+
+def property_names(shell: Shell, number: int) -> List[str]:
+    """The names of an object's properties, as far as they are known."""
+    try:
+        return shell.looking.property_names(number)
+    except metad.Refused:
+        return shell.scene().members(number, "properties")
+
+
 def members(shell: Shell, label: str, is_first: bool) -> List[str]:
     """The methods and properties of an object; where values stand behind a method, it ends with a bracket."""
     scene = shell.scene()
@@ -77,7 +98,7 @@ def members(shell: Shell, label: str, is_first: bool) -> List[str]:
     methods = scene.methods(number)
     if is_first:
         methods = [it if it.endswith("()") else it[: it.index("(") + 1] for it in methods]
-    return [f"{label}.{it}" for it in [*methods, *scene.members(number, "properties")]]
+    return [f"{label}.{it}" for it in [*methods, *property_names(shell, number)]]
 
 
 def history_path() -> Optional[Path]:

@@ -5,10 +5,11 @@ from __future__ import annotations
 import difflib
 import re
 from dataclasses import dataclass
-from typing import Any, Callable, Dict, List, Optional
+from typing import Any, Callable, Dict, Iterator, List, Optional, Tuple
 
+from .form_commands import DOES, PLAIN
 from .infix import expression_of
-from .reading import ARROW, BRACKETS, METHOD, NAME, NUMBER, VALUE, Mistake, Words, types_in, values_in
+from .reading import ARROW, BRACKETS, NAME, NUMBER, VALUE, Mistake, Words, types_in, values_in
 from .scene import Scene, ends, types_of
 
 WAYS = ("queued", "direct", "auto")
@@ -87,14 +88,25 @@ def read_children(words: Words, scene: Scene) -> Request:
 
 
 def read_find(words: Words, scene: Scene) -> Request:
+    """Reads where to look, for what, and what the object is to be called."""
+    keys = sought_at(words, scene)
+    return Request("find", keys, scene.name_at(words))
+
+
+def read_find_all(words: Words, scene: Scene) -> Request:
     """Reads where to look, and for what."""
+    return Request("findAll", sought_at(words, scene))
+
+
+def sought_at(words: Words, scene: Scene) -> Dict[str, Any]:
+    """The keys that say where to look, and for what."""
     words.take_word("in")
     keys: Dict[str, Any] = {"object": scene.object_at(words)}
     if words.maybe_word("name") is not None:
         keys["name"] = words.take_value('a text, "in quotes"')
     if words.maybe_word("class") is not None:
         keys["class"] = words.take(NAME, "a class")
-    return Request("find", keys, scene.name_at(words))
+    return keys
 
 
 def read_bind(words: Words, scene: Scene) -> Request:
@@ -187,51 +199,77 @@ def read_leave(words: Words, scene: Scene) -> Request:
     return Request("leave", {**keys, **ends(*scene.target_at(words), ("object", "method"))})
 
 
-FORMS = {
-    "new": Form("new CLASS [in OBJECT] [as NAME]", "makes an object, a root or below another one", read_new),
-    "delete": Form("delete OBJECT", "deletes an object, and all below it", of_object("delete")),
-    "deleteLater": Form("deleteLater OBJECT", "posts the deletion, which `spin` does", of_object("deleteLater")),
-    "setParent": Form("setParent OBJECT to OBJECT|null", "gives another parent, or makes a root", read_set_parent),
-    "children": Form("children [OBJECT]", "lists the children of an object, or the roots", read_children),
-    "find": Form('find in OBJECT [name "TEXT"] [class CLASS] [as NAME]', "finds an object below another one", read_find),
-    "dynamicNames": Form("dynamicNames OBJECT", "lists the dynamic properties of an object", of_object("dynamicNames")),
-    "bind": Form(
-        "bind OBJECT.PROPERTY = EXPRESSION | bind OBJECT.PROPERTY to JSON",
-        "binds a property to an expression: of numbers, true, false, \"texts\", properties, those of other objects as "
-        "`p.x`, brackets, + - < =, & for texts, and `if a < b then c else d`",
-        read_bind,
-    ),
-    "unbind": Form("unbind OBJECT.PROPERTY", "leaves a bound property the value that it has", of_property("unbind")),
-    "bindingError": Form("bindingError OBJECT.PROPERTY", "tells whether a property is in error", of_property("bindingError")),
-    "begin": Form("begin", "begins a group, in which no change of a property is told", of_nothing("begin")),
-    "end": Form("end", "ends a group", of_nothing("end")),
-    "connect": Form(
-        "connect OBJECT.SIGNAL -> OBJECT.METHOD [queued] [unique] [single] | connect OBJECT.SIGNAL -> FUNCTOR for OBJECT ..",
-        "connects a signal to a slot, to another signal, or to a functor; `p.ping` is enough where there is one ping",
-        read_connect,
-    ),
-    "disconnect": Form(
-        "disconnect NUMBER | disconnect OBJECT[.SIGNAL] [-> OBJECT[.METHOD]]",
-        "breaks the connection of a number, or all of a sender that match",
-        read_disconnect,
-    ),
-    "invoke": Form("invoke OBJECT.METHOD(TYPES) [[VALUE, ..]] [queued [priority NUMBER]]", "sends a signal or calls a slot", read_invoke),
-    "block": Form("block OBJECT", "blocks the signals of an object", of_object("block", on=True)),
-    "unblock": Form("unblock OBJECT", "lets the signals of an object through", of_object("block", on=False)),
-    "publish": Form("publish OBJECT.SIGNAL as NAME", "publishes a signal for other sessions", read_publish),
-    "unpublish": Form("unpublish NAME", "takes back what is published", of_name("unpublish", "name", "a name")),
-    "join": Form(
-        "join SESSION.NAME[(TYPES)] -> OBJECT.METHOD",
-        "has what another session publishes call a method; without TYPES they are those of the method",
-        read_join,
-    ),
-    "leave": Form("leave SESSION.NAME -> OBJECT.METHOD", "takes back such joins", read_leave),
-    "spin": Form("spin", "takes the events of the session", of_nothing("spin")),
-    "status": Form("status", "tells how much there is in the session", of_nothing("status")),
-    "meta": Form("meta CLASS", "tells what there is in a class", of_name("meta", "class", "a class")),
-    "reset": Form("reset", "puts the session back to how it is before its first command", of_nothing("reset")),
+def read_connections(words: Words, scene: Scene) -> Request:
+    """Reads an object, or nothing for all, and the number after which connections are asked for."""
+    is_of_all = not words.rest or re.match(r"after\b", words.rest) is not None
+    keys: Dict[str, Any] = {} if is_of_all else {"object": scene.object_at(words)}
+    if words.maybe_word("after") is not None:
+        keys["after"] = int(words.take(rf"{NUMBER}(?=\s*$)", "the number of a connection"))
+    return Request("connections", keys)
+
+
+def read_bindings(words: Words, scene: Scene) -> Request:
+    """Reads the property after which the bound ones are asked for, or nothing for all."""
+    if not words.rest:
+        return Request("bindings", {})
+    words.take_word("after")
+    number, name = scene.property_at(words)
+    return Request("bindings", {"after": {"object": number, "property": name}})
+
+
+OWN_WAYS = ("get",)  # commands that are typed otherwise
+PLAIN_READERS = {
+    "nothing": of_nothing,
+    "object": of_object,
+    "property": of_property,
+    "class": lambda do: of_name(do, "class", "a class"),
+    "name": lambda do: of_name(do, "name", "a name"),
 }
+SPECIAL: Dict[str, Tuple[str, Callable[[Words, Scene], Request]]] = {
+    "new": ("new CLASS [in OBJECT] [as NAME]", read_new),
+    "setParent": ("setParent OBJECT to OBJECT|null", read_set_parent),
+    "children": ("children [OBJECT]", read_children),
+    "find": ('find in OBJECT [name "TEXT"] [class CLASS] [as NAME]', read_find),
+    "bind": ("bind OBJECT.PROPERTY = EXPRESSION | bind OBJECT.PROPERTY to JSON", read_bind),
+    "connect": ("connect OBJECT.SIGNAL -> OBJECT.METHOD [queued] [unique] [single] | connect OBJECT.SIGNAL -> FUNCTOR for OBJECT ..", read_connect),
+    "disconnect": ("disconnect NUMBER | disconnect OBJECT[.SIGNAL] [-> OBJECT[.METHOD]]", read_disconnect),
+    "invoke": ("invoke OBJECT.METHOD(TYPES) [[VALUE, ..]] [queued [priority NUMBER]]", read_invoke),
+    "block": ("block OBJECT", of_object("block", on=True)),
+    "publish": ("publish OBJECT.SIGNAL as NAME", read_publish),
+    "join": ("join SESSION.NAME[(TYPES)] -> OBJECT.METHOD", read_join),
+    "leave": ("leave SESSION.NAME -> OBJECT.METHOD", read_leave),
+    "findAll": ('findAll in OBJECT [name "TEXT"] [class CLASS]', read_find_all),
+    "connections": ("connections [OBJECT] [after NUMBER]", read_connections),
+    "bindings": ("bindings [after OBJECT.PROPERTY]", read_bindings),
+}  # commands with forms of their own
+FURTHER = {
+    "bind": 'numbers, true, false, "texts", properties, those of other objects as `p.x`, brackets, + - < =, & for texts, and '
+    "`if a < b then c else d`",
+    "block": "`unblock` lets them through",
+    "connect": "`p.ping` is enough where there is one ping; a functor takes the place of a slot",
+    "join": "without TYPES they are those of the method",
+}  # what is said beside what a command does
+
+
+def all_forms() -> Iterator[Tuple[str, Form]]:
+    """The short form of each command that has one, in the order of the protocol."""
+    for word, does in DOES.items():
+        said = f"{does}; {FURTHER[word]}" if word in FURTHER else does
+        if word in SPECIAL:
+            usage, read = SPECIAL[word]
+            yield word, Form(usage, said, read)
+        elif word in PLAIN and word not in OWN_WAYS:
+            usage, kind = PLAIN[word]
+            yield word, Form(usage, said, PLAIN_READERS[kind](word))
+        if word == "block":
+            yield "unblock", Form("unblock OBJECT", "lets the signals of an object through", of_object("block", on=False))
+
+
+FORMS = dict(all_forms())
 OWN_FORMS = {  # of the shell itself: how each is written, and what it does
+    "ls": ("ls [OBJECT]", "lists the children of an object, or the roots, with their classes and names"),
+    "tree": ("tree [OBJECT]", "draws the tree below an object, or all trees"),
+    "show": ("show OBJECT", "shows the place, the properties and the connections of an object"),
     "session": ("session NAME", "goes on in another session of the server, where names are others"),
     "names": ("names", "lists the names that were given, and which of their objects are gone"),
     "save": ("save FILE", "writes the lines that were sent into a new file, which is input for metad"),

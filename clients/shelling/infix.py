@@ -91,6 +91,18 @@ def text_of(text: str) -> str:
         raise Mistake(f"{text} is no text as JSON has it") from None
 
 
+def infix_of(form: Form, label: Callable[[int], str]) -> str:
+    """An expression as `bind` of the shell takes it, with brackets around its parts."""
+    if "prop" in form:
+        of = f"{label(form['of'])}." if isinstance(form.get("of"), int) else f"{SELF}." if form["prop"] in RESERVED else ""
+        return f"{of}{form['prop']}"
+    if "const" in form:
+        return json.dumps(form["const"], ensure_ascii=False)
+    [(word, parts)] = form.items()
+    said = [infix_of(it, label) if it.keys() & {"prop", "const"} else f"({infix_of(it, label)})" for it in parts]
+    return f"if {said[0]} then {said[1]} else {said[2]}" if word == "if" else f" {CAT if word == 'cat' else word} ".join(said)
+
+
 def expression_of(text: str, number_of: Callable[[str], int]) -> Form:
     """The JSON of an expression."""
     words = Words(text)

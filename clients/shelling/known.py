@@ -50,6 +50,8 @@ class Known:
         do = asked.get("do")
         if do == "new":
             self.classes[reply] = str(asked.get("class"))
+        elif do == "object":
+            self.classes[int(asked["object"])] = str(reply["class"])
         elif do == "delete":
             self.gone.add(int(asked["object"]))
         elif do == "reset":

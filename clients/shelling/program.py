@@ -22,17 +22,16 @@ NAME = os.path.basename(sys.argv[0])
 USAGE = f"""{NAME} [--session NAME] [--strict] PROGRAM [ARGS..]
        {NAME} [--session NAME] [--strict] [--no-live] --socket SOCKET"""
 
-HELP = f"""\
-Lines are short forms of commands, as `new Probe as p`, `p.ping()`, `p.x = 5`, `p.x` and
-`connect p.ping() -> c.note()`, of which `help` tells all. A line that begins with a brace is sent as it is.
-Where input and output are a terminal, lines are edited, completed by the tabulator and kept in
-$XDG_STATE_HOME/metad/history. An interrupt cancels a line, and the end of the input ends the shell.
-Nothing is coloured where NO_COLOR is set. Behind a front that has live sessions, calls and warnings are shown as they
-come, also while you type.
+HELP = """\
+Type short forms of commands, such as `new Probe as p`, `p.ping()`, `p.x = 5`, `p.x` and `connect p.ping() -> c.note()`.
+`help` lists them. A line that begins with a brace is sent as it is. On a terminal you can edit lines, complete them
+with the tab key, and find earlier ones, which are kept in $XDG_STATE_HOME/metad/history. Ctrl-C cancels a line, and
+the end of the input ends the shell. Set NO_COLOR to switch colours off. If a front has live sessions, calls and
+warnings are shown as they come, even while you type.
 
-Exit status: 0 at the end of the input, 1 where the server has ended before or with another status than 0,
-where it cannot be reached or is no metad, and with --strict after a refusal, 2 after a mistake in the
-command line. A program is no metad that writes something else, or answers nothing within 10 seconds."""
+Exit status: 0 at the end of the input; 1 if the server ended before, or with another status than 0, if it cannot be
+reached or is no metad, and with --strict after a refusal; 2 after a mistake in the command line. A program that writes
+something else, or answers nothing within 10 seconds, is taken for no metad."""
 
 
 class Stop(Exception):

@@ -14,6 +14,7 @@ from explaining.words import CODES, ERRORS, Misfit, plain, shown
 from .known import OBJECT_KEYS, Known
 from .prompting import Prompt
 
+OF_OBJECTS = ("bindings", "connections", "publications", "joins")  # commands whose replies are lists of what names objects
 COLOURS = {"reply": "32", "call": "36", "warning": "33", "refusal": "31", "note": "2"}
 
 
@@ -68,10 +69,14 @@ def reply_said(asked: Mapping[str, Any], reply: Any, known: Known) -> str:
     """What the reply to a command means."""
     do = asked.get("do")
     named: Any = reply
-    if do == "children":
+    if do in ("children", "findAll"):
         named = [known.label(it) for it in reply]
-    elif do == "find" and reply is not None:
+    elif do in ("find", "parent") and reply is not None:
         named = known.label(reply)
+    elif do in OF_OBJECTS and isinstance(reply, list):
+        named = [labelled(it, known) if isinstance(it, dict) else it for it in reply]
+    elif do == "object" and isinstance(reply, dict):
+        named = labelled(reply, known)
     for form in FORMS.get(str(do), []):
         try:
             if form.is_of(dict(asked)) and form.reply(reply):

@@ -21,9 +21,12 @@ BY_ITSELF = ("int", "qlonglong", "qulonglong")  # the types of which a whole num
 class Scene:
     """The session that a line is for, and the classes."""
 
-    def __init__(self, known: Known, meta_of: Callable[[str], Optional[Meta]]) -> None:
+    def __init__(
+        self, known: Known, meta_of: Callable[[str], Optional[Meta]], class_of: Callable[[int], Optional[str]]
+    ) -> None:
         self.known = known
         self.meta_of = meta_of
+        self.class_of = class_of
 
     def object_at(self, words: Words) -> int:
         """The object that the next word names."""
@@ -70,8 +73,8 @@ class Scene:
         return self.members(number, "methods")
 
     def members(self, number: int, key: str) -> List[str]:
-        """What the class of an object has."""
-        class_name = self.known.classes.get(number)
+        """What the class of an object has. The server is asked for the class of one that was not made here."""
+        class_name = self.known.classes.get(number) or self.class_of(number)
         meta = None if class_name is None else self.meta_of(class_name)
         return [] if meta is None else [str(it) for it in meta[key]]
 

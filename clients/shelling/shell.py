@@ -16,6 +16,7 @@ from explaining.refusing import missing_said
 from .forms import FORMS, OBJECT_FORMS, OWN_FORMS, Request, request_of, strange
 from .known import FAILED, Known
 from .link import Link, reason
+from .looking import Looking
 from .reading import NAME, Mistake, Words
 from .saying import Speaker, advice, call_said, refusal_said, reply_said, warning_said
 from .scene import Meta, Scene
@@ -41,7 +42,11 @@ class Shell:
         self.knowns: Dict[str, Known] = {}
         self.metas: Dict[str, Meta] = {}
         self.seen: Set[str] = set()  # classes that were named
+        self.looking = Looking(self)
         self.own: Dict[str, Callable[[str], None]] = {
+            "ls": self.looking.list,
+            "tree": self.looking.draw,
+            "show": self.looking.show,
             "session": self.go_to,
             "names": self.list_names,
             "save": self.save,
@@ -66,7 +71,7 @@ class Shell:
 
     def scene(self) -> Scene:
         """What the next line can name."""
-        return Scene(self.known(self.name), self.meta_of)
+        return Scene(self.known(self.name), self.meta_of, self.looking.class_of)
 
     def meta_of(self, class_name: str) -> Optional[Meta]:
         """What there is in a class, where the server tells it."""
@@ -79,8 +84,11 @@ class Shell:
         return self.metas[class_name]
 
     def classes(self) -> List[str]:
-        """The classes that were named, and those that a first user finds."""
-        names = [*FIRST_CLASSES, *sorted(self.seen)]
+        """The classes that there are, or where the server does not tell those that were named and that a first user finds."""
+        try:
+            return [str(it) for it in self.looking.ask("classes")]
+        except metad.Refused:
+            names = [*FIRST_CLASSES, *sorted(self.seen)]
         return [it for it in dict.fromkeys(names) if it in self.seen or self.meta_of(it) is not None]
 
     def stands(self, name: str, number: int) -> bool:

@@ -21,23 +21,22 @@ INPUT, INPUT_NAME = "-", "standard input"
 TURNS = re.compile(r"\+?0*([1-9][0-9]{0,5}|1000000)")
 
 HELP = """\
-RECORD is an input of metad, as it was given: a file, as `metad-front --record` writes it, or - for standard input.
-The slice of the session NAME are the commands in it that what NAME is told depends on: its own, and those of each
-session that it listened to, by joins, up to the last one which could still come to NAME. `metad --slice NAME` finds
-them.
+RECORD is the input of a metad: a file, such as one of `metad-front --record`, or - for standard input. The slice of
+the session NAME contains the commands that can affect what NAME receives: its own, and those of each session that it
+joined, up to the last one that could still reach NAME. `metad --slice NAME` finds them.
 
-Each line of RECORD that is not blank is shown with a mark before it:
+Each line of RECORD that is not blank is shown with a mark:
 {marks}
-Behind them stands how many commands of each session are kept. Then the slice alone is given to metad, and it is
-said whether NAME is told the same by it as by all of RECORD; if not, which line differs first. What NAME was told to
-lines of its own that are no commands is not compared, as these are left out.
+Then you see how many commands of each session are kept. The slice alone is given to metad, and compared: does NAME
+receive the same as with all of RECORD? If not, the first line that differs is shown. Answers to lines of NAME that are
+no commands are not compared, because the slice leaves these lines out.
 
-FILE and N have to be those of the run that was recorded. Where the slice names classes that metad does not have without
-a class file, nothing is compared, and the tool asks for --classes.
+FILE and N must be those of the recorded run. If the slice names classes that metad does not have without a class file,
+nothing is compared, and the tool asks for --classes.
 
-Exit status: 0 where NAME is told the same, and with --only where the slice was written, 1 where it is told something
-else, where --classes is missing, where something cannot be read or written, or metad cannot be run, 2 after a mistake
-in the command line, and where RECORD has no command of NAME."""
+Exit status: 0 if NAME receives the same, and with --only if the slice was written; 1 if it receives something else, if
+--classes is missing, or if something cannot be read, written or run; 2 after a mistake in the command line, and if
+RECORD has no command of NAME."""
 
 
 class NoSession(Stop):
@@ -67,7 +66,7 @@ def parser() -> argparse.ArgumentParser:
     made = argparse.ArgumentParser(
         prog=NAME,
         usage=USAGE,
-        description="Shows which commands of a record decide what a session is told, and tries whether they do.",
+        description="Shows which commands of a record can affect what a session receives, and checks it.",
         epilog=HELP.format(marks="\n".join(f"  {mark.decode()} {meaning}" for mark, meaning in MARKS.items())),
         formatter_class=argparse.RawDescriptionHelpFormatter,
         allow_abbrev=False,

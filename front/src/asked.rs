@@ -7,21 +7,14 @@ use std::collections::BTreeMap;
 
 use serde_json::value::RawValue;
 
+use crate::commands::READING;
 use crate::lines::{object_of, LINE_MOST};
 
 /// The most digits that the number of a command may have.
 const DIGITS_MOST: usize = 15;
 /// Bytes that a line may need in addition to its command, for the name of its session.
 const BESIDE: usize = 128;
-/// The commands that only read a session, and those that may change something, each with its keys.
-const READING: [(&str, &[&str]); 6] = [
-    ("children", &["object"]),
-    ("get", &["object", "property"]),
-    ("meta", &["class"]),
-    ("status", &[]),
-    ("bindingError", &["object", "property"]),
-    ("dynamicNames", &["object"]),
-];
+/// The commands that may change something and that the page may give, each with its keys.
 const WRITING: [(&str, &[&str]); 2] =
     [("invoke", &["object", "method", "args", "type"]), ("set", &["object", "property", "value"])];
 
@@ -80,6 +73,27 @@ mod tests {
         assert_eq!(text_in(ASK, GET).as_deref(), Some(GET));
         assert_eq!(text_in(BOTH, SET).as_deref(), Some(SET));
         assert_eq!((text_in(ASK, SET), text_in(NONE, GET), text_in(NONE, SET)), (None, None, None));
+    }
+
+    #[test]
+    fn the_page_asks_what_is_there_with_the_keys_of_each_word() {
+        let commands = [
+            r#"{"do":"object","object":1}"#,
+            r#"{"do":"properties","object":1}"#,
+            r#"{"after":7,"do":"connections","object":1}"#,
+            r#"{"after":{"object":1,"property":"x"},"do":"bindings"}"#,
+            r#"{"do":"binding","object":1,"property":"x"}"#,
+            r#"{"class":"Cell","do":"findAll","name":"x","object":1}"#,
+            r#"{"class":"Cell","do":"describe"}"#,
+            r#"{"do":"joins"}"#,
+        ];
+        for command in commands {
+            assert_eq!(text_in(ASK, command).as_deref(), Some(command));
+            assert_eq!(text_in(NONE, command), None, "{command}");
+        }
+        for command in [r#"{"do":"joins","object":1}"#, r#"{"do":"object","object":1,"value":1}"#, r#"{"do":"objects"}"#] {
+            assert_eq!(text_in(BOTH, command), None, "{command}");
+        }
     }
 
     #[test]

@@ -10,6 +10,7 @@ use std::collections::{HashMap, HashSet};
 use memchr::memmem;
 use serde_json::Value;
 
+use crate::commands::POST_NOTHING;
 use crate::front::Front;
 use crate::lines::{is_answer, is_name, may_have, object_of};
 use crate::people::{SessionKey, SpeakerKey, Speech};
@@ -19,28 +20,6 @@ use crate::turns::Command;
 pub const SPIN: &[u8] = b"{\"do\":\"spin\"}";
 /// The most commands of a client that go before a `spin` of the front.
 const BEFORE_SPIN: usize = 64;
-/// Commands that never post an event, whatever their arguments.
-const POST_NOTHING: [&[u8]; 18] = [
-    b"begin",
-    b"bindingError",
-    b"block",
-    b"children",
-    b"connect",
-    b"connectFunctor",
-    b"disconnect",
-    b"dynamicNames",
-    b"find",
-    b"get",
-    b"join",
-    b"leave",
-    b"meta",
-    b"new",
-    b"publish",
-    b"reset",
-    b"status",
-    b"unpublish",
-];
-
 /// The live sessions, and which sessions they have joined.
 #[derive(Default)]
 pub struct Live {

@@ -16,6 +16,7 @@ mod asked;
 mod asking;
 mod clients;
 mod command_line;
+mod commands;
 mod control;
 mod doors;
 mod eagerness;

@@ -3,6 +3,7 @@
 import { el, say, span } from "./elements.js";
 import { write } from "./texts.js";
 import { get, hear } from "./asking.js";
+import { Look } from "./looking.js";
 import { Sessions } from "./sessions.js";
 import { TreeView } from "./tree.js";
 import { HappenedView } from "./happened.js";
@@ -21,6 +22,7 @@ class Page {
   constructor(about) {
     this.about = about;
     this.state = this.read();
+    this.look = new Look();
     this.sessions = new Sessions(document.getElementById("sessions"), this);
     this.views = new Map(VIEWS.map(([name, , View]) => [name, new View(this)]));
     this.tabs = new Map(

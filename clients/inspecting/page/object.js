@@ -20,6 +20,7 @@ export class ObjectView {
       this.place.contains(document.activeElement) && document.activeElement.tagName === "INPUT"
     ) return; // somebody is writing there
     const found = await get("object", { session, number: object });
+    this.page.look.at(found?.wanted ? { session, object } : null, "object");
     const key = JSON.stringify(found);
     if (key === this.key) return;
     this.key = key;
@@ -84,7 +85,7 @@ export class ObjectView {
       isKnown ? el("span", { text: short(shown(row.value), 400) }) : el("span", { class: "unsure", text: "not known" }),
       isKnown && !row.sure ? [" ", el("span", { class: "mark amber", text: "may have changed since" })] : null,
     );
-    const binding = el("td", { class: "code" }, row.binding ?? "");
+    const binding = el("td", { class: "code" }, row.binding ?? (row.bound ? "bound" : ""));
     if (row.error && row.error[0]) binding.append(
       " ", el("span", { class: "mark red", text: row.error[0] }),
       row.error[1] ? "" : el("span", { class: "mark amber", text: "may be over" }),
@@ -123,7 +124,7 @@ export class ObjectView {
         this.page.about.write ? this.invoker(it, row) : null,
       )
     );
-    const text = rows.length ? null : el("p", { class: "faint", text: "not known: no class file is, and meta was not asked" });
+    const text = rows.length ? null : el("p", { class: "faint", text: "not known: there is no class file, and neither describe nor meta was asked" });
     const ask = this.page.about.ask && it.class && !it.class_known ? el(
       "button",
       { type: "button", text: "ask for meta", onclick: () => this.give(it.session, { do: "meta", class: it.class }) },

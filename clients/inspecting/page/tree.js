@@ -41,6 +41,7 @@ export class TreeView {
     const found = session ? await get(
       "tree", { session, from, count, closed: [...this.closed].join(","), sought: this.sought.value },
     ) : null;
+    this.page.look.at(found?.wanted ? { session } : null, "tree");
     this.tell(found);
     return found;
   }

@@ -23,27 +23,26 @@ import asyncio
 from contextlib import suppress
 from tempfile import TemporaryDirectory
 from types import TracebackType
-from typing import TYPE_CHECKING, Any, Callable, Coroutine, Dict, Generator, List, Optional, Sequence, Type, TypeVar, Union, cast, overload
+from typing import Any, Callable, Dict, Generator, List, Optional, Sequence, Type, TypeVar, Union, cast, overload
 
 from . import commands
 from .aio_proxies import Connected, Heard, Method, Property, Proxy, SignalSpy, hear_post, wait_for
 from .aio_waiting import Calls, Done, came, tell_on, wait_until
+from .asking import Asked
 from .client import reply_of
-from .commands import Asked, make_method
 from .connection import Answer, Connection, ProgramConnection, Word
+from .descriptions import BindingInfo, ConnectionInfo
+from .dumping import Result, Steps, all_bindings, all_connections, commands_of, replaying, snapshot, text_of
 from .errors import ClassFileRefused, NotAnswered, OtherSession, Refused
+from .finding import proxies_of
 from .hearing import Hearing, OnCall, OnWarning
 from .holding import START_SECONDS, Holder, class_words
 from .lines import Value, command_line
 from .reaching import Making
+from .session_commands import Awaiting
 from .shapes import Shape, with_relay
 from .tools import fault_in
 from .waiting import not_in_time
-
-if TYPE_CHECKING:
-    from typing_extensions import Concatenate, ParamSpec
-
-    Given = ParamSpec("Given")
 
 Replied = TypeVar("Replied")
 
@@ -90,19 +89,7 @@ class Pending:
         return self.result().__await__()
 
 
-def awaiting(
-    build: Callable[Given, Asked[Replied]]
-) -> Callable[Concatenate[Session, Given], Coroutine[Any, Any, Replied]]:
-    """The method that gives a command and awaits the reply."""
-
-    async def method(self: Session, /, *args: Given.args, **keys: Given.kwargs) -> Replied:
-        return await self.ask(build(*args, **keys))
-
-    make_method(method, build)
-    return method
-
-
-class Session(Hearing):
+class Session(Awaiting, Hearing):
     """A session of a server, by its name. It is made by `Server.session`.
 
     All is as it is of `metad.Session`, but that each method is awaited.
@@ -131,37 +118,9 @@ class Session(Hearing):
                 await self._give(commands.spin())
         return cast(Replied, await pending)
 
-    new = awaiting(commands.new)
-    delete = awaiting(commands.delete)
-    delete_later = awaiting(commands.delete_later)
-    set_parent = awaiting(commands.set_parent)
-    children = awaiting(commands.children)
-    find = awaiting(commands.find)
-    set = awaiting(commands.set)
-    get = awaiting(commands.get)
-    dynamic_names = awaiting(commands.dynamic_names)
-    bind = awaiting(commands.bind)
-    unbind = awaiting(commands.unbind)
-    binding_error = awaiting(commands.binding_error)
-    begin = awaiting(commands.begin)
-    end = awaiting(commands.end)
-    connect = awaiting(commands.connect)
-    connect_functor = awaiting(commands.connect_functor)
-    disconnect = awaiting(commands.disconnect)
-    invoke = awaiting(commands.invoke)
-    block = awaiting(commands.block)
-    publish = awaiting(commands.publish)
-    unpublish = awaiting(commands.unpublish)
-    join = awaiting(commands.join)
-    leave = awaiting(commands.leave)
-    spin = awaiting(commands.spin)
-    status = awaiting(commands.status)
-    meta = awaiting(commands.meta)
-    _reset = awaiting(commands.reset)
-
     async def reset(self) -> bool:
         """Puts the session back to how it is before its first command; nobody listens to single slots any more."""
-        done = await self._reset()
+        done = await super().reset()
         self._forget_listeners()
         return done
 
@@ -173,7 +132,7 @@ class Session(Hearing):
         return Proxy(self, await self.new(class_, None if parent is None else parent.number), shape)
 
     async def proxy(self, object: int, class_: str) -> Proxy:
-        """An object that is there, with the properties and methods of its class, which the server does not tell."""
+        """A proxy of an existing object whose class is given, so that the server is not asked for it."""
         return Proxy(self, object, await self.shape(class_))
 
     async def shape(self, class_: str) -> Shape:
@@ -182,6 +141,30 @@ class Session(Hearing):
         if class_ not in shapes:
             shapes[class_] = Shape(await self.meta(class_))
         return shapes[class_]
+
+    async def object(self, number: int) -> Proxy:
+        """A proxy of an existing object, whose class the server is asked for."""
+        return (await self._gathered(proxies_of(self, Proxy, [number])))[0]
+
+    async def all_connections(self, object: Optional[int] = None) -> List[ConnectionInfo]:
+        """All connections, or all those of an object. It gives as many commands as that takes."""
+        return await self._gathered(all_connections(object))
+
+    async def all_bindings(self) -> List[BindingInfo]:
+        """All bound properties. It gives as many commands as that takes."""
+        return await self._gathered(all_bindings())
+
+    async def dump(self) -> str:
+        """The contents of the session as a text, like `dump` of `metad.Session`."""
+        return text_of(await self._gathered(snapshot()))
+
+    async def dump_commands(self) -> List[Dict[str, Value]]:
+        """The commands that make the contents of the session, like `dump_commands` of `metad.Session`."""
+        return commands_of(await self._gathered(snapshot()))
+
+    async def replay(self, given: Sequence[Dict[str, Value]]) -> None:
+        """Gives the commands of a `dump_commands` to this session. Raises `NotFresh` if it has had objects before."""
+        await self._gathered(replaying(given))
 
     async def listen(self, from_: str, name: str, types: Sequence[str], told: Callable[..., object]) -> Heard:
         """Has a function called for what another session publishes under a name, with these types: as it comes in a live
@@ -209,6 +192,16 @@ class Session(Hearing):
     def calls(self, timeout: Optional[float] = None) -> Calls:
         """The calls of the session's slots and functors from now on, like `calls` of `metad.Session`, for `async for`."""
         return Calls(self, timeout)
+
+    async def _gathered(self, steps: Steps[Result]) -> Result:
+        """Gives lists of commands, each at once, and returns what comes of their replies."""
+        try:
+            asked = next(steps)
+            while True:
+                pending = [self._give(it) for it in asked]
+                asked = steps.send([await it for it in pending])
+        except StopIteration as stop:
+            return cast(Result, stop.value)
 
     def _give(self, asked: Asked[Any]) -> Pending:
         line = command_line(self.name, asked.do, asked.keys)

@@ -12,10 +12,13 @@ function is called by way of a relay, as it is without asyncio. It is a plain fu
 
 from __future__ import annotations
 
+import builtins
 from typing import TYPE_CHECKING, Any, Awaitable, Callable, Coroutine, Dict, Generator, List, Optional, Sequence
 
 from .aio_waiting import wait_until
+from .descriptions import ConnectionInfo, PropertyInfo
 from .errors import NoRelay, NotAnswered, Refused
+from .finding import expressions_of, proxies_of
 from .lines import Value
 from .shapes import HEAR, RELAY, BaseMethod, BaseProxy, calls_of, name_of, no_relay, types_of
 
@@ -25,7 +28,7 @@ if TYPE_CHECKING:
 
 
 class Proxy(BaseProxy["Session"]):
-    """An object of a server. It is made by `create` and `proxy` of a session.
+    """An object of a server. It is made by `create`, `object` and `proxy` of a session.
 
     Properties that its class declares are attributes, and so are its methods, which can be called. What has the name of
     something here, or a name that Python cannot write, is reached by `property` and `method`.
@@ -44,6 +47,32 @@ class Proxy(BaseProxy["Session"]):
     async def delete(self) -> None:
         """Deletes the object and all below it."""
         await self.session.delete(self.number)
+
+    @builtins.property
+    def parent(self) -> Coroutine[Any, Any, Optional[Proxy]]:
+        """Its parent, which is awaited; None where it is a root."""
+        return self._parent()
+
+    async def _parent(self) -> Optional[Proxy]:
+        number = await self.session.parent(self.number)
+        return None if number is None else await self.session.object(number)
+
+    async def find_all(self, name: Optional[str] = None, class_: Optional[str] = None) -> List[Proxy]:
+        """All objects below it that have this `objectName` and class, by depth."""
+        found = await self.session.find_all(self.number, name, class_)
+        return await self.session._gathered(proxies_of(self.session, Proxy, found))
+
+    async def properties(self) -> List[PropertyInfo]:
+        """Its properties, declared and dynamic, with their types and values."""
+        return await self.session.properties(self.number)
+
+    async def bindings(self) -> Dict[str, Value]:
+        """The expressions of its bound properties, by their names."""
+        return await self.session._gathered(expressions_of(self.number))
+
+    async def connections(self) -> List[ConnectionInfo]:
+        """All connections that have it as their sender, receiver or context."""
+        return await self.session.all_connections(self.number)
 
     def __setattr__(self, name: str, value: Value) -> None:
         raise self._not_written(name)

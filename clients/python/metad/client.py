@@ -6,26 +6,25 @@ import threading
 from functools import partial
 from tempfile import TemporaryDirectory
 from types import TracebackType
-from typing import IO, TYPE_CHECKING, Any, Callable, Dict, List, Optional, Sequence, Set, Type, TypeVar, Union, cast, overload
+from typing import IO, Any, Callable, Dict, List, Optional, Sequence, Set, Type, TypeVar, Union, cast, overload
 
 from . import commands
-from .commands import Asked, make_method
+from .asking import Asked
 from .connection import Answer, Connection, ProgramConnection, Word
+from .descriptions import BindingInfo, ConnectionInfo
+from .dumping import Result, Steps, all_bindings, all_connections, commands_of, replaying, snapshot, text_of
 from .errors import NotAnswered, OtherSession, Refused
+from .finding import proxies_of
 from .hearing import Hearing, OnCall, OnWarning
 from .holding import START_SECONDS, Holder, class_words
 from .lines import Value, command_line, named
 from .proxies import Heard, Method, Proxy, hear_post, wait_for
 from .reaching import SocketConnection
+from .session_commands import Waiting
 from .shapes import Shape
 from .sockets import connected
 from .tools import explained
 from .waiting import Calls, Done, not_in_time, wait_until
-
-if TYPE_CHECKING:
-    from typing_extensions import Concatenate, ParamSpec
-
-    Given = ParamSpec("Given")
 
 Replied = TypeVar("Replied")
 
@@ -61,17 +60,7 @@ def reply_of(asked: Asked[Any], line: Dict[str, Value]) -> Value:
     return line["reply"]
 
 
-def waiting(build: Callable[Given, Asked[Replied]]) -> Callable[Concatenate[Session, Given], Replied]:
-    """The method that gives a command and waits for the reply."""
-
-    def method(self: Session, /, *args: Given.args, **keys: Given.kwargs) -> Replied:
-        return self.ask(build(*args, **keys))
-
-    make_method(method, build)
-    return method
-
-
-class Session(Hearing):
+class Session(Waiting, Hearing):
     """A session of a server, by its name. It is made by `Server.session`.
 
     Objects and connections are numbers, as in the protocol. The arguments of the methods are the keys of the
@@ -127,37 +116,9 @@ class Session(Hearing):
             self._spin_on()
         return cast(Replied, pending.result())
 
-    new = waiting(commands.new)
-    delete = waiting(commands.delete)
-    delete_later = waiting(commands.delete_later)
-    set_parent = waiting(commands.set_parent)
-    children = waiting(commands.children)
-    find = waiting(commands.find)
-    set = waiting(commands.set)
-    get = waiting(commands.get)
-    dynamic_names = waiting(commands.dynamic_names)
-    bind = waiting(commands.bind)
-    unbind = waiting(commands.unbind)
-    binding_error = waiting(commands.binding_error)
-    begin = waiting(commands.begin)
-    end = waiting(commands.end)
-    connect = waiting(commands.connect)
-    connect_functor = waiting(commands.connect_functor)
-    disconnect = waiting(commands.disconnect)
-    invoke = waiting(commands.invoke)
-    block = waiting(commands.block)
-    publish = waiting(commands.publish)
-    unpublish = waiting(commands.unpublish)
-    join = waiting(commands.join)
-    leave = waiting(commands.leave)
-    spin = waiting(commands.spin)
-    status = waiting(commands.status)
-    meta = waiting(commands.meta)
-    _reset = waiting(commands.reset)
-
     def reset(self) -> bool:
         """Puts the session back to how it is before its first command; nobody listens to single slots any more."""
-        done = self._reset()
+        done = super().reset()
         self._forget_listeners()
         return done
 
@@ -169,7 +130,7 @@ class Session(Hearing):
         return Proxy(self, self.new(class_, None if parent is None else parent.number), shape)
 
     def proxy(self, object: int, class_: str) -> Proxy:
-        """An object that is there, with the properties and methods of its class, which the server does not tell."""
+        """A proxy of an existing object whose class is given, so that the server is not asked for it."""
         return Proxy(self, object, self.shape(class_))
 
     def shape(self, class_: str) -> Shape:
@@ -178,6 +139,40 @@ class Session(Hearing):
         if class_ not in shapes:
             shapes[class_] = Shape(self.meta(class_))
         return shapes[class_]
+
+    def object(self, number: int) -> Proxy:
+        """A proxy of an existing object, whose class the server is asked for."""
+        return self._gathered(proxies_of(self, Proxy, [number]))[0]
+
+    def all_connections(self, object: Optional[int] = None) -> List[ConnectionInfo]:
+        """All connections, or all those of an object. It gives as many commands as that takes."""
+        return self._gathered(all_connections(object))
+
+    def all_bindings(self) -> List[BindingInfo]:
+        """All bound properties. It gives as many commands as that takes."""
+        return self._gathered(all_bindings())
+
+    def dump(self) -> str:
+        """What the session holds, as a text: trees of objects with the properties that do not have the default of their
+        type, connections, publications, joins and open groups. Events and the states of functors are left out.
+
+        It takes some commands for each object. What another client of the session changes meanwhile may be in it or not.
+        """
+        return text_of(self._gathered(snapshot()))
+
+    def dump_commands(self) -> List[Dict[str, Value]]:
+        """The commands that make in a fresh session what this one holds, with the same numbers, so that its `dump` is the
+        same. Each is a dict with the command's keys, without a session; `replay` gives them.
+
+        Numbers of objects and connections that are gone are used up by others, so it has about as many commands as there
+        were objects and connections ever. With objects that are gone and that bindings still read, there may be at most
+        4,096 for that.
+        """
+        return commands_of(self._gathered(snapshot()))
+
+    def replay(self, given: Sequence[Dict[str, Value]]) -> None:
+        """Gives the commands of a `dump_commands` to this session. Raises `NotFresh` if it has had objects before."""
+        self._gathered(replaying(given))
 
     def listen(self, from_: str, name: str, types: Sequence[str], told: Callable[..., object]) -> Heard:
         """Has a function called for what another session publishes under a name, with these types: as it comes in a live
@@ -212,6 +207,16 @@ class Session(Hearing):
         can come.
         """
         return Calls(self, timeout)
+
+    def _gathered(self, steps: Steps[Result]) -> Result:
+        """Gives lists of commands, each at once, and returns what comes of their replies."""
+        try:
+            asked = next(steps)
+            while True:
+                pending = [self._give(it) for it in asked]
+                asked = steps.send([it.result() for it in pending])
+        except StopIteration as stop:
+            return cast(Result, stop.value)
 
     def _give(self, asked: Asked[Any]) -> Pending:
         line = command_line(self.name, asked.do, asked.keys)

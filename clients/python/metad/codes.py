@@ -2,32 +2,9 @@
 
 from __future__ import annotations
 
-MEANINGS = {
-    "E01": "the line is no JSON, no UTF-8 or too long",
-    "E02": "the line is no command",
-    "E03": "no such class",
-    "E04": "no such object",
-    "E05": "no such method",
-    "E06": "no signature or type",
-    "E07": "signal and method do not fit",
-    "E08": "connected already",
-    "E09": "unique with a functor",
-    "E10": "no such functor",
-    "E11": "no such property",
-    "E12": "a cycle of parents",
-    "E13": "the object is dying",
-    "E14": "a limit",
-    "E15": "the name is taken",
-    "E16": "the own session",
-    "E17": "no group",
-    "E18": "not bindable",
-    "E19": "numbers used up",
-    "E20": "the session has failed",
-    "E21": "want of memory",
-    "E22": "the value, its kind or its form",
-    "E23": "the turns are used up",
-}
-"""What the codes of refusals and warnings mean."""
+from .code_meanings import MEANINGS
+
+__all__ = ["ADVICE", "BINDING_ERRORS", "MEANINGS", "advice_on", "meaning_of"]
 
 ADVICE = {
     "E01": (
@@ -63,7 +40,7 @@ ADVICE = {
     "E22": "give a value of the type; numbers in quotes are texts. A binding has no `arg`, and its `of` is a number",
     "E23": "look for a slot that calls itself; `spin` once more; else start with more `--turns`",
 }
-"""What to do about each code, as the guide has it."""
+"""What to do about each code, as docs/PROTOCOL.md has it."""
 
 BINDING_ERRORS = {
     "BindingLoop": "the value of the property depends on itself",

@@ -31,11 +31,15 @@ class Refused(MetadError):
         self.meaning = meaning_of(code)
         """What the code means."""
         self.advice = advice_on(code)
-        """What to do about it, as the guide has it."""
+        """What to do about it, as docs/PROTOCOL.md has it."""
 
     def __str__(self) -> str:
         said = f"{self.do} {_shown(self.keys)}: {self.code}, {self.meaning}"
         return printable(f"{said}. What to do: {self.advice}" if self.advice else said)
+
+
+class NotFresh(MetadError):
+    """A session into which a dump is replayed has had objects or connections before."""
 
 
 class NotAnswered(MetadError, TimeoutError):

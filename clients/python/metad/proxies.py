@@ -16,9 +16,12 @@ one somebody has to `spin`, as these waits do.
 
 from __future__ import annotations
 
+import builtins
 from typing import TYPE_CHECKING, Any, Callable, Dict, List, Optional, Sequence
 
+from .descriptions import ConnectionInfo, PropertyInfo
 from .errors import MetadError, NoRelay, NotAnswered, Refused
+from .finding import expressions_of, proxies_of
 from .lines import Value
 from .shapes import HEAR, RELAY, BaseMethod, BaseProxy, calls_of, name_of, no_relay, types_of
 from .waiting import wait_until
@@ -29,7 +32,7 @@ if TYPE_CHECKING:
 
 
 class Proxy(BaseProxy["Session"]):
-    """An object of a server. It is made by `create` and `proxy` of a session.
+    """An object of a server. It is made by `create`, `object` and `proxy` of a session.
 
     Properties that its class declares are read and written as attributes; methods are attributes that can be called.
     What has the name of something here, or a name that Python cannot write, is reached by `property` and `method`.
@@ -48,6 +51,29 @@ class Proxy(BaseProxy["Session"]):
     def delete(self) -> None:
         """Deletes the object and all below it."""
         self.session.delete(self.number)
+
+    @builtins.property
+    def parent(self) -> Optional[Proxy]:
+        """Its parent; None where it is a root."""
+        number = self.session.parent(self.number)
+        return None if number is None else self.session.object(number)
+
+    def find_all(self, name: Optional[str] = None, class_: Optional[str] = None) -> List[Proxy]:
+        """All objects below it that have this `objectName` and class, by depth."""
+        found = self.session.find_all(self.number, name, class_)
+        return self.session._gathered(proxies_of(self.session, Proxy, found))
+
+    def properties(self) -> List[PropertyInfo]:
+        """Its properties, declared and dynamic, with their types and values."""
+        return self.session.properties(self.number)
+
+    def bindings(self) -> Dict[str, Value]:
+        """The expressions of its bound properties, by their names."""
+        return self.session._gathered(expressions_of(self.number))
+
+    def connections(self) -> List[ConnectionInfo]:
+        """All connections that have it as their sender, receiver or context."""
+        return self.session.all_connections(self.number)
 
     def _read(self, name: str) -> Value:
         return self.property(name).value

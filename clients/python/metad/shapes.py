@@ -1,8 +1,8 @@
 """What objects of a server are as objects of Python, whether their commands are waited for or awaited: what there is in a
 class, and which of its methods is meant.
 
-What there is in a class is asked for once, by `meta`. That tells the names of properties and the signatures of methods,
-and not which methods are signals, nor the types of properties: the server refuses what does not fit.
+The members of a class are asked for once: by `meta`, or by `describe` for an object that `object` returns. Proxies use the
+names of properties and the signatures of methods alone, which both commands reply. The server refuses what does not fit.
 """
 
 from __future__ import annotations
@@ -10,6 +10,7 @@ from __future__ import annotations
 from difflib import get_close_matches
 from typing import Any, Callable, Dict, Generic, Iterable, List, Optional, Sequence, Tuple, TypeVar, cast
 
+from .descriptions import ClassInfo
 from .errors import Ambiguous, OtherSession, printable
 from .hearing import Hearing, OnCall
 from .lines import Call, Meta, Value
@@ -65,6 +66,13 @@ class Shape:
         """The signatures of its methods, by their names."""
         for signature in meta["methods"]:
             self.methods[name_of(signature)] = (*self.methods.get(name_of(signature), ()), signature)
+
+    @classmethod
+    def described(cls, described: ClassInfo) -> Shape:
+        """The shape of a class, from a reply to `describe`."""
+        methods = [it["signature"] for it in (*described["signals"], *described["slots"])]
+        names = [it["name"] for it in described["properties"]]
+        return cls(cast(Meta, {"class": described["class"], "properties": names, "methods": methods}))
 
     def fitting(self, which: str) -> Tuple[str, ...]:
         """The signatures of the methods of a name, or of a signature; `Ambiguous` where there is none."""

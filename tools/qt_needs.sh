@@ -1,0 +1,14 @@
+#!/bin/sh
+# Installs what the tests of the Qt client need, where this may be done; else says what to install. Without it these tests are skipped.
+# Usage: qt_needs.sh
+packages="cmake g++ qt6-base-dev"
+if command -v cmake > /dev/null 2>&1 && ls /usr/lib/*/cmake/Qt6/Qt6Config.cmake > /dev/null 2>&1; then
+    exit 0
+fi
+if [ "$(id -u)" != 0 ] || ! command -v apt-get > /dev/null 2>&1; then
+    echo "the tests of the Qt client need cmake and Qt 6: apt-get install $packages"
+    exit 0
+fi
+# a new machine may not have the lists of packages yet
+apt-get update -q > /dev/null
+apt-get install -y -q --no-install-recommends $packages > /dev/null || echo "Qt cannot be installed, so the tests of its client are skipped"
