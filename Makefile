@@ -4,12 +4,15 @@
 # make run    builds the program, proved, and answers the sample session
 # make front  builds the front, front/, as bin/metad-front; make front-needs installs the Debian packages that this needs, where
 #             it may, and otherwise says which
+# make qt-needs  installs the Debian packages that the tests of the Qt client need, where it may, and otherwise says which
 # make test   proves everything from nothing, and runs every test
 # make tests  runs every test on bin/metad as it is; make rows, random, program, slice, memory, nests, spared,
-#             classes, clients, documents, machines, machines_files, hosting, scaling, measures, tools and test_install run those of tests/test_rows and so on
+#             classes, clients, documents, surprises, phrases, machines, machines_files, hosting, scaling, measures, tools, test_lists and test_install run those of tests/test_rows and so on
 # make bench  counts the program's instructions, and fails where a count is over its guard; with LAST=PROGRAM also beside an
 #             earlier program; GUARDS=1 writes down the counts and new guards
-# make tables writes the tables of the documents that are made of sources
+# make lists  writes the lists of commands, codes and limits, wherever they stand, from the tables of docs/PROTOCOL.md
+# make lint   reads the sources in Python by flake8, with the settings of .flake8
+# make tables writes the tables of the documents that are made of sources, and the tables of the clients for JavaScript and Qt
 # make install, make uninstall   bin/metad, its manual page, the documents, the client, the examples and the tools, below PREFIX;
 #             with SITE=FOLDER also a link to the client in a folder where Python looks
 # make dist   a tarball of all that is installed, for any folder; make deb   a package for Debian; each in DIST, with its checksum
@@ -21,14 +24,14 @@ CC ?= cc
 PREFIX ?= /usr/local
 
 # each takes bin/metad as it is
-TESTS = rows random program slice memory nests spared classes clients documents machines machines_files hosting scaling measures tools
+TESTS = rows random program slice memory nests spared classes clients documents surprises phrases machines machines_files hosting scaling measures tools
 # the oldest Python for the tools, and for the tests
 PYTHON = 3.8
 PYTHON_OF_TESTS = 3.11
 NEEDS = @CC="$(CC)" sh tools/needs.sh
 TRY = (make try answers a session in about two minutes, not proved)
 
-.PHONY: all try run front front-needs test_front test budget needs_of_tests tests $(TESTS) test_install test_package libraries bench tables install uninstall dist deb clean
+.PHONY: all try run front front-needs qt-needs test_front test budget needs_of_tests tests $(TESTS) test_lists test_install test_package libraries bench lists tables lint install uninstall dist deb clean
 
 all: bin/metad
 
@@ -63,10 +66,13 @@ front-needs:
 	$(NEEDS) python3=$(PYTHON)
 	python3 tools/front.py needs
 
+qt-needs:
+	@sh tools/qt_needs.sh
+
 test:
 	$(NEEDS) rt cc python3=$(PYTHON_OF_TESTS)
 	@echo "Proving everything and running every test takes an hour or more on four processors $(TRY)"
-	$(MAKE) --no-print-directory budget front-needs
+	$(MAKE) --no-print-directory budget front-needs qt-needs
 	rt ci
 	mkdir -p bin
 	cp $(CRATE)/out/$(PROGRAM) bin/metad
@@ -87,6 +93,9 @@ tests: needs_of_tests libraries bin/metad-front test_front
 $(TESTS): needs_of_tests libraries bin/metad-front
 	python3 -m unittest -v tests.test_$@
 
+test_lists: needs_of_tests
+	python3 -m unittest -v tests.$@
+
 test_install test_package: needs_of_tests bin/metad-front
 	python3 -m unittest -v tests.$@
 
@@ -101,9 +110,19 @@ bench: bin/metad bin/count_growth.so bin/fixed_random.so
 	$(NEEDS) python3=$(PYTHON)
 	python3 bench/bench.py bin/metad bin/count_growth.so bin/fixed_random.so $(if $(LAST),--last "$(LAST)") $(if $(GUARDS),--write)
 
-tables:
+lint:
+	$(NEEDS) flake8
+	flake8
+
+lists:
 	$(NEEDS) python3=$(PYTHON)
+	python3 tools/lists.py
+
+tables:
+	$(NEEDS) python3=$(PYTHON_OF_TESTS)
 	python3 tools/tables.py
+	python3 tools/js_commands.py
+	python3 tools/qt_commands.py
 
 BIN = $(DESTDIR)$(PREFIX)/bin
 MAN = $(DESTDIR)$(PREFIX)/share/man/man1
@@ -112,9 +131,15 @@ SHARE = $(DESTDIR)$(PREFIX)/share/metad
 # the documents and what they lead to, which stands below DOC as it stands here
 DOCUMENTS = README.md CHANGELOG.md $(filter-out %/__pycache__,$(wildcard docs/*.md docs/*.json docs/*.png clients/*/*.md examples/*/*))
 FOLDERS = $(filter-out ./,$(sort $(dir $(DOCUMENTS)))) clients examples
+# docs/internals is not installed: a link to a page there is left as its text
+WITHOUT_INTERNALS = sed 's/\[\([^][]*\)\]([^()]*internals\/[^()]*)/\1/g'
 # the client, which the tools find below SHARE as they find it here
 CLIENT = python/metad
 OF_CLIENT = $(patsubst clients/%,%,$(wildcard clients/$(CLIENT)/*.py clients/$(CLIENT)/py.typed))
+# the client in JavaScript, with its declarations for TypeScript
+OF_JS = $(patsubst clients/%,%,$(wildcard clients/js/*.mjs clients/js/*.mts clients/js/package.json))
+# the sources of the client for Qt, which cmake builds there as here
+OF_QT = $(patsubst clients/%,%,$(wildcard clients/qt/*.cmake clients/qt/CMakeLists.txt clients/qt/metad/*))
 # each is installed as metad-TOOL; what they are made of stands in these folders
 TOOLS = explain check shell slice inspect
 PARTS = explaining checking shelling slicing inspecting
@@ -131,8 +156,11 @@ install:
 	install bin/metad "$(BIN)/metad"
 	install bin/metad-front "$(BIN)/metad-front"
 	install -m 644 man/metad.1 "$(MAN)/metad.1"
-	for it in $(DOCUMENTS); do install -D -m 644 "$$it" "$(DOC)/$$it" || exit; done
-	for it in $(OF_CLIENT); do install -D -m 644 "clients/$$it" "$(SHARE)/$$it" || exit; done
+	for it in $(DOCUMENTS); do \
+		install -D -m 644 "$$it" "$(DOC)/$$it" || exit; \
+		case "$$it" in *.md) $(WITHOUT_INTERNALS) "$$it" > "$(DOC)/$$it" || exit;; esac; \
+	done
+	for it in $(OF_CLIENT) $(OF_JS) $(OF_QT); do install -D -m 644 "clients/$$it" "$(SHARE)/$$it" || exit; done
 	for it in $(PARTS); do \
 		install -d "$(SHARE)/$$it" && \
 		install -m 644 clients/$$it/*.py "$(SHARE)/$$it" || exit; \
@@ -150,9 +178,9 @@ endif
 # takes away all that install puts there, what Python has left beside it, and the folders that hold nothing else
 uninstall:
 	rm -f "$(BIN)/metad" "$(BIN)/metad-front" $(TOOLS:%="$(BIN)/metad-%") "$(MAN)/metad.1" $(if $(SITE),"$(DESTDIR)$(SITE)/metad")
-	rm -f $(DOCUMENTS:%="$(DOC)/%") $(OF_CLIENT:%="$(SHARE)/%") $(OF_TOOLS:%="$(SHARE)/%")
+	rm -f $(DOCUMENTS:%="$(DOC)/%") $(OF_CLIENT:%="$(SHARE)/%") $(OF_JS:%="$(SHARE)/%") $(OF_QT:%="$(SHARE)/%") $(OF_TOOLS:%="$(SHARE)/%")
 	rm -rf "$(SHARE)/$(CLIENT)/__pycache__" $(PARTS:%="$(SHARE)/%/__pycache__")
-	for it in $(FOLDERS:%="$(DOC)/%") "$(DOC)" "$(SHARE)/$(CLIENT)" "$(SHARE)/python" "$(SHARE)/$(PAGE)" $(PARTS:%="$(SHARE)/%") "$(SHARE)"; do \
+	for it in $(FOLDERS:%="$(DOC)/%") "$(DOC)" "$(SHARE)/$(CLIENT)" "$(SHARE)/python" "$(SHARE)/js" "$(SHARE)/qt/metad" "$(SHARE)/qt" "$(SHARE)/$(PAGE)" $(PARTS:%="$(SHARE)/%") "$(SHARE)"; do \
 		test ! -d "$$it" || rmdir --ignore-fail-on-non-empty "$$it"; \
 	done
 

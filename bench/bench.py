@@ -9,7 +9,7 @@ replies are compared with what they must be.
 
 Each count has a guard and may have a goal. A count over its guard is a regression: the status is 1 then. Goals are
 shown, and decide nothing. With --last a count that is more than 1.03 times that of an earlier program is a regression
-too. With --write the counts and guards of this run are written down, in marks.json and docs/MEASURES.md; goals stay.
+too. With --write the counts and guards of this run are written down, in marks.json and docs/internals/MEASURES.md; goals stay.
 Times and peaks of memory are printed last, and decide nothing. Without valgrind only these are printed.
 """
 

@@ -25,6 +25,8 @@ from pathlib import Path
 from tempfile import TemporaryDirectory
 from typing import Callable, Dict, Iterator, List, Optional, Tuple
 
+from ending import measured
+
 sys.path.append(str(Path(__file__).resolve().parent.parent / "clients" / "python"))
 
 import metad  # noqa: E402
@@ -298,18 +300,7 @@ def measure(program: str) -> None:
 
 
 def main() -> int:
-    if len(sys.argv) != 2 or sys.argv[1].startswith("-"):
-        is_help = sys.argv[1:] == ["--help"]
-        print(__doc__ if is_help else "usage: beside.py PROGRAM", file=sys.stdout if is_help else sys.stderr)
-        return 0 if is_help else 2
-    try:
-        measure(str(Path(sys.argv[1]).resolve()))
-    except (OSError, subprocess.CalledProcessError, metad.MetadError) as error:
-        print(f"beside.py: {error}", file=sys.stderr)
-        return 1
-    except KeyboardInterrupt:
-        return 130
-    return 0
+    return measured("beside.py", str(__doc__), sys.argv[1:], measure, (OSError, subprocess.CalledProcessError, metad.MetadError))
 
 
 if __name__ == "__main__":

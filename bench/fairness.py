@@ -18,6 +18,8 @@ import time
 from pathlib import Path
 from typing import Dict, List
 
+from ending import ended, measured
+
 CLIENTS = Path(__file__).resolve().parent.parent / "clients"
 sys.path.append(str(CLIENTS / "python"))
 
@@ -106,21 +108,10 @@ def measure(program: str) -> None:
 
 
 def main() -> int:
-    try:
-        if len(sys.argv) == 3 and sys.argv[2] in WORK:
-            WORK[sys.argv[2]](sys.argv[1])
-        elif len(sys.argv) == 2 and not sys.argv[1].startswith("-"):
-            measure(str(Path(sys.argv[1]).resolve()))
-        else:
-            is_help = sys.argv[1:] == ["--help"]
-            print(__doc__ if is_help else "usage: fairness.py PROGRAM", file=sys.stdout if is_help else sys.stderr)
-            return 0 if is_help else 2
-    except (OSError, metad.MetadError) as error:
-        print(f"fairness.py: {error}", file=sys.stderr)
-        return 1
-    except KeyboardInterrupt:
-        return 130
-    return 0
+    faults = (OSError, metad.MetadError)
+    if len(sys.argv) == 3 and sys.argv[2] in WORK:
+        return ended("fairness.py", lambda: WORK[sys.argv[2]](sys.argv[1]), faults)
+    return measured("fairness.py", str(__doc__), sys.argv[1:], measure, faults)
 
 
 if __name__ == "__main__":

@@ -34,6 +34,8 @@ LOOKS = 20
 LONG_CHAIN = 10
 CHAINS = 100
 CLASSES = 1_024  # as many as a file may have
+LISTED = 1_000  # as many as one reply lists
+JOINS = 1_024  # as many as a session may have; it may have as many publications
 
 
 @dataclass(frozen=True)
@@ -198,6 +200,13 @@ def unheard(sessions):
     return line(name, lambda lines: inputs.unheard(sessions, lines))
 
 
+def unheard_under(names):
+    """The figure of a property that is set and published under so many names, beside a session with joins of others."""
+    published = "published" if names == 1 else f"published under {names:,} names"
+    name = f"set of an int that is {published}, beside {JOINS:,} joins of other names"
+    return line(name, lambda lines: inputs.unheard_under(names, JOINS, lines), max(RINGS, SOME_LINES // names))
+
+
 def listened(sessions):
     """The figure of what is told where so many sessions have joined a property that is set."""
     told = inputs.SETS + (inputs.SETS + 1) * sessions
@@ -231,6 +240,12 @@ CALLED = many_at_once("a call, of a signal with {:,} connections", "call", input
 POSTED = many_at_once("an event posted and taken, {:,} at once", "event", inputs.rings_later, SENT_AND_SPUN, LINES)
 SEEN = many_at_once("children, of {:,}", "object", inputs.seen, NONE_SEEN, 4 * LINES)
 SEARCHED = many_at_once("find, among {:,}", "object", inputs.searched, NONE_SEARCHED, 4 * LINES)
+NONE_FOUND = line("findAll below an object without children", lambda lines: inputs.all_found(0, lines))
+ALL_FOUND = many_at_once("findAll, of {:,}", "object", inputs.all_found, NONE_FOUND, 4 * LINES)
+NO_CONNECTIONS = line("connections of a session without any", lambda lines: inputs.connections_listed(0, lines))
+CONNECTIONS_LISTED = many_at_once("connections, of {:,}", "connection", inputs.connections_listed, NO_CONNECTIONS, LINES)
+NO_BINDINGS = line("bindings of a session without any", lambda lines: inputs.bindings_listed(0, lines))
+BINDINGS_LISTED = many_at_once("bindings, of {:,}", "binding", inputs.bindings_listed, NO_BINDINGS, LINES)
 ARRIVED = many_at_once("a post, in {:,} sessions", "arrival", inputs.posted, unheard(FEW), LINES)
 
 HEARD = heard(f"a call, of a signal with {EARS:,} ears")
@@ -294,6 +309,8 @@ FIGURES = [
     line_told("a queued signal, posted and taken", inputs.posted_and_taken, SOME_LINES, 3, demonstration_classes),
     *grown("an event", POSTED, FEW, CONNECTIONS, "at once"),
     *grown("set of what is published", unheard, FEW, MANY_SESSIONS, "sessions"),
+    unheard_under(1),
+    unheard_under(JOINS),
     *grown("a post", ARRIVED, FEW, SESSIONS, "sessions"),
     *grown("sets and spins", listened, LISTENERS, SESSIONS, "sessions"),
     NONE_SEEN,
@@ -301,6 +318,12 @@ FIGURES = [
     NONE_SEARCHED,
     *grown("find", SEARCHED, FEW, OBJECTS, "objects"),
     line(f"find of a name, in a tree of {SOME_OBJECTS:,}", lambda lines: inputs.found_last(SOME_OBJECTS, lines), LOOKS),
+    NONE_FOUND,
+    *grown("findAll", ALL_FOUND, FEW, OBJECTS, "objects"),
+    NO_CONNECTIONS,
+    *grown("connections", CONNECTIONS_LISTED, FEW, LISTED, "listed"),
+    NO_BINDINGS,
+    *grown("bindings", BINDINGS_LISTED, FEW, LISTED, "listed"),
     line("meta of Cell", lambda lines: inputs.metas(lines, CELL_DESCRIBED), SOME_LINES, demonstration_classes),
     line(f"meta of a class with {METHODS} methods", inputs.metas, METAS),
     *grown("a class file", class_file, 2 * FEW, CLASSES, "classes"),

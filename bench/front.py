@@ -21,6 +21,8 @@ from pathlib import Path
 from tempfile import TemporaryDirectory
 from typing import Callable, Dict, Iterator, List, Tuple
 
+from ending import measured
+
 ROOT = Path(__file__).resolve().parent.parent
 FRONT, LOAD = ROOT / "bin" / "metad-front", ROOT / "bin" / "metad-load"
 TURNS, SECONDS = 5, 1.5
@@ -264,25 +266,19 @@ def build() -> None:
     subprocess.run([sys.executable, str(ROOT / "tools" / "front.py"), "load"], check=True)
 
 
+def measure_all(program: str) -> None:
+    """Builds the front, and measures each row."""
+    build()
+    print("| what | measured | goal |\n|---|---|---|")
+    for what, (measure, goal) in ROWS.items():
+        with TemporaryDirectory(prefix="metad-bench-") as room:
+            found = measure(Path(room), program)
+        shown = "; ".join(f"{it:.2f}" for it in (found if isinstance(found, tuple) else (found,)))
+        print(f"| {what} | {shown} | {goal} |", flush=True)
+
+
 def main() -> int:
-    if len(sys.argv) != 2 or sys.argv[1].startswith("-"):
-        is_help = sys.argv[1:] == ["--help"]
-        print(__doc__ if is_help else "usage: front.py PROGRAM", file=sys.stdout if is_help else sys.stderr)
-        return 0 if is_help else 2
-    try:
-        build()
-        print("| what | measured | goal |\n|---|---|---|")
-        for what, (measure, goal) in ROWS.items():
-            with TemporaryDirectory(prefix="metad-bench-") as room:
-                found = measure(Path(room), str(Path(sys.argv[1]).resolve()))
-            shown = "; ".join(f"{it:.2f}" for it in (found if isinstance(found, tuple) else (found,)))
-            print(f"| {what} | {shown} | {goal} |", flush=True)
-    except (OSError, subprocess.CalledProcessError) as error:
-        print(f"front.py: {error}", file=sys.stderr)
-        return 1
-    except KeyboardInterrupt:
-        return 130
-    return 0
+    return measured("front.py", str(__doc__), sys.argv[1:], measure_all, (OSError, subprocess.CalledProcessError))
 
 
 if __name__ == "__main__":

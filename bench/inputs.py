@@ -8,15 +8,18 @@ from random import Random
 
 from lines import (
     begin,
+    bindings_told,
     called,
     child,
     children,
     connect,
+    connections_told,
     delete,
     disconnect,
     disconnect_ends,
     end,
     find,
+    find_all,
     find_none,
     follow,
     join,
@@ -143,6 +146,12 @@ def searched(number, looks):
     yield from [find_none("a", 1)] * looks
 
 
+def all_found(number, looks):
+    """A family, in which all objects below the first are found again and again."""
+    yield from family(number)
+    yield from [find_all("a", 1, list(range(2, number + 2)))] * looks
+
+
 def found_last(number, looks):
     """A tree of so many objects with a name each, in which that of the last one is looked for again and again."""
     yield new("a", 1)
@@ -171,6 +180,12 @@ def connections(session, count, **kind):
     """A Bell and an Ear, with so many connections between them."""
     yield from numbered(session, 1, ["Bell", "Ear"])
     yield from (connect(session, 1, 2, number, **kind) for number in range(1, count + 1))
+
+
+def connections_listed(count, looks):
+    """So many connections between a Bell and an Ear, listed again and again."""
+    yield from connections("a", count)
+    yield from [connections_told("a", range(1, count + 1))] * looks
 
 
 def beside_connections(session, count, lines):
@@ -313,6 +328,15 @@ def chains_by_notify(chains, length, times):
 # Bindings.
 
 
+def bindings_listed(count, looks):
+    """Links, each bound to be one more than the one before, listed again and again."""
+    yield from numbered("a", 1, ["Link"] * (count + 1))
+    yield begin("a")
+    yield from (follow("a", number, number - 1) for number in range(2, count + 2))
+    yield end("a")
+    yield from [bindings_told("a", range(2, count + 2))] * looks
+
+
 def chain(length, times):
     """A Link that is set so many times, and so many others of which each is bound to be one more than the one before.
 
@@ -372,6 +396,16 @@ def unheard(sessions, times):
     """A Cell that is published, and set so many times beside so many sessions that have joined another one."""
     yield from publisher()
     yield from listeners(sessions, "b")
+    yield from (set_x("a", value) for value in range(1, times + 1))
+
+
+def unheard_under(names, joins, times):
+    """A Cell that is published under so many names, and set so many times beside a session that has so many joins of
+    other names of its session."""
+    yield new("a", 1, "Cell")
+    yield from (publish("a", f"n{number}") for number in range(names))
+    yield new("l0", 1, "Ear")
+    yield from (join("l0", "a", f"m{number}") for number in range(joins))
     yield from (set_x("a", value) for value in range(1, times + 1))
 
 

@@ -263,6 +263,24 @@ def find_none(session, number):
     return find(session, number, "none", None)
 
 
+def find_all(session, number, found):
+    return command(session, "findAll", object=number), reply(session, found)
+
+
+def connections_told(session, found):
+    """The reply to `connections` where each of these connections has Bell 1 as its sender and Ear 2 as its receiver."""
+    rows = [
+        {"connection": it, "method": "hear(int)", "receiver": 2, "sender": 1, "signal": "rang(int)", "single": False, "type": "auto"}
+        for it in found
+    ]
+    return command(session, "connections"), reply(session, rows)
+
+
+def bindings_told(session, objects, name="x"):
+    """The reply to `bindings` where this property of each of these objects is bound, and no other."""
+    return command(session, "bindings"), reply(session, [{"object": it, "property": name} for it in objects])
+
+
 def look_around(session):
     """A look for objects in a session that has none."""
     return command(session, "children"), reply(session, [])

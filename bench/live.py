@@ -22,6 +22,8 @@ import time
 from pathlib import Path
 from typing import Dict, List, Tuple
 
+from ending import ended
+
 CLIENTS = Path(__file__).resolve().parent.parent / "clients"
 sys.path += [str(CLIENTS), str(CLIENTS / "python")]
 
@@ -252,21 +254,19 @@ def parser() -> argparse.ArgumentParser:
     return made
 
 
+def work(given: argparse.Namespace) -> None:
+    """Does a part of a measurement, or measures. A part ends well where the server has gone."""
+    if not given.part:
+        return measure(given)
+    try:
+        part(given.part, given.program, given.host, given.clients)
+    except metad.ServerGone:
+        pass
+
+
 def main() -> int:
     given = parser().parse_args()
-    try:
-        if given.part:
-            part(given.part, given.program, given.host, given.clients)
-        else:
-            measure(given)
-    except (OSError, ValueError, metad.MetadError) as error:
-        if given.part and isinstance(error, metad.ServerGone):
-            return 0
-        print(f"live.py: {error}", file=sys.stderr)
-        return 1
-    except KeyboardInterrupt:
-        return 130
-    return 0
+    return ended("live.py", lambda: work(given), (OSError, ValueError, metad.MetadError))
 
 
 if __name__ == "__main__":

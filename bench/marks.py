@@ -1,6 +1,6 @@
 """The marks of each figure: a guard, which decides whether a run passes, and a goal, which decides nothing.
 
-`marks.json` has them, beside the count that each guard was made from. The page docs/MEASURES.md shows them in a table.
+`marks.json` has them, beside the count that each guard was made from. The page docs/internals/MEASURES.md shows them in a table.
 """
 
 from __future__ import annotations
@@ -16,7 +16,7 @@ from figures import Figure, Ratio
 Number = Union[int, float]
 
 MARKS = Path(__file__).with_name("marks.json")
-PAGE = Path(__file__).resolve().parent.parent / "docs" / "MEASURES.md"
+PAGE = Path(__file__).resolve().parent.parent / "docs" / "internals" / "MEASURES.md"
 HEAD = "| figure | unit | count | guard | goal | reached |\n|---|---|---|---|---|---|\n"
 
 ROOM = 1.03  # a guard is so many times the count that it was made from

@@ -24,6 +24,7 @@ from tempfile import TemporaryDirectory
 from typing import Callable, Dict, List, Sequence
 
 from beside import fronted, front_words, private_bytes
+from ending import measured
 
 ROOT = Path(__file__).resolve().parent.parent
 MACHINES = ROOT / "examples" / "machines"
@@ -315,18 +316,7 @@ def main() -> int:
     if len(sys.argv) == 3 and sys.argv[1] == "--flood":
         print(flood(sys.argv[2]))
         return 0
-    if len(sys.argv) != 2 or sys.argv[1].startswith("-"):
-        is_help = sys.argv[1:] == ["--help"]
-        print(__doc__ if is_help else "usage: scaling.py PROGRAM", file=sys.stdout if is_help else sys.stderr)
-        return 0 if is_help else 2
-    try:
-        measure(str(Path(sys.argv[1]).resolve()))
-    except (OSError, subprocess.CalledProcessError) as error:
-        print(f"scaling.py: {error}", file=sys.stderr)
-        return 1
-    except KeyboardInterrupt:
-        return 130
-    return 0
+    return measured("scaling.py", str(__doc__), sys.argv[1:], measure, (OSError, subprocess.CalledProcessError))
 
 
 if __name__ == "__main__":

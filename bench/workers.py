@@ -26,6 +26,7 @@ from typing import Callable, Dict, List, Sequence, Tuple
 CLIENTS = Path(__file__).resolve().parent.parent / "clients"
 sys.path += [str(CLIENTS), str(CLIENTS / "python")]
 
+from ending import ended, measured  # noqa: E402
 from ring import Ring  # noqa: E402
 
 import metad  # noqa: E402
@@ -247,21 +248,10 @@ def measure(program: str) -> None:
 
 
 def main(words: Sequence[str]) -> int:
-    try:
-        if len(words) == 5 and words[0] == "flood":
-            flood(words[1], int(words[2]), words[3], words[4])
-        elif len(words) == 1 and not words[0].startswith("-"):
-            measure(str(Path(words[0]).resolve()))
-        else:
-            is_help = list(words) == ["--help"]
-            print(__doc__ if is_help else "usage: workers.py PROGRAM", file=sys.stdout if is_help else sys.stderr)
-            return 0 if is_help else 2
-    except (OSError, metad.MetadError) as error:
-        print(f"workers.py: {error}", file=sys.stderr)
-        return 1
-    except KeyboardInterrupt:
-        return 130
-    return 0
+    faults = (OSError, metad.MetadError)
+    if len(words) == 5 and words[0] == "flood":
+        return ended("workers.py", lambda: flood(words[1], int(words[2]), words[3], words[4]), faults)
+    return measured("workers.py", str(__doc__), words, measure, faults)
 
 
 if __name__ == "__main__":

@@ -131,6 +131,23 @@ HUB_DESCRIBED = {
     "propertyOffset": 1,
     "super": "QObject",
 }
+OF_QOBJECT = {"bindable": True, "class": "QObject", "name": "objectName", "notify": "objectNameChanged(QString)", "type": "QString"}
+NAME_CHANGED = {"class": "QObject", "signature": "objectNameChanged(QString)", "types": ["QString"]}
+DESTROYED, DELETE_LATER = ({"class": "QObject", "signature": it, "types": []} for it in ("destroyed()", "deleteLater()"))
+HUB_MEMBERS = {
+    "class": "Hub",
+    "properties": [
+        OF_QOBJECT,
+        *({"bindable": True, "class": "Hub", "name": it, "notify": signal, "type": "int"} for it, signal in zip(NAMES, SIGNALS)),
+    ],
+    "signals": [DESTROYED, NAME_CHANGED, *({"class": "Hub", "signature": it, "types": ["int"]} for it in SIGNALS)],
+    "slots": [DELETE_LATER, *({"class": "Hub", "signature": it, "types": ["int"]} for it in SLOTS)],
+    "super": "QObject",
+}
+HUB_PROPERTIES = [
+    {**{key: it[key] for key in it if key != "class"}, "bound": False, "error": None, "value": "" if it is OF_QOBJECT else 0}
+    for it in HUB_MEMBERS["properties"]
+]
 
 
 def usual_classes() -> str:
@@ -238,7 +255,7 @@ OF_LINES = (After, Refused, below, binary, calls, chains, children_of, deep_clas
 NAMES_OF_LINES: Names = {
     **{it.__name__: it for it in (*BUILT_IN, *OF_LINES)},
     **{"after": After, "large": as_large_as_may_be, "refused": Refused, "__builtins__": {}},
-    **{"ACTIONS": ACTIONS, "EACH": EACH, "HUB_DESCRIBED": HUB_DESCRIBED, "LONG": LONG},
+    **{"ACTIONS": ACTIONS, "EACH": EACH, "HUB_DESCRIBED": HUB_DESCRIBED, "HUB_MEMBERS": HUB_MEMBERS, "HUB_PROPERTIES": HUB_PROPERTIES, "LONG": LONG},
     **{"NAMES": NAMES, "SIGNALS": SIGNALS, "SLOTS": SLOTS},
 }
 

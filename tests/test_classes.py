@@ -1,7 +1,8 @@
-"""Class files: which the program takes, what it says of the others and how quick it is, and whether docs/classes.schema.json
-says the same."""
+"""Class files: which the program takes, what it says of the others and how quick it is, whether docs/classes.schema.json
+says the same, and whether `classes` and `describe` reply what a class file declares."""
 
 import json
+import re
 import subprocess
 import sys
 from collections import Counter
@@ -15,6 +16,7 @@ from .support.cases import CASE, ProgramCases, processor_seconds
 from .support.differences import cut
 from .support.documents import all_examples
 from .support.json_schema import Schema
+from .support.lines import lines_of
 from .support.program import ROOT, ROWS, SECONDS, Row, rows_in
 
 QUICK = 1  # second of the processor's time
@@ -23,6 +25,10 @@ CHANGED = 150  # class files that are changed by chance
 SEED = 1
 NESTED = 10_000  # calls in one another, which the deepest class file takes of the schema's reader
 SHOWN = 1_000
+WORD = re.compile(r"\w+", re.ASCII)  # of a signature
+ROOT_CLASS = "QObject"
+ROOT_SIGNALS, ROOT_SLOTS = ("destroyed()", "objectNameChanged(QString)"), ("deleteLater()",)
+ROOT_PROPERTIES = ({"name": "objectName", "type": "QString", "notify": "objectNameChanged(QString)", "bindable": True},)
 
 
 class ClassFiles(ProgramCases):
@@ -115,3 +121,77 @@ class SchemaOfClassFiles(ProgramCases):
         seen = Counter(accepted for accepted, _ in tried)
         shows = seen[False, False] and seen[True, True]
         self.assertTrue(CASE or shows, f"the class files made by chance show nothing: {seen}")
+
+
+def types_of(signature):
+    """The types of a signature's parameters, as it is written in a class file."""
+    parts = [WORD.findall(part) for part in signature.partition("(")[2].split(",")]
+    return [word for words in parts for word in words if word not in ("const", "void")]
+
+
+def normal_text(signature):
+    """The normal text of a signature, as it is written in a class file."""
+    return f"{WORD.findall(signature)[0]}({','.join(types_of(signature))})"
+
+
+def methods_of(name, signatures):
+    return [{"class": name, "signature": normal_text(it), "types": types_of(it)} for it in signatures]
+
+
+def properties_of(name, declared):
+    """The properties that a class declares. One that says nothing of it has no signal and may not be bound."""
+    return [
+        {
+            "bindable": it.get("bindable", False),
+            "class": name,
+            "name": it["name"],
+            "notify": normal_text(it["notify"]) if "notify" in it else None,
+            "type": it["type"],
+        }
+        for it in declared
+    ]
+
+
+def descriptions_of(declared):
+    """The description of each class of a file, by its name in the order of the file."""
+    root = {
+        "class": ROOT_CLASS,
+        "properties": properties_of(ROOT_CLASS, ROOT_PROPERTIES),
+        "signals": methods_of(ROOT_CLASS, ROOT_SIGNALS),
+        "slots": methods_of(ROOT_CLASS, ROOT_SLOTS),
+        "super": None,
+    }
+    described = {ROOT_CLASS: root}
+    for it in declared:
+        above, name = described[it["super"]], it["name"]
+        described[name] = {
+            "class": name,
+            "properties": above["properties"] + properties_of(name, it.get("properties", ())),
+            "signals": above["signals"] + methods_of(name, it.get("signals", ())),
+            "slots": above["slots"] + methods_of(name, [slot["sig"] for slot in it.get("slots", ())]),
+            "super": it["super"],
+        }
+    return described
+
+
+class Descriptions(ProgramCases):
+    """The classes of class files."""
+
+    def fault_of(self, classes):
+        """In what the program describes the classes of a file in another way than the file declares them, or None."""
+        described = descriptions_of(classes["classes"])
+        given = [{"do": "classes"}, *({"do": "describe", "class": name} for name in described)]
+        told = [{"reply": list(described)}, *({"reply": it} for it in described.values())]
+        with TemporaryDirectory(prefix="metad-descriptions-") as room:
+            Path(room, "classes.json").write_text(json.dumps(classes))
+            lines = [lines_of(it, session="a") for it in (given, told)]
+            row = Row("describe", *lines, words=("classes.json",), folder=Path(room))
+            return row.fault(row.run(self.program))
+
+    def test_files_of_tests(self):
+        """Each class of each class file of the rows and of the documents is described as the file declares it."""
+        self.check_each(files_of_tests(), self.fault_of)
+
+    def test_right_files(self):
+        """So is each class of the class files that show what a class file may have."""
+        self.check_each(right_files(), self.fault_of)

@@ -21,12 +21,15 @@ TOOLS = {
 }  # fmt: skip
 LINKS = {f"bin/metad-{tool}": f"share/metad/{tool}" for tool in TOOLS}
 PROGRAMS = {"bin/metad", "bin/metad-front", *LINKS, *LINKS.values()}
-DOCUMENTS = ("README.md", "docs/PROTOCOL.md", "clients/python/README.md", "examples/traffic_light/session")
+DOCUMENTS = ("README.md", "docs/PROTOCOL.md", "clients/python/README.md", "clients/js/README.md", "examples/traffic_light/session")
 CLIENT = "share/metad/python"
-ALWAYS = PROGRAMS | {"share/man/man1/metad.1", f"{CLIENT}/metad/__init__.py", *(f"{DOC}/{it}" for it in DOCUMENTS)}
+ALWAYS = PROGRAMS | {"share/man/man1/metad.1", f"{CLIENT}/metad/__init__.py", "share/metad/js/index.mjs", *(f"{DOC}/{it}" for it in DOCUMENTS)}
 OF_DOCUMENTS = ("README.md", "CHANGELOG.md", "docs/*.md", "docs/*.json", "docs/*.png", "clients/*/*.md", "examples/*/*")
+INTERNAL = re.compile(rb"\[([^][]*)\]\([^()]*internals/[^()]*\)")  # a link to a page that is not installed
 OF_PAGE = ("inspecting/page/*", "inspecting/*.json")
 OF_CLIENT = ("metad/*.py", "metad/py.typed")
+OF_JS = ("js/*.mjs", "js/*.mts", "js/package.json")
+OF_QT = ("*.cmake", "CMakeLists.txt", "metad/*")
 LINE = b'{"error":"E12","session":"a"}\n'
 SAID = b"    session a: E12: the parent would be the object itself or below it\n"
 CHECKED = b"<standard input>: no fault, no warning; metad takes it\n"
@@ -41,6 +44,12 @@ def files_in(top):
     return {str(path.relative_to(top)): path for path in top.rglob("*") if path.is_file()}
 
 
+def as_installed(path):
+    """What a file holds where it is installed: a page has no links to internal pages, and keeps their texts."""
+    held = path.read_bytes()
+    return INTERNAL.sub(rb"\1", held) if path.suffix == ".md" else held
+
+
 def wanted_files():
     """What is to be installed, each with the file that it is made of."""
     made = {name: ROOT / name for name in ("bin/metad", "bin/metad-front")}
@@ -49,9 +58,10 @@ def wanted_files():
         made |= {name: ROOT / "clients" / tool for name in (f"bin/metad-{tool}", f"share/metad/{tool}")}
         made |= {f"share/metad/{parts}/{path.name}": path for path in (ROOT / "clients" / parts).glob("*.py")}
     clients = ROOT / "clients"
-    made |= {f"share/metad/{path.relative_to(clients)}": path for pattern in OF_PAGE for path in clients.glob(pattern)}
+    made |= {f"share/metad/{path.relative_to(clients)}": path for pattern in (*OF_PAGE, *OF_JS) for path in clients.glob(pattern)}
     client = clients / "python"
     made |= {f"{CLIENT}/{path.relative_to(client)}": path for pattern in OF_CLIENT for path in client.glob(pattern)}
+    made |= {f"share/metad/{path.relative_to(clients)}": path for pattern in OF_QT for path in (clients / "qt").glob(pattern)}
     documents = [path for pattern in OF_DOCUMENTS for path in ROOT.glob(pattern) if path.is_file()]
     return made | {f"{DOC}/{path.relative_to(ROOT)}": path for path in documents}
 
@@ -72,7 +82,7 @@ class Install(Cases):
         self.assertEqual(found.keys(), wanted.keys())
         self.assertLessEqual(ALWAYS, found.keys())
         for name, path in found.items():
-            self.assertEqual(path.read_bytes(), wanted[name].read_bytes(), f"{name} is another file")
+            self.assertEqual(path.read_bytes(), as_installed(wanted[name]), f"{name} is another file")
             self.assertEqual(oct(path.stat().st_mode & 0o777), oct(0o755 if name in PROGRAMS else 0o644), f"the mode of {name}")
         for link, to in LINKS.items():
             self.assertTrue(found[link].is_symlink(), link)
@@ -104,6 +114,9 @@ class Install(Cases):
         self.check_run([top / "bin/metad-slice", "--only", "/dev/stdin", "a"], top, RECORD, KEPT)
         client = str(top / CLIENT / "metad" / "__init__.py")
         self.check_run(["python3", "-c", "import metad; print(metad.__file__)"], top, b"", f"{client}\n".encode())
+        if shutil.which("node"):
+            words = f"import({str(top / 'share/metad/js/index.mjs')!r}).then((metad) => console.log(metad.CODES.E12))"
+            self.check_run(["node", "-e", words], top, b"", b"a cycle of parents\n")
         left = {str(path.parent.relative_to(top)) for path in top.rglob("__pycache__")}
         used = ("explaining", "checking", "shelling", "slicing", "python/metad")
         wanted = {f"share/metad/{it}" for it in used}
@@ -184,7 +197,7 @@ def sections():
     for line in map(unescaped, PAGE.read_text().splitlines()):
         if line.startswith((".SH ", ".SS ")):
             lines = found.setdefault(line[4:], [])
-        else:
+        elif not line.startswith('.\\"'):
             lines.append(line)
     return found
 

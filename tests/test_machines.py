@@ -9,15 +9,13 @@ import subprocess
 import sys
 import unittest
 from pathlib import Path
-from tempfile import TemporaryDirectory
 
-from tests.test_clients import CLIENTS, PYTHON
+from tests.test_clients import CLIENTS
 from tests.test_clients.fronts import NEW, STATUS, Client, error, reply, front_help
 
 
-from .support.cases import ProgramCases
 from .support.lines import text_of
-from .support.machines import FOLDER, MachineCases, addresses, example, lacking, network
+from .support.machines import FOLDER, MachineCases, addresses, example
 from .support.program import SECONDS
 
 PAGE = FOLDER / "README.md"

@@ -22,12 +22,12 @@ from .support.program import ROOT, SECONDS, library
 
 sys.path.insert(0, str(ROOT / "bench"))
 
-import bench  # isort: skip
-import marks  # isort: skip
-import worst_lines  # isort: skip
-from figures import FIGURES, Figure, Ratio  # isort: skip
+import bench  # isort: skip  # noqa: E402
+import marks  # isort: skip  # noqa: E402
+import worst_lines  # isort: skip  # noqa: E402
+from figures import FIGURES, Figure, Ratio  # isort: skip  # noqa: E402
 
-PAGE, SCALING = (ROOT / "docs" / name for name in ("MEASURES.md", "SCALING.md"))
+PAGE, SCALING = (ROOT / "docs" / name for name in ("internals/MEASURES.md", "SCALING.md"))
 COUNTED = "set and get, in 1 session"
 FEW = {"objects": 120, "levels": 9, "connections": 410, "events": 400, "bindings": 12, "publications": 6, "joins": 5, "classes": 20}
 SMALL = worst_lines.Sizes(**FEW, calls=10, turns=1_000)
@@ -129,7 +129,7 @@ class Fixed(ProgramCases):
 
 
 class Sessions(Cases):
-    """The bytes of a session, which docs/MEASURES.md has and docs/SCALING.md reckons with."""
+    """The bytes of a session, which docs/internals/MEASURES.md has and docs/SCALING.md reckons with."""
 
     def test_sum(self) -> None:
         """The memory of a million sessions is summed up from the bytes that `make bench` has written down."""

@@ -31,8 +31,8 @@ from .support.growths import (
     NOT_STARTED,
     OUT_OF_MEMORY,
     RECEIVER_FAILED,
-    Tried,
     Trial,
+    answers_in,
     count_start,
     missing,
     refuse_growths,
@@ -46,7 +46,7 @@ SESSIONS = 1_000
 COMMANDS = 200
 REFUSED = 400  # one of so many requests for memory behind the start is refused, if the program comes to it
 LISTENERS = 200  # runs of sessions that listen to each other
-WHOLE = 6  # a short one of these, in which posts arrive that want memory: each of its growths is refused
+WHOLE = 3  # a short one of these, in which posts arrive that want memory: each of its growths is refused
 GROWTHS_OF_LINE = 8  # requests for memory that a line of theirs makes, about
 
 
@@ -130,6 +130,47 @@ class RefusedGrowths(ProgramCases):
     def test_sessions_that_listen(self):
         """So does one of each of many runs of sessions that publish, join, bind and call functors, and each of one run."""
         self.check_by_chance(LISTENERS, refuse_among_listeners, {FAILED: LISTENERS // 10, RECEIVER_FAILED: 1})
+
+
+ONE_OF_EACH = (
+    *({"do": word, "object": 1} for word in ("parent", "findAll", "object", "properties")),
+    *({"do": word} for word in ("classes", "functors", "publications", "joins", "connections", "bindings")),
+    {"do": "describe", "class": "Cell"},
+    {"do": "binding", "object": 1, "property": "x"},
+)  # commands that only read
+MADE = ({"do": "new", "class": "Cell"}, {"do": "set", "object": 1, "property": "objectName", "value": "n" * 4_096})
+AFTER_FAILING = (*ONE_OF_EACH, {"do": "reset"}, *ONE_OF_EACH)
+
+
+class FailedReads(ProgramCases):
+    """Commands that only read, in a session that has failed."""
+
+    def setUp(self):
+        commands = [{"session": "a", **it} for it in (*MADE, *AFTER_FAILING)]
+        row = Row("reads", lines_of(commands), b"")
+        server = server_of(row)
+        made = b"".join(answer(server, line) for line in lines_of(commands[:1]).splitlines())
+        server.session("a").fail()
+        refused = [answer(server, line) for line in lines_of(commands[len(MADE) :]).splitlines()]
+        self.row = replace(row, stdout=made + error("E21", "a") + b"".join(refused))
+
+    def test_plain(self):
+        """The plain program refuses each by E20, up to the reset."""
+        failed, count = [error("E20", "a")] * len(ONE_OF_EACH), len(ONE_OF_EACH)
+        answers = answers_in(self.row.stdout)[len(MADE) :]
+        self.assertEqual((answers[:count], answers[count]), (failed, text(reply=True, session="a")))
+        self.assertNotIn(failed[0], answers[count:], "behind the reset")
+
+    def test_reads(self):
+        """So does the program, in which a growth of a command before them was refused."""
+        preloaded = library("refuse_growth")
+        start = count_start(self.program, preloaded, self.row)
+        trial = Trial(self.program, preloaded, self.row, start)
+        for number in range(start + 1, MOST):
+            ran, was_refused = trial.run(number)
+            if not was_refused or ran.stdout == self.row.stdout:
+                break
+        self.assertEqual(ran.stdout, self.row.stdout, "no refused growth made the session fail so")
 
 
 MIB, KIB = 2**20, 2**10

@@ -14,7 +14,7 @@ from typing import NamedTuple
 from .generators import nests
 from .support.bounded import OF_LOADER, UNLOADED
 from .support.cases import AT_ONCE, ProgramCases
-from .support.growths import COMPLAINT, OUT_OF_MEMORY, answers_in, line
+from .support.growths import COMPLAINT, OUT_OF_MEMORY, line
 from .support.program import SECONDS, Row
 from .support.spared import Reference, answers_of
 

@@ -14,7 +14,7 @@ from tempfile import TemporaryDirectory
 from .support.cases import Cases
 from .support.documents import README, version
 from .support.program import ROOT, SECONDS, make
-from .test_install import CHECKED, KEPT, LINE, LINKS, MADE, RECORD, SAID, files_in, wanted_files
+from .test_install import CHECKED, KEPT, LINE, LINKS, MADE, RECORD, SAID, as_installed, files_in, wanted_files
 
 TOOL = ROOT / "tools" / "package.py"
 TIME = 1_700_000_000  # that the files of a package are given
@@ -95,7 +95,7 @@ class Packages(Cases):
         top, own = self.room / name, {"README", "SHA256SUMS"}
         found, wanted = files_in(top), wanted_files()
         self.assertEqual(found.keys() - own, wanted.keys(), "the files")
-        different = [it for it in wanted if found[it].read_bytes() != wanted[it].read_bytes()]
+        different = [it for it in wanted if found[it].read_bytes() != as_installed(wanted[it])]
         self.assertEqual(different, [], "files that are others than those here")
         plain = {it for it in found.keys() - LINKS.keys() - {"SHA256SUMS"}}
         self.assertEqual(sums_in(top / "SHA256SUMS"), {it: sum_of(top / it) for it in plain}, "the checksums")

@@ -12,7 +12,7 @@ from dataclasses import dataclass, replace
 from pathlib import Path
 from tempfile import TemporaryDirectory, TemporaryFile
 
-from .generators import colliding, limits
+from .generators import colliding, limits, many
 from .support.cases import ProgramCases, processor_seconds
 from .support.documents import version
 from .support.lines import lines_of, text_of
@@ -171,7 +171,7 @@ class Ends(ProgramCases):
         ran = subprocess.run([self.program, "--help"], capture_output=True, text=True, timeout=SECONDS)
         own, prover = version()
         self.assertEqual(ran.stdout.partition("\n")[0], f"metad {own}, proved with {prover}")
-        for words in ("CLASSES", "--turns", "--slice", "--help", *(f"\n  {status}  " for status in range(6)), "metad(1)", "docs/GUIDE.md"):
+        for words in ("CLASSES", "--turns", "--slice", "--help", *(f"\n  {status}  " for status in range(6)), "metad(1)", "docs/TUTORIAL.md"):
             self.assertIn(words, ran.stdout)
 
 
@@ -378,6 +378,10 @@ class Limits(ProgramCases):
     def test_deep(self):
         """Signals, changes, bindings and deletions that nest as deep as they may need no more stack than is reserved."""
         self.check_stack(limits.deep_rows())
+
+    def test_reads(self):
+        """As much as there may be, which is then read."""
+        self.check_stack(many.rows())
 
     def test_smaller_stack(self):
         """On less than that the program ends by a signal, before it reads a line."""

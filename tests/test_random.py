@@ -10,7 +10,7 @@ from dataclasses import dataclass, field, replace
 from functools import cache, partial
 from tempfile import TemporaryDirectory
 
-from .generators import bindings, chance, mixed, sessions, signals, trees
+from .generators import bindings, chance, mixed, reads, sessions, signals, trees
 from .plain.bindings import BINDING_LOOP, EVALUATION_ERROR
 from .plain.classes import Classes
 from .plain.lines import answer, server_with
@@ -45,6 +45,29 @@ def all_shown(tried):
     return shown
 
 
+def shares(words):
+    """How many of these words of commands there are, and how many are of commands that only tell what is there."""
+    words = list(words)
+    return Counter({"commands": len(words), "reading commands": sum(word in reads.READS for word in words)})
+
+
+def check_share(test, shown):
+    """Fails where too few of the random commands only tell what is there, unless cases were picked by name."""
+    share = shown["reading commands"] / shown["commands"]
+    test.assertTrue(CASE or share >= reads.LEAST_SHARE, f"only {share:.3f} of {shown['commands']:,} commands only tell what is there")
+
+
+def words_in(lines):
+    """The words of the commands in lines, where these are objects with a word."""
+    for line in lines:
+        try:
+            given = json.loads(line)
+        except (ValueError, RecursionError):
+            continue
+        if isinstance(given, dict) and isinstance(given.get("do"), str):
+            yield given["do"]
+
+
 class Lines(ProgramCases):
     """Lines that are made by chance, in form and out of it."""
 
@@ -59,6 +82,7 @@ class Lines(ProgramCases):
         self.assertGreaterEqual(calls, chance.LINES // 200, "there are too few calls")
         self.assertGreaterEqual(functors, chance.LINES // 40_000, "there are too few calls of functors")
         self.assertGreaterEqual(loops, chance.LINES // 40_000, "there are too few loops of bindings")
+        check_share(self, shares(words_in(lines)))
         self.check_rows([Row(f"lines by chance, {SEED}", b"\n".join(lines), wanted, words=("--turns", str(chance.TURNS)))])
         self.tell(f"lines: {len(lines):,}, replies: {replies:,}, calls: {calls:,}, of functors: {functors:,}, loops: {loops:,}")
 
@@ -78,20 +102,32 @@ def tree_fault(program, commands):
 class Trees(ProgramCases):
     """Sessions with trees of objects."""
 
+    def test_share(self):
+        """A fifth of the random commands only tell what is there."""
+        check_share(self, shares(it["do"] for seed in range(trees.CHANCES) for it in trees.by_chance(seed)))
+
     def test_trees(self):
         """Deep and wide trees that are deleted, and small ones by chance."""
         self.check_each(trees.sessions(), partial(tree_fault, self.program), workers=ProcessPoolExecutor)
 
 
+def reads_in(commands, answers):
+    """How often each command that only reads was replied to."""
+    replied = Counter(command["do"] for command, told in zip(commands, answers) if "reply" in told[-1])
+    return {f"replies to {word}": replied[word] for word in reads.READS}
+
+
 def shown_by_signals(commands, answers):
-    """What a session has to show: calls, of them those of functors and those that tell of what a command had set, and
-    events that were taken."""
+    """What a session has to show: calls, of them those of functors and those that tell of what a command had set, events
+    that were taken, and replies to what only reads."""
     lines = [line for told in answers for line in told]
     return Counter({
         "calls": signals.calls_in(lines),
         "calls of functors": signals.functors_in(lines),
         "events": signals.events_in(lines),
         "calls that tell of changes": signals.changes_in(commands, answers),
+        **reads_in(commands, answers),
+        **shares(it["do"] for it in commands),
     })
 
 
@@ -102,13 +138,14 @@ def shown_by_bindings(commands, answers):
     for command, lines in zip(commands, answers):
         told[command["do"]] += lines
     errors = {word: signals.errors_in(told[word]) for word in ("bind", "set", "delete", "invoke", "spin", "end")}
-    asked = Counter(line.get("reply") for line in told["bindingError"])
+    asked = Counter(line.get("reply") for line in told[bindings.ERROR_OF])
     return Counter({
         "bindings": sum(line.get("reply") is True for line in told["bind"]),
         "groups": sum("reply" in line for line in told["begin"]),
         **{f"calls by {word}": signals.calls_in(told[word]) for word in ("bind", "end")},
         **{f"errors by {word}": number for word, number in errors.items()},
         **{f"asked for {error}": asked[error] for error in (BINDING_LOOP, EVALUATION_ERROR)},
+        **shares(it["do"] for it in commands),
     })
 
 
@@ -118,7 +155,7 @@ def shown_by_watching(commands, answers):
     for command, told in zip(commands, answers):
         if command["do"] in bindings.Watching.asked:
             reply = told[-1].get("reply")
-            asked[f"asked for {reply}" if isinstance(reply, str) and command["do"] == "bindingError" else "other answers"] += 1
+            asked[f"asked for {reply}" if isinstance(reply, str) and command["do"] == bindings.ERROR_OF else "other answers"] += 1
     return Counter({what: asked[what] for what in (f"asked for {BINDING_LOOP}", f"asked for {EVALUATION_ERROR}", "other answers")})
 
 
@@ -140,15 +177,16 @@ class OneSession(ProgramCases):
         self.tell(", ".join(f"{what}: {number:,}" for what, number in shown.items()))
         lacking = [what for what in needed or shown if not shown[what]]
         self.assertEqual([] if CASE else lacking, [], "no session shows this")
+        return shown
 
     def test_signals(self):
         """Signals, slots, functors, events and properties."""
-        needed = ("calls of functors", "events", "calls that tell of changes")
-        self.check_sessions(signals.SESSIONS, signals.Chance, shown_by_signals, needed)
+        needed = ("calls of functors", "events", "calls that tell of changes", *(f"replies to {word}" for word in reads.READS))
+        check_share(self, self.check_sessions(signals.SESSIONS, signals.Chance, shown_by_signals, needed))
 
     def test_bindings(self):
         """Bindings and groups beside them."""
-        self.check_sessions(bindings.SESSIONS, bindings.Chance, shown_by_bindings)
+        check_share(self, self.check_sessions(bindings.SESSIONS, bindings.Chance, shown_by_bindings))
 
     def test_watched_bindings(self):
         """Bindings whose errors and values are all asked for after each command."""
@@ -197,7 +235,8 @@ def part_faults(run, row, program):
     told = lines_by_session(replace(row, given=lines_of(given)).run(program).stdout)
     for at, part in parts.items():
         name = f"{part.session}_{at}"
-        fault = difference(lines_of(run.told(part.session), session=name), told[name])
+        wanted = [mixed.renamed_line(line, f"_{at}") for line in run.told(part.session)]
+        fault = difference(lines_of(wanted, session=name), told[name])
         if fault:
             yield f"{part.session} {part.what}: {fault}\n{shown_input(part.given())}"
 
@@ -215,10 +254,10 @@ def shown_by_run(run):
     """What runs have to show."""
     lines, parts = run.lines(), [len(part.commands) for part in parts_of(run)]
     beside = sum(len(run.commands_beside(name)) for name in run.server.sessions)
-    spun = [line["reply"] for line in lines if isinstance(line.get("reply"), dict) and "events" in line["reply"]]
+    spun = [line["reply"] for line in lines if isinstance(line.get("reply"), dict) and "left" in line["reply"]]  # of `spin` alone
     done = Counter(step.command["do"] for step in run.steps if "reply" in step.lines[-1])
     return Counter({
-        "commands": len(run.steps),
+        **shares(step.command["do"] for step in run.steps),
         "posts": sum(len(step.posts) for step in run.steps),
         "posts of events": sum(len(step.posts) for step in run.steps if step.command["do"] == "spin"),
         "arrivals": sum(step.arrived for step in run.steps),
@@ -256,6 +295,7 @@ class Mixed(ProgramCases):
         shown = all_shown(tried)
         self.tell(", ".join(f"{what}: {number:,}" for what, number in shown.items()))
         self.assertEqual([] if CASE else [what for what, number in shown.items() if not number], [], "no run shows this")
+        check_share(self, shown)
 
 
 @cache

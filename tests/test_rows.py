@@ -12,10 +12,12 @@ from .generators.spelling import rows_respelled
 from .plain.lines import answer, server_of
 from .support.cases import Cases, ProgramCases
 from .support.differences import LAST, difference
-from .support.documents import BLOCK, GIVEN, GUIDE, README, examples_of, line_number
+from .support.documents import BLOCK, COOKBOOK, GIVEN, QT, README, TUTORIAL, examples_of, line_number
+from .support.markdown import FENCED, section, titles_in
 from .support.pages import check_page
 from .support.program import ROOT, ROWS, Row, lay_out, rows_in, run_shell
 from .support.protocol import PROTOCOL
+from .support.shell_sessions import lay_out_files, shell_runs_in, shown_by
 from .test_clients.fronts import FRONT
 
 EXAMPLES = ROOT / "examples"
@@ -23,7 +25,15 @@ CLIENTS = ROOT / "clients"
 PART_OR_RECIPE = re.compile(rf"^```(part \w+|console)\n{BLOCK}```$", re.MULTILINE)
 COMMAND = "$ "
 STARTED = re.compile(r"^(?:until |while |if |! )?(bin/[\w-]+)", re.MULTILINE)  # by a command of a recipe
-MAY_LACK = ("jq", "socat")
+MAY_LACK = ("curl", "jq", "socat")
+SHOWN = (TUTORIAL, COOKBOOK, QT)  # the pages with recipes, programs and runs of the shell
+WORDS_OF_RECIPE = 200
+WORDS_MOST = {
+    "README.md": 1_200,
+    "docs/TUTORIAL.md": 3_000,
+    **dict.fromkeys(("docs/FRONT.md", "docs/WORKERS.md", "clients/inspecting/README.md", "clients/python/README.md"), 1_500),
+}
+RUN_BY_TESTS = re.compile(r"^```(?:session|part|console|shell|python)\b", re.MULTILINE)
 
 
 class Rows(ProgramCases):
@@ -65,9 +75,17 @@ class Examples(ProgramCases):
         """The program writes what the examples of README.md say."""
         self.check_document(README)
 
-    def test_guide(self):
-        """The program writes what the examples of docs/GUIDE.md say."""
-        self.check_document(GUIDE)
+    def test_tutorial(self):
+        """The program writes what the examples of docs/TUTORIAL.md say."""
+        self.check_document(TUTORIAL)
+
+    def test_cookbook(self):
+        """The program writes what the examples of docs/COOKBOOK.md say."""
+        self.check_document(COOKBOOK)
+
+    def test_qt(self):
+        """The program writes what the examples of docs/QT.md say."""
+        self.check_document(QT)
 
     def test_protocol(self):
         """The program writes what the examples of docs/PROTOCOL.md say."""
@@ -87,20 +105,24 @@ def worked_rows():
 
 @dataclass
 class Block:
-    """A block of the guide: where it stands, the words that it begins with, and its lines."""
+    """A block of a page: the page, where it is there, the words that it begins with, and its lines."""
 
+    page: Path
     name: str
     word: str
     lines: list
 
 
-def blocks_of_guide():
-    text = GUIDE.read_text()
-    return [Block(f"{GUIDE.name}:{line_number(text, it)}", it[1], it[2].splitlines()) for it in PART_OR_RECIPE.finditer(text)]
+def all_blocks():
+    """The parts of worked examples and the recipes of all pages that show such."""
+    for page in SHOWN:
+        text = page.read_text()
+        for it in PART_OR_RECIPE.finditer(text):
+            yield Block(page, f"{page.name}:{line_number(text, it)}", it[1], it[2].splitlines())
 
 
 def talk_of(row):
-    """The lines of a worked example as the guide shows them, each input line with its answer behind it."""
+    """The lines of a worked example as a page shows them, each input line followed by its answer."""
     said = iter(row.stdout.decode().splitlines())
     for line in filter(str.strip, row.given.decode().splitlines()):
         yield GIVEN + line
@@ -128,9 +150,10 @@ def lacking(block):
     return next((it for it in MAY_LACK if it in words and shutil.which(it) is None), None)
 
 
-def lay_out_guide(room, program):
-    """Puts into a folder what the recipes of the guide find at the root of the repository."""
+def lay_out_root(room, program, page):
+    """Puts into a folder what recipes find at the root of the repository, and the named files of their page."""
     lay_out(room, {"bin/metad": program, "bin/metad-front": FRONT, "clients": CLIENTS, "examples": EXAMPLES})
+    lay_out_files(page, room)
 
 
 def not_laid_out(room, commands):
@@ -148,7 +171,7 @@ def recipe_fault(block, program):
     if not commands:
         return "it has no command"
     with TemporaryDirectory(prefix="metad-recipe-") as room:
-        lay_out_guide(room, program)
+        lay_out_root(room, program, block.page)
         if not_laid_out(room, commands):
             return not_laid_out(room, commands)
         ran = run_shell("\n".join(["exec 2>&1", *commands]), room, LC_ALL="C", PYTHONDONTWRITEBYTECODE="1")
@@ -157,13 +180,12 @@ def recipe_fault(block, program):
 
 
 class WorkedExamples(ProgramCases):
-    """The worked examples, and what the guide says of them and of recipes.
+    """The worked examples, and what pages show of them and of recipes.
 
-    A block of the guide that begins with three backticks and `part NAME` is a part of that example: lines of its class
-    file, or input lines with `> ` in front, each with what it is answered. A block `console` is a recipe: its lines
-    with `$ ` in front are done in order by one shell, in an empty folder where `bin/metad` is the program,
-    `clients/explain` says what lines mean, and `examples` are the worked examples; its other lines are all that is
-    written meanwhile, errors too.
+    A block that begins with three backticks and `part NAME` is a part of that example: lines of its class file, or input
+    lines with `> ` in front, each with its answer. A block `console` is a recipe: one shell does its lines with `$ ` in
+    front, in an empty folder where `bin/metad` is the program, `clients` has the tools, and `examples` are the worked
+    examples; its other lines are all the output, errors too. `support/shell_sessions.py` says what a block `shell` is.
     """
 
     def test_worked_examples(self):
@@ -171,16 +193,49 @@ class WorkedExamples(ProgramCases):
         self.check_rows(worked_rows().values())
 
     def test_parts(self):
-        """What the guide shows of the worked examples stands in them."""
-        self.check_each([(it.name, it) for it in blocks_of_guide() if it.word != "console"], part_fault)
+        """What pages show of the worked examples is in these."""
+        self.check_each([(it.name, it) for it in all_blocks() if it.word != "console"], part_fault)
 
     def test_recipes(self):
-        """The recipes of the guide write what it says."""
-        recipes = [(it.name, it) for it in blocks_of_guide() if it.word == "console"]
+        """The recipes write what their pages say."""
+        recipes = [(it.name, it) for it in all_blocks() if it.word == "console"]
         self.check_each(recipes, lambda block: recipe_fault(block, self.program))
 
     def test_programs(self):
-        """The programs of the guide print what it says."""
-        with TemporaryDirectory(prefix="metad-guide-") as room:
-            lay_out_guide(room, self.program)
-            self.tell(f"programs: {check_page(self, GUIDE, room)}")
+        """The programs of the pages print what these say."""
+        for page in SHOWN:
+            with TemporaryDirectory(prefix="metad-page-") as room:
+                lay_out_root(room, self.program, page)
+                self.tell(f"programs of {page.name}: {check_page(self, page, room)}")
+
+    def test_shell_sessions(self):
+        """The shell answers each line that is typed as the pages show it."""
+
+        def fault(case):
+            page, run = case
+            with TemporaryDirectory(prefix="metad-shell-") as room:
+                lay_out_root(room, self.program, page)
+                shown = shown_by(run, str(Path(room, "bin", "metad")), room)
+            return difference("\n".join(run.lines).encode(), "\n".join(shown).encode())
+
+        self.check_each([(run.name, (page, run)) for page in SHOWN for run in shell_runs_in(page)], fault)
+
+
+class Lengths(Cases):
+    """How long pages are, as `wc -w` counts their words."""
+
+    def test_pages_are_short(self):
+        """Each page has at most so many words, examples and all."""
+        for name, most in WORDS_MOST.items():
+            with self.subTest(page=name):
+                self.assertLessEqual(len((ROOT / name).read_text().split()), most)
+
+    def test_recipes_are_short(self):
+        """Each recipe has at most so many words of prose, and something that tests run."""
+        text = COOKBOOK.read_text()
+        self.assertGreater(len(titles_in(text)), 10)
+        for title in titles_in(text):
+            with self.subTest(recipe=title):
+                said = section(text, title)
+                self.assertLessEqual(len(FENCED.sub("", said).split()), WORDS_OF_RECIPE)
+                self.assertRegex(said, RUN_BY_TESTS, "it shows nothing that is run")

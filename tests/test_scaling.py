@@ -25,7 +25,7 @@ from .support.program import ROOT
 PAGE = ROOT / "docs" / "SCALING.md"
 SEED = os.environ.get("SEED")
 RUNS, GROUPS, SERVERS_MOST = 20, 8, 4
-ROW = re.compile(r"^\| (.*) \| (.*) \| ((?:measured|reckoned)[^|]*) \|$", re.MULTILINE)
+ROW = re.compile(r"^\| (.*) \| (.*) \| ((?:measured|estimated)[^|]*) \|$", re.MULTILINE)
 SUM = re.compile(r"`([0-9,.*/()^ ]+) = ([0-9,.]+)`")
 COMMAND = re.compile(r"^```\n((?:(?!```).*\n)+)```$", re.MULTILINE)
 PING = '{"do":"invoke","object":1,"method":"ping()","args":[]}'
@@ -153,7 +153,6 @@ class Fronts(FrontCases):
                 self.assertIn('"call":"note()"', clients[1].ask(SPIN), names)
                 self.assertIn('"events":0', clients[2].ask(SPIN), names)
 
-
     @unittest.skipUnless(HAS_WORKERS, "this front has no workers")
     def test_worker_that_ends(self):
         """With a record, a session is where it was when its worker was killed, and can go on."""
@@ -193,12 +192,12 @@ class Page(ProgramCases):
         self.assertTrue((ROOT / commands[2][-1]).is_file(), commands[2])
 
     def test_sums(self):
-        """Each figure is said to be measured or reckoned, and what is reckoned is what its sum comes to."""
+        """Each figure is said to be measured or estimated, and an estimate is the result of its sum."""
         rows = ROW.findall(PAGE.read_text())
         self.assertEqual(len(rows), sum(it.startswith("| ") and "|---" not in it for it in PAGE.read_text().splitlines()) - 2)
-        reckoned = [(what, value) for what, value, how in rows if how == "reckoned"]
-        self.assertGreaterEqual(len(reckoned), 10, "figures that are reckoned")
-        for what, value in reckoned:
+        estimated = [(what, value) for what, value, how in rows if how == "estimated"]
+        self.assertGreaterEqual(len(estimated), 10, "figures that are estimated")
+        for what, value in estimated:
             with self.subTest(what):
                 (left, right), *_ = SUM.findall(value)
                 came = eval(left.replace(",", "").replace("^", "**"), {"__builtins__": {}})

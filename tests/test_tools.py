@@ -32,9 +32,10 @@ OLD_PYTHON = '#!/bin/sh\nif [ "$1" = --version ]; then echo Python 3.7.16; else 
 LACKING = {
     "rt": ("all", "run", "test", "try"),
     "cc": ("test", "tests", "rows", "bench", "libraries"),
-    "python3": ("all", "run", "test", "tests", "rows", "test_install", "try", "bench", "tables", "budget", "dist", "deb"),
+    "python3": ("all", "run", "test", "tests", "rows", "test_install", "try", "bench", "lists", "tables", "budget", "dist", "deb"),
     "objdump": ("dist", "deb"),
     "dpkg-deb": ("deb",),
+    "flake8": ("lint",),
 }
 BUILDING = ("all", "run", "test", "try")  # these need no bin/metad, which the others take as it is
 
@@ -168,6 +169,7 @@ class Needs(Tools):
 
     def test_missing(self) -> None:
         """Each target says which program it needs and where to get it."""
+        self.put("flake8", "")  # which need not be installed
         for name, targets in LACKING.items():
             where = (self.path / name).rename(self.room / name)
             for target in targets:

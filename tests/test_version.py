@@ -53,7 +53,8 @@ class Version(Cases):
     def test_changes(self) -> None:
         """What is unreleased becomes the part of the new version; without it an empty part is begun."""
         room, old = Path(self.enterContext(TemporaryDirectory(prefix="metad-version-"))), version()[0]
-        for name in ("README.md", "man", "examples", "clients/python/metad", "crates/command_line/src"):
+        files = ("README.md", "man", "examples", "clients/python/metad", "clients/js", "clients/qt/CMakeLists.txt", "crates/command_line/src")
+        for name in files:
             copy = shutil.copytree if (ROOT / name).is_dir() else shutil.copy
             (room / name).parent.mkdir(parents=True, exist_ok=True)
             copy(ROOT / name, room / name)

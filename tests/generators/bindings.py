@@ -5,14 +5,17 @@ and of others, also such that are not there or may not be read, so that there ar
 with what is set, unbound or deleted. Slots write such properties as they do all others, and are told of their changes.
 """
 
-from . import signals
+from tools.protocol import word_that_replies
+
+from . import reads, signals
 from .signals import form_of, kind_of
 
 SESSIONS = 500
 WATCHED_SESSIONS = 1_000
 WATCHED_COMMANDS = 600
 SHARE = 0.6  # of the commands that are those of bindings
-COMMANDS_MADE = {"bind": 16, "unbind": 2, "bindingError": 4, "begin": 2.5, "set": 14, "get": 6, "find": 1, "status": 0.5}
+ERROR_OF = word_that_replies("error or null")
+COMMANDS_MADE = {"bind": 16, "unbind": 2, ERROR_OF: 4, "begin": 2.5, "set": 14, "get": 6, "find": 1, "status": 0.5}
 STRANGE_FORMS = (
     *({"arg": 0}, {"const": None}, {"const": 1.5}, {"+": [{"const": 1}]}, {"prop": "x", "of": "sender"}, {}, None, 7),
     *({"prop": "tag"}, {"prop": "x", "of": {"child": "x"}}, {"prop": "objectName", "of": 0}, {"const": "n" * 4_097}),
@@ -37,6 +40,8 @@ class Chance(signals.Chance):
         """A command in a session, of which more than half are those of bindings."""
         if session.groups and self.is_so(0.12) or self.is_so(0.005):
             return {"do": "end"}
+        if session.rows and self.is_so(reads.SHARE_BEFORE):
+            return reads.read_of(self, session, self.old_row(session).number)
         return self.bound(session) if session.rows and self.is_so(SHARE) else super().command(session)
 
     def bound(self, session):
@@ -109,7 +114,7 @@ class Chance(signals.Chance):
 class Watching(Chance):
     """The same, where after each command the error and the value of each bound property are asked for."""
 
-    asked = ("bindingError", "get")
+    asked = (ERROR_OF, "get")
 
     def __init__(self, seed):
         super().__init__(seed)

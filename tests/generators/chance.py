@@ -11,30 +11,28 @@ import random
 import re
 
 from tests.support.lines import LINE_BYTES
+from tools import protocol
 
 LINES = 200_000
 LONG = 100
 DEPTH = 127
-LINES_OF_SESSIONS = 1_200
+LINES_OF_SESSIONS = 1_700
 OBJECTS = 16
 
 SESSIONS = ("a", "b", "\\u0063")
 CLASSES = (*('"Probe"',) * 12, *('"Cell"',) * 6, '"QObj\\u0065ct"', '"QObject"', '"Nope"', '"a b"', '""')
-WORDS = (
-    *(*("new",) * 4, *("setParent", "children", "find", "set", "get") * 2, "delete", "meta", "jump", "n\\u0065w"),
-    *(*("connect",) * 6, *("invoke",) * 8, "disconnect", "disconnect", "c\\u006fnnect"),
-    *("connectFunctor", "connectFunctor", "connectFunctor", "connect\\u0046unctor"),
-    *("set", "set", "get", "dynamicNames", "dynamicNam\\u0065s"),
-    *("spin", "spin", "deleteLater", "block", "status", "sp\\u0069n", "delete\\u004cater"),
-    *(*("bind",) * 5, "b\\u0069nd", "unbind", "bindingError", "unb\\u0069nd", "binding\\u0045rror", "begin", "b\\u0065gin", "end", "end", "\\u0065nd"),
-    *("publish", "publ\\u0069sh", *("join",) * 6, "jo\\u0069n", "unpublish", "leave", "l\\u0065ave", "invoke", "invoke", "invoke"),
-)
-SELDOM = ("reset", "r\\u0065set")
+KNOWN = {it.word: it.forms[0].keys for it in protocol.all_commands()}
+WEIGHTS = {
+    **{"new": 6, "setParent": 3, "children": 2, "find": 2, "set": 6, "get": 4, "connect": 8, "invoke": 20, "disconnect": 3},
+    **{"connectFunctor": 5, "dynamicNames": 2, "spin": 3, "bind": 7, "end": 3, "join": 7, "properties": 3, "connections": 3},
+    "reset": 0,
+}
+ESCAPED = 0.15  # of the words; a letter of these is written by its number
 KEYS = (
     *("do", "session", "object", "property", "value", "class", "parent", "name", "x", "d\\u006f", "obj\\u0065ct", "Do", ""),
     *("sender", "signal", "receiver", "method", "type", "unique", "single", "connection", "args", "on"),
     *("context", "functor", "s\\u0065nder", "typ\\u0065", "\\u006fn", "f\\u0075nctor"),
-    *("from", "types", "fr\\u006fm", "typ\\u0065s", "to", "t\\u006f", "of"),
+    *("after", "aft\\u0065r", "from", "types", "fr\\u006fm", "typ\\u0065s", "to", "t\\u006f", "of"),
 )
 SIGNALS = (*("ping()",) * 16, *("xChanged(int)",) * 4, "p\\u0069ng()", "ping\\u0028void\\u0029", " ping(\\t)", "destroyed()", "objectNameChanged(QString)", "note()", "ping")
 PROPERTIES = (
@@ -91,7 +89,15 @@ class Chance(random.Random):
         return f'"{self.choice(SESSIONS)}{self.made // LINES_OF_SESSIONS}"'
 
     def word(self):
-        return self.choice(SELDOM if self.is_so(0.001) else WORDS)
+        """The word of a command, now and then one that is none."""
+        if self.is_so(0.01):
+            return self.choice(("jump", "reset") if self.is_so(0.1) else ("jump",))
+        return self.choices(list(KNOWN), [WEIGHTS.get(it, 1) for it in KNOWN])[0]
+
+    def spelled(self, word):
+        """A word as it is written, by some chance with a letter by its number."""
+        at = self.randrange(len(word))
+        return f"{word[:at]}\\u{ord(word[at]):04x}{word[at + 1 :]}" if self.is_so(ESCAPED) else word
 
     def is_so(self, share):
         return self.random() < share
@@ -199,57 +205,59 @@ class Chance(random.Random):
     def bound_property(self):
         return [("object", self.old_object()), ("property", f'"{self.choice(BOUND)}"')]
 
+    def place(self):
+        """What is said of a bound property, most times in form."""
+        members = [*self.bound_property()]
+        if self.is_so(0.1):
+            members.append((self.choice(KEYS), self.value()))
+        return "{" + ",".join(f'"{key}":{value}' for key, value in members) + "}"
+
     def members_of(self, word):
         """The members of a command in form, but for its word and its session."""
-        if word in ("bind", "b\\u0069nd"):
-            return [*self.bound_property(), ("to", self.binding())]
-        if word in ("unbind", "unb\\u0069nd", "bindingError", "binding\\u0045rror"):
+        own = {
+            "bind": lambda: [*self.bound_property(), ("to", self.binding())],
+            "block": lambda: [("object", self.object()), ("on", "true" if self.is_so(0.2) else "false")],
+            "connect": self.connection,
+            "connectFunctor": self.functor_connection,
+            "delete": lambda: [("object", str(self.randint(1, OBJECTS)))],
+            "deleteLater": lambda: [("object", str(self.randint(1, OBJECTS)))],
+            "disconnect": self.disconnection,
+            "get": lambda: [("object", self.object()), ("property", self.property_name())],
+            "invoke": self.invocation,
+            "join": self.join,
+            "leave": self.join_ends,
+            "publish": self.publication,
+            "set": self.written_property,
+            "setParent": lambda: [("object", self.object()), ("parent", self.choice((self.object(), "null")))],
+            "unpublish": lambda: [("name", self.choice(NAMES))],
+        }
+        return own[word]() if word in own else self.usual_members(KNOWN.get(word, ()))
+
+    def written_property(self):
+        """A property and its value."""
+        name = self.property_name()
+        value = self.number() if name == '"x"' and self.is_so(0.7) else self.value()
+        return [("object", self.object()), ("property", name), ("value", value)]
+
+    def usual_members(self, keys):
+        """The members of a command that has nothing special about it: those that it needs, and by half the others."""
+        found = [it for it in keys if not it.is_optional or self.is_so(0.5)]
+        if "property" in [it.name for it in found]:
             return self.bound_property()
-        if word == "set":
-            name = self.property_name()
-            value = self.number() if name == '"x"' and self.is_so(0.7) else self.value()
-            return [("object", self.object()), ("property", name), ("value", value)]
-        if word == "get":
-            return [("object", self.object()), ("property", self.property_name())]
-        if word == "setParent":
-            return [("object", self.object()), ("parent", self.choice((self.object(), "null")))]
-        if word in ("connect", "c\\u006fnnect"):
-            return self.connection()
-        if word in ("connectFunctor", "connect\\u0046unctor"):
-            return self.functor_connection()
-        if word == "disconnect":
-            return self.disconnection()
-        if word == "invoke":
-            return self.invocation()
-        if word == "block":
-            return [("object", self.object()), ("on", "true" if self.is_so(0.2) else "false")]
-        if word in ("dynamicNames", "dynamicNam\\u0065s"):
-            return [("object", self.object())]
-        if word in ("delete", "deleteLater", "delete\\u004cater"):
-            return [("object", str(self.randint(1, OBJECTS)))]
-        if word in ("publish", "publ\\u0069sh"):
-            return self.publication()
-        if word == "unpublish":
-            return [("name", self.choice(NAMES))]
-        if word in ("join", "jo\\u0069n"):
-            return self.join()
-        if word in ("leave", "l\\u0065ave"):
-            return self.join_ends()
-        members = []
-        if word == "find" or word == "children" and self.is_so(0.6):
-            members.append(("object", self.object()))
-        if word in ("new", "n\\u0065w", "meta") or word == "find" and self.is_so(0.4):
-            members.append(("class", self.choice(CLASSES)))
-        if word == "new" and self.is_so(0.5):
-            members.append(("parent", self.object()))
-        if word == "find" and self.is_so(0.5):
-            members.append(("name", self.text()))
-        return members
+        return [(it.name, self.value_for(it)) for it in found]
+
+    def value_for(self, key):
+        """What a key of such a command holds."""
+        if key.kind == "place":
+            return self.place()
+        if key.kind == "number":
+            return self.object() if key.name != "after" else str(self.randint(0, CONNECTIONS))
+        return self.choice(CLASSES) if key.name == "class" else self.text()
 
     def members(self):
         """The members of a command, which may be out of form."""
         word = self.word()
-        members = [("do", f'"{word}"'), ("session", self.session()), *self.members_of(word)]
+        members = [("do", f'"{self.spelled(word)}"'), ("session", self.session()), *self.members_of(word)]
         if self.is_so(0.15):
             at = self.randrange(len(members))
             members[at] = (members[at][0], self.value())

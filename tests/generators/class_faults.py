@@ -39,7 +39,7 @@ BODIES = [
     '[{"delete":"sender"},{"set":"objectName","of":"sender","to":{"const":"x"}}]',
     '[{"setParent":null,"of":{"child":"c"}},{"delete":"sender"}]',
     '[{"delete":"self"}]',
-    '[{"when":{"<":[{"arg":0},{"const":0}]},"then":[{"set":"x","to":{"const":0}}],"else":[{"when":{"<":[{"const":100},{"arg":0}]},"then":[{"set":"x","to":{"const":100}}],"else":[{"set":"x","to":{"arg":0}}]}]}]',
+    '[{"when":{"<":[{"arg":0},{"const":0}]},"then":[{"set":"x","to":{"const":0}}],"else":[{"when":{"<":[{"const":100},{"arg":0}]},"then":[{"set":"x","to":{"const":100}}],"else":[{"set":"x","to":{"arg":0}}]}]}]',  # noqa: E501
     '[{"set":"x","to":{"arg":1}}]',
     '[{"connect":"f()","to":"self","method":"g()","type":"queued","single":true}]',
     '[{"disconnect":null}]',

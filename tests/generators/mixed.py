@@ -11,7 +11,7 @@ from string import ascii_lowercase
 from tests.plain.slicing import kept
 from tests.plain.world import Server
 
-from . import bindings, signals
+from . import bindings, reads, signals
 
 RUNS = 500
 RUNS_AT_ONCE = 10
@@ -34,6 +34,8 @@ class Chance(bindings.Chance):
             return {"do": "new", "class": "Lamp"}
         if session.last_connection < FIRST_CONNECTIONS and session.rows and self.is_so(0.5):
             return self.command_of(self.first_connection(), self.own_object(session), self.own_object(session))
+        if session.rows and self.is_so(reads.SHARE_BEFORE):
+            return reads.read_of(self, session, self.old_row(session).number)
         if self.is_so(0.5):
             return self.listening(server, session, sources)
         return self.command(session)
@@ -196,3 +198,11 @@ def run_of(chance, server, number=RUNS_AT_ONCE, commands=COMMANDS):
 def renamed(command, more):
     """A command in which all sessions have longer names."""
     return {**command, **{key: command[key] + more for key in ("session", "from") if key in command}}
+
+
+def renamed_line(line, more):
+    """An output line in which the sessions that a reply to `joins` names have longer names, but not that of the line itself."""
+    reply = line.get("reply")
+    if isinstance(reply, list) and all(isinstance(it, dict) and "from" in it for it in reply):
+        return {**line, "reply": [{**it, "from": it["from"] + more} for it in reply]}
+    return line

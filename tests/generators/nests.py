@@ -10,6 +10,7 @@ from tests.support.lines import lines_of, text_of
 from tests.support.program import Row
 
 from . import limits
+from . import steps as commands
 
 CLASSES = ("classes.json",)
 DEEP_CLASSES = ("deep.json",)  # with bodies that are nested as deep as may be
@@ -37,7 +38,7 @@ class Part(NamedTuple):
 
 def part_of(steps: Iterable[tuple], session: str = "a") -> Part:
     """The lines of steps, each a command and what it is answered by, of a session."""
-    steps = [limits.of(session, *step) for step in steps]
+    steps = [commands.of(session, *step) for step in steps]
     return Part(lines_of(step[0] for step in steps), lines_of(line for step in steps for line in step[1:]))
 
 
@@ -75,16 +76,16 @@ def functors_and_bindings() -> "list[Part]":
 @lru_cache(maxsize=None)
 def large_session(number: int) -> Part:
     """A session with one object that holds many texts."""
-    steps = [(limits.new(), limits.reply(1))]
-    steps += [(limits.set_to(1, f"p{at}", TEXT), limits.reply(False)) for at in range(PROPERTIES)]
+    steps = [(commands.new(), commands.reply(1))]
+    steps += [(commands.set_to(1, f"p{at}", TEXT), commands.reply(False)) for at in range(PROPERTIES)]
     return part_of(steps, f"large{number}")
 
 
 @lru_cache(maxsize=None)
 def small_sessions() -> Part:
     """Sessions with one object, at first with a text each and then without one."""
-    texts = [part_of([(limits.new(), limits.reply(1)), (limits.set_to(1, "p0", TEXT), limits.reply(False))], f"small{at}") for at in range(SMALL)]
-    parts = texts + [part_of([(limits.new(), limits.reply(1))], f"least{at}") for at in range(LEAST)]
+    texts = [part_of([(commands.new(), commands.reply(1)), (commands.set_to(1, "p0", TEXT), commands.reply(False))], f"small{at}") for at in range(SMALL)]
+    parts = texts + [part_of([(commands.new(), commands.reply(1))], f"least{at}") for at in range(LEAST)]
     return Part(b"".join(it.given for it in parts), b"".join(it.wanted for it in parts))
 
 

@@ -128,6 +128,12 @@ def life_of(session, listens=False):
     yield set_to(1, "pitch", session)
     yield from ({"do": "dynamicNames", "object": number} for number in range(1, OBJECTS + 2))
     yield from (get(number, name) for number in range(1, OBJECTS + 2) for name in ("heard", "last", "tag", "x"))
+    yield from ({"do": word, "object": number} for number in range(1, OBJECTS + 2) for word in ("parent", "object", "properties"))
+    yield from ({"do": "connections", **asked} for asked in ({}, {"after": OBJECTS}, {"object": 1}))
+    yield from ({"do": "bindings", **asked} for asked in ({}, {"after": {"object": 9, "property": "heard"}}))
+    yield from ({"do": "binding", "object": number, "property": "heard"} for number in ears)
+    yield from ({"do": "findAll", "object": 1, **sought} for sought in ({}, {"class": "Bell"}, {"name": ""}))
+    yield from ({"do": word} for word in ("publications", "joins"))
     yield {"do": "invoke", "object": 1, "method": "fall()", "args": []}
     yield {"do": "spin"}
     yield from (get(number, "objectName") for number in range(1, OBJECTS + 2))

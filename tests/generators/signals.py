@@ -9,6 +9,8 @@ and events are taken now and then.
 
 import random
 
+from . import reads
+
 SESSIONS = 500
 COMMANDS = 100
 LAMPS = 3
@@ -189,6 +191,8 @@ class Chance(random.Random):
         if len(living) > OBJECTS and self.is_so(0.3):
             return {"do": "delete", "object": self.choice(living)}
         one, other = (self.object(living) if living and self.is_so(0.95) else session.last_number + self.randint(1, 2) for _ in "ab")
+        if self.is_so(reads.SHARE):
+            return reads.read_of(self, session, one)
         return self.command_of(self.choices(list(COMMANDS_MADE), COMMANDS_MADE.values())[0], one, other)
 
     def object(self, living):
@@ -279,7 +283,7 @@ def functors_in(lines):
 def events_in(lines):
     """How many events were taken."""
     replies = (line.get("reply") for line in lines)
-    return sum(reply["events"] for reply in replies if isinstance(reply, dict) and "events" in reply)
+    return sum(reply["events"] for reply in replies if isinstance(reply, dict) and "left" in reply)  # of `spin` alone
 
 
 def errors_in(lines):

@@ -4,11 +4,11 @@ small ones of commands by chance."""
 import random
 
 from tests.plain.classes import Classes
-from tests.plain.session import DEPTH, OBJECTS
+from tests.support.limits import LEVELS, OBJECTS
 
 CLASSES = ("QObject", "Cell", "Probe")
 CLASSES_THERE = Classes([{"name": name, "super": "QObject"} for name in CLASSES[1:]])
-KINDS = {"new": 9, "delete": 1, "deleteLater": 1, "spin": 1, "status": 1, "setParent": 4, "children": 3, "find": 4, "set": 2, "get": 1}
+KINDS = {"new": 9, "delete": 1, "deleteLater": 1, "spin": 1, "status": 1, "setParent": 4, "children": 3, "find": 4, "set": 2, "get": 1, "findAll": 3, "parent": 3, "object": 3}
 CHANCES = 300
 COMMANDS = 120
 
@@ -30,7 +30,7 @@ def by_chance(seed):
             made[session] += 1
         if kind == "setParent":
             command["parent"] = other if chance.random() < 0.8 else None
-        if kind == "find":
+        if kind in ("find", "findAll"):
             command |= {key: chance.choice(of) for key, of in (("name", "xyz"), ("class", CLASSES)) if chance.random() < 0.6}
         if kind in ("set", "get"):
             command["property"] = "objectName"
@@ -50,10 +50,10 @@ def delete(number):
 
 def whole_trees():
     """Trees by the parents of their objects, each with the orders in which it is deleted."""
-    chain = [None, *range(1, DEPTH)]
+    chain = [None, *range(1, LEVELS)]
     wide = [None] + [1] * (OBJECTS - 1)
     bushy = [None] + [1 + place // 4 for place in range(1_023)]
-    comb = [None] + [number - number % 2 or 1 for number in range(1, 2 * DEPTH - 4)]
+    comb = [None] + [number - number % 2 or 1 for number in range(1, 2 * LEVELS - 4)]
     for name, parents in (("a chain", chain), ("a wide tree", wide), ("a bushy tree", bushy), ("a comb", comb)):
         count = len(parents)
         yield f"{name}, from its root", parents, [1]

@@ -35,6 +35,11 @@ class Functor:
     next: dict
     is_signal: bool = False
 
+    @property
+    def keeps_state(self):
+        """Whether a call gives its connection another state."""
+        return self.next != STATE
+
 
 def clamped(low, high):
     """A body that sets `x` to its argument, but not below the one bound and not above the other."""
@@ -144,9 +149,13 @@ class Connection:
     signal: int
     receiver: int
     callee: int | str
-    queued: bool
+    type: str
     single: bool
     state: int = 0
+
+    @property
+    def queued(self):
+        return self.type == "queued"
 
     def ends(self):
         return self.sender, self.signal, self.receiver, self.callee

@@ -1,7 +1,11 @@
 """What the commands of a session do and reply; a refused one raises `Refused`."""
 
+from tools import protocol
+from tools.listing.names import name_of
+
 from .bindings import At
 from .classes import FUNCTORS, Event, Join
+from .queries import QUERIES
 from .values import KINDS, PARAMETERS, Refused, is_long, is_of_kind, refuse
 
 
@@ -155,25 +159,25 @@ def describe(session, command):
     return session.classes.described(name) if name in session.classes else refuse("E03")
 
 
-COMMANDS = {
+BY_NAME = {
     "new": lambda session, command: session.new(command["class"], command.get("parent")),
     "delete": delete,
-    "setParent": lambda session, command: session.set_parent(command["object"], command["parent"]),
+    "set_parent": lambda session, command: session.set_parent(command["object"], command["parent"]),
     "children": list_children,
     "find": lambda session, command: session.find(command["object"], command.get("name"), command.get("class")),
     "set": set_property,
     "get": get_property,
-    "dynamicNames": dynamic_names,
+    "dynamic_names": dynamic_names,
     "bind": bind,
     "unbind": unbind,
-    "bindingError": binding_error,
+    "binding_error": binding_error,
     "begin": lambda session, command: session.begin_group(),
     "end": end_group,
     "connect": connect,
-    "connectFunctor": connect_functor,
+    "connect_functor": connect_functor,
     "disconnect": disconnect,
     "invoke": invoke,
-    "deleteLater": delete_later,
+    "delete_later": delete_later,
     "block": block,
     "publish": publish,
     "unpublish": lambda session, command: session.unpublish(command["name"]),
@@ -183,4 +187,6 @@ COMMANDS = {
     "status": status,
     "meta": describe,
     "reset": lambda session, command: session.reset(),
-}
+    **QUERIES,
+}  # each by its name in Python's style
+COMMANDS = {word: BY_NAME[name_of(word)] for word in protocol.forms()}

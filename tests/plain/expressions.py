@@ -50,6 +50,13 @@ def reads_of(form):
     return [(it.get("of", "self"), it["prop"]) for it in nodes_of(form) if "prop" in it]
 
 
+def shortest(form):
+    """An expression in its shortest form: without `"of":"self"`."""
+    if "prop" in form:
+        return {key: it for key, it in form.items() if (key, it) != ("of", "self")}
+    return {key: list(map(shortest, it)) if key in OPERANDS else it for key, it in form.items()}
+
+
 # Value.
 
 

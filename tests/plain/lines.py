@@ -82,6 +82,12 @@ def are_texts(value):
     return isinstance(value, list) and all(map(is_text, value))
 
 
+def is_place(value):
+    """Whether a value says a property of an object."""
+    keys = {"object", "property"}
+    return isinstance(value, dict) and value.keys() == keys and is_known_by(value["object"]) and is_name(value["property"])
+
+
 HOLDS = {
     **dict.fromkeys(("class", "property", "functor", "from", "name"), is_name),
     **dict.fromkeys(("signal", "method"), is_text),
@@ -93,6 +99,14 @@ HOLDS = {
     "types": are_texts,
     **dict.fromkeys(("value", "to"), lambda value: True),
 }
+
+
+OTHERWISE = {
+    **dict.fromkeys((("find", "name"), ("findAll", "name")), is_text),
+    ("connections", "after"): is_known_by,
+    ("bindings", "after"): is_place,
+    ("setParent", "parent"): lambda value: value is None or is_known_by(value),
+}  # keys of one command that hold something else than elsewhere
 
 
 def all_forms():
@@ -107,9 +121,7 @@ FORMS = all_forms()
 
 
 def may_hold(word, key, value):
-    if (word, key) == ("find", "name"):
-        return is_text(value)
-    return HOLDS[key](value) or (word, key) == ("setParent", "parent") and value is None
+    return OTHERWISE.get((word, key), HOLDS.get(key))(value)
 
 
 def is_command(given):

@@ -5,25 +5,16 @@ Nothing here is quick, and nothing is kept beside the rows: whatever is asked is
 
 from bisect import insort
 
+from tests.support.limits import BINDINGS, CONNECTIONS, DYNAMIC_PROPERTIES, EVENTS, GROUPS, JOINS, LEVELS, NESTED_SIGNALS, OBJECTS, PUBLICATIONS, TURNS
+
+from .acting import ACTIONS, Acting
 from .bindings import At, Binding, Scene, Shown
 from .classes import DESTROYED, FUNCTORS, Classes, Connection, Event, Frame, Post, Publication, Row
 from .expressions import binding_of, evaluated, next_state, reads_of
 from .values import Refused, is_long, is_of_kind, is_value, normal, refuse
 
-OBJECTS = 4_096
-DEPTH = 64
-CONNECTIONS = 16_384
-EVENTS = 16_384
-PUBLICATIONS = 1_024
-JOINS = 1_024
-BINDINGS = 1_024
-GROUPS = 1_000
-NESTED_SIGNALS = 64
-DYNAMIC_PROPERTIES = 64
-TURNS = 10_000
 
-
-class Session:
+class Session(Acting):
     """A session as its definition has it."""
 
     def __init__(self, name, classes=None, turns=TURNS):
@@ -81,7 +72,7 @@ class Session:
             self.alive(parent)
         if class_name not in self.classes:
             refuse("E03")
-        if len(self.rows) >= OBJECTS or len(self.line(parent)) >= DEPTH:
+        if len(self.rows) >= OBJECTS or len(self.line(parent)) >= LEVELS:
             refuse("E14")
         self.last_number += 1
         self.last_stamp += 1
@@ -97,7 +88,7 @@ class Session:
             return True
         if number in self.line(parent):
             refuse("E12")
-        if len(self.line(parent)) + self.height(number) > DEPTH:
+        if len(self.line(parent)) + self.height(number) > LEVELS:
             refuse("E14")
         self.last_stamp += 1
         row.parent, row.stamp = parent, self.last_stamp
@@ -111,14 +102,18 @@ class Session:
             level = [below for row in level for below in self.children(row.number)]
 
     def find(self, number, name=None, class_name=None):
+        """The number of the first object that is found, or None."""
+        return next((row.number for row in self.found(number, name, class_name)), None)
+
+    def found(self, number, name=None, class_name=None):
+        """The objects below another one that have this name and are of this class, as far as these are given."""
         self.known(number)
         if class_name is not None and class_name not in self.classes:
             refuse("E03")
         for row in self.below(number):
             is_named = name in (None, self.read(row, "objectName"))
             if is_named and (class_name is None or class_name in self.classes.chain(row.class_name)):
-                return row.number
-        return None
+                yield row
 
     # Properties.
 
@@ -271,8 +266,8 @@ class Session:
         if len(self.connections) >= CONNECTIONS:
             refuse("E14")
         self.last_connection += 1
-        queued, single = asked.get("type") == "queued", asked.get("single", False)
-        self.connections.append(Connection(self.last_connection, *ends, queued, single))
+        way = asked.get("type", "auto"), asked.get("single", False)
+        self.connections.append(Connection(self.last_connection, *ends, *way))
         return self.last_connection
 
     def disconnect(self, is_meant):
@@ -488,69 +483,3 @@ class Session:
             return None
         self.taken += 1
         return [*self.delivered(self.queue.pop(0)), ("spin",)]
-
-    # Actions of a slot or functor.
-
-    def act_when(self, action, frame):
-        test = self.value(frame, action["when"])
-        if not isinstance(test, bool):
-            refuse("E22")
-        return self.acts(action["then"] if test else action.get("else", []), frame)
-
-    def act_set(self, action, frame):
-        row = self.known(self.target(frame, action.get("of", "self")))
-        return self.write(row, action["set"], self.value(frame, action["to"]), frame.depth)
-
-    def act_emit(self, action, frame):
-        number = self.target(frame, action.get("of", "self"))
-        self.known(number)
-        signal = self.signal(number, action["emit"])
-        values = [self.value(frame, form) for form in action["args"]]
-        kinds = self.methods(number)[signal].kinds
-        if len(values) != len(kinds) or not all(map(is_of_kind, values, kinds)):
-            refuse("E22")
-        return [("emit", number, signal, values, frame.depth)]
-
-    def act_connect(self, action, frame):
-        sender, receiver = (self.target(frame, it) for it in (action.get("of", "self"), action["to"]))
-        self.alive(sender)
-        self.alive(receiver)
-        signal = self.signal(sender, action["connect"])
-        method = self.index(receiver, action["method"])
-        self.connect(sender, signal, receiver, method, action)
-
-    def act_disconnect(self, action, frame):
-        sender = self.target(frame, action.get("of", "self"))
-        self.known(sender)
-        receiver = self.target(frame, action["to"]) if "to" in action else None
-        if receiver is not None:
-            self.known(receiver)
-        signal = None if action["disconnect"] is None else self.signal(sender, action["disconnect"])
-        method = self.index(receiver, action["method"]) if "method" in action else None
-        self.disconnect_pattern(sender, signal, receiver, method)
-
-    def act_delete(self, action, frame):
-        return [("delete", self.alive(self.target(frame, action["delete"])).number, frame.depth)]
-
-    def act_set_parent(self, action, frame):
-        parent = action["setParent"]
-        self.set_parent(self.target(frame, action.get("of", "self")), parent and self.target(frame, parent))
-
-    def act_delete_later(self, action, frame):
-        self.delete_later(self.alive(self.target(frame, action["deleteLater"])).number)
-
-    def act_block(self, action, frame):
-        self.known(self.target(frame, action.get("of", "self"))).blocked = action["block"]
-
-
-ACTIONS = {
-    "when": Session.act_when,
-    "set": Session.act_set,
-    "emit": Session.act_emit,
-    "connect": Session.act_connect,
-    "disconnect": Session.act_disconnect,
-    "deleteLater": Session.act_delete_later,
-    "delete": Session.act_delete,
-    "block": Session.act_block,
-    "setParent": Session.act_set_parent,
-}

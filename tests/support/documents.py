@@ -1,7 +1,7 @@
 """The examples of the documents.
 
-An example is a fenced block that begins with three backticks and the word `session`; what stands behind it on
-that line are words for the program. Its lines with `> ` in front are the input of one run of the program, and
+An example is a fenced block that begins with three backticks and the word `session`; what follows on that
+line are words for the program. Its lines with `> ` in front are the input of one run of the program, and
 all its other lines are what it writes. A block with the word `classes` right before it is the class file of
 that run.
 """
@@ -12,7 +12,11 @@ from pathlib import Path
 from .program import ROOT, Row
 
 README = ROOT / "README.md"
-GUIDE = ROOT / "docs" / "GUIDE.md"
+TUTORIAL = ROOT / "docs" / "TUTORIAL.md"
+COOKBOOK = ROOT / "docs" / "COOKBOOK.md"
+QT = ROOT / "docs" / "QT.md"
+FRONT_PAGE = ROOT / "docs" / "FRONT.md"
+WORKERS_PAGE = ROOT / "docs" / "WORKERS.md"
 VERSION = re.compile(r"^`metad` (\S+) is proved with `([^`]+)`", re.MULTILINE)  # of the program and of the prover
 BLOCK = r"((?:(?!```).*\n)*)"  # the lines of a fenced block
 EXAMPLE = re.compile(rf"(?:^```classes\n{BLOCK}```\n+)?^```session((?: .*)?)\n{BLOCK}```$", re.MULTILINE)

@@ -3,7 +3,8 @@
 import io
 import json
 
-LINE_BYTES = 65_536  # which a line has at most
+from .limits import LINE_BYTES
+
 BLANK = b" \t\r"
 
 

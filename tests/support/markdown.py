@@ -1,4 +1,4 @@
-"""What stands in the Markdown files of the repository: links, the anchors that they lead to, and tables."""
+"""What is in the Markdown files of the repository: links, the anchors that they lead to, and tables."""
 
 import re
 from pathlib import Path
@@ -15,7 +15,7 @@ SPACE_OR_MARK = re.compile(r"[^\w\- ]")
 
 def all_pages() -> List[Path]:
     """Each Markdown file of the repository."""
-    return sorted(path for pattern in ("*.md", "docs/*.md", "clients/*/*.md", "examples/*/*.md") for path in ROOT.glob(pattern))
+    return sorted(path for pattern in ("*.md", "docs/*.md", "docs/internals/*.md", "clients/*/*.md", "examples/*/*.md") for path in ROOT.glob(pattern))
 
 
 def prose_of(text: str) -> str:
@@ -24,7 +24,7 @@ def prose_of(text: str) -> str:
 
 
 def links_in(text: str) -> List[Tuple[str, str]]:
-    """The links of a text that lead to files or anchors: the path and the anchor of each, either of which may be empty."""
+    """The links of a text that lead to files or anchors: the path and the anchor of each, each of the two may be empty."""
     return LINK.findall(INLINE.sub("`", prose_of(text)))
 
 
@@ -38,8 +38,13 @@ def anchors_in(text: str) -> List[str]:
     return anchors
 
 
+def titles_in(text: str) -> List[str]:
+    """The headings of the second level of a text."""
+    return re.findall(r"^## +(.*?) *$", prose_of(text), re.MULTILINE)
+
+
 def section(text: str, heading: str) -> str:
-    """What stands below a heading of the second level, up to the next one."""
+    """What is below a heading of the second level, up to the next one."""
     return text.split(f"\n## {heading}\n", 1)[1].split("\n## ", 1)[0]
 
 

@@ -9,7 +9,7 @@ from .markdown import section, table_in
 from .program import ROOT
 
 CRATES = ROOT / "crates"
-GLOSSARY = ROOT / "docs" / "ARCHITECTURE.md"
+GLOSSARY = ROOT / "docs" / "internals" / "ARCHITECTURE.md"
 OF_TESTS = "tests_of_"
 # types and functions of code that others may name, methods aside
 OF_CODE = re.compile(r"^pub(?:\(\w+\))? (?:const |unsafe )?(?:fn|struct|enum|trait|type) (\w+)", re.MULTILINE)

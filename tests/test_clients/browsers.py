@@ -126,7 +126,7 @@ class Browser:
     def write(self, selector, text):
         """Writes into a field."""
         found = f"document.querySelector({json.dumps(selector)})"
-        self.value(f"{{ const it = {found}; it.value = {json.dumps(text)}; it.dispatchEvent(new Event('input', {{bubbles: true}})); it.dispatchEvent(new Event('change', {{bubbles: true}})); }}")
+        self.value(f"{{ const it = {found}; it.value = {json.dumps(text)}; it.dispatchEvent(new Event('input', {{bubbles: true}})); it.dispatchEvent(new Event('change', {{bubbles: true}})); }}")  # noqa: E501
 
     def texts(self, selector):
         """The texts of all elements of a selector."""

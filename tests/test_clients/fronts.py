@@ -6,7 +6,6 @@ import os
 import re
 import socket
 import subprocess
-import sys
 import time
 from contextlib import contextmanager
 from pathlib import Path
@@ -16,7 +15,6 @@ from tests.support.cases import ProgramCases
 from tests.support.lines import text_of
 from tests.support.program import ROOT, SECONDS
 
-from . import CLIENTS
 
 FRONT = Path(os.environ.get("METAD_FRONT") or ROOT / "bin" / "metad-front")  # the front that is tested
 PASSED = "-"  # stands for a socket that the front was passed

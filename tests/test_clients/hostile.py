@@ -3,15 +3,15 @@
 import json
 import random
 
-WORDS = (
-    "children", "get", "meta", "status", "bindingError", "dynamicNames", "set", "invoke", "new", "delete", "deleteLater",
-    "reset", "spin", "connect", "disconnect", "bind", "unbind", "begin", "end", "publish", "join", "leave", "block", "setParent",
-)  # fmt: skip
-READING = ("children", "get", "meta", "status", "bindingError", "dynamicNames")
+from tools import protocol
+
+WORDS = tuple(protocol.forms())
+LOOKING = {it.word: [key.name for key in it.forms[0].keys] for it in protocol.all_commands() if it.effect == "reads"}
+READING = tuple(LOOKING)
 MEMBERS = {
     "object": 1, "property": "x", "value": 77, "method": "setX(int)", "args": [77], "class": "Cell", "parent": None, "type": "queued",
     "sender": 1, "receiver": 1, "signal": "xChanged(int)", "name": "n", "from": "c2", "types": ["int"], "on": True, "session": "c1",
-    "to": {"const": 77}, "connection": 1,
+    "to": {"const": 77}, "connection": 1, "after": {"object": 1, "property": "x"},
 }  # fmt: skip
 METHODS = ("PUT", "DELETE", "OPTIONS", "HEAD", "PATCH", "TRACE", "CONNECT", "get", "P\x00ST", "")
 SET = '{"do":"set","object":1,"property":"x","value":77}'
@@ -25,6 +25,9 @@ class Hostile(random.Random):
         """A command of any word, with some of its members, some wrong ones and values of wrong types."""
         if self.random() < 0.15:
             return {"do": "get", "object": self.randint(1, 3), "property": "x"}
+        if self.random() < 0.2:
+            word = self.choice(sorted(LOOKING))
+            return {"do": word, **{key: MEMBERS[key] for key in LOOKING[word]}}
         found = {"do": self.choice(WORDS)}
         for key in self.sample(sorted(MEMBERS), self.randint(0, 6)):
             found[key] = MEMBERS[key] if self.random() < 0.7 else self.wrong()

@@ -1,5 +1,7 @@
 """What is typed into the shell, and the commands and expressions that it has to stand for, from docs/PROTOCOL.md."""
 
+from tools import protocol
+
 OBJECTS = """new Probe as p
 new Cell in p as c
 new Cell as d
@@ -12,7 +14,24 @@ OF_OBJECTS = [
 PING_NOTE = {"sender": 1, "signal": "ping()", "receiver": 1, "method": "note()"}
 CHANGED_SEEN = {"sender": 2, "signal": "xChanged(int)", "receiver": 3, "method": "seen(int)"}
 BELL = {"from": "b", "name": "bell", "object": 1, "method": "note()"}
+TYPED = {
+    (): ("", {}),
+    ("object",): (" c", {"object": 2}),
+    ("object", "property"): (" c.y", {"object": 2, "property": "y"}),
+    ("class",): (" Cell", {"class": "Cell"}),
+}  # what is typed after a word that has these keys, and what they then hold
+
+
+def plain_forms():
+    """The short forms of commands that only read and have no other keys than these."""
+    for it in protocol.all_commands():
+        typed = TYPED.get(tuple(key.name for key in it.forms[0].keys)) if it.effect == "reads" and it.word != "get" else None
+        if typed is not None and not any(key.is_optional for key in it.forms[0].keys):
+            yield it.word + typed[0], {"do": it.word, **typed[1]}
+
+
 SHORT = [
+    *plain_forms(),
     ("p.ping()", {"do": "invoke", "object": 1, "method": "ping()", "args": []}),
     ("1 . ping ( )", {"do": "invoke", "object": 1, "method": "ping()", "args": []}),
     ("c.setX(5)", {"do": "invoke", "object": 2, "method": "setX(int)", "args": [5]}),
@@ -50,19 +69,15 @@ SHORT = [
     ("bind c.y = x + d.x", {"do": "bind", "object": 2, "property": "y", "to": {"+": [{"prop": "x"}, {"prop": "x", "of": 3}]}}),
     ('bind c.y to {"const":1}', {"do": "bind", "object": 2, "property": "y", "to": {"const": 1}}),
     ("unbind c.y", {"do": "unbind", "object": 2, "property": "y"}),
-    ("bindingError c.y", {"do": "bindingError", "object": 2, "property": "y"}),
     ("begin", {"do": "begin"}),
     ("end", {"do": "end"}),
     ("spin", {"do": "spin"}),
-    ("status", {"do": "status"}),
-    ("meta Probe", {"do": "meta", "class": "Probe"}),
     ("children", {"do": "children"}),
     ("children p", {"do": "children", "object": 1}),
     ("find in p", {"do": "find", "object": 1}),
     ('find in p name "a b" class Cell as e', {"do": "find", "object": 1, "name": "a b", "class": "Cell"}),
     ("setParent d to p", {"do": "setParent", "object": 3, "parent": 1}),
     ("setParent d to null", {"do": "setParent", "object": 3, "parent": None}),
-    ("dynamicNames c", {"do": "dynamicNames", "object": 2}),
     ("block p", {"do": "block", "object": 1, "on": True}),
     ("unblock p", {"do": "block", "object": 1, "on": False}),
     ("publish p.ping as bell", {"do": "publish", "object": 1, "signal": "ping()", "name": "bell"}),
@@ -74,6 +89,14 @@ SHORT = [
         {"do": "join", "from": "b", "name": "level", "types": ["int"], "object": 2, "method": "seen(int)"},
     ),
     ("leave b.bell -> p.note()", {"do": "leave", **BELL}),
+    ("findAll in p", {"do": "findAll", "object": 1}),
+    ('findAll in p name "a b" class Cell', {"do": "findAll", "object": 1, "name": "a b", "class": "Cell"}),
+    ("connections", {"do": "connections"}),
+    ("connections c", {"do": "connections", "object": 2}),
+    ("connections after 7", {"do": "connections", "after": 7}),
+    ("connections c after 7", {"do": "connections", "object": 2, "after": 7}),
+    ("bindings", {"do": "bindings"}),
+    ("bindings after c.x", {"do": "bindings", "after": {"object": 2, "property": "x"}}),
     ("deleteLater c", {"do": "deleteLater", "object": 2}),
     ("delete p", {"do": "delete", "object": 1}),
     ("reset", {"do": "reset"}),
@@ -86,6 +109,8 @@ NOT_SENT = (
     *("bind c.y", "bind c.y = ", "bind c.y = x +", "bind c.y to x", "setParent c", "setParent c to", "find p", "find in p name a"),
     *("publish p.ping", "join b -> p.note", "join b.bell", "leave b.bell", "children p c", "begin now", "disconnect", "block"),
     *("session", "session 5", "session b c", "save", "run", "run /nowhere/at/all", "help jump", "names all"),
+    *("connections p c", "connections after", "connections after p", "connections p after -1", "properties"),
+    *("bindings p", "bindings after", "bindings after p", "binding", "binding p"),
     *("quit now", "[1]", "\x00"),
     *(f"p.x = {'[' * levels}{']' * levels}" for levels in (129, 900, 50_000)),
 )

@@ -19,7 +19,9 @@ from pathlib import Path
 import metad
 
 from tests.support import protocol
-from tests.support.documents import GUIDE, examples_of
+from tools.listing.names import NAMES
+from tests.support.documents import examples_of
+from tests.support.markdown import section
 from tests.support.pages import check_page
 from tests.support.program import SECONDS, lay_out
 
@@ -46,13 +48,13 @@ input(), print(sys.argv[1])
 sys.stdin.read()
 """  # a server that answers its first line, and writes what it was given at the next one
 ANSWERED = b'{"reply":1,"session":"a"}\n'
-ADVISED = re.compile(r"^\| `(E\d\d)` \| .* \| (.*) \|$", re.MULTILINE)
+ADVISED = re.compile(r"^\| `(E\d\d)` \| (.*) \|$", re.MULTILINE)
 LINK = re.compile(r"\[([^]]*)\]\([^)]*\)")
 
 
 def method_of(do):
-    """The name in Python of a command."""
-    return re.sub("[A-Z]", lambda it: "_" + it[0].lower(), do)
+    """The name in Python of a command. `object` of a session is the object itself, as a proxy."""
+    return NAMES.get(do) or re.sub("[A-Z]", lambda it: "_" + it[0].lower(), do)
 
 
 def keys_of(command):
@@ -185,12 +187,11 @@ class Client(ClientCases):
                     self.assertEqual(written, line, f"the line of {do} with {keys}")
 
     def test_codes(self):
-        """Each code has the meaning that the protocol gives it, and what the guide says is to be done about it."""
+        """Each code has the meaning that the protocol gives it, and the advice."""
         self.assertEqual(metad.MEANINGS, protocol.codes(), "the codes")
         self.assertEqual(sorted(metad.ADVICE), sorted(protocol.codes()), "the codes about which something can be done")
-        for code, advice in ADVISED.findall(GUIDE.read_text()):
-            if "see [below]" not in advice:
-                self.assertEqual(metad.ADVICE[code], LINK.sub(r"\1", advice), f"what to do about {code}")
+        advised = ADVISED.findall(section(protocol.text(), "What to do about a code"))
+        self.assertEqual({code: LINK.sub(r"\1", advice) for code, advice in advised}, metad.ADVICE)
 
     def test_refusals(self):
         """What a refusal tells; and lines that only the server can judge."""

@@ -318,7 +318,7 @@ class Ends(Cases):
     def test_help(self):
         """The help tells of the words of the command line, the marks and the ends."""
         said = subprocess.run([EXPLAIN, "--help"], capture_output=True, text=True, timeout=SECONDS).stdout
-        for it in ("--commands", "--tree", "--classes", *MARKS, "Exit status: 0", "1 where", "2 after"):
+        for it in ("--commands", "--tree", "--classes", *MARKS, "Exit status: 0", "1 if", "2 after"):
             self.assertIn(it, said)
 
     def test_misfits(self):

@@ -9,7 +9,6 @@ import os
 import re
 import select
 import subprocess
-import sys
 import time
 from concurrent.futures import ThreadPoolExecutor
 from pathlib import Path
@@ -18,13 +17,12 @@ import metad
 
 from tests.generators.sessions import CLASSES, life_of
 from tests.support.lines import text_of
+from tests.support.documents import FRONT_PAGE, WORKERS_PAGE
 from tests.support.pages import check_page
 from tests.support.program import lay_out
 
-from . import CLIENTS as CLIENTS_FOLDER
 from .fronts import FRONT, NEW, PATIENCE, STATUS, Client, FrontCases, classes_in, error, front_of, reply
 
-PAGE = CLIENTS_FOLDER / "fronting" / "README.md"
 QUIET = 0.4
 CLIENTS = 50
 LINE_MOST = 65_536
@@ -107,10 +105,10 @@ def processor_seconds(process):
 
 
 class Page(FrontCases):
-    """The page of the front."""
+    """The page of the front, and that of its workers."""
 
     def test_page(self):
-        """The programs of the page print what it says, where a front was started as it says."""
+        """The programs of the pages print what they say, where fronts were started as they say."""
         monitor, control, desks = (Path(self.room, name) for name in ("metad.monitor", "metad.control", "desks.sock"))
         workers = ["--quiet", "--workers", "2", "--record", Path(self.room, "records"), "--control", control, desks, self.program]
         with self.front(options=("--quiet", "--share", "team", "--monitor", monitor)) as (path, _):
@@ -118,13 +116,14 @@ class Page(FrontCases):
             with front_of(*workers) as process:
                 try:
                     self.assertIn("listening", next(line for line in process.stderr if "control" not in line), "what it says")
-                    self.assertEqual(check_page(self, PAGE, self.room), 5, "programs of the page")
+                    self.assertEqual(check_page(self, FRONT_PAGE, self.room), 3, "programs of the page")
+                    self.assertEqual(check_page(self, WORKERS_PAGE, self.room), 1, "programs of the page of workers")
                 finally:
                     process.terminate()
 
     def test_words(self):
         """The page tells of each option that there is, and its line of usage is that of the help."""
-        page = PAGE.read_text()
+        page = FRONT_PAGE.read_text()
         shown = subprocess.run([FRONT, "--help"], capture_output=True, text=True, timeout=PATIENCE).stdout
         options = re.findall(r"^  (?:-h, )?(--\S+(?: [A-Z]+)?)  ", shown, re.MULTILINE)
         self.assertEqual(sorted(re.findall(r"^\| `(--.*?)` \|", page, re.MULTILINE)), sorted(options), "the options")

@@ -134,7 +134,6 @@ class Live(FrontCases):
             self.assertEqual(plain.hear(), seen(5, "team"), "what the other one receives")
             self.assertEqual(json.loads(plain.ask(STATUS))["reply"]["queued"], 0, "and nothing else")
 
-
     def test_left_before(self):
         """The first live client of a shared session receives the events that were left there before."""
         late = text_of({"do": "invoke", "object": 1, "method": "seen(int)", "args": [5], "type": "queued"})

@@ -6,7 +6,7 @@ from pathlib import Path
 
 from tests.support.lines import text_of
 
-from .fronts import NEW, PATIENCE, STATUS, Client, FrontCases, error, reply
+from .fronts import NEW, PATIENCE, STATUS, Client, FrontCases, classes_in, error, reply
 
 TEE = 'tee "$0" | "$@"'
 GONE = 20
@@ -164,3 +164,84 @@ class Shared(FrontCases):
         with self.front() as (path, _), Client(path) as client:
             self.assertEqual(client.ask(SHARE), NOT_SHARED, "the session")
             self.assertEqual(client.hear(), "", "the connection")
+
+
+class Seen(FrontCases):
+    """What a second client of a shared session can find out of what the first has made."""
+
+    MADE = (
+        {"do": "new", "class": "QObject"},
+        {"do": "new", "class": "Probe", "parent": 1},
+        {"do": "connect", "sender": 2, "signal": "ping()", "receiver": 2, "method": "note()", "single": True},
+        {"do": "connect", "sender": 1, "signal": "destroyed()", "receiver": 2, "method": "late()", "type": "queued"},
+        {"do": "block", "object": 2, "on": True},
+        {"do": "bind", "object": 2, "property": "objectName", "to": {"prop": "objectName", "of": 1}},
+    )
+    SINGLE = {"connection": 1, "method": "note()", "receiver": 2, "sender": 2, "signal": "ping()", "single": True, "type": "auto"}
+    QUEUED = {"connection": 2, "method": "late()", "receiver": 2, "sender": 1, "signal": "destroyed()", "single": False, "type": "queued"}
+    CLASSES = [{"name": "Probe", "super": "QObject", "signals": ["ping()"], "slots": [{"sig": "note()", "body": []}, {"sig": "late()", "body": []}]}]
+    DECLARED = {
+        "class": "Probe",
+        "properties": [{"bindable": True, "class": "QObject", "name": "objectName", "notify": "objectNameChanged(QString)", "type": "QString"}],
+        "signals": [
+            {"class": "QObject", "signature": "destroyed()", "types": []},
+            {"class": "QObject", "signature": "objectNameChanged(QString)", "types": ["QString"]},
+            {"class": "Probe", "signature": "ping()", "types": []},
+        ],
+        "slots": [
+            {"class": "QObject", "signature": "deleteLater()", "types": []},
+            {"class": "Probe", "signature": "note()", "types": []},
+            {"class": "Probe", "signature": "late()", "types": []},
+        ],
+        "super": "QObject",
+    }
+    FOUND = (
+        (
+            {"do": "object", "object": 2},
+            {"blocked": True, "children": 0, "class": "Probe", "connectionsFrom": 1, "connectionsTo": 2, "events": 0, "level": 2, "parent": 1},
+        ),
+        ({"do": "connections"}, [SINGLE, QUEUED]),
+        ({"do": "connections", "object": 1}, [QUEUED]),
+        ({"do": "describe", "class": "Probe"}, DECLARED),
+        ({"do": "parent", "object": 2}, 1),
+        ({"do": "findAll", "object": 1, "class": "Probe"}, [2]),
+        ({"do": "bindings"}, [{"object": 2, "property": "objectName"}]),
+        ({"do": "binding", "object": 2, "property": "objectName"}, {"of": 1, "prop": "objectName"}),
+    )
+
+    def classes(self):
+        """The path of a class file with the classes that are described."""
+        return classes_in(self.room, self.CLASSES)
+
+    def make(self, one, two):
+        """Has the first client make objects and connections, once both have asked for the shared session."""
+        self.assertEqual([one.ask(SHARE), two.ask(SHARE)], [SHARED] * 2, "whether it is shared")
+        for number, command in enumerate(self.MADE):
+            self.assertIn('{"reply":', one.ask(text_of(command)), f"command {number}")
+
+    def check_found(self, two):
+        """Has the second client ask for them."""
+        for command, found in self.FOUND:
+            self.assertEqual(two.ask(text_of(command)), reply(found, "team"), command)
+
+    def test_second(self):
+        """The second client of a shared session reads what the first has made, and a client of another session does not."""
+        with self.front(self.classes(), options=TEAM) as (path, _), Client(path) as one, Client(path) as two, Client(path) as apart:
+            self.make(one, two)
+            self.check_found(two)
+            self.assertEqual(apart.ask('{"do":"object","object":2}'), error("E04", "c3"), "an object of another session")
+            self.assertEqual(apart.ask('{"do":"connections"}'), reply([], "c3"), "its own connections")
+
+    def test_second_live(self):
+        """So it does where all sessions are live, and no command that only reads is followed by a `spin` of the front."""
+        record = Path(self.room, "record")
+        options = ("--live", "--record", record, *TEAM)
+        with self.front(self.classes(), options=options) as (path, _), Client(path) as one, Client(path) as two:
+            self.make(one, two)
+            two.ask(STATUS)
+            before = record.read_text()
+            self.check_found(two)
+            two.ask(STATUS)
+            time.sleep(0.2)
+            given = [json.loads(line)["do"] for line in record.read_text()[len(before) :].splitlines()]
+        self.assertEqual(given, [*(command["do"] for command, _ in self.FOUND), "status"], "what the server is given")

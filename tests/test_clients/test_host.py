@@ -5,7 +5,7 @@ import subprocess
 import sys
 from pathlib import Path
 
-from tests.support.documents import GUIDE
+from tests.support.documents import COOKBOOK
 from tests.support.program import ROOT, SECONDS
 
 from . import PYTHON
@@ -48,6 +48,6 @@ class Host(ClientCases):
             self.assertEqual(os.listdir(self.room), [], "what it leaves")
 
     def test_length(self):
-        """It is as short as the guide says."""
+        """It is as short as docs/COOKBOOK.md says."""
         self.assertLessEqual(len(HOST.read_text().splitlines()), LINES_MOST)
-        self.assertIn(f"{LINES_MOST} lines of Python", GUIDE.read_text())
+        self.assertIn(f"{LINES_MOST} lines of Python", COOKBOOK.read_text())

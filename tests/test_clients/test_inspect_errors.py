@@ -115,7 +115,7 @@ class Told(unittest.TestCase):
         return errors_of(world)
 
     def test_asked(self):
-        """An error is over where `bindingError` answers null, or `get` another value than the default of a type."""
+        """An error is over where the command that asks for it answers null, or `get` another value than the default of a type."""
         ask, get = {"do": "bindingError", "property": "x"}, {"do": "get", "property": "x"}
         there, write = {(1, "x"): (FAULT, True)}, ({"do": "set", "property": "y", "value": 4}, True)
         self.assertEqual(self.world(), there)

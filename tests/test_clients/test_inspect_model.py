@@ -173,7 +173,7 @@ class Causes(Cases):
     def test_not_known(self):
         """What fits nothing that is known is not said to have a cause."""
         world = world_of([])
-        hear(world, {"session": "a", "do": "spin"}, [{"session": "a", "call": "f()", "object": 1, "sender": 2, "args": []}, {"session": "a", "reply": {"events": 1, "left": 0, "lost": 0, "mismatched": 0}}])
+        hear(world, {"session": "a", "do": "spin"}, [{"session": "a", "call": "f()", "object": 1, "sender": 2, "args": []}, {"session": "a", "reply": {"events": 1, "left": 0, "lost": 0, "mismatched": 0}}])  # noqa: E501
         self.assertEqual(nested(world.entries.kept[-1]), [(1, "f()", -1, None, False)])
         self.assertFalse(views.sessions(world, 0, 9, "", "name")["rows"][0]["objects"][1])
 

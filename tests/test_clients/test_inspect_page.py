@@ -282,7 +282,7 @@ class Records(PageCases):
                 process.wait(PATIENCE)
 
     def test_guide(self):
-        """A callback that is called too often is found as docs/GUIDE.md says."""
+        """A callback that is called too often is found as docs/COOKBOOK.md says."""
         links, sets = [connecting(1, 2, "seen(int)")] * 3, [setting(1, "x", at) for at in range(1, 201)]
         with self.recorded([{**it, "session": "a"} for it in (CELL, CELL, *links, *sets)], "#view=busiest") as browser:
             cells = "[...document.querySelectorAll('[data-slot]')].map((it) => [...it.children].map((one) => one.textContent))"

@@ -6,7 +6,6 @@ import subprocess
 import unicodedata
 
 from . import CLIENTS
-from .browsers import browser_here
 from .fronts import PATIENCE, Client, ClientCases
 from .test_inspect_page import CELL, PageCases, command, connecting, setting
 
@@ -93,7 +92,7 @@ class Seen(Escapes, PageCases):
                 browser.wait_for("Boolean(document.querySelector('[data-property=tag]'))")
                 self.assertIn(ESCAPED, browser.value("document.querySelector('[data-property=tag]').textContent"))
                 self.assertIn(ESCAPED, browser.value("document.querySelector('[data-object=\"1\"]').textContent"))
-                browser.value(f"page.view().object.give('c1', {{do: 'get', object: 1, property: 'tag'}})")
+                browser.value("page.view().object.give('c1', {do: 'get', object: 1, property: 'tag'})")
                 browser.wait_for("document.getElementById('message').textContent.includes('u202e')")
                 self.check_all(browser)
                 for view, ready in (

@@ -438,7 +438,7 @@ DEVICES = {
     **dict.fromkeys(("{record} a > /dev/full", "--only {record} a > /dev/full", "--help > /dev/full"), FULL),
     **{"{record} a >&-": NOT_OPEN, "/nonexistent a 2>&-": ""},
 }
-OF_HELP = ("RECORD NAME", "--only", "--metad", "--classes", "--turns", "  +  kept", "  -  left out", "  ?  no", "status: 0", "1 where", "2 after")
+OF_HELP = ("RECORD NAME", "--only", "--metad", "--classes", "--turns", "  +  kept", "  -  left out", "  ?  no", "status: 0", "1 if", "2 after")
 
 
 class Ends(ProgramCases):

@@ -10,6 +10,7 @@ import subprocess
 import sys
 from pathlib import Path
 
+from tests.support.documents import WORKERS_PAGE
 from tests.support.lines import text_of
 
 from .fronts import NEW, Client, error, reply
@@ -319,8 +320,7 @@ class Records(WorkerCases):
     def test_replay(self):
         """The page's command has a server tell what was told, byte for byte."""
         command = "sed -n 's/^> //p' records/desk.lines | bin/metad"
-        page = Path(__file__).resolve().parents[2] / "clients" / "fronting" / "README.md"
-        self.assertIn(command, page.read_text(), "the page's command")
+        self.assertIn(command, WORKERS_PAGE.read_text(), "the page's command")
         seed = seed_of(self)
         runs = Runs(str(seed), 1, 40, self.room)
         runs.group_of = dict.fromkeys(runs.group_of, "desk")
