@@ -121,18 +121,18 @@ class Imports(Cases):
 
     def test_table(self) -> None:
         """docs/internals/ARCHITECTURE.md names for each crate those whose proofs its own import."""
-        section = ARCHITECTURE.read_text().partition("\n## Who sees what of whom\n")[2].partition("\n## ")[0]
+        section = ARCHITECTURE.read_text().partition("\n## What crates see of each other\n")[2].partition("\n## ")[0]
         rows = [[NAMED.findall(cell) for cell in row] for row in table_in(section, 2)]
         said = {crate: set(of) for crates, of in rows for crate in crates}
         self.assertEqual(said, {path.name: found for path in CRATES.iterdir() if (found := lenders(path))})
 
 
 class Way(Cases):
-    """The functions on the way of two lines in docs/internals/ARCHITECTURE.md."""
+    """The functions on the path of two lines in docs/internals/ARCHITECTURE.md."""
 
     def test_functions(self) -> None:
         """Each is in the file that is named with it, and each row of the tables names one."""
-        for title, least in (("One line's way", 20), ("The way of a `bind`", 10)):
+        for title, least in (("The path of a line", 20), ("The path of a `bind`", 10)):
             way = section(ARCHITECTURE.read_text(), title)
             gone = [it for it in OF_SOURCE.findall(way) if not self.is_there(*it)]
             self.assertEqual(gone, [], "functions that are not there")
@@ -178,7 +178,7 @@ class Made(Cases):
         self.assertEqual(self.ran("--root", self.room), (0, "docs/internals/ARCHITECTURE.md: written\n", ""))
         self.assertEqual(self.ran("--check", "--root", self.room), (0, "", ""))
         rows = ["| `low` | What low is | |", "| `side` | What side is | `low` |", "| `high` | What high is | `side` |"]
-        wanted = ["| crate | what it is | stands on |", "|---|---|---|", *rows, "| `above` | What above is | `high` |"]
+        wanted = ["| crate | what it is | builds on |", "|---|---|---|", *rows, "| `above` | What above is | `high` |"]
         head, *lines, end = page.read_text().split("<!-- ")
         self.assertEqual((head, end), ("before\n", "end of table -->\nafter\n"))
         self.assertEqual(lines[0].split("-->\n")[1].strip().splitlines(), wanted)

@@ -1,8 +1,8 @@
 #!/usr/bin/env python3
 """Writes the tables of the documents that are made of sources: in docs/internals/ARCHITECTURE.md the crates, lowest first.
 
-A table stands between two comments of the page, `<!-- table: NAME -->` and `<!-- end of table -->`; what else the page
-has stays. With --check nothing is written, and the status is 1 where a table is not what the sources make of it.
+A table is between two comments of the page, `<!-- table: NAME -->` and `<!-- end of table -->`; all else on the page
+stays unchanged. With --check nothing is written, and the status is 1 where a table is not what the sources make of it.
 """
 
 from __future__ import annotations
@@ -44,7 +44,7 @@ def all_below(name: str, crates: Crates) -> Set[str]:
     return found
 
 
-def stands_on(name: str, crates: Crates) -> List[str]:
+def builds_on(name: str, crates: Crates) -> List[str]:
     """The crates that a crate names, without those that are below another one that it names."""
     named = crates[name]
     covered = {it for other in named for it in all_below(other, crates)}
@@ -69,11 +69,11 @@ def description_of(crate: Path) -> str:
 
 
 def table_of_crates(root: Path) -> str:
-    """Each crate, what it is, and what it stands on."""
+    """Each crate, what it is, and what it builds on."""
     crates = crates_of(root)
-    rows = ["| crate | what it is | stands on |", "|---|---|---|"]
+    rows = ["| crate | what it is | builds on |", "|---|---|---|"]
     for name in crates:
-        below = "".join(f"{', ' if at else ' '}`{it}`" for at, it in enumerate(stands_on(name, crates)))
+        below = "".join(f"{', ' if at else ' '}`{it}`" for at, it in enumerate(builds_on(name, crates)))
         rows.append(f"| `{name}` | {description_of(root / 'crates' / name)} |{below} |")
     return "".join(f"{row}\n" for row in rows)
 
@@ -82,7 +82,7 @@ TABLES: Dict[str, Callable[[Path], str]] = {"crates": table_of_crates}
 
 
 def written(root: Path) -> Dict[Path, str]:
-    """The pages with their tables made anew."""
+    """The pages with their tables made again."""
     text = (root / ARCHITECTURE).read_text()
     for name, table in TABLES.items():
         between = re.compile(BETWEEN.format(name), re.DOTALL)

@@ -72,7 +72,7 @@ def items_in(cell: str) -> Set[str]:
 def glossary() -> List[Entry]:
     """The rows of the table of words."""
     entries = []
-    for words, _, items in table_in(section(GLOSSARY.read_text(), "Words"), 3):
+    for words, _, items in table_in(section(GLOSSARY.read_text(), "Glossary"), 3):
         carried, _, other = items.partition("not ")
         entries.append(Entry(words.split(", "), items_in(carried), items_in(other)))
     return entries
