@@ -81,7 +81,7 @@ class Written(Cases):
 
     def test_functions(self) -> None:
         """Required keys come first, others may be left out, and some are given by their names only."""
-        text = self.function("`firstOf`", "`class`, a name; [`after`], a connection number; [`unique`], a truth", "", "an array of names")
+        text = self.function("`firstOf`", "`class`, a name; [`after`], a connection number; [`unique`], a boolean", "", "an array of names")
         self.assertEqual(text, (
             "def first_of(class_: str, after: Optional[int] = None, *, unique: Optional[bool] = None) -> Asked[List[str]]:\n"
             '    """Does it. Returns a list of names."""\n'
@@ -138,7 +138,7 @@ class Runs(Cases):
         self.assertEqual((ran.returncode, ran.stderr), (1, "lists.py: README.md has no place for the list limits\n"))
         (self.room / "docs" / "PROTOCOL.md").write_text("# Nothing\n")
         ran = self.ran("--check")
-        self.assertEqual((ran.returncode, ran.stderr), (1, 'lists.py: docs/PROTOCOL.md has no table with the head `do`, does, effect\n'))
+        self.assertEqual((ran.returncode, ran.stderr), (1, "lists.py: docs/PROTOCOL.md has no section Commands\n"))
 
 
 class Sources(Cases):

@@ -12,6 +12,7 @@ from typing import Dict, Iterator, List, NamedTuple, Set, Tuple
 ROOT = Path(__file__).resolve().parent.parent
 PROTOCOL = ROOT / "docs" / "PROTOCOL.md"
 KEY = re.compile(r"(?<!for )(\[?)`(\w+)`")
+NAMED = re.compile(r"`(\w+)`")
 LINK = re.compile(r",? ?see \[[^]]*\]\([^)]*\)|\[([^]]*)\]\([^)]*\)")
 EFFECTS = ("reads", "changes", "calls")
 KIND_OF_KEY = {
@@ -19,10 +20,10 @@ KIND_OF_KEY = {
     **dict.fromkeys(("signal", "method"), "signature"),
     **dict.fromkeys(("unique", "single"), "truth"),
     "type": "way",
-}  # of keys of which the table says nothing further
+}  # of keys about which the table says nothing else
 KIND_OF_TEXT = {
     **dict.fromkeys(("a name", "names"), "name"),
-    **dict.fromkeys(("a truth", "truths"), "truth"),
+    **dict.fromkeys(("a boolean", "booleans"), "truth"),
     "any text": "text",
     "any JSON": "value",
     "an array": "values",
@@ -43,9 +44,9 @@ KIND_OF_REPLY = (
     (r"the property's value.*", "value"),
     (r'`"BindingLoop"`, .* null.*', "error or null"),
     (r"the expression .* null .*", "expression or null"),
-    (r"what came of it", "spun"),
-    (r"how much there is", "status"),
-    (r"what there is in the class", "meta"),
+    (r"counts of events", "spun"),
+    (r"the counts of the session", "status"),
+    (r"the methods and properties of the class", "meta"),
     (r"the object's class, parent and counts", "object"),
     (r"the members of the class", "class"),
     (r"an array of the properties", "properties"),
@@ -70,7 +71,7 @@ class Key(NamedTuple):
 
 
 class Form(NamedTuple):
-    """A row of the table of commands."""
+    """A row of the table of commands, with the codes for which it is refused."""
 
     word: str
     keys: Tuple[Key, ...]
@@ -111,15 +112,6 @@ def table(heading: str, columns: int) -> List[List[str]]:
     return [[cell.strip() for cell in row] for row in rows if len(row) == columns][2:]
 
 
-def table_of(*head: str) -> List[List[str]]:
-    """The rows of the table with this head."""
-    _, has_it, rest = text().partition(f"\n| {' | '.join(head)} |\n")
-    if not has_it:
-        raise Unread(f"docs/PROTOCOL.md has no table with the head {', '.join(head)}")
-    lines = rest.partition("\n\n")[0].splitlines()[1:]
-    return [[cell.strip() for cell in line.strip("|").split("|")] for line in lines]
-
-
 def plain(cell: str) -> str:
     """A cell without the marks of code."""
     return cell.replace("`", "")
@@ -133,6 +125,11 @@ def unlinked(cell: str) -> str:
 def codes() -> Dict[str, str]:
     """Each code with its meaning."""
     return {plain(code): meaning for code, meaning, _ in table("Codes", 3)}
+
+
+def advice() -> Dict[str, str]:
+    """What to do about each code."""
+    return {plain(code): unlinked(said) for code, _, said in table("Codes", 3)}
 
 
 def limits() -> List[Tuple[str, str]]:
@@ -159,16 +156,33 @@ def keys_of(cell: str) -> Tuple[Set[str], Set[str]]:
     return {name for bracket, name in found if not bracket}, {name for bracket, name in found if bracket}
 
 
+def refusals() -> Dict[Tuple[str, str], str]:
+    """What the page says about refusals, by the command's word and, where its row names one, a key of the form."""
+    named = ((NAMED.findall(what), refused) for what, refused in table("Commands", 2))
+    return {(words[0], words[1] if len(words) > 1 else ""): refused for words, refused in named}
+
+
+def rows() -> List[List[str]]:
+    """The rows of the commands: the word, the keys, the refusals, the reply, what it does, and its effect."""
+    refused = refusals()
+    found = []
+    for word, keys, does, effect, reply in table("Commands", 5):
+        required = (*sorted(keys_of(keys)[0]), "")
+        said = next((refused[plain(word), key] for key in required if (plain(word), key) in refused), "")
+        found.append([word, keys, said, reply, does, effect])
+    return found
+
+
 def commands() -> Iterator[Tuple[str, Set[str], Set[str], List[str]]]:
     """The rows of the commands: the word, the keys and the codes for which it is refused."""
-    for word, keys, refused, _ in table("Commands", 4):
+    for word, keys, refused, *_ in rows():
         yield (plain(word), *keys_of(keys), re.findall(r"`(E\d\d)`", refused))
 
 
 def forms() -> Dict[str, List[Tuple[List[str], List[str]]]]:
     """The keys of each command as its rows have them, in their order: those that have to be there, and those in brackets."""
     found: Dict[str, List[Tuple[List[str], List[str]]]] = {}
-    for word, keys, _, _ in table("Commands", 4):
+    for word, keys, *_ in rows():
         named = KEY.findall(keys)
         form = [name for bracket, name in named if not bracket], [name for bracket, name in named if bracket]
         found.setdefault(plain(word), []).append(form)
@@ -196,22 +210,24 @@ def kind_of_reply(cell: str) -> str:
 
 
 def form_of(row: List[str]) -> Form:
-    """A row of the table of commands."""
-    word, keys, refused, reply = row
+    """A row of the commands: its word, keys, refusals and reply."""
+    word, keys, refused, reply = row[:4]
     codes = tuple(dict.fromkeys(re.findall(r"`(E\d\d)`", refused)))
     return Form(plain(word), tuple(keys_in(keys)), codes, unlinked(reply), kind_of_reply(unlinked(reply)))
 
 
 def all_commands() -> List[Command]:
     """The commands with all that the page says of them, in its order."""
-    told = {plain(word): (does, effect) for word, does, effect in table_of("`do`", "does", "effect")}
+    said: Dict[str, Tuple[str, str]] = {}
     found: Dict[str, List[Form]] = {}
-    for form in map(form_of, table("Commands", 4)):
+    for row in rows():
+        form = form_of(row)
         found.setdefault(form.word, []).append(form)
-    strange = sorted(told.keys() ^ found.keys())
-    if strange or any(effect not in EFFECTS for _, effect in told.values()):
-        raise Unread(f"the two tables of commands in docs/PROTOCOL.md do not agree, or an effect is unknown: {', '.join(strange)}")
-    return [Command(word, tuple(rows), *told[word]) for word, rows in found.items()]
+        said.setdefault(form.word, (row[4], row[5]))
+    strange = sorted({word for word, _ in refusals()} - found.keys() | {word for word, it in said.items() if it[1] not in EFFECTS})
+    if not found or strange:
+        raise Unread(f"docs/PROTOCOL.md has refusals of unknown commands, or commands of unknown effect: {', '.join(strange)}")
+    return [Command(word, tuple(forms), *said[word]) for word, forms in found.items()]
 
 
 def word_that_replies(kind: str) -> str:

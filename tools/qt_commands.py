@@ -90,7 +90,7 @@ class Row(NamedTuple):
 
 def rows() -> Iterator[Row]:
     """The rows of the table, with the keys in the order in which they are written there."""
-    for word, keys, _, reply in protocol.table("Commands", 4):
+    for word, keys, _, reply, *_ in protocol.rows():
         found = protocol.KEY.findall(keys)
         required = [name for bracket, name in found if not bracket]
         yield Row(protocol.plain(word), required, [name for bracket, name in found if bracket], reply)

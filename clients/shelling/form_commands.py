@@ -54,7 +54,7 @@ DOES: Dict[str, str] = {
     "join": "subscribes a method of an object to what another session publishes under a name",
     "leave": "ends all joins with these ends",
     "spin": "delivers the events of the session",
-    "status": "counts what there is in the session",
+    "status": "counts what the session holds",
     "meta": "lists the methods and the properties of a class",
     "parent": "shows the parent of an object",
     "findAll": "lists all objects below another one with this `objectName` and class, by depth",

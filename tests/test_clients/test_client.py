@@ -48,8 +48,6 @@ input(), print(sys.argv[1])
 sys.stdin.read()
 """  # a server that answers its first line, and writes what it was given at the next one
 ANSWERED = b'{"reply":1,"session":"a"}\n'
-ADVISED = re.compile(r"^\| `(E\d\d)` \| (.*) \|$", re.MULTILINE)
-LINK = re.compile(r"\[([^]]*)\]\([^)]*\)")
 
 
 def method_of(do):
@@ -190,8 +188,7 @@ class Client(ClientCases):
         """Each code has the meaning that the protocol gives it, and the advice."""
         self.assertEqual(metad.MEANINGS, protocol.codes(), "the codes")
         self.assertEqual(sorted(metad.ADVICE), sorted(protocol.codes()), "the codes about which something can be done")
-        advised = ADVISED.findall(section(protocol.text(), "What to do about a code"))
-        self.assertEqual({code: LINK.sub(r"\1", advice) for code, advice in advised}, metad.ADVICE)
+        self.assertEqual(protocol.advice(), metad.ADVICE)
 
     def test_refusals(self):
         """What a refusal tells; and lines that only the server can judge."""

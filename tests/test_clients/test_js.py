@@ -174,7 +174,7 @@ class Table(Cases):
         room = Path(self.enterContext(TemporaryDirectory(prefix="metad-js-")))
         page = room / "PROTOCOL.md"
         text = protocol.text()
-        row = "| `jump` | `to`; `from`, a name; [`high`], as for `connect`, and [`far`] | `E04` no such object | `true` |\n"
+        row = "| `jump` | `to`; `from`, a name; [`high`], as for `connect`, and [`far`] | jumps | changes | `true` |\n"
         text = text.replace("| `reset` |", f"{row}| `reset` |", 1)
         text = text.replace("| `E23` | the turns", "| `E77` | of no use | any |\n| `E23` | the turns", 1)
         page.write_text(text.replace("| bytes of a line of input | 65,536 |", "| bytes of a line of input | 1,234 |", 1))

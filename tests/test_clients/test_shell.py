@@ -298,7 +298,7 @@ class Words(ShellCases):
         server = ("sh", "-c", f"read line; echo '{made}'; read line; echo '{failed}'; cat > /dev/null")
         said = self.said("new Probe as p\nstatus\np.ping()\n", server=server).splitlines()
         self.assertTrue(said[1].startswith("refused, E20: the session has failed"), said)
-        self.assertEqual(said[2:], ["    to do: `reset` the session, and make its objects anew; other sessions go on", "not sent: p is gone: object 1 was deleted"])
+        self.assertEqual(said[2:], ["    to do: `reset` the session, and make its objects again; other sessions go on", "not sent: p is gone: object 1 was deleted"])
 
     def test_sessions(self):
         """Names are those of their session; lines of another one say of which they are."""

@@ -8,37 +8,37 @@ __all__ = ["ADVICE", "BINDING_ERRORS", "MEANINGS", "advice_on", "meaning_of"]
 
 ADVICE = {
     "E01": (
-        "mend what writes the line. The answer is for the session `-`: only its place among the answers tells"
-        " which line it was"
+        "fix what writes the line. The answer is for the session `-`: only its place among the answers shows which "
+        "line it was"
     ),
-    "E02": "compare it with the row of its command in PROTOCOL.md; a key too many is a fault too",
-    "E03": "see that the server runs with the class file that is meant; `meta` tells of a class",
+    "E02": "compare it with the row of its command in PROTOCOL.md; an unknown key is a fault too",
+    "E03": "check that the server runs with the right class file; `meta` describes a class",
     "E04": "forget the number; it never means another object",
     "E05": "look it up with `meta`",
-    "E06": "write it as `meta` does: a name and types in brackets",
+    "E06": "write it as `meta` does: a name and types in parentheses",
     "E07": "connect to a slot that takes fewer arguments, or the same types",
-    "E08": "nothing, as a rule: what was wanted is there",
-    "E09": "leave `unique` out, and keep the number of the connection that was made",
+    "E08": "usually nothing: the connection exists",
+    "E09": "leave `unique` out, and keep the number of the connection",
     "E10": "look at the table of functors",
-    "E11": "see with `meta` what the class declares; mend the class file",
+    "E11": "look with `meta` at what the class declares; fix the class file",
     "E12": "move the parent out first",
-    "E13": "in slots that hear `destroyed()`, do not tie the sender to anything new",
+    "E13": "in slots that hear `destroyed()`, do not connect the sender to anything new",
     "E14": (
-        "make room: delete, disconnect, `unbind`, `end`, `unpublish`, `leave`, `spin`; shorten the text or "
-        "the expression. For the warning look for a ring of signals"
+        "make room: delete, disconnect, `unbind`, `end`, `unpublish`, `leave`, `spin`; shorten the text or the "
+        "expression. For the warning look for a cycle of signals"
     ),
-    "E15": "`unpublish` that first, or take another name",
+    "E15": "`unpublish` it first, or choose another name",
     "E16": "connect the signal within the session",
     "E17": "match each `end` with a `begin`; their replies say how many are open",
-    "E18": 'say `"bindable":true` in the class file',
+    "E18": 'put `"bindable":true` into the class file',
     "E19": "`reset`, or go on in a new session",
-    "E20": "`reset` the session, and make its objects anew; other sessions go on",
+    "E20": "`reset` the session, and make its objects again; other sessions go on",
     "E21": (
-        "`reset` the session where it has failed, as a `status` tells, and make its objects anew; for the "
-        "session `-` send the line again"
+        "if `status` shows that the session has failed, `reset` it and make its objects again; for the session `-` "
+        "send the line again"
     ),
     "E22": "give a value of the type; numbers in quotes are texts. A binding has no `arg`, and its `of` is a number",
-    "E23": "look for a slot that calls itself; `spin` once more; else start with more `--turns`",
+    "E23": "look for a slot that calls itself; `spin` again; otherwise start with more `--turns`",
 }
 """What to do about each code, as docs/PROTOCOL.md has it."""
 

@@ -61,12 +61,12 @@ def find(object: int, name: Optional[str] = None, class_: Optional[str] = None) 
 
 
 def set(object: int, property: str, value: Value) -> Asked[bool]:
-    """Writes a property. Returns True; False where the class declares no such property, or the value is None."""
+    """Writes a property. Returns True; False if the class declares no such property or the value is None."""
     return Asked("set", object=object, property=property, value=value)
 
 
 def get(object: int, property: str) -> Asked[Value]:
-    """Reads a property. Returns the property's value; None where there is none."""
+    """Reads a property. Returns the property's value, or None."""
     return Asked("get", object=object, property=property)
 
 
@@ -88,7 +88,7 @@ def unbind(object: int, property: str) -> Asked[bool]:
 def binding_error(object: int, property: str) -> Asked[Optional[str]]:
     """Shows whether a property is in error.
 
-    Returns `BindingLoop`, `EvaluationError`, or None where the property is not in error.
+    Returns `BindingLoop`, `EvaluationError`, or None if the property is not in error.
     """
     return Asked("bindingError", object=object, property=property)
 
@@ -141,7 +141,7 @@ def disconnect(
 ) -> Asked[int]:
     """Breaks the connection of a number, or all connections of a sender that match.
 
-    Returns whether the connection stood, or how many connections were broken.
+    Returns whether the connection existed, or how many connections were broken.
     """
     return Asked("disconnect", **given(connection=connection, sender=sender, signal=signal, receiver=receiver, method=method))
 
@@ -156,7 +156,7 @@ def invoke(
 ) -> Asked[bool]:
     """Sends a signal of an object or calls its slot, with the type `"queued"` by an event.
 
-    Returns True; False where the object has no such method.
+    Returns True; False if the object has no such method.
     """
     return Asked("invoke", object=object, method=method, args=list(args), **given(type=type, priority=priority))
 
@@ -187,17 +187,17 @@ def leave(from_: str, name: str, object: int, method: str) -> Asked[bool]:
 
 
 def spin() -> Asked[Spun]:
-    """Delivers the events of the session. Returns what came of it."""
+    """Delivers the events of the session. Returns counts of events."""
     return Asked("spin")
 
 
 def status() -> Asked[Status]:
-    """Counts what there is in the session. Returns how much there is."""
+    """Counts what the session holds. Returns the counts of the session."""
     return Asked("status")
 
 
 def meta(class_: str) -> Asked[Meta]:
-    """Lists the methods and the properties of a class. Returns what there is in the class."""
+    """Lists the methods and the properties of a class. Returns the methods and properties of the class."""
     return Asked("meta", class_=class_)
 
 
@@ -246,7 +246,7 @@ def bindings(after: Optional[BindingInfo] = None) -> Asked[List[BindingInfo]]:
 def binding(object: int, property: str) -> Asked[Value]:
     """Shows the expression that a property is bound to.
 
-    Returns the expression that the property is bound to; None where it is not bound.
+    Returns the expression that the property is bound to; None if it is not bound.
     """
     return Asked("binding", object=object, property=property)
 

@@ -72,28 +72,28 @@ inline constexpr CommandRow commandRows[] = {
 };
 
 inline constexpr CodeRow codeRows[] = {
-    {"E01", "the line is no JSON, no UTF-8 or too long"},
-    {"E02", "the line is no command"},
+    {"E01", "the line is not JSON, not UTF-8 or too long"},
+    {"E02", "the line is not a command"},
     {"E03", "no such class"},
     {"E04", "no such object"},
     {"E05", "no such method"},
-    {"E06", "no signature or type"},
+    {"E06", "not a signature or type"},
     {"E07", "signal and method do not fit"},
-    {"E08", "connected already"},
-    {"E09", "unique with a functor"},
+    {"E08", "already connected"},
+    {"E09", "unique is not allowed with a functor"},
     {"E10", "no such functor"},
     {"E11", "no such property"},
     {"E12", "a cycle of parents"},
     {"E13", "the object is dying"},
-    {"E14", "a limit"},
+    {"E14", "a limit is reached"},
     {"E15", "the name is taken"},
-    {"E16", "the own session"},
-    {"E17", "no group"},
+    {"E16", "the session is its own"},
+    {"E17", "no group is open"},
     {"E18", "not bindable"},
-    {"E19", "numbers used up"},
+    {"E19", "the numbers are used up"},
     {"E20", "the session has failed"},
-    {"E21", "want of memory"},
-    {"E22", "the value, its kind or its form"},
+    {"E21", "out of memory"},
+    {"E22", "wrong value, type or form"},
     {"E23", "the turns are used up"},
 };
 
@@ -123,10 +123,10 @@ public:
     /// Replies the number of the object that is found, or null. It also takes `name`, `class`.
     Reply find(Number object, const QVariantMap &more = {}) const { return give("find", {{QStringLiteral("object"), object}}, more); }
 
-    /// Replies `true`; `false` where the class declares no such property, or the value is null.
+    /// Replies `true`; `false` if the class declares no such property or the value is null.
     Reply set(Number object, const QString &property, const QVariant &value) const { return give("set", {{QStringLiteral("object"), object}, {QStringLiteral("property"), property}, {QStringLiteral("value"), value}}); }
 
-    /// Replies the property's value; null where there is none.
+    /// Replies the property's value, or null.
     Reply get(Number object, const QString &property) const { return give("get", {{QStringLiteral("object"), object}, {QStringLiteral("property"), property}}); }
 
     /// Replies an array of names.
@@ -138,7 +138,7 @@ public:
     /// Replies whether it was bound.
     Reply unbind(Number object, const QString &property) const { return give("unbind", {{QStringLiteral("object"), object}, {QStringLiteral("property"), property}}); }
 
-    /// Replies `"BindingLoop"`, `"EvaluationError"`, or null where the property is not in error.
+    /// Replies `"BindingLoop"`, `"EvaluationError"`, or null if the property is not in error.
     Reply bindingError(Number object, const QString &property) const { return give("bindingError", {{QStringLiteral("object"), object}, {QStringLiteral("property"), property}}); }
 
     /// Replies how many groups are open now.
@@ -153,13 +153,13 @@ public:
     /// Replies the connection's number. It also takes `type`, `unique`, `single`.
     Reply connectFunctor(Number sender, const QString &signal, Number context, const QString &functor, const QVariantMap &more = {}) const { return give("connectFunctor", {{QStringLiteral("sender"), sender}, {QStringLiteral("signal"), signal}, {QStringLiteral("context"), context}, {QStringLiteral("functor"), functor}}, more); }
 
-    /// Replies whether the connection stood.
+    /// Replies whether the connection existed.
     Reply disconnectConnection(Number connection) const { return give("disconnect", {{QStringLiteral("connection"), connection}}); }
 
     /// Replies how many connections were broken. It also takes `signal`, `receiver`, `method`.
     Reply disconnectSender(Number sender, const QVariantMap &more = {}) const { return give("disconnect", {{QStringLiteral("sender"), sender}}, more); }
 
-    /// Replies `true`; `false` where the object has no such method. It also takes `type`, `priority`.
+    /// Replies `true`; `false` if the object has no such method. It also takes `type`, `priority`.
     Reply invoke(Number object, const QString &method, const QVariantList &args, const QVariantMap &more = {}) const { return give("invoke", {{QStringLiteral("object"), object}, {QStringLiteral("method"), method}, {QStringLiteral("args"), args}}, more); }
 
     /// Replies whether its signals were blocked before.
@@ -177,13 +177,13 @@ public:
     /// Replies whether there was such a join.
     Reply leave(const QString &from, const QString &name, Number object, const QString &method) const { return give("leave", {{QStringLiteral("from"), from}, {QStringLiteral("name"), name}, {QStringLiteral("object"), object}, {QStringLiteral("method"), method}}); }
 
-    /// Replies what came of it.
+    /// Replies counts of events.
     Reply spin() const { return give("spin", {}); }
 
-    /// Replies how much there is.
+    /// Replies the counts of the session.
     Reply status() const { return give("status", {}); }
 
-    /// Replies what there is in the class.
+    /// Replies the methods and properties of the class.
     Reply meta(const QString &class_) const { return give("meta", {{QStringLiteral("class"), class_}}); }
 
     /// Replies the parent's number; null for a root.
@@ -204,7 +204,7 @@ public:
     /// Replies an array of at most 1,000 bound properties. It also takes `after`.
     Reply bindings(const QVariantMap &more = {}) const { return give("bindings", {}, more); }
 
-    /// Replies the expression that the property is bound to; null where it is not bound.
+    /// Replies the expression that the property is bound to; null if it is not bound.
     Reply binding(Number object, const QString &property) const { return give("binding", {{QStringLiteral("object"), object}, {QStringLiteral("property"), property}}); }
 
     /// Replies an array of publications.
