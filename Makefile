@@ -131,8 +131,8 @@ SHARE = $(DESTDIR)$(PREFIX)/share/metad
 # the documents and what they lead to, which stands below DOC as it stands here
 DOCUMENTS = README.md CHANGELOG.md $(filter-out %/__pycache__,$(wildcard docs/*.md docs/*.json docs/*.png clients/*/*.md examples/*/*))
 FOLDERS = $(filter-out ./,$(sort $(dir $(DOCUMENTS)))) clients examples
-# docs/internals is not installed: a link to a page there is left as its text
-WITHOUT_INTERNALS = sed 's/\[\([^][]*\)\]([^()]*internals\/[^()]*)/\1/g'
+# docs/internals and CONTRIBUTING.md are not installed: a link to them is left as its text
+WITHOUT_INTERNALS = sed 's/\[\([^][]*\)\]([^()]*internals\/[^()]*)/\1/g; s/\[\([^][]*\)\](CONTRIBUTING\.md)/\1/g'
 # the client, which the tools find below SHARE as they find it here
 CLIENT = python/metad
 OF_CLIENT = $(patsubst clients/%,%,$(wildcard clients/$(CLIENT)/*.py clients/$(CLIENT)/py.typed))
