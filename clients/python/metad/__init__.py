@@ -28,7 +28,6 @@ Needs Python 3.8 or later, and nothing but its standard library.
 
 from .client import Pending, Server, Session, connect, start
 from .codes import ADVICE, BINDING_ERRORS, MEANINGS, advice_on, meaning_of
-from .connection import Word
 from .descriptions import (
     BindingInfo,
     ClassInfo,
@@ -64,6 +63,7 @@ from .fronts import Front, start_front
 from .hearing import Listener, OnCall, OnSpun, OnWarning
 from .lines import NOBODY, Call, Meta, Spun, Status, Value, Warned
 from .monitors import Monitor, monitor
+from .programs import Word
 from .proxies import Connected, Heard, Method, Property, Proxy, SignalSpy, wait_for
 from .shapes import with_relay
 from .waiting import Calls

@@ -30,7 +30,7 @@ from .aio_proxies import Connected, Heard, Method, Property, Proxy, SignalSpy, h
 from .aio_waiting import Calls, Done, came, tell_on, wait_until
 from .asking import Asked
 from .client import reply_of
-from .connection import Answer, Connection, ProgramConnection, Word
+from .connection import Connection
 from .descriptions import BindingInfo, ConnectionInfo
 from .dumping import Result, Steps, all_bindings, all_connections, commands_of, replaying, snapshot, text_of
 from .errors import ClassFileRefused, NotAnswered, OtherSession, Refused
@@ -38,6 +38,8 @@ from .finding import proxies_of
 from .hearing import Hearing, OnCall, OnWarning
 from .holding import START_SECONDS, Holder, class_words
 from .lines import Value, command_line
+from .pairing import Answer
+from .programs import ProgramConnection, Word
 from .reaching import Making
 from .session_commands import Awaiting
 from .shapes import Shape, with_relay
@@ -266,7 +268,7 @@ async def start(
         given = class_words(classes, folder)
         connection = ProgramConnection([program, *words, *given])
         try:
-            connection.open()
+            connection.open(is_heard=True)
             answer = connection.ask_first()
             await asyncio.wait_for(came(answer), timeout)
             await _started(connection, answer, given)
@@ -300,5 +302,5 @@ async def connect(
         making.give_up()
         raise
     connection = making.made()
-    connection.open()
+    connection.open(is_heard=True)
     return Server(connection)

@@ -6,10 +6,11 @@ import asyncio
 from contextlib import suppress
 from typing import TYPE_CHECKING, Callable, Optional, TypeVar
 
-from .connection import Connection, Once
+from .connection import Connection
 from .errors import Refused
 from .hearing import Follower
 from .lines import Call
+from .once import Once
 from .waiting import Patience
 
 if TYPE_CHECKING:

@@ -29,6 +29,8 @@ Replied = TypeVar("Replied")
 class Asked(Generic[Replied]):
     """A command that is to be given, by its word and its keys; its reply is of a kind that is known."""
 
+    __slots__ = ("do", "keys")
+
     def __init__(self, do: str, **keys: Value) -> None:
         self.do = do
         self.keys: Dict[str, Value] = keys

@@ -10,7 +10,7 @@ from typing import IO, Any, Callable, Dict, List, Optional, Sequence, Set, Type,
 
 from . import commands
 from .asking import Asked
-from .connection import Answer, Connection, ProgramConnection, Word
+from .connection import Connection
 from .descriptions import BindingInfo, ConnectionInfo
 from .dumping import Result, Steps, all_bindings, all_connections, commands_of, replaying, snapshot, text_of
 from .errors import NotAnswered, OtherSession, Refused
@@ -18,6 +18,8 @@ from .finding import proxies_of
 from .hearing import Hearing, OnCall, OnWarning
 from .holding import START_SECONDS, Holder, class_words
 from .lines import Value, command_line, named
+from .pairing import Answer
+from .programs import ProgramConnection, Word
 from .proxies import Heard, Method, Proxy, hear_post, wait_for
 from .reaching import SocketConnection
 from .session_commands import Waiting
@@ -39,6 +41,8 @@ class Pending:
 
     def done(self) -> bool:
         """Whether the answer has come, or will not come any more. It does not wait, and tells nothing."""
+        if not self._answer.has_come():
+            self._session.server.connection.look()
         return self._answer.has_come()
 
     def result(self, timeout: Optional[float] = None) -> Value:
@@ -56,8 +60,13 @@ class Pending:
 def reply_of(asked: Asked[Any], line: Dict[str, Value]) -> Value:
     """The value of a reply; `Refused` where the line is an error."""
     if "error" in line:
-        raise Refused(asked.do, line["error"], named(asked.keys))
+        raise refusal(asked, line)
     return line["reply"]
+
+
+def refusal(asked: Asked[Any], line: Dict[str, Value]) -> Refused:
+    """The exception for a command that is refused by a line."""
+    return Refused(asked.do, line["error"], named(asked.keys))
 
 
 class Session(Waiting, Hearing):
@@ -111,10 +120,15 @@ class Session(Waiting, Hearing):
 
     def ask(self, asked: Asked[Replied]) -> Replied:
         """Gives a command that was built by `metad.commands`, and waits for the reply."""
-        pending = self._give(asked)
         if self.auto_spin and asked.do != "spin":
+            pending = self._give(asked)
             self._spin_on()
-        return cast(Replied, pending.result())
+            return cast(Replied, pending.result())
+        line = command_line(self.name, asked.do, asked.keys)
+        answered: Dict[str, Any] = self.server.connection.ask(Answer(self), line, asked.do)
+        if "error" in answered:
+            raise refusal(asked, answered)
+        return answered["reply"]  # type: ignore[no-any-return]
 
     def reset(self) -> bool:
         """Puts the session back to how it is before its first command; nobody listens to single slots any more."""
@@ -252,8 +266,9 @@ class Server(Holder):
     It may be used from several threads, which wait side by side. Callbacks are told one at a time over all threads: one
     that is told may give commands, and must not wait for another thread that waits for an answer.
 
-    A thread of its own writes what is given, and another reads what the server writes: so commands never wait for
-    answers that nobody has asked for yet, and an interrupt, which stops a wait, takes no answer from anybody.
+    Whoever waits for an answer reads what the server writes, also for others that wait. Commands never wait for answers that
+    nobody has asked for yet: where the server does not take a command at once, threads write and read until all is
+    answered. An interrupt, which stops a wait, takes no answer from anybody.
 
     As a context manager, a server is closed at the end. One that is not closed warns of that by a `ResourceWarning`
     when nobody holds it any more, and its input is ended then.
@@ -307,7 +322,7 @@ class Server(Holder):
         come in so many seconds, it raises `NotAnswered`.
         """
         self._hang_up()
-        if not self.connection.closed().wait(timeout):
+        if not self.connection.wait(self.connection.closed(), timeout):
             raise NotAnswered(f"no end in {timeout} seconds")
         return self.connection.status()
 
@@ -329,7 +344,7 @@ def start(
         try:
             connection.open()
             answer = connection.ask_first()
-            if not answer.wait(timeout):
+            if not connection.wait(answer, timeout):
                 raise NotAnswered(f"the server has not answered its first line in {timeout} seconds")
             with explained(given):
                 connection.started(answer)

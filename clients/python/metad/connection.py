@@ -1,151 +1,45 @@
-"""A connection with a server: one thread writes what is given, another reads, and pairs answers with commands.
+"""A connection with a server, by two streams.
 
-Only the main thread of a program is interrupted by signals. It never writes or pairs here: it gives a command by one
-call that happens as a whole or not at all, and waits for the answer on a bell of its own. So an interrupt may come
-at any moment, and takes no line and no answer from anybody.
+Whoever waits for an answer reads: it takes what comes for others too, and they wait meanwhile. Nothing is read or written in
+the background, unless lines come unasked, as in a live session and with asyncio, or the streams are no files. Then one
+thread writes what is given, and another one reads. Two threads also do so while a server is far behind.
+
+Only the main thread of a program is interrupted by signals. What it changes here are calls that happen as a whole or not at
+all, see `pairing` and `streams`. So an interrupt may come at any moment, and takes no line and no answer from anybody.
 """
 
 from __future__ import annotations
 
 import queue
-import subprocess
-import tempfile
+import sys
 import threading
+import time
 from collections import deque
 from contextlib import suppress
-from dataclasses import dataclass
 from functools import partial
-from os import PathLike
-from typing import IO, Callable, Deque, Dict, List, Optional, Sequence, Tuple, Union
-from weakref import ref
+from itertools import chain
+from typing import IO, Callable, Deque, Dict, Optional, Sequence, Set
 
-from .errors import (
-    ClassFileRefused,
-    ConnectionClosed,
-    MetadError,
-    NotAnswered,
-    NotStarted,
-    ServerGone,
-    SessionLost,
-    StrangeLine,
-)
-from .hearing import Hearing, Listening
-from .lines import NO_COMMAND, NOBODY, Told, Value, is_answer, is_of_front, line_of, spun_by, told_by
+from .errors import ConnectionClosed, NotAnswered, SessionLost, StrangeLine
+from .lines import NO_COMMAND, Value, line_of
+from .once import Bell, Once
+from .pairing import COME, TRUE, Answer, Fault, Pairing
+from .streams import AT_ONCE, SINK, Files, parts_of
 
-Word = Union[str, "PathLike[str]"]
-"""A word of a command line, or a path."""
-
-LOST = "F04"  # a line of a front by itself, behind which it closes the connection
-
-Bell = Callable[[], object]
-"""Is called once something has come, by the thread that brings it."""
-
-Fault = Callable[[], MetadError]
-"""Makes the exception for a command that has no answer."""
+LOOK_SECONDS = 0.25
+"""After so long a thread that waits looks again. An interrupt may have come just before it was told to read."""
 
 
-class Once:
-    """Something that comes once, and that any number of threads wait for."""
-
-    __slots__ = ("_bells", "_has_come")
-
-    def __init__(self) -> None:
-        self._bells: List[Bell] = []
-        self._has_come = False
-
-    def has_come(self) -> bool:
-        """Whether it has come already."""
-        return self._has_come
-
-    def come(self) -> None:
-        """Lets it come, and rings the bells."""
-        self._has_come = True
-        while self._bells:
-            with suppress(IndexError):  # another thread was quicker
-                self._bells.pop()()
-
-    def ring(self, bell: Bell) -> None:
-        """Has a bell rung once it has come, at once where it has. A bell may be rung twice."""
-        self._bells.append(bell)
-        if self._has_come:
-            bell()
-
-    def silence(self, bell: Bell) -> None:
-        """Takes a bell away, where it is still there."""
-        with suppress(ValueError):
-            self._bells.remove(bell)
-
-    def wait(self, timeout: Optional[float] = None) -> bool:
-        """Waits for it, so many seconds at most; says whether it has come."""
-        if not self._has_come:
-            rung: queue.SimpleQueue[None] = queue.SimpleQueue()
-            bell = partial(rung.put, None)
-            self.ring(bell)
-            try:
-                rung.get(timeout=None if timeout is None else max(timeout, 0))
-            except queue.Empty:
-                pass
-            finally:
-                self.silence(bell)
-        return self._has_come
+OPEN: Set[Connection] = set()
+"""The connections whose end somebody has to see, which may be the only ones that hold them."""
 
 
-class Answer(Once):
-    """What a command comes to. The thread that reads lets it come, with a line or with a fault."""
-
-    __slots__ = ("asking", "line", "fault", "mark")
-
-    def __init__(self, session: Optional[Hearing] = None) -> None:
-        super().__init__()
-        self.asking: Sequence[ref[Hearing]] = () if session is None else (ref(session),)
-        """The session that gave the command, if any."""
-        self.line: Optional[Dict[str, Value]] = None
-        self.fault: Fault = ConnectionClosed
-        self.mark = 0
-        """How many calls and warnings the server had told of before it."""
-
-    def reply(self, line: Dict[str, Value], mark: int) -> None:
-        """Ends the command with a line."""
-        session = self.asking[0]() if self.asking else None
-        if session is not None and line["session"] != NOBODY:
-            session.known_as = line["session"]
-        self.line, self.mark = line, mark
-        self.come()
-
-    def fail(self, fault: Fault, mark: int) -> None:
-        """Ends the command without an answer."""
-        self.fault, self.mark = fault, mark
-        self.come()
+def start(name: str, work: Callable[[], object]) -> None:
+    """Starts a thread."""
+    threading.Thread(target=work, name=f"metad {name}", daemon=True).start()
 
 
-@dataclass
-class Event:
-    """A call, a warning or the result of a `spin`, which sessions are to receive."""
-
-    number: int
-    what: Told
-    sessions: Sequence[ref[Hearing]]
-    """The receivers: the session that gave a command, or all of a connection if nobody has asked."""
-    listening: Optional[Sequence[Listening]] = None
-    begun: int = 0
-    """How many of those that listen were told."""
-
-    def is_told(self) -> bool:
-        """Whether all that listen were told, or have begun to be; finds out first who they are."""
-        if self.listening is None:
-            sessions = [it() for it in self.sessions]
-            self.listening = [told for it in sessions if it is not None for told in it.listening_to(self.what)]
-        return self.begun == len(self.listening)
-
-    def tell_next(self) -> None:
-        """Tells the next one that listens. No interrupt comes between the count and the call."""
-        assert self.listening is not None
-        listening, what = self.listening[self.begun], self.what
-        self.begun += 1
-        listening(what)
-
-
-class Connection:
+class Connection(Pairing):
     """Two streams, from a server and to it.
 
     Where they are of a live session, a front gives `spin` by itself, and what comes of it comes unasked: `news` says
@@ -156,79 +50,95 @@ class Connection:
     """Whether the server's output ends some time after its input was ended."""
 
     def __init__(self, reader: IO[bytes], writer: IO[bytes], is_live: bool = False) -> None:
-        self.is_live = is_live
-        """Whether events come unasked."""
-        self.live_fault: Optional[str] = None
-        """The code by which the front's own `spin` was refused; the session is not live any more then."""
-        self._news = Once()
-        self._sessions: List[ref[Hearing]] = []  # which receive what nobody has asked for
+        super().__init__(is_live)
         self._reader = reader
         self._writer = writer
-        self._given: queue.SimpleQueue[Optional[Tuple[Answer, bytes]]] = queue.SimpleQueue()
-        self._under_way: Deque[Answer] = deque()
-        self._since: List[Told] = []  # what came since the last answer
-        self._heard: Deque[Event] = deque()
-        self._count = 0  # of what was ever put there
-        self._telling = threading.RLock()
-        self._fault: Optional[Fault] = None  # why there are no more answers
+        self._files: Optional[Files] = None  # None where threads read and write all the time
+        self._unwritten: Deque[bytes] = deque()
+        self._ticks: queue.SimpleQueue[bool] = queue.SimpleQueue()  # wakes the thread that writes; False at the end
+        self._turns: Deque[Bell] = deque()  # of those that wait while another thread reads
+        self._reading = threading.RLock()
+        self._writing = threading.RLock()
+        self._is_blocked = False  # whether a thread reads
+        self._is_behind = False  # whether a thread writes what was not taken at once
+        self._is_ending = False  # whether nothing more is taken
+        self._has_begun_to_end = False  # whether a thread waits for the end
+        self._is_hung_up = False  # whether no more commands are taken
         self._is_shut = False  # whether nothing more is written
         self._hung_up = Once()
         self._ended = Once()
 
-    def open(self) -> None:
-        """Begins to write and to read."""
-        for name, work in (("writer", self._write), ("reader", self._read)):
-            threading.Thread(target=work, name=f"metad {name}", daemon=True).start()
+    def open(self, is_heard: bool = False) -> None:
+        """Begins to write and to read: in the background where lines are heard as they come."""
+        if not is_heard and not self.is_live:
+            self._files = Files.below(self._reader, self._writer)
+        OPEN.add(self)
+        if self._files is None:
+            start("writer", self._write)
+            start("reader", self._read)
 
     def give(self, answer: Answer, line: bytes) -> None:
         """Has a line written behind those that were given before; its answer will come."""
-        self._given.put((answer, line))
-        if self._is_shut:
-            self._refuse_rest()
+        files = self._files
+        if files is None or len(line) <= AT_ONCE:
+            self.give_all((answer,), (line,))
+        else:
+            self.give_all((answer,), parts_of(line))
+
+    def give_all(self, answers: Sequence[Answer], parts: Sequence[bytes]) -> None:
+        """Has the lines of commands written, in parts that a pipe takes at once."""
+        if self._is_hung_up:
+            self._refuse(answers)
+            return
+        files = self._files
+        with self._writing:
+            if files is not None and not self._under_way and not self._unwritten and not self._is_shut and len(parts) == 1:
+                self._write_first(files, answers, parts[0])
+            else:
+                SINK.extend(chain(map(self._under_way.extend, (answers,)), map(self._unwritten.extend, (parts,))))
+                if files is None:
+                    self._ticks.put(True)
+                else:
+                    self._write_on(files)
+        if self._is_shut or self._fault is not None:
+            self._refuse(answers)
+
+    def ask(self, answer: Answer, line: bytes, what: str) -> Dict[str, Value]:
+        """Has a line written and waits for its answer; the answer's line, or an exception where there is none.
+
+        It does what `give` and `settle` do, and in fewer steps where no other command is under way.
+        """
+        files = self._files
+        if files is None or self._under_way or len(line) > AT_ONCE:
+            self.give(answer, line)
+        else:
+            self.give_all((answer,), (line,))
+            if not answer._has_come:
+                self._as_reader(files, answer, None, True)
+        return self.settle(answer, None, what)
 
     def settle(self, answer: Answer, timeout: Optional[float], what: str) -> Dict[str, Value]:
         """Waits for an answer, and tells all that came before it; the line, or an exception where there is none."""
-        if not answer.wait(timeout):
+        if not answer._has_come and not self.wait(answer, timeout):
             raise NotAnswered(f"no answer to {what} in {timeout} seconds")
-        return self.settled(answer)
-
-    def settled(self, answer: Answer) -> Dict[str, Value]:
-        """The line of an answer that has come, once all was told that came before it."""
-        self._tell(answer.mark)
+        if self._heard:
+            self._tell(answer.mark)
         if answer.line is None:
             raise answer.fault()
         return answer.line
 
     def hang_up(self) -> None:
         """Ends the server's input behind all that was given. It does not wait for that."""
-        self._given.put(None)
+        self._is_hung_up = True
+        self._ticks.put(False)
+        if self._files is not None:
+            self._write_on(self._files)
 
-    def add(self, session: Hearing) -> None:
-        """Adds a session that receives what comes unasked."""
-        self._sessions.append(ref(session))
-        self._ring()
-
-    def news(self) -> Once:
-        """An event of the next line of a live session that somebody is to receive, or of its end."""
-        return self._news
-
-    def tell(self) -> None:
-        """Delivers all that has come, as soon as there is a session."""
-        if self._sessions:
-            self._tell(self._count)
-
-    def has_untold(self) -> bool:
-        """Whether something has come that nobody has received yet."""
-        return bool(self._heard)
-
-    def has_ended(self) -> bool:
-        """Whether nothing more will come."""
-        return self._fault is not None
-
-    def check(self) -> None:
-        """Raises the reason why nothing more will come, if there is one."""
-        if self._fault is not None:
-            raise self._fault()
+    def abandon(self) -> None:
+        """Hangs up where nobody waits for the end."""
+        self.hang_up()
+        if self._files is not None and not sys.is_finalizing():
+            start("end", partial(self.wait, self.closed()))
 
     def closed(self) -> Once:
         """What comes when the connection is closed, after it was hung up."""
@@ -238,68 +148,239 @@ class Connection:
         """The server's exit status, where it was started here and has ended."""
         return None
 
-    def _tell(self, mark: int) -> None:
-        """Tells what was heard, up to so many in all: in their order, and by one thread at a time. What is being told
-        stands there until it was told."""
-        if not self._heard:
-            return
-        with self._telling:
-            while self._heard and self._heard[0].number < mark:
-                event = self._heard[0]
-                if event.is_told():
-                    self._heard.popleft()
+    # Waiting, and reading by whoever waits.
+
+    def wait(self, once: Once, timeout: Optional[float] = None) -> bool:
+        """Waits at most so many seconds for something that comes by reading; says whether it has come."""
+        until = None if timeout is None else time.monotonic() + timeout
+        try:
+            while not once._has_come:
+                if self._files is None or self._is_ending:
+                    return once.wait(None if until is None else until - time.monotonic())
+                if until is not None and time.monotonic() >= until:
+                    break
+                if not self._as_reader(self._files, once, until):
+                    self._wait_turn(self._files, once, until)
+            return once._has_come
+        finally:
+            if self._turns:
+                self._pass_turn()
+
+    def look(self) -> None:
+        """Takes what has come, without waiting."""
+        if self._files is not None and not self._is_ending:
+            self._as_reader(self._files, Once(), 0)
+
+    def _as_reader(self, files: Files, once: Once, until: Optional[float], is_first: bool = False) -> bool:
+        """Reads until something has come or the time is over, unless another thread reads; whether this one did. It reads only
+        one line if the answer to the first command is wanted."""
+        is_mine = was_blocked = False
+        try:
+            is_mine = self._reading.acquire(False)
+            if is_mine:
+                was_blocked, self._is_blocked = self._is_blocked, True
+                if is_first:
+                    self._read_reply(files, once)
                 else:
-                    event.tell_next()
+                    self._read_until(files, once, until)
+        finally:
+            if is_mine:
+                self._is_blocked = was_blocked
+            try:
+                self._reading.release()
+            except RuntimeError:
+                pass  # another thread reads
+        if was_blocked:
+            self.give(Answer(), NO_COMMAND)  # by a signal handler: what it has interrupted reads the answer, and looks again
+        return is_mine
+
+    def _read_reply(self, files: Files, once: Once) -> None:
+        """Reads the answer to the only command under way, and takes it if it is a plain reply. The rest is left to
+        `_read_until`."""
+        if once._has_come or self._came or self._is_ending:
+            return
+        try:
+            text = files.only_line()
+            line = {} if text is None else line_of(text)
+            if text is None or "reply" not in line or "front" in line or self._since:
+                return
+            answer = self._under_way[0]
+        except (IndexError, OSError, StrangeLine):
+            return  # a signal handler has taken it, or it is read again
+        session = answer.asking[0]() if answer.asking else None
+        if session is not None:
+            session.known_as = line["session"]
+        answer.line, answer.mark = line, next(self._numbers)
+        self._commit(map(self._under_way.remove, (answer,)), files.taking(text), map(setattr, (answer,), COME, TRUE))
+        if answer._bells:
+            answer.ring_all()
+
+    def _read_until(self, files: Files, once: Once, until: Optional[float]) -> None:
+        """Reads, and writes what could not be written at once, until something has come or the time is over."""
+        if self._came:
+            self._take_read(None)
+        while not once._has_come and not self._is_ending:
+            seconds = LOOK_SECONDS if until is None else min(until - time.monotonic(), LOOK_SECONDS)
+            is_writing = bool(self._unwritten) and not self._is_behind
+            if files.wait(max(seconds, 0), is_writing):
+                self._take_read(files)
+            elif seconds <= 0:
+                return
+            if is_writing:
+                self._write_on(files)
+
+    def _take_read(self, files: Optional[Files]) -> None:
+        """Reads, if there is something to read, and takes what was read. At the end, and after a strange line, a thread ends the
+        connection."""
+        strange: Optional[Fault] = None
+        try:
+            is_open = files is None or files.read(self._came, self._numbers)
+            self._take_all()
+        except StrangeLine as error:
+            is_open, strange = False, partial(StrangeLine, error.line)
+        except SessionLost:
+            is_open, strange = False, SessionLost
+        except OSError as error:
+            if error.errno is None:
+                raise  # by a signal handler
+            is_open = False
+        if not is_open:
+            start("end", partial(self._finish, strange))
+            self._is_ending = True
+
+    def _wait_turn(self, files: Files, once: Once, until: Optional[float]) -> None:
+        """Waits while another thread reads, until something has come or that thread has left."""
+        rung: queue.SimpleQueue[None] = queue.SimpleQueue()
+        bell = partial(rung.put, None)
+        try:
+            once.ring(bell)
+            self._turns.append(bell)
+            if not self._as_reader(files, once, until):  # unless that thread has left meanwhile
+                rung.get(timeout=LOOK_SECONDS if until is None else max(0, min(until - time.monotonic(), LOOK_SECONDS)))
+        except queue.Empty:
+            pass
+        finally:
+            once.silence(bell)
+            with suppress(ValueError):
+                self._turns.remove(bell)
+
+    def _pass_turn(self) -> None:
+        """Wakes the next one of those that wait while another thread reads."""
+        with suppress(IndexError):
+            self._turns.popleft()()
+
+    # Writing.
+
+    def _write_first(self, files: Files, answers: Sequence[Answer], part: bytes) -> None:
+        """Gives a line, or some in one part, where no other is under way, so that the server takes it at once."""
+        try:
+            SINK.extend(chain(map(self._under_way.extend, (answers,)), files.writing(part)))
+        except OSError as error:
+            if error.errno is None:
+                raise  # by a signal handler
+            self._shut_down()  # the other side has gone, which the end of what it writes tells
+
+    def _write_on(self, files: Files) -> None:
+        """Writes what the server takes at once; threads do the rest."""
+        with self._writing:
+            if self._is_behind or self._is_shut:
+                return
+            try:
+                while self._unwritten:
+                    if not files.can_write():
+                        start("writer", partial(self._catch_up, files))
+                        return
+                    files.write(self._unwritten)
+            except IndexError:
+                pass  # a signal handler has written it
+            except OSError as error:
+                if error.errno is None:
+                    raise  # by a signal handler
+                self._shut_down()  # the other side has gone, which the end of what it writes tells
+            if self._is_hung_up and not self._unwritten:
+                self._shut_down()
+
+    def _catch_up(self, files: Files) -> None:
+        """Writes all that was given, while another thread reads until all is answered."""
+        with self._writing:
+            if self._is_behind:
+                return
+            self._is_behind = True
+        start("reader", self._read_behind)
+        try:
+            while self._is_behind:
+                self._write_given()
+                with self._writing:
+                    self._is_behind = bool(self._unwritten)
+        except (OSError, ValueError):
+            self._shut_down()
+            self._is_behind = False
+        self._write_on(files)
+
+    def _read_behind(self) -> None:
+        """Reads until all is answered."""
+        with suppress(IndexError):
+            while True:
+                self.wait(self._under_way[-1])
+
+    def _write_given(self) -> None:
+        """Writes all that was given, and waits where the server does not take it."""
+        while self._unwritten:
+            self._writer.write(self._unwritten.popleft())
+        self._writer.flush()
 
     def _write(self) -> None:
         """Writes what is given, up to the end."""
         try:
-            self._write_lines()
+            for _ in iter(self._ticks.get, False):
+                if self._unwritten:
+                    self._write_given()
+            self._write_given()
         except (OSError, ValueError):
             pass  # the other side has gone, which the end of what it writes tells
         finally:
-            with suppress(OSError, ValueError):
-                self._shut()
-            self._is_shut = True
-            self._refuse_rest()
-            self._hung_up.come()
+            self._shut_down()
 
-    def _write_lines(self) -> None:
-        """Writes lines until there is to be no more."""
-        for answer, line in iter(self._given.get, None):
-            self._under_way.append(answer)
-            if self._fault is not None:
-                self._fail_all(self._fault)
-            self._writer.write(line)
-            if self._given.empty():
-                self._writer.flush()
+    def _shut_down(self) -> None:
+        """Ends the server's input, and refuses what was not written."""
+        self._is_hung_up = True
+        with suppress(OSError, ValueError):
+            self._shut()
+        rest = sum(part.count(b"\n") for part in tuple(self._unwritten))
+        self._refuse(tuple(self._under_way)[-rest:] if rest else ())
+        self._unwritten.clear()
+        self._hung_up.come()
+        self._is_shut = True
+        if not self._ends_when_hung_up:
+            OPEN.discard(self)
 
     def _shut(self) -> None:
         """Ends the server's input."""
         self._writer.close()
 
-    def _refuse_rest(self) -> None:
-        """Ends all commands that are given and will not be written: at the server's end, where that is sure to come."""
-        with suppress(queue.Empty):
-            while True:
-                given = self._given.get_nowait()
-                if given is not None:
-                    self._refuse(given[0])
-
-    def _refuse(self, answer: Answer) -> None:
-        """Ends a command that will not be written."""
-        if self._fault is None and not self._ends_when_hung_up:
-            answer.fail(ConnectionClosed, self._count)
-            return
-        self._under_way.append(answer)
+    def _refuse(self, answers: Sequence[Answer]) -> None:
+        """Ends commands that will not be written: at the server's end, where that is sure to come."""
+        for answer in answers:
+            if self._fault is None and not self._ends_when_hung_up:
+                with suppress(ValueError):
+                    self._under_way.remove(answer)
+                answer.fail(ConnectionClosed)
+            elif answer not in self._under_way:
+                self._under_way.append(answer)
         if self._fault is not None:
             self._fail_all(self._fault)
+
+    # The end.
 
     def _read(self) -> None:
         """Reads all that the server writes, and its end; a line without an end is none."""
         strange: Optional[Fault] = None
         try:
-            self._take_lines()
+            for text in self._reader:
+                if not text.endswith(b"\n"):
+                    break
+                self._came.append((next(self._numbers), text))
+                self._take_all()
         except StrangeLine as error:
             strange = partial(StrangeLine, error.line)
         except SessionLost:
@@ -311,134 +392,27 @@ class Connection:
 
     def _finish(self, strange: Optional[Fault]) -> None:
         """Ends all commands under way, and those to come, when nothing more can be read, or what is read is strange."""
+        with self._reading:
+            if self._has_begun_to_end:
+                return
+            self._has_begun_to_end = self._is_ending = True
         self._keep(self._under_way[0].asking if self._under_way else self._sessions if self.is_live else ())
         if strange:
             self._fail_all(strange)
         self.hang_up()
-        with suppress(OSError, ValueError):
-            while self._reader.read(65_536):
-                pass  # nobody can tell what it means any more
+        self._drain()
         end = self._end()
         self._fail_all(strange or end)
         self._ring()
         self._ended.come()
+        OPEN.discard(self)
 
-    def _take_lines(self) -> None:
-        """Takes lines until there are no more."""
-        for text in self._reader:
-            if not text.endswith(b"\n"):
-                return
-            line, before = line_of(text), self._count
-            if is_of_front(line):
-                self._take_spun(line, text)
-            elif is_answer(line):
-                self._take_answer(line, text)
-            else:
-                told = told_by(line, text)
-                self._since += [] if told is None else [told]
-                if self.is_live and not self._under_way:
-                    self._keep(self._sessions)
-            if self.is_live and self._count > before:
-                self._ring()
-
-    def _take_spun(self, line: Dict[str, Value], text: bytes) -> None:
-        """Takes the answer to a `spin` that the front has given by itself, which is that of no command here. The lines before
-        it come from that `spin`, or from others who speak for the session."""
-        if "error" in line:
-            self._keep(self._sessions)
-            self.is_live, self.live_fault = False, str(line["error"])
-            self._ring()
-        else:
-            self._since.append(spun_by(line, text))
-            self._keep(self._sessions)
-
-    def _ring(self) -> None:
-        """Wakes those that wait for news."""
-        news, self._news = self._news, Once()
-        news.come()
-
-    def _take_answer(self, line: Dict[str, Value], text: bytes) -> None:
-        """Pairs an answer with the oldest command, and what came before it with the session that gave that."""
-        if line.get("error") == LOST:
-            raise SessionLost
-        if not self._under_way:
-            raise StrangeLine(text)
-        answer = self._under_way.popleft()
-        self._keep(answer.asking)
-        answer.reply(line, self._count)
-
-    def _keep(self, sessions: Sequence[ref[Hearing]]) -> None:
-        """Keeps what came since the last answer, for these sessions."""
-        for told in self._since:
-            self._heard.append(Event(self._count, told, sessions))
-            self._count += 1
-        self._since = []
-
-    def _fail_all(self, fault: Fault) -> None:
-        """Ends all commands under way, and those to come, without an answer."""
-        self._fault = self._fault or fault
-        with suppress(IndexError):
-            while True:
-                self._under_way.popleft().fail(self._fault, self._count)
+    def _drain(self) -> None:
+        """Reads the rest: nobody can tell what it means any more."""
+        with suppress(OSError, ValueError):
+            while self._reader.read(65_536):
+                pass
 
     def _end(self) -> Fault:
         """Waits for the server's end, once its output has ended; answers why there are no more answers."""
         return ConnectionClosed
-
-
-class ProgramConnection(Connection):
-    """A connection with a server that is started here.
-
-    It is in a session of the system of its own, so that an interrupt from the terminal does not end it. The end of its
-    input does, and so does the end of this process.
-    """
-
-    _ends_when_hung_up = True
-
-    def __init__(self, words: Sequence[Word]) -> None:
-        self._errors: IO[bytes] = tempfile.TemporaryFile()
-        self._status: Optional[int] = None
-        try:
-            pipe = subprocess.PIPE
-            self._process = subprocess.Popen(
-                words, stdin=pipe, stdout=pipe, stderr=self._errors, start_new_session=True
-            )
-        except BaseException:
-            self._errors.close()
-            raise
-        assert self._process.stdout and self._process.stdin
-        super().__init__(self._process.stdout, self._process.stdin)
-
-    def status(self) -> Optional[int]:
-        return self._status
-
-    def kill(self) -> None:
-        """Ends the server at once."""
-        self._process.kill()
-
-    def ask_first(self) -> Answer:
-        """Gives the first line, whose answer says that the server has started."""
-        answer = Answer()
-        self.give(answer, NO_COMMAND)
-        return answer
-
-    def started(self, answer: Answer) -> None:
-        """Raises what an end before the first answer means, where that is what came."""
-        try:
-            self.settled(answer)
-        except ServerGone as gone:
-            raise not_started(gone.status, gone.stderr) from None
-
-    def _end(self) -> Fault:
-        self._status = self._process.wait()
-        self._reader.close()
-        self._errors.seek(0)
-        stderr = self._errors.read().decode("utf-8", "replace")
-        self._errors.close()
-        return partial(ServerGone, self._status, stderr)
-
-
-def not_started(status: Optional[int], stderr: str) -> NotStarted:
-    """What it means that a server has ended before it answered anything."""
-    is_classes = status == 1 and "class file refused" in stderr
-    return (ClassFileRefused if is_classes else NotStarted)(status, stderr)

@@ -16,11 +16,11 @@ from types import TracebackType
 from typing import Dict, List, Optional, Sequence, Tuple, Type, Union
 
 from .client import Server, connect
-from .connection import Word, not_started
 from .errors import NoMonitors, NotAnswered, NotStarted
 from .holding import START_SECONDS, class_words
 from .lines import Value
 from .monitors import Monitor
+from .programs import Word, not_started
 from .tools import explained
 
 PAUSE = 0.02  # seconds between two looks at whether a front listens

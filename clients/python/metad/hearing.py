@@ -75,6 +75,8 @@ class Hearing:
         self.on_spun: Optional[OnSpun] = None
         """Is called, in a live session, with the result of each `spin` that the front gave by itself and that delivered
         events; may be set at any time."""
+        self.receivers: Tuple[ref[Hearing], ...] = (ref(self),)
+        """This session, as the receiver of what its commands cause."""
         self._listeners: Listeners = {}
         self._followers: Tuple[ref[Follower], ...] = ()
 

@@ -8,9 +8,10 @@ from os import fspath
 from pathlib import Path
 from typing import Dict, List, Optional
 
-from .connection import Connection, Word
+from .connection import Connection
 from .errors import NoValue
 from .lines import Value
+from .programs import Word
 from .shapes import Shape
 
 START_SECONDS = 30.0  # in which a server has to answer its first line
@@ -30,7 +31,8 @@ class Holder:
 
     def __del__(self) -> None:
         if not self._is_closed:
-            self._hang_up()
+            self._is_closed = True
+            self.connection.abandon()
             warnings.warn(f"{self!r} was not closed", ResourceWarning, source=self)
 
     @property

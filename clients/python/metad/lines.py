@@ -5,11 +5,11 @@ from __future__ import annotations
 import json
 from dataclasses import dataclass
 from operator import index
-from typing import Any, Dict, List, Optional, TypedDict, Union, cast
+from typing import Any, Callable, Dict, List, Optional, Tuple, TypedDict, Union, cast
 
 from .codes import meaning_of
 from .errors import StrangeLine
-from .values import check_values
+from .values import LEAST, MOST, check_values
 
 Value = Any
 """Whatever JSON can say."""
@@ -18,7 +18,13 @@ NOBODY = "-"
 """The session of the answer to a line of which nobody can say whose it was."""
 
 ENCODER = json.JSONEncoder(ensure_ascii=False, separators=(",", ":"), default=index, allow_nan=False)
-DECODER = json.JSONDecoder()
+scan = json.JSONDecoder().scan_once
+
+FORMS: Dict[Tuple[str, ...], str] = {}
+"""The lines of commands without their values, by the session, the word and the names of the keys."""
+
+FORMS_MOST = 1_000
+quoted = json.encoder.encode_basestring
 
 NO_COMMAND = b"{}\n"
 """A line that is no command: it is answered by `E02` for nobody, and enters no session."""
@@ -101,12 +107,43 @@ Meta = TypedDict(
 def named(keys: Dict[str, Value]) -> Dict[str, Value]:
     """The keys of a command by their names in the protocol: those that are words of Python have an underscore behind
     them in Python."""
+    if "_" not in "".join(keys):
+        return keys
     return {key[:-1] if key[-1:] == "_" else key: value for key, value in keys.items()}
 
 
 def command_line(session: str, do: str, keys: Dict[str, Value]) -> bytes:
     """The line of a command, in which a value that is no JSON and has an `__index__`, as a proxy, is that number.
     `NoValue` where a value is none that a command can take."""
+    if type(do) is not str:
+        return any_command_line(session, do, keys)
+    written = []
+    for value in keys.values():
+        kind = type(value)
+        if kind is str:
+            written.append(quoted(value))
+        elif kind is int and LEAST <= value <= MOST:
+            written.append(str(value))
+        else:
+            return any_command_line(session, do, keys)
+    form = FORMS.get((session, do, *keys))
+    if form is None:
+        form = form_of(session, do, keys)
+    return (form % (*written,)).encode("utf-8", "surrogatepass")
+
+
+def form_of(session: str, do: str, keys: Dict[str, Value]) -> str:
+    """The line of a command with these keys, in which `%s` stands for each value. It is kept for the next such command."""
+    if len(FORMS) > FORMS_MOST:
+        FORMS.clear()
+    names = (quoted(key).replace("%", "%%") for key in named(keys))
+    ends = f'"do":{encoded(do)},"session":{encoded(session)}'.replace("%", "%%")
+    form = "{" + "".join(f"{name}:%s," for name in names) + ends + "}\n"
+    return FORMS.setdefault((session, do, *keys), form)
+
+
+def any_command_line(session: str, do: str, keys: Dict[str, Value]) -> bytes:
+    """The line of a command with any values."""
     given = {**named(keys), "do": do, "session": session}
     check_values(do, given)
     return line_with(given)
@@ -114,17 +151,30 @@ def command_line(session: str, do: str, keys: Dict[str, Value]) -> bytes:
 
 def line_with(keys: Dict[str, Value]) -> bytes:
     """A line with these keys, in their order."""
-    return ENCODER.encode(keys).encode("utf-8", "surrogatepass") + b"\n"
+    return encoded(keys).encode("utf-8", "surrogatepass") + b"\n"
+
+
+def encoder() -> Callable[[Value], str]:
+    """What writes JSON as `ENCODER` does: faster where Python has its fast encoder, which is made once then."""
+    make = getattr(json.encoder, "c_make_encoder", None)
+    if make is None:
+        return ENCODER.encode
+    encode = make(None, index, json.encoder.encode_basestring, None, ":", ",", False, False, False)
+    return lambda value: "".join(encode(value, 0))
+
+
+encoded = encoder()
 
 
 def line_of(text: bytes) -> Dict[str, Value]:
     """A line that the server wrote."""
     try:
         whole = text.decode()
-        line, end = DECODER.raw_decode(whole)
-    except (ValueError, RecursionError):
+        line: Dict[str, Value]
+        line, end = scan(whole, 0)
+    except (ValueError, RecursionError, StopIteration):
         raise StrangeLine(text) from None
-    if end + 1 != len(whole) or not isinstance(line, dict) or not isinstance(line.get("session"), str):
+    if end + 1 != len(whole) or type(line) is not dict or type(line.get("session")) is not str:
         raise StrangeLine(text)
     return line
 

@@ -8,9 +8,9 @@ from contextlib import suppress
 from types import TracebackType
 from typing import Dict, Iterator, Optional, Type
 
-from .connection import Word
 from .errors import ConnectionClosed, LinesLost, Refused
 from .lines import Value, line_of, line_with
+from .programs import Word
 from .sockets import connected
 
 READ_BYTES = 65_536

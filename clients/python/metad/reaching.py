@@ -11,9 +11,12 @@ import threading
 from contextlib import suppress
 from typing import IO, Callable, Dict, NamedTuple, Optional
 
-from .connection import Connection, Fault, Once, Word
+from .connection import Connection
 from .errors import ConnectionClosed, NotAnswered, NotLive, Refused, StrangeLine
 from .lines import Value, line_of, line_with
+from .once import Once
+from .pairing import Fault
+from .programs import Word
 from .sockets import connected
 
 HELLO = {"front": "hello"}

@@ -11,8 +11,8 @@ from os import fspath
 from pathlib import Path
 from typing import Any, Dict, Iterator, List, Optional, Sequence
 
-from .connection import Word
 from .errors import ClassFileRefused
+from .programs import Word
 
 CHECK_SECONDS = 10.0  # in which a class file has to be checked, else it is not explained why it is refused
 

@@ -21,7 +21,7 @@ def check_values(do: str, keys: Dict[str, Any]) -> None:
     taken by no command."""
     for key, value in keys.items():
         kind = type(value)
-        if kind is not str and kind is not bool and value is not None:
+        if kind is not str and (kind is not int or not LEAST <= value <= MOST):
             _check(do, key, value, LEVELS)
 
 
