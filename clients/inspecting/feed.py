@@ -79,7 +79,8 @@ class Feed:
             with self.world.lock:
                 for line in lines[at : at + PIECE]:
                     self.line(line)
-                self.world.lag = max(0, monotonic_ns() // 1_000 - self.world.now)
+                if self.world.now:
+                    self.world.compare_clocks(monotonic_ns() // 1_000)
 
     def line(self, line: bytes) -> None:
         """Takes one line."""

@@ -42,6 +42,7 @@ class World:
         self.now = 0  # in millionths of a second, as the front says it
         self.last_end = 0
         self.lag = 0  # how far what is known is behind, at the last lines that came
+        self.ahead: Optional[int] = None  # how far the clock here is ahead of the front's
         self.is_live = False
         self.lines = 0
         self.left_out = 0
@@ -52,7 +53,14 @@ class World:
         """The time up to which all is known, as the front says it."""
         if not self.is_live or self.lag > BEHIND:
             return self.now
-        return max(self.now, monotonic_ns() // 1_000)
+        return max(self.now, monotonic_ns() // 1_000 - (self.ahead or 0))
+
+    def compare_clocks(self, here: int) -> None:
+        """Some lines were taken at this time here. The front counts time from its own start: the lines that came soonest show
+        how far its clock is from the one here, and others then show how late they came."""
+        distance = here - self.now
+        self.ahead = distance if self.ahead is None else min(self.ahead, distance)
+        self.lag = distance - self.ahead
 
     # ---- lines ----
 
