@@ -5,6 +5,7 @@ from __future__ import annotations
 from typing import Any, Dict, Hashable, Iterable, List, Mapping, Sequence, Set, TypeVar
 
 from .forms import formula
+from .naming import label
 from .session import Session, Spot
 from .world import World
 
@@ -90,12 +91,6 @@ def connections(session: Session) -> Dict[str, Any]:
             words = [f"{it.signal} → {it.method}{' (queued)' if it.is_queued else ''}" for it in them[:8]]
             edges.append([places[sender], places[receiver], False, "\n".join(words), sum(it.calls for it in them)])
     return {"nodes": nodes, "edges": edges, "left": len(numbers) - len(shown)}
-
-
-def label(session: Session, number: int) -> str:
-    """The class of an object, and its name where that is known."""
-    name = session.objects.names.get(number)
-    return f"{session.objects.classes.get(number, '?')}{f' {name}' if name else ''}"
 
 
 def listening(world: World, chosen: str) -> Dict[str, Any]:

@@ -3,9 +3,9 @@
 from __future__ import annotations
 
 from dataclasses import dataclass
-from typing import Any, Callable, Dict, FrozenSet, List, Optional, Set
+from typing import Any, Callable, Dict, FrozenSet, List, Optional, Set, Tuple
 
-from . import graphs, happened, views
+from . import graphs, happened, searching, views
 from .allowed import is_allowed, is_session, text_of, value_of
 from .entries import Entry
 from .evaluating import settle_errors
@@ -43,6 +43,11 @@ def number_in(asked: Asked, key: str, otherwise: Optional[int] = None) -> Option
     return int(word) if word.isdecimal() and len(word) < 16 else otherwise
 
 
+def part_of(asked: Asked) -> Tuple[int, int]:
+    """The part of a list that is asked for: its first row, and how many."""
+    return number_in(asked, "from", 0) or 0, number_in(asked, "count", 60) or 0
+
+
 class Pages:
     """Answers what the page asks for."""
 
@@ -54,8 +59,8 @@ class Pages:
         self.replay = replay
         self.looks = Looks(asking.ask)
         self.gets: Dict[str, Callable[[World, Asked], Any]] = {
-            "about": self.about, "sessions": self.sessions, "tree": self.tree, "object": self.object, "lines": self.lines,
-            "entry": self.entry, "chain": self.chain, "emissions": self.emissions, "slots": self.slots, "graph": self.graph,
+            "about": self.about, "sessions": self.sessions, "place": self.place_of, "tree": self.tree, "object": self.object,
+            "lines": self.lines, "entry": self.entry, "chain": self.chain, "emissions": self.emissions, "slots": self.slots, "graph": self.graph,
         }  # fmt: skip
 
     @property
@@ -76,6 +81,8 @@ class Pages:
         """Answers what is asked by a name, with null where nothing is known of it; refuses a name that there is not."""
         do = self.gets.get(name)
         world = self.world
+        if name == "search":
+            return searching.search(world, searching.query_of(asked.get("sought", ""), asked.get("by", "")))
         if do is None:
             raise Refused(404)
         with world.lock:
@@ -95,13 +102,17 @@ class Pages:
         }
 
     def sessions(self, world: World, asked: Asked) -> Json:
-        start, count = number_in(asked, "from", 0), number_in(asked, "count", 60)
-        return views.sessions(world, start or 0, count or 0, asked.get("sought", ""), asked.get("sort", "name"))
+        only = [it for it in asked.get("only", "").split(",") if it]
+        sought, order = asked.get("sought", ""), asked.get("sort", "name")
+        return views.sessions(world, *part_of(asked), sought, order, only, asked.get("chosen"))
+
+    def place_of(self, world: World, asked: Asked) -> Json:
+        return views.place(world, asked["session"], number_in(asked, "object"))
 
     def tree(self, world: World, asked: Asked) -> Optional[Json]:
-        start, count = number_in(asked, "from", 0), number_in(asked, "count", 60)
         closed: Set[int] = {int(it) for it in asked.get("closed", "").split(",") if it.isdecimal() and len(it) < 16}
-        found = views.tree(world, asked["session"], start or 0, count or 0, closed, asked.get("sought", ""))
+        more = asked.get("sought", ""), asked.get("class", ""), number_in(asked, "chosen")
+        found = views.tree(world, asked["session"], *part_of(asked), closed, *more)
         return self.with_wanted(world, found, asked["session"], None)
 
     def object(self, world: World, asked: Asked) -> Optional[Json]:

@@ -2,15 +2,17 @@
 
 from __future__ import annotations
 
-from typing import Any, Callable, Dict, List, Optional, Set, Tuple
+from dataclasses import dataclass
+from typing import Any, Callable, Dict, List, Optional, Sequence, Set, Tuple
 
 from explaining.objects import ROOT
 
-from . import described, graphs
+from . import described
 from .described import chain_of, properties_of
 from .effects import cell_of
 from .evaluating import settle_errors
 from .forms import formula
+from .naming import in_order, label
 from .session import UNKNOWN, Cell, Connection, Session, Spot
 from .world import BEHIND, MILLION, World
 
@@ -64,36 +66,79 @@ def session_row(session: Session, second: int) -> Json:
     }
 
 
-SORTS: Dict[str, Callable[[Session, int], List[Any]]] = {
-    "name": lambda it, _second: [int(part) if part.isdigit() else part for part in split_digits(it.name)],
-    "objects": lambda it, _second: [-len(it.objects.classes)],
-    "connections": lambda it, _second: [-len(it.connections)],
-    "queued": lambda it, _second: [-it.queued],
-    "rate": lambda it, second: [-it.rate(second)],
-    "lines": lambda it, _second: [-it.lines],
+SORTS: Dict[str, Callable[[Session, int], Any]] = {
+    "name": lambda it, _second: in_order(it.name),
+    "objects": lambda it, _second: -len(it.objects.classes),
+    "connections": lambda it, _second: -len(it.connections),
+    "queued": lambda it, _second: -it.queued,
+    "rate": lambda it, second: -it.rate(second),
+    "lines": lambda it, _second: -it.lines,
+}
+FILTERS: Dict[str, Callable[[Session, int], bool]] = {
+    "failed": lambda it, _second: it.failed,
+    "busy": lambda it, second: it.rate(second) > 0,
+    "waiting": lambda it, _second: it.queued > 0,
 }
 
 
-def split_digits(name: str) -> List[str]:
-    """A name in pieces of letters and of digits, the first of letters."""
-    pieces = [""]
-    for letter in name:
-        if letter.isdigit() == (len(pieces) % 2 == 0):
-            pieces[-1] += letter
-        else:
-            pieces.append(letter)
-    return pieces
+@dataclass(frozen=True)
+class Part:
+    """Which part of a list is wanted: from which row on, how many rows, and the chosen one."""
+
+    start: int
+    count: int
+    chosen: Any
+
+    def of(self, rows: Sequence[Any], row_of: Callable[[Any], Json], key_of: Callable[[Any], Any]) -> Json:
+        """These rows, and the chosen one with its place, wherever it is."""
+        shown = rows[self.start : self.start + min(self.count, ROWS_MOST)]
+        at = next((at for at, it in enumerate(rows) if key_of(it) == self.chosen), -1) if self.chosen else -1
+        chosen = {"at": at, "row": row_of(rows[at])} if at >= 0 else None
+        return {"total": len(rows), "from": self.start, "rows": [row_of(it) for it in shown], "chosen": chosen}
 
 
-def sessions(world: World, start: int, count: int, sought: str, order: str) -> Json:
-    """Some of the sessions, in an order."""
+def sessions(
+    world: World, start: int, count: int, sought: str, order: str, only: Sequence[str] = (), chosen: Optional[str] = None
+) -> Json:
+    """Some of the sessions, in an order. Sessions whose clients have left are not listed."""
     second = world.clock() // MILLION
-    found = [it for it in world.sessions.values() if sought in it.name]
+    found = [it for it in world.sessions.values() if sought in it.name and not it.is_gone]
+    counted = {name: sum(test(it, second) for it in found) for name, test in FILTERS.items()}
+    tests = [FILTERS[it] for it in only if it in FILTERS]
+    if tests:
+        found = [it for it in found if any(test(it, second) for test in tests)]
     key = SORTS.get(order, SORTS["name"])
     if order != "first":
         found.sort(key=lambda it: key(it, second))
-    rows = [session_row(it, second) for it in found[start : start + min(count, ROWS_MOST)]]
-    return {"total": len(found), "from": start, "rows": rows}
+    rows = Part(start, count, chosen).of(found, lambda it: session_row(it, second), lambda it: it.name)
+    return {**rows, "counted": counted}
+
+
+def place(world: World, name: str, number: Optional[int]) -> Json:
+    """Where a session and an object are, for the line that shows what is chosen."""
+    session = world.sessions.get(name)
+    if session is None or session.is_gone:
+        return {"is_there": False}
+    objects = session.objects
+    found: Json = {"is_there": True, "failed": session.failed}
+    if number is not None:
+        found["object"] = {
+            "is_there": number in objects.classes,
+            "class": objects.classes.get(number),
+            "name": objects.names.get(number),
+            "above": ancestors(session, number),
+        }
+    return found
+
+
+def ancestors(session: Session, number: int) -> List[int]:
+    """The known parents of an object, the nearest first."""
+    found: List[int] = []
+    above = session.objects.parents.get(number)
+    while above and above not in found:
+        found.append(above)
+        above = session.objects.parents.get(above)
+    return found
 
 
 # ---- trees ----
@@ -126,18 +171,22 @@ def tree_row(session: Session, number: int, level: int) -> Json:
     }
 
 
-def tree(world: World, name: str, start: int, count: int, closed: Set[int], sought: str) -> Optional[Json]:
-    """Some of the rows of a session's tree."""
+def tree(
+    world: World, name: str, start: int, count: int, closed: Set[int], sought: str, class_name: str = "", chosen: Optional[int] = None
+) -> Optional[Json]:
+    """Some of the rows of a session's tree; with a class only its objects."""
     session = world.sessions.get(name)
     if session is None:
         return None
-    rows = flattened(session, closed)
+    rows = flattened(session, closed if not class_name else set())
     if sought:
         rows = [it for it in rows if is_sought(session, it[0], sought)]
-    shown = [tree_row(session, *it) for it in rows[start : start + min(count, ROWS_MOST)]]
+    if class_name:
+        rows = [(number, 0) for number, _ in rows if session.objects.classes.get(number) == class_name]
     known = session.is_known and not session.objects.has_earlier
     whole = known and session.objects.whole.issuperset(session.objects.tree_below(ROOT))
-    return {"total": len(rows), "from": start, "rows": shown, "known": known, "whole": whole, "failed": session.failed}
+    shown = Part(start, count, chosen).of(rows, lambda it: tree_row(session, *it), lambda it: it[0])
+    return {**shown, "known": known, "whole": whole, "failed": session.failed}
 
 
 def is_sought(session: Session, number: int, sought: str) -> bool:
@@ -194,8 +243,8 @@ def connection_row(session: Session, it: Connection) -> Json:
         "functor": it.is_functor,
         "entry": it.entry,
         "calls": it.calls,
-        "sender_label": graphs.label(session, it.sender),
-        "receiver_label": graphs.label(session, it.receiver),
+        "sender_label": label(session, it.sender),
+        "receiver_label": label(session, it.receiver),
     }
 
 

@@ -20,6 +20,10 @@ WORDS = (
 PATIENCE = 60  # seconds, as a browser is slow on a busy machine
 READ, WRITE = 3, 4  # the files by which the browser is driven
 OPEN = "about:blank"
+KEY_CODES = {
+    "Enter": 13, "Tab": 9, "Escape": 27, "ArrowLeft": 37, "ArrowUp": 38, "ArrowRight": 39, "ArrowDown": 40, "Home": 36, "End": 35,
+    "PageUp": 33, "PageDown": 34, " ": 32, "/": 191, "+": 187, "-": 189, "Backspace": 8,
+}  # fmt: skip
 
 
 def browser_here():
@@ -127,6 +131,28 @@ class Browser:
         """Writes into a field."""
         found = f"document.querySelector({json.dumps(selector)})"
         self.value(f"{{ const it = {found}; it.value = {json.dumps(text)}; it.dispatchEvent(new Event('input', {{bubbles: true}})); it.dispatchEvent(new Event('change', {{bubbles: true}})); }}")  # noqa: E501
+
+    def press(self, key, **held):
+        """Presses a key, by its name in the DOM, with `alt` or `ctrl` held where that is said."""
+        code = KEY_CODES.get(key, ord(key.upper()[0]))
+        text = key if len(key) == 1 and not held else {"Enter": "\r"}.get(key, "")
+        word = f"Digit{key}" if key.isdigit() else f"Key{key.upper()}" if key.isalpha() and len(key) == 1 else key
+        bits = (1 if held.get("alt") else 0) | (2 if held.get("ctrl") else 0) | (8 if held.get("shift") else 0)
+        how = {"key": key, "code": word, "windowsVirtualKeyCode": code, "modifiers": bits}
+        self.ask("Input.dispatchKeyEvent", type="keyDown" if text else "rawKeyDown", **how, **({"text": text} if text else {}))
+        self.ask("Input.dispatchKeyEvent", type="keyUp", **how)
+
+    def type(self, text):
+        """Types a text where the focus is."""
+        self.ask("Input.insertText", text=text)
+
+    def prefer(self, scheme):
+        """Lets the system prefer light or dark colours."""
+        self.ask("Emulation.setEmulatedMedia", features=[{"name": "prefers-color-scheme", "value": scheme}])
+
+    def size(self, width, height):
+        """Gives the window another size."""
+        self.ask("Emulation.setDeviceMetricsOverride", width=width, height=height, deviceScaleFactor=1, mobile=False)
 
     def texts(self, selector):
         """The texts of all elements of a selector."""

@@ -72,10 +72,6 @@ class PageCases(InspectCases):
         """Waits until the page has heard of so many commands."""
         browser.wait_for(f"document.getElementById('state').textContent.includes(' {commands} commands')")
 
-
-class Views(PageCases):
-    """Each view."""
-
     @contextmanager
     def lives(self):
         """A front with two sessions that have done much, the plain program that has done the same, and the page."""
@@ -92,6 +88,10 @@ class Views(PageCases):
             with self.opened(asker.address) as browser:
                 self.settled(browser, count)
                 yield browser, server
+
+
+class Views(PageCases):
+    """Each view."""
 
     def test_objects(self):
         """Sessions, trees and objects are shown as the plain program has them."""

@@ -1,60 +1,67 @@
-// The page: what is chosen, which view is shown, and what is done where something has changed.
+// The page: what is chosen, which view is shown, and what is done when something has changed.
 
 import { el, say, span } from "./elements.js";
 import { write } from "./texts.js";
 import { get, hear } from "./asking.js";
+import { changed, hashOf, readState } from "./location.js";
 import { Look } from "./looking.js";
+import { Crumbs } from "./crumbs.js";
+import { Keys } from "./keys.js";
+import { Tabs } from "./tabs.js";
+import { Undo } from "./undo.js";
+import { themeSwitch } from "./theme.js";
 import { Sessions } from "./sessions.js";
 import { TreeView } from "./tree.js";
 import { HappenedView } from "./happened.js";
 import { TimelineView } from "./timeline.js";
 import { GraphsView } from "./graphs.js";
 import { BusiestView } from "./busiest.js";
+import { SearchView } from "./search.js";
 import { Replay } from "./replay.js";
 
 const VIEWS = [
   ["objects", "Objects", TreeView], ["happened", "What happened", HappenedView], ["timeline", "Timeline", TimelineView],
-  ["graphs", "Graphs", GraphsView], ["busiest", "Busiest slots", BusiestView],
+  ["graphs", "Graphs", GraphsView], ["busiest", "Busiest slots", BusiestView], ["search", "Search", SearchView],
 ];
-const KEYS = ["view", "session", "object", "entry", "call"];
+const NAMES = VIEWS.map(([name]) => name);
 
 class Page {
   constructor(about) {
     this.about = about;
-    this.state = this.read();
+    this.state = readState(location.hash, NAMES);
     this.look = new Look();
+    this.undo = new Undo(this);
+    this.crumbs = new Crumbs(document.getElementById("crumbs"), this);
     this.sessions = new Sessions(document.getElementById("sessions"), this);
     this.views = new Map(VIEWS.map(([name, , View]) => [name, new View(this)]));
-    this.tabs = new Map(
-      VIEWS.map(
-        ([name, text]) => [
-          name, el("button", { type: "button", text, "data-view": name, onclick: () => this.choose({ view: name }) }),
-        ]
-      )
+    this.tabs = new Tabs(document.getElementById("tabs"), VIEWS, (view) => this.choose({ view }));
+    this.keys = new Keys(this, NAMES);
+    this.begin();
+  }
+
+  begin() {
+    write(document.getElementById("words"), this.about.words.join(" "));
+    document.getElementById("switches").append(
+      el("button", { type: "button", text: "keys", title: "the keys of this page (?)", onclick: () => this.keys.help.showModal() }), themeSwitch(),
     );
-    document.getElementById("tabs").append(...this.tabs.values());
-    write(document.getElementById("words"), about.words.join(" "));
-    this.replay = about.record ? new Replay(document.getElementById("replay"), this) : null;
-    window.addEventListener("hashchange", () => { this.state = this.read(); this.show(); });
+    this.replay = this.about.record ? new Replay(document.getElementById("replay"), this) : null;
+    window.addEventListener("hashchange", () => { this.state = readState(location.hash, NAMES); this.show(); });
     document.addEventListener("visibilitychange", () => this.refresh());
     this.show();
   }
 
-  /** What is chosen stands behind the address, so that the way back leads to what was shown before. */
-  read() {
-    const words = new URLSearchParams(location.hash.slice(1));
-    const number = (key) => (words.get(key) ? Number(words.get(key)) : null);
-    const view = VIEWS.some(([name]) => name === words.get("view")) ? words.get("view") : "objects";
-    const [object, entry, call] = ["object", "entry", "call"].map(number);
-    return { view, session: words.get("session"), object, entry, call };
+  choose(changes) {
+    const state = changed(this.state, changes), hash = hashOf(state);
+    this.state = state;
+    if (hashOf(readState(location.hash, NAMES)) === hash) return this.refresh();
+    location.hash = hash;
   }
 
-  choose(changes) {
-    const state = this.state = { ...this.state, ...changes };
-    const words = KEYS.filter((key) => state[key] !== null && state[key] !== undefined).map((key) => [key, state[key]]);
-    const hash = `#${new URLSearchParams(words)}`;
-    if (location.hash === hash) return this.refresh();
-    location.hash = hash;
+  /** Adds to the address what is known of the chosen place, without a further step of the way back. */
+  note(more) {
+    if (Object.entries(more).every(([key, value]) => this.state[key] === value)) return;
+    this.state = { ...this.state, ...more };
+    history.replaceState(null, "", hashOf(this.state));
   }
 
   /** Shows a command with its calls. */
@@ -65,23 +72,32 @@ class Page {
     this.choose({ view: "happened", entry, call });
   }
 
+  openSearch() {
+    if (this.state.view !== "search") this.choose({ view: "search" });
+    this.show();
+    this.view().sought.select();
+    this.view().sought.focus();
+  }
+
   view() {
     return this.views.get(this.state.view);
   }
 
   show() {
     const view = this.view();
-    for (const [name, tab] of this.tabs) tab.classList.toggle("chosen", name === this.state.view);
+    this.tabs.show(this.state.view);
     const place = document.getElementById("view");
     if (place.firstChild !== view.place) place.replaceChildren(view.place);
     view.show();
     this.sessions.refresh();
+    this.crumbs.refresh();
   }
 
   refresh() {
     if (document.hidden) return;
     this.view().refresh();
     this.sessions.refresh();
+    this.crumbs.refresh();
   }
 
   tell(news) {

@@ -30,7 +30,7 @@ function filled(made, how, within) {
 
 /** Elements as they are, and all else as texts. */
 function things(within) {
-  const found = within.flat().filter((it) => it !== null && it !== undefined && it !== false);
+  const found = within.flat(3).filter((it) => it !== null && it !== undefined && it !== false);
   return found.map((it) => (it instanceof Node ? it : plain(it)));
 }
 
@@ -39,11 +39,39 @@ export function clear(place, ...within) {
   return place;
 }
 
+/** Replaces what a place shows. The focus, what somebody has typed, and how far the place is scrolled remain: elements with
+ * the same `data-key` are the same. */
+export function redraw(place, ...within) {
+  const { scrollTop } = place, active = place.contains(document.activeElement) ? document.activeElement : null;
+  const key = active?.dataset.key, marks = active && "selectionStart" in active ? [active.selectionStart, active.selectionEnd] : null;
+  const drafts = new Map([...place.querySelectorAll("[data-key]")].filter(isDraft).map((it) => [it.dataset.key, it.value]));
+  clear(place, ...within);
+  const keyed = new Map([...place.querySelectorAll("[data-key]")].map((it) => [it.dataset.key, it]));
+  for (const [name, value] of drafts) if (keyed.has(name)) keyed.get(name).value = value;
+  place.scrollTop = scrollTop;
+  if (!active) return place;
+  const next = keyed.get(key) ?? (place.tabIndex === -1 ? place : null);
+  next?.focus({ preventScroll: true });
+  if (next && marks && marks[0] !== null && next.setSelectionRange) next.setSelectionRange(...marks);
+  return place;
+}
+
+/** Whether somebody has changed a field. */
+function isDraft(it) {
+  if (it.tagName === "INPUT") return it.type !== "checkbox" && it.value !== it.defaultValue;
+  return it.tagName === "SELECT" && ![...it.options].some((one) => one.selected && one.defaultSelected);
+}
+
 /** A link within the page. */
 export function link(text, does, more = "") {
   return el(
     "button", { class: `link ${more}`, text, type: "button", onclick: (event) => { event.stopPropagation(); does(); } },
   );
+}
+
+/** A name that somebody has given: its direction of reading affects nothing next to it, and what is cut is in the title. */
+export function name(text, more = "") {
+  return el("bdi", { class: `cut ${more}`, text, title: text });
 }
 
 /** A value as JSON, whole numbers beyond what a browser can tell apart as they are. */
@@ -59,6 +87,7 @@ export function short(text, most = 120) {
 
 /** Millionths of a second in words. */
 export function span(micros) {
+  if (micros >= 60e6) return `${Math.floor(micros / 60e6)} min ${Math.round((micros % 60e6) / 1e6)} s`;
   if (micros >= 1e6) return `${(micros / 1e6).toFixed(2)} s`;
   if (micros >= 1e3) return `${(micros / 1e3).toFixed(1)} ms`;
   return `${micros} µs`;

@@ -1,6 +1,6 @@
 // What happened: the newest lines, of a session, an object or a signal.
 
-import { el, say, span } from "./elements.js";
+import { el, name, say, span } from "./elements.js";
 import { write } from "./texts.js";
 import { get } from "./asking.js";
 import { List } from "./list.js";
@@ -24,14 +24,17 @@ export class HappenedView {
     this.hold = el("button", { type: "button", text: "hold", onclick: () => this.toggle() });
     this.older = el("button", { type: "button", text: "older", onclick: () => this.goBack() });
     this.said = el("span", { class: "faint", id: "sampled" });
-    this.list = new List("lines", (from, count) => this.fetchRows(from, count), (row) => this.drawRow(row));
+    this.list = new List(
+      "lines", (from, count) => this.fetchRows(from, count), (row) => this.drawRow(row), (row) => row.entry,
+      { label: "Commands, the newest first", choose: (row) => page.openEntry(row.entry) },
+    );
     this.chain = new ChainView(page);
     const slice = this.slice ? el("label", {}, this.slice, "slice of the session") : null;
     const bar = el(
       "div", { class: "bar" }, el("label", {}, this.all, "all sessions"), slice, this.object, this.signal, this.hold,
       this.older, this.said,
     );
-    this.place = el("div", { class: "split even" }, el("div", {}, bar, this.list.place), el("div", {}, this.chain.place));
+    this.place = el("div", { class: "split even" }, el("div", {}, bar, this.list.whole), el("div", {}, this.chain.place));
   }
 
   show() {
@@ -81,13 +84,15 @@ export class HappenedView {
     write(this.said, isSample ? sample : `${found.rows.length} of ${found.count}`);
     this.newest = newest;
     this.rows = found.rows;
-    return { total: this.rows.length, rows: this.rows.slice(from, from + count) };
+    const at = this.rows.findIndex((row) => row.entry === this.page.state.entry);
+    const chosen = at < 0 ? null : { at, row: this.rows[at] };
+    return { total: this.rows.length, rows: this.rows.slice(from, from + count), chosen };
   }
 
   drawRow(row) {
     const made = el(
       "div", { "data-entry": row.entry, title: row.said ?? row.text, onclick: () => this.page.openEntry(row.entry) },
-      el("span", { class: "at", text: row.entry }), el("span", { class: "who", text: row.session }),
+      el("span", { class: "at", text: row.entry }), name(row.session, "who"),
       el("span", { class: "word", text: row.word || "?" }),
       row.error ? el("span", { class: "mark red", text: row.error }) : null,
       row.calls ? el("span", { class: "mark", text: `${row.calls} call${row.calls > 1 ? "s" : ""}` }) : null,
@@ -96,7 +101,6 @@ export class HappenedView {
       el("span", { class: "grow faint", text: row.said ?? row.text }),
       row.taken && !this.page.about.record ? el("span", { class: "faint", text: span(row.taken) }) : null,
     );
-    if (row.entry === this.page.state.entry) made.classList.add("chosen");
     return made;
   }
 

@@ -1,13 +1,15 @@
 // One object: its properties, its methods, and its connections both ways.
 
-import { clear, el, link, say, shown, short } from "./elements.js";
+import { clear, el, link, name, redraw, say, short, shown } from "./elements.js";
 import { get, oneAtATime, post } from "./asking.js";
-import { starOf } from "./drawing.js";
+import { Field, parametersOf } from "./editing.js";
+import { starOf } from "./star.js";
 
 export class ObjectView {
   constructor(page) {
     this.page = page;
-    this.place = el("div", { class: "detail", id: "object" });
+    this.place = el("div", { class: "detail", id: "object", tabindex: -1, role: "region", "aria-label": "Object" });
+    this.fields = [];
     this.refresh = oneAtATime(() => this.load());
   }
 
@@ -16,22 +18,18 @@ export class ObjectView {
     if (!session || !object) { this.key = null; return void clear(
       this.place, el("p", { class: "faint", text: "Choose an object of the tree." }),
     ); }
-    if (
-      this.place.contains(document.activeElement) && document.activeElement.tagName === "INPUT"
-    ) return; // somebody is writing there
     const found = await get("object", { session, number: object });
     this.page.look.at(found?.wanted ? { session, object } : null, "object");
-    const key = JSON.stringify(found);
-    if (key === this.key) return;
+    const key = JSON.stringify([found, this.page.undo.done.length]);
+    if (key === this.key || this.isComposing) return;
     this.key = key;
-    clear(this.place, found ? this.parts(found) : el("p", { text: "Nothing is known of this session." }));
+    redraw(this.place, found ? this.parts(found) : el("p", { text: "Nothing is known of this session." }));
   }
 
   parts(it) {
     const head = el(
-      "h2", {}, el("span", { class: "code", text: `#${it.object} ` }),
-      el("span", { class: "class", text: it.class ?? "class not known" }),
-      it.name ? el("span", { class: "text", text: ` ${JSON.stringify(it.name)}` }) : null,
+      "h2", {}, el("span", { class: "code", text: `#${it.object} ` }), name(it.class ?? "class not known", "class"),
+      it.name ? [" ", name(JSON.stringify(it.name), "text")] : null,
     );
     const marks = [
       it.is_there ? null : el("span", { class: "mark red", text: "it is not there" }),
@@ -49,7 +47,7 @@ export class ObjectView {
       ] : null,
     );
     const ask = this.page.about.ask ? el(
-      "button", { type: "button", text: "ask for its values", onclick: () => this.askValues(it) },
+      "button", { type: "button", text: "ask for its values", "data-key": "ask", onclick: () => this.askValues(it) },
     ) : null;
     return [
       head, ask || marks.some(Boolean) ? el("p", {}, marks, ask) : null, family, this.properties(it),
@@ -70,11 +68,11 @@ export class ObjectView {
   // ---- properties ----
 
   properties(it) {
-    const head = ["property", "type", "value", "binding", "last change", ...(this.page.about.write ? [""] : [])];
+    const head = ["property", "type", "value", "binding", "last change", ...(this.page.about.write ? ["new value"] : [])];
     const rows = it.properties.map((row) => this.property(it, row));
     return el(
       "div", {}, el("h2", { text: "Properties" }),
-      el("table", { id: "properties" }, el("tr", {}, head.map((text) => el("th", { text }))), rows),
+      el("table", { id: "properties" }, el("tr", {}, head.map((text) => el("th", { scope: "col", text }))), rows),
     );
   }
 
@@ -82,7 +80,7 @@ export class ObjectView {
     const isKnown = row.value !== null;
     const value = el(
       "td", { class: "code" },
-      isKnown ? el("span", { text: short(shown(row.value), 400) }) : el("span", { class: "unsure", text: "not known" }),
+      isKnown ? name(shown(row.value), "value") : el("span", { class: "unsure", text: "not known" }),
       isKnown && !row.sure ? [" ", el("span", { class: "mark amber", text: "may have changed since" })] : null,
     );
     const binding = el("td", { class: "code" }, row.binding ?? (row.bound ? "bound" : ""));
@@ -92,11 +90,11 @@ export class ObjectView {
     );
     if (row.readers.length) binding.append(
       " ", el("span", { class: "faint", text: "read by " }),
-      ...row.readers.flatMap(([number, name], at) => [at ? ", " : "", this.toObject(number, `#${number}.${name}`)]),
+      ...row.readers.flatMap(([number, called], at) => [at ? ", " : "", this.toObject(number, `#${number}.${called}`)]),
     );
     const made = el(
       "tr", { "data-property": row.name },
-      el("td", { class: "code", text: row.name, title: row.notify ? `NOTIFY ${row.notify}` : null }),
+      el("td", { class: "code", title: row.notify ? `NOTIFY ${row.notify}` : null }, name(row.name)),
       el("td", { class: "class", text: row.type ?? (row.dynamic ? "dynamic" : "not known") }), value, binding,
       el("td", {}, this.toEntry(row.entry)),
     );
@@ -105,11 +103,30 @@ export class ObjectView {
   }
 
   setter(it, row) {
-    const input = el("input", { size: 8, placeholder: "JSON", "aria-label": `new value of ${row.name}` });
-    const set = () => this.give(
-      it.session, { do: "set", object: it.object, property: row.name, value: { json: input.value } }, input,
+    const key = `${it.session} ${it.object} set ${row.name}`;
+    const field = new Field(row.type, `new value of ${row.name}`, key, row.value);
+    const undo = this.page.undo.of(it.session, it.object, row.name);
+    const title = row.bound ? "ends the binding of the property, which undo does not bring back" : null;
+    return el(
+      "td", {},
+      el(
+        "form", { class: "give", onsubmit: (event) => { event.preventDefault(); this.set(it, row, field); } }, field.place,
+        undo ? el("button", { type: "button", text: "undo", title: `set it to ${undo.before} again`, "data-key": `${key} undo`, onclick: () => this.page.undo.undo(undo) }) : null,
+        el("button", { type: "submit", text: "set", title, "data-key": `${key} button` }),
+      ),
     );
-    return el("td", { class: "give" }, input, el("button", { type: "button", text: "set", onclick: set }));
+  }
+
+  async set(it, row, field) {
+    const json = field.json();
+    if (json === null) return;
+    const isKept = row.value !== null && row.sure && !row.bound;
+    const command = { do: "set", object: it.object, property: row.name, value: { json } };
+    const isDone = await this.give(it.session, command);
+    if (isDone && isKept && shown(row.value) !== json) this.page.undo.keep(it.session, it.object, row.name, shown(row.value), json);
+    if (isDone) field.settle();
+    this.key = null;
+    this.refresh();
   }
 
   // ---- methods ----
@@ -117,7 +134,7 @@ export class ObjectView {
   methods(it) {
     const rows = it.methods.map(
       (row) => el(
-        "tr", {}, el("td", { class: "code", text: row.text }),
+        "tr", { "data-method": row.text }, el("td", { class: "code" }, name(row.text)),
         el("td", { class: row.kind === "signal" ? "signal" : "", text: row.kind ?? "not known" }),
         el("td", { class: "class", text: row.of ?? "" }),
         el("td", { class: "code faint", text: row.body && row.body.length ? short(JSON.stringify(row.body), 300) : "" }),
@@ -129,15 +146,26 @@ export class ObjectView {
       "button",
       { type: "button", text: "ask for meta", onclick: () => this.give(it.session, { do: "meta", class: it.class }) },
     ) : null;
-    return el("div", {}, el("h2", { text: "Methods" }), text, ask, el("table", { id: "methods" }, rows));
+    const head = ["method", "kind", "class", "body", ...(this.page.about.write ? ["invoke"] : [])];
+    return el(
+      "div", {}, el("h2", { text: "Methods" }), text, ask,
+      el("table", { id: "methods" }, rows.length ? el("tr", {}, head.map((it) => el("th", { scope: "col", text: it }))) : null, rows),
+    );
   }
 
   invoker(it, row) {
-    const input = el("input", { size: 8, value: "[]", "aria-label": `arguments of ${row.text}` });
-    const invoke = () => this.give(
-      it.session, { do: "invoke", object: it.object, method: row.text, args: { json: input.value } }, input,
+    const key = `${it.session} ${it.object} invoke ${row.text}`;
+    const fields = parametersOf(row.text).map((type, at) => new Field(type, `argument ${at + 1} of ${row.text}`, `${key} ${at}`, type === "bool" ? false : type === "QString" ? "" : 0));
+    const invoke = async (event) => {
+      event.preventDefault();
+      const given = fields.map((field) => field.json());
+      if (given.includes(null)) return;
+      if (await this.give(it.session, { do: "invoke", object: it.object, method: row.text, args: { json: `[${given.join(",")}]` } })) fields.forEach((field) => field.settle());
+    };
+    return el(
+      "td", {},
+      el("form", { class: "give", onsubmit: invoke }, fields.map((field) => field.place), el("button", { type: "submit", text: "invoke", "aria-label": `invoke ${row.text}`, "data-key": `${key} button` })),
     );
-    return el("td", { class: "give" }, input, el("button", { type: "button", text: "invoke", onclick: invoke }));
   }
 
   // ---- connections ----
@@ -148,7 +176,7 @@ export class ObjectView {
       ...it.out.filter((row) => row.sender !== row.receiver).map((row) => this.connection(row, "out")),
     ];
     const doubt = it.connections_known ? null : el("p", { class: "unsure", text: "Slots may have made or broken others." });
-    const head = ["", "from", "signal", "to", "calls", "how", "calls seen", "made"].map((text) => el("th", { text }));
+    const head = ["number", "from", "signal", "to", "calls", "how", "calls seen", "made"].map((text) => el("th", { scope: "col", text }));
     return el(
       "div", {}, el("h2", { text: "Connections" }), doubt,
       rows.length ? [
@@ -165,9 +193,9 @@ export class ObjectView {
     return el(
       "tr", { "data-connection": row.number ?? "" },
       el("td", { class: "faint", text: `${row.number ?? "?"} ${way === "in" ? "→ here" : "here →"}` }),
-      el("td", {}, this.toObject(row.sender), ` ${row.sender_label}`),
+      el("td", {}, this.toObject(row.sender), " ", name(row.sender_label)),
       el("td", { class: "code signal", text: row.signal }),
-      el("td", {}, this.toObject(row.receiver), ` ${row.receiver_label}`),
+      el("td", {}, this.toObject(row.receiver), " ", name(row.receiver_label)),
       el("td", { class: "code", text: row.method }), el("td", { text: how }),
       el("td", { class: "number", text: row.calls }), el("td", {}, this.toEntry(row.entry)),
     );
@@ -176,13 +204,13 @@ export class ObjectView {
   listening(it) {
     if (!it.published.length && !it.joins.length) return null;
     const published = it.published.map(
-      ([name, signal]) => el(
-        "li", {}, "publishes ", el("span", { class: "signal code", text: signal }), " as ", el("b", { text: name }),
+      ([called, signal]) => el(
+        "li", {}, "publishes ", el("span", { class: "signal code", text: signal }), " as ", el("b", { text: called }),
       )
     );
     const joined = it.joins.map(
-      ([source, name, method]) => el(
-        "li", {}, el("span", { class: "code", text: method }), " listens to ", el("b", { text: name }), " of ",
+      ([source, called, method]) => el(
+        "li", {}, el("span", { class: "code", text: method }), " listens to ", el("b", { text: called }), " of ",
         link(source, () => this.page.choose({ session: source, object: null })),
       )
     );
@@ -191,14 +219,17 @@ export class ObjectView {
 
   // ---- what is asked and given ----
 
-  async give(session, command, input) {
+  /** Gives a command, says what came of it, and answers whether it was done. */
+  async give(session, command) {
+    let isDone = false;
     try {
       const said = await post("ask", { session, command });
-      say(said.answer === null ? "not answered" : `${said.said ?? ""} ${said.answer}`);
-      if (input) input.blur();
+      say(said.answer === null ? "not answered" : `${said.said ?? ""} ${short(said.answer, 400)}`);
+      isDone = said.answer !== null && !said.error;
       this.key = null;
     } catch (error) { say(String(error)); }
     this.refresh();
+    return isDone;
   }
 
   async askValues(it) {
