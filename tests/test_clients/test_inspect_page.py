@@ -69,8 +69,8 @@ class PageCases(InspectCases):
                 pass
 
     def settled(self, browser, commands):
-        """Waits until the page has heard of so many commands."""
-        browser.wait_for(f"document.getElementById('state').textContent.includes(' {commands} commands')")
+        """Waits until the page has heard of so many commands, or of more, as where it asks some itself."""
+        browser.wait_for(f"Number(/ (\\d+) commands/.exec(document.getElementById('state').textContent)?.[1]) >= {commands}")
 
     @contextmanager
     def lives(self):

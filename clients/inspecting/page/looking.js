@@ -6,7 +6,7 @@ const SOON = 250, LATER = 1000; // milliseconds
 
 /** Requests what is not known of what is shown, one request at a time, and less often if nothing could be asked. */
 export class Look {
-  constructor(ask = post, wait = setTimeout) {
+  constructor(ask = post, wait = (next, pause) => setTimeout(next, pause)) {
     this.ask = ask;
     this.wait = wait;
     this.wanted = new Map(); // by what shows it

@@ -22,7 +22,7 @@ export class SearchView {
     const again = el("button", { type: "button", text: "search", onclick: () => { this.key = null; this.go(); } });
     this.place = el(
       "div", { class: "detail_of_graphs", role: "search" },
-      el("div", { class: "bar" }, this.sought, this.by, again, this.said), el("div", { class: "scroll detail", tabindex: -1 }, this.table),
+      el("div", { class: "bar" }, this.sought, this.by, again, this.said), el("div", { class: "scroll detail", role: "region", "aria-label": "Found" }, this.table),
     );
     this.sought.addEventListener("input", () => { clearTimeout(this.later); this.later = setTimeout(() => this.go(), PAUSE); });
     this.sought.addEventListener("keydown", (event) => { if (event.key === "Enter") { this.key = null; this.go(); } });
