@@ -224,4 +224,4 @@ def cell_of(classes: Classes, session: Session, spot: Spot) -> Cell:
     declared = classes.property(session.objects.classes.get(spot[0]), spot[1])
     if declared is None:
         return Cell(UNKNOWN, 0, False)
-    return Cell(declared.default(), 0, session.has_default(spot))
+    return Cell(declared.default(), 0, session.has_default(spot), session.doubted_since(spot[1]))

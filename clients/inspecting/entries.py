@@ -67,6 +67,7 @@ class Entry:
     calls: List[Call] = field(default_factory=list)
     warnings: List[Warned] = field(default_factory=list)
     emissions: List[Emission] = field(default_factory=list)
+    changes: List[Tuple[Tuple[int, str], Any]] = field(default_factory=list)  # values of properties that it has made known
     answer: bytes = b""
     reply: Any = None
     error: Optional[str] = None

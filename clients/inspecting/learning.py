@@ -132,7 +132,7 @@ class Learning:
             session.doubt(spot)
         else:
             session.put(spot, declared.default(), number, is_sure)
-        session.errors[spot] = Cell(code, number, is_sure)
+        session.errors[spot] = Cell(code, number, is_sure, 0 if is_sure else number)
         if not is_sure:
             session.in_doubt.add(spot)
 

@@ -14,6 +14,7 @@ from .described import unknown_in
 from .effects import cell_of
 from .entries import Entry
 from .session import UNKNOWN, Session
+from .told import ROOTS, WHOLE
 from .world import World
 
 MOST = 5  # commands in each second
@@ -79,12 +80,22 @@ def are_values_known(world: World, session: Session, number: int) -> bool:
 def wanted_of_tree(session: Session) -> List[Json]:
     """The commands that tell what is not known of the places, the classes and the names of objects."""
     objects = session.objects
-    if ROOT not in objects.whole:
+    is_missed = (not session.is_known or objects.has_earlier) and ROOTS not in session.read
+    if ROOT not in objects.whole or is_missed:
         return [{"do": "children"}]
     numbers = [it for it in objects.tree_below(ROOT) if it != ROOT]
     found: List[Json] = [{"do": "children", "object": it} for it in numbers if it not in objects.whole]
     found += [{"do": "object", "object": it} for it in numbers if it not in objects.classes or it not in objects.sure]
     return found + [{"do": "get", "object": it, "property": OBJECT_NAME} for it in numbers if it not in objects.names]
+
+
+def wanted_of_session(session: Session) -> List[Json]:
+    """The commands that tell what is not known of the counts, the connections and the bindings of a session."""
+    found: List[Json] = [] if session.is_queue_sure else [{"do": "status"}]
+    if not session.are_connections_sure:
+        found.append({"do": "connections"})
+    found += [{"do": word} for word in WHOLE if not session.is_known and word not in session.read]
+    return found + [{"do": "binding", "object": number, "property": name} for number, name in sorted(session.unread)]
 
 
 class Looks:
@@ -100,11 +111,11 @@ class Looks:
         self.fruitless: Dict[Tuple[str, Optional[int]], Tuple[int, List[Json]]] = {}
 
     def wanted(self, world: World, name: str, number: Optional[int]) -> List[Json]:
-        """The commands to give for an object of a session, or for its tree."""
+        """The commands to give for an object of a session, or for its tree and its counts."""
         session = world.sessions.get(name)
         if session is None or session.failed or session.is_gone:
             return []
-        found = wanted_of_tree(session) if number is None else wanted_of_object(world, session, number)
+        found = [*wanted_of_tree(session), *wanted_of_session(session)] if number is None else wanted_of_object(world, session, number)
         found = [it for it in found if it["do"] not in self.unknown]
         is_known = self.fruitless.get((name, number)) == (self.others(session), found)
         return [] if is_known else found

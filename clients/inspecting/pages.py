@@ -106,8 +106,12 @@ class Pages:
         sought, order = asked.get("sought", ""), asked.get("sort", "name")
         return views.sessions(world, *part_of(asked), sought, order, only, asked.get("chosen"))
 
-    def place_of(self, world: World, asked: Asked) -> Json:
-        return views.place(world, asked["session"], number_in(asked, "object"))
+    def place_of(self, world: World, asked: Asked) -> Optional[Json]:
+        name, number = asked["session"], number_in(asked, "object")
+        found = self.with_wanted(world, views.place(world, name, number), name, None)
+        if found and "object" in found:
+            found["object"] = self.with_wanted(world, found["object"], name, number)
+        return found
 
     def tree(self, world: World, asked: Asked) -> Optional[Json]:
         closed: Set[int] = {int(it) for it in asked.get("closed", "").split(",") if it.isdecimal() and len(it) < 16}

@@ -49,11 +49,12 @@ class Living(Objects):
 
 
 class Cell(NamedTuple):
-    """The value of a property: as it was told, where, and whether it is known to be that still."""
+    """The value of a property: as it was told, where, and whether it is known to be that still; if not, since which command."""
 
     value: Any
     entry: int
     is_sure: bool
+    since: int = 0
 
 
 @dataclass(eq=False)
@@ -146,6 +147,11 @@ class Session:
     version: int = 0  # grows with each change
     rates: Tuple[int, int, int] = (0, 0, 0)  # a second, the lines in it, and those in the one before
     next_key: int = 0
+    at: int = 0  # the newest command that was learnt from
+    doubted_at: Dict[str, int] = field(default_factory=dict)  # the command that a doubt of all such properties comes from
+    since: Dict[str, int] = field(default_factory=dict)  # the commands since which counts are not known for certain
+    read: Set[str] = field(default_factory=set)  # what was read as a whole
+    changes: List[Tuple[Spot, Any]] = field(default_factory=list)  # values that the command that is learnt from has made known
 
     # ---- how many lines ----
 
@@ -215,20 +221,23 @@ class Session:
 
     def put(self, spot: Spot, value: Any, entry: int, is_sure: bool = True) -> None:
         """A property has a value."""
-        self.cells[spot] = Cell(value, entry, is_sure)
+        before = self.cells.get(spot)
+        if is_sure and (before is None or not before.is_sure or before.value != value or type(before.value) is not type(value)):
+            self.changes.append((spot, value))
+        self.cells[spot] = Cell(value, entry, is_sure, 0 if is_sure else self.at)
         self.of_object.setdefault(spot[0], set()).add(spot[1])
 
     def doubt(self, spot: Spot) -> None:
         """It is not known any more what value a property has, nor whether it is in error."""
         if spot not in self.cells:
             self.put(spot, UNKNOWN, 0, False)
-        doubt_in(self.cells, spot)
+        doubt_in(self.cells, spot, self.at)
         self.doubt_error(spot)
 
     def doubt_error(self, spot: Spot) -> None:
         """It is not known any more whether a property is in error."""
         if spot in self.errors:
-            doubt_in(self.errors, spot)
+            doubt_in(self.errors, spot, self.at)
             self.in_doubt.add(spot)
 
     def loosen(self, spot: Spot) -> None:
@@ -239,11 +248,23 @@ class Session:
 
     def doubt_all(self, name: str = ANY) -> None:
         """It is not known any more which values the properties of this name have, or any."""
-        self.doubted[name] = self.objects.last
+        self.doubted[name], self.doubted_at[name] = self.objects.last, self.at
         self.loose.update(spot for spot in self.bindings if name in (ANY, spot[1]))
         for spot in [*self.cells, *self.errors]:
             if name in (ANY, spot[1]):
                 self.doubt(spot)
+
+    def doubted_since(self, name: str) -> int:
+        """The command since which properties of this name may have been written unseen, or 0."""
+        return max(self.doubted_at.get(name, 0), self.doubted_at.get(ANY, 0))
+
+    def note_doubts(self, number: int) -> None:
+        """Keeps in mind since which command counts are not known for certain."""
+        for key, is_sure in (("connections", self.are_connections_sure), ("queued", self.is_queue_sure)):
+            if is_sure:
+                self.since.pop(key, None)
+            else:
+                self.since.setdefault(key, number)
 
     def has_default(self, spot: Spot) -> bool:
         """Whether a declared property of which nothing was told has the value that it had at first."""
@@ -315,8 +336,8 @@ class Session:
         self.blocked = {number: None for number in self.objects.classes}
 
 
-def doubt_in(table: Dict[Spot, Cell], spot: Spot) -> None:
-    """What a table says of a property is not known for certain any more."""
+def doubt_in(table: Dict[Spot, Cell], spot: Spot, since: int) -> None:
+    """What a table says of a property is not known for certain any more, since a command."""
     cell = table.get(spot)
     if cell is not None and cell.is_sure:
-        table[spot] = cell._replace(is_sure=False)
+        table[spot] = cell._replace(is_sure=False, since=since)

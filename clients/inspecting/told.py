@@ -10,6 +10,8 @@ from .session import ANY, Binding, Cell, Connection, Join, Session, Spot
 
 PAGE = 1_000  # the most connections or bindings of one reply
 OBJECT_NAME = "objectName"
+WHOLE = ("bindings", "publications", "joins")  # lists of a whole session
+ROOTS = "children"  # the roots of a session
 
 
 def know_object(session: Session, entry: Entry) -> None:
@@ -123,6 +125,15 @@ def know_publications(session: Session, entry: Entry) -> None:
 def know_joins(session: Session, entry: Entry) -> None:
     """What a session listens to."""
     session.joins = [Join(it["from"], it["name"], tuple(it["types"]), it["object"], it["method"]) for it in entry.reply]
+
+
+def know_read(session: Session, entry: Entry) -> None:
+    """What of a session one reply has as a whole: nothing of that was missed then, even if lines were left out before."""
+    if entry.error is None and isinstance(entry.reply, list) and len(entry.reply) < PAGE:
+        if entry.word in WHOLE and "after" not in entry.asked:
+            session.read.add(entry.word)
+        elif entry.word == "children" and entry.asked.get("object") is None:
+            session.read.add(ROOTS)
 
 
 BY_NAME: Dict[str, Callable[[Session, Entry], None]] = {

@@ -14,6 +14,7 @@ from .evaluating import settle_errors
 from .forms import formula
 from .naming import in_order, label
 from .session import UNKNOWN, Cell, Connection, Session, Spot
+from .told import ROOTS
 from .world import BEHIND, MILLION, World
 
 ROWS_MOST = 500  # that are told at once
@@ -41,16 +42,27 @@ def summary(world: World) -> Json:
 
 def counts(session: Session) -> Json:
     """How much a session has, each with whether that is known."""
-    objects = session.objects
-    are_known = session.is_known and not objects.has_earlier
+    objects, read = session.objects, session.read
+    are_known = is_tree_known(session)
     return {
         "objects": [len(objects.classes), are_known and len(objects.sure) == len(objects.classes)],
         "connections": [len(session.connections), session.are_connections_sure],
         "queued": [session.queued, session.is_queue_sure],
-        "bindings": [len(session.bindings), session.is_known],
-        "joins": [len(session.joins), session.is_known],
-        "publications": [len(session.publications), session.is_known],
+        "bindings": [len(session.bindings), session.is_known or "bindings" in read],
+        "joins": [len(session.joins), session.is_known or "joins" in read],
+        "publications": [len(session.publications), session.is_known or "publications" in read],
     }
+
+
+def is_tree_known(session: Session) -> bool:
+    """Whether all objects of a session are known, since all its lines were seen or since it was asked."""
+    objects = session.objects
+    return session.is_known and not objects.has_earlier or ROOTS in session.read and is_whole(session)
+
+
+def is_whole(session: Session) -> bool:
+    """Whether all children of all known objects are known."""
+    return session.objects.whole.issuperset(session.objects.tree_below(ROOT))
 
 
 def session_row(session: Session, second: int) -> Json:
@@ -63,6 +75,7 @@ def session_row(session: Session, second: int) -> Json:
         "failed": session.failed,
         "gone": session.is_gone,
         "group": session.groups,
+        "since": session.since,
     }
 
 
@@ -183,8 +196,8 @@ def tree(
         rows = [it for it in rows if is_sought(session, it[0], sought)]
     if class_name:
         rows = [(number, 0) for number, _ in rows if session.objects.classes.get(number) == class_name]
-    known = session.is_known and not session.objects.has_earlier
-    whole = known and session.objects.whole.issuperset(session.objects.tree_below(ROOT))
+    known = is_tree_known(session)
+    whole = known and is_whole(session)
     shown = Part(start, count, chosen).of(rows, lambda it: tree_row(session, *it), lambda it: it[0])
     return {**shown, "known": known, "whole": whole, "failed": session.failed}
 
@@ -196,6 +209,13 @@ def is_sought(session: Session, number: int, sought: str) -> bool:
 
 
 # ---- objects ----
+
+
+def moment(world: World, number: int) -> Optional[Json]:
+    """When a command was given: its number, and the time in milliseconds since 1970 if that is known."""
+    entry = world.entries.get(number)
+    time = (world.epoch + (entry.ended or entry.given)) // 1_000 if entry and world.epoch else None
+    return {"entry": number, "time": time} if number else None
 
 
 def value_of(cell: Cell) -> Json:
@@ -216,17 +236,19 @@ def property_row(world: World, session: Session, spot: Spot) -> Json:
     classes, class_name = world.classes, session.objects.classes.get(spot[0])
     declared = next((it for it in properties_of(classes, world.described, class_name) if it.name == spot[1]), None)
     binding, error = session.bindings.get(spot), session.errors.get(spot)
+    cell = cell_of(classes, session, spot)
     return {
         "name": spot[1],
         "type": declared.kind if declared else None,
         "notify": declared.notify if declared else None,
         "bindable": declared.is_bindable if declared else None,
         "dynamic": declared is None and (class_name in classes or class_name in world.described),
-        **value_of(cell_of(classes, session, spot)),
+        **value_of(cell),
+        "since": None if cell.is_sure else moment(world, cell.since),
         "binding": formula(binding.form, spot[0]) if binding else None,
         "bound_by": binding.entry if binding else None,
         "bound": spot in session.bindings or spot in session.unread,
-        "error": [error.value, error.is_sure, error.entry] if error else None,
+        "error": [error.value, error.is_sure, error.entry, moment(world, error.since)] if error else None,
         "readers": [list(it) for it in sorted(session.readers.get(spot, ()))[:20]],
     }
 
@@ -278,6 +300,7 @@ def object_of(world: World, name: str, number: int) -> Optional[Json]:
         "out": [connection_row(session, it) for it in ends if it.sender == number][:LISTED_MOST],
         "in": [connection_row(session, it) for it in ends if it.receiver == number][:LISTED_MOST],
         "connections_known": session.are_connections_sure,
+        "connections_since": moment(world, session.since.get("connections", 0)),
         "published": [[it, spot[1]] for it, spot in session.publications.items() if spot[0] == number],
         "joins": [[it.source, it.name, it.method] for it in session.joins if it.object == number],
         "version": session.version,

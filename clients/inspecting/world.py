@@ -5,7 +5,7 @@ from __future__ import annotations
 import json
 import threading
 from collections import deque
-from time import monotonic_ns
+from time import monotonic_ns, time_ns
 from typing import Any, Deque, Dict, Iterator, List, Optional, Sequence, Set, Tuple
 
 from explaining.held import is_deep
@@ -16,6 +16,7 @@ from .effects import count_of
 from .entries import CALLS_MOST, TEXT_MOST, Call, Entries, Entry, Warned
 from .learning import Learning, settle_queue
 from .session import Living, Posting, Session, Spot
+from .told import know_read
 
 NOBODY = "-"
 READER = json.JSONDecoder()
@@ -43,6 +44,7 @@ class World:
         self.last_end = 0
         self.lag = 0  # how far what is known is behind, at the last lines that came
         self.ahead: Optional[int] = None  # how far the clock here is ahead of the front's
+        self.epoch = 0  # when the front has started, in millionths of a second since 1970, or 0 if it is not known
         self.is_live = False
         self.lines = 0
         self.left_out = 0
@@ -59,6 +61,7 @@ class World:
         """Some lines were taken at this time here. The front counts time from its own start: the lines that came soonest show
         how far its clock is from the one here, and others then show how late they came."""
         distance = here - self.now
+        self.epoch = self.epoch or time_ns() // 1_000 - self.now
         self.ahead = distance if self.ahead is None else min(self.ahead, distance)
         self.lag = distance - self.ahead
 
@@ -144,6 +147,7 @@ class World:
         elif entry.word == "describe" and is_description(entry.reply):
             self.described[entry.asked.get("class", "")] = entry.reply
             self.met[entry.asked.get("class", "")] = as_meta(entry.reply)
+        session.at, session.changes = entry.number, entry.changes
         trace = self.learning.trace(session, entry)
         may_post = bool(session.publications) and trace.may_post_unseen(entry.word == "spin")
         posted = [it for event, spot in trace.postings() for it in self.addressed(session, event, spot)] if entry.error is None else []
@@ -158,13 +162,17 @@ class World:
         if may_post:
             self.doubt_listeners(session)
         settle_queue(session, entry)
+        session.note_doubts(entry.number)
+        know_read(session, entry)
         self.know_listening(session, entry)
+        entry.size += 128 * len(entry.changes)
 
     def doubt_listeners(self, session: Session) -> None:
         """What a session publishes may have been sent unseen: how many events wait for those that listen is not known."""
         for name in self.listeners.get(session.name, ()):
             if name in self.sessions:
                 self.sessions[name].is_queue_sure = False
+                self.sessions[name].note_doubts(self.entries.count)
 
     def know_listening(self, session: Session, entry: Optional[Entry] = None) -> None:
         """Keeps which sessions listen to which, where that may have changed."""
@@ -227,6 +235,7 @@ class World:
         session.queued += posting.is_sure
         if posting.path or not posting.is_sure:
             session.is_queue_sure = False  # a signal may be sent more often than is known, or not at all
+            session.note_doubts(self.entries.count)
 
     # ---- what is counted ----
 
@@ -279,6 +288,7 @@ class World:
             known.objects = Living()
             known.objects.has_earlier, known.is_known = True, False
             known.are_connections_sure, known.is_queue_sure, known.last_connection = False, False, None
+            known.note_doubts(self.entries.count)
             before = self.sessions.get(name)
             if before is not None:
                 known.lines, known.commands, known.rates, known.is_gone = before.lines, before.commands, before.rates, before.is_gone

@@ -15,6 +15,8 @@ export class Crumbs {
     const { session, object } = this.page.state;
     const found = session ? await get("place", { session, object }) : null;
     if (session !== this.page.state.session || object !== this.page.state.object) return void this.refresh();
+    this.page.look.at(found?.wanted ? { session } : null, "session");
+    this.page.look.at(found?.object?.wanted ? { session, object } : null, "object");
     if (found?.object) this.page.note({ class: found.object.class });
     this.draw(found);
   }

@@ -5,6 +5,18 @@ import { get, oneAtATime, post } from "./asking.js";
 import { Field, parametersOf } from "./editing.js";
 import { starOf } from "./star.js";
 
+/** Whether something of an object is not known that could be asked. */
+function isUnknown(it) {
+  return !it.sure || !it.connections_known || it.properties.some((row) => row.value === null || !row.sure);
+}
+
+/** Since when something is not known any more, in words. */
+function since(moment) {
+  if (!moment) return "";
+  const time = moment.time ? ` (${new Date(moment.time).toLocaleTimeString("en-GB")})` : "";
+  return ` since line ${moment.entry}${time}`;
+}
+
 export class ObjectView {
   constructor(page) {
     this.page = page;
@@ -19,7 +31,6 @@ export class ObjectView {
       this.place, el("p", { class: "faint", text: "Choose an object of the tree." }),
     ); }
     const found = await get("object", { session, number: object });
-    this.page.look.at(found?.wanted ? { session, object } : null, "object");
     const key = JSON.stringify([found, this.page.undo.done.length]);
     if (key === this.key || this.isComposing) return;
     this.key = key;
@@ -49,7 +60,9 @@ export class ObjectView {
     const ask = this.page.about.ask ? el(
       "button", { type: "button", text: "ask for its values", "data-key": "ask", onclick: () => this.askValues(it) },
     ) : null;
+    const isAsked = this.page.about.ask || this.page.about.record || !isUnknown(it);
     return [
+      isAsked ? null : el("p", { class: "notice", text: "Some of this is not known: with --inspect-ask the page asks for it." }),
       head, ask || marks.some(Boolean) ? el("p", {}, marks, ask) : null, family, this.properties(it),
       this.connections(it), this.listening(it), this.methods(it),
     ];
@@ -80,13 +93,13 @@ export class ObjectView {
     const isKnown = row.value !== null;
     const value = el(
       "td", { class: "code" },
-      isKnown ? name(shown(row.value), "value") : el("span", { class: "unsure", text: "not known" }),
-      isKnown && !row.sure ? [" ", el("span", { class: "mark amber", text: "may have changed since" })] : null,
+      isKnown ? name(shown(row.value), "value") : el("span", { class: "unsure", text: `not known${since(row.since)}` }),
+      isKnown && !row.sure ? [" ", el("span", { class: "mark amber", text: `may have changed${since(row.since) || " since"}` })] : null,
     );
     const binding = el("td", { class: "code" }, row.binding ?? (row.bound ? "bound" : ""));
     if (row.error && row.error[0]) binding.append(
       " ", el("span", { class: "mark red", text: row.error[0] }),
-      row.error[1] ? "" : el("span", { class: "mark amber", text: "may be over" }),
+      row.error[1] ? "" : el("span", { class: "mark amber", text: `may be over${since(row.error[3])}` }),
     );
     if (row.readers.length) binding.append(
       " ", el("span", { class: "faint", text: "read by " }),
@@ -175,7 +188,9 @@ export class ObjectView {
       ...it.in.map((row) => this.connection(row, "in")),
       ...it.out.filter((row) => row.sender !== row.receiver).map((row) => this.connection(row, "out")),
     ];
-    const doubt = it.connections_known ? null : el("p", { class: "unsure", text: "Slots may have made or broken others." });
+    const doubt = it.connections_known ? null : el(
+      "p", { class: "unsure", text: `Slots may have made or broken others${since(it.connections_since)}.` },
+    );
     const head = ["number", "from", "signal", "to", "calls", "how", "calls seen", "made"].map((text) => el("th", { scope: "col", text }));
     return el(
       "div", {}, el("h2", { text: "Connections" }), doubt,

@@ -77,7 +77,7 @@ export class Sessions {
   }
 
   drawRow(row) {
-    const counts = COLUMNS.map(([key]) => this.count(row[key]));
+    const counts = COLUMNS.map(([key]) => this.count(row[key], row.since[key]));
     const spoken = COLUMNS.map(([key, text, long]) => `${row[key][0]}${row[key][1] ? "" : " or so"} ${long ?? text}`).join(", ");
     const title = `${row.name}: ${row.lines} lines, ${row.commands} commands, ${row.publications[0]} published`;
     const called = el("span", { class: `name ${row.failed ? "failed" : ""}` }, row.failed ? "✕ " : null, name(row.name));
@@ -88,10 +88,8 @@ export class Sessions {
     );
   }
 
-  count([number, isSure]) {
-    return el(
-      "span",
-      { class: isSure ? "" : "unsure", text: isSure ? number : `${number}?`, title: isSure ? null : "not known for certain" },
-    );
+  count([number, isSure], since) {
+    const title = isSure ? null : `not known for certain${since ? ` since line ${since}` : ""}`;
+    return el("span", { class: isSure ? "" : "unsure", text: isSure ? number : `${number}?`, title });
   }
 }

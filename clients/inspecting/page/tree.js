@@ -53,7 +53,6 @@ export class TreeView {
     const found = session ? await get(
       "tree", { session, from, count, closed: [...this.closed].join(","), sought: this.sought.value, class: className, chosen: object },
     ) : null;
-    this.page.look.at(found?.wanted ? { session } : null, "tree");
     this.tell(found, className);
     if (found && object && !found.chosen) await this.openTo(session, object);
     return found;
