@@ -8,6 +8,7 @@ from typing import Any, Callable, Dict, FrozenSet, List, Optional, Set, Tuple
 from . import graphs, happened, searching, views
 from .allowed import is_allowed, is_session, text_of, value_of
 from .entries import Entry
+from .drawing import Layouts, drawn
 from .evaluating import settle_errors
 from .feed import Asking
 from .happened import Sought
@@ -58,9 +59,10 @@ class Pages:
         self.words = words
         self.replay = replay
         self.looks = Looks(asking.ask)
+        self.layouts = Layouts()
         self.gets: Dict[str, Callable[[World, Asked], Any]] = {
             "about": self.about, "sessions": self.sessions, "place": self.place_of, "tree": self.tree, "object": self.object,
-            "lines": self.lines, "entry": self.entry, "chain": self.chain, "emissions": self.emissions, "slots": self.slots, "graph": self.graph,
+            "lines": self.lines, "entry": self.entry, "chain": self.chain, "emissions": self.emissions, "slots": self.slots,
         }  # fmt: skip
 
     @property
@@ -81,6 +83,8 @@ class Pages:
         """Answers what is asked by a name, with null where nothing is known of it; refuses a name that there is not."""
         do = self.gets.get(name)
         world = self.world
+        if name == "graph":
+            return self.graph(asked)
         if name == "search":
             return searching.search(world, searching.query_of(asked.get("sought", ""), asked.get("by", "")))
         if do is None:
@@ -153,14 +157,24 @@ class Pages:
     def slots(self, world: World, asked: Asked) -> Json:
         return happened.busiest(world, asked.get("session", ""), asked.get("sort", "calls"), number_in(asked, "count", 100) or 0)
 
-    def graph(self, world: World, asked: Asked) -> Optional[Json]:
+    def graph(self, asked: Asked) -> Optional[Json]:
+        """A graph with its layout, which is made while the world goes on."""
+        world = self.world
+        with world.lock:
+            found = self.graph_of(world, asked)
+        return None if found is None else drawn(found, self.layouts)
+
+    def graph_of(self, world: World, asked: Asked) -> Optional[Json]:
+        number, steps = number_in(asked, "object"), min(number_in(asked, "near", 0) or 0, 9)
         if asked["kind"] == "joins":
-            return graphs.listening(world, asked.get("session", ""))
+            return graphs.listening(world, asked.get("session", ""), steps)
         session = world.sessions.get(asked["session"])
         if session is None:
             return None
         settle_errors(world.classes, session, world.entries.count)
-        return graphs.bindings(session) if asked["kind"] == "bindings" else graphs.connections(session)
+        if asked["kind"] == "bindings":
+            return graphs.bindings(session, number, steps)
+        return graphs.connections(world, session, number, steps)
 
     # ---- what is done ----
 

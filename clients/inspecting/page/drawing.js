@@ -1,119 +1,206 @@
-// Drawings of nodes and of what leads from one to another.
+// Drawings of nodes and of what leads from one to another, with the places and ways that the server has laid out.
 
-import { drawn, short } from "./elements.js";
+import { drawn, el, short } from "./elements.js";
+import { write } from "./texts.js";
 
-const WIDTH = 168, HEIGHT = 34, ACROSS = 70, DOWN = 12, EDGE = 20;
+const ZOOM_LEAST = 0.05, ZOOM_MOST = 4, STEP = 1.25, LETTERS = 22;
 
-function ranksOf(count, edges) {
-  const out = Array.from({ length: count }, () => []);
-  for (const [from, to] of edges) if (from !== to) out[from].push(to);
-  const rank = new Array(count).fill(0), state = new Array(count).fill(0), order = [];
-  for (let start = 0; start < count; start++) visit(start, out, state, order);
-  order.reverse();
-  const places = new Map(order.map((node, at) => [node, at]));
-  for (const node of order) for (const to of out[node]) if (
-    places.get(to) > places.get(node)
-  ) rank[to] = Math.max(rank[to], rank[node] + 1);
-  return rank;
-}
-
-// Nodes in an order in which each stands behind all that it leads to, but for loops; without recursion.
-function visit(start, out, state, order) {
-  const waiting = [[start, 0]];
-  while (waiting.length) {
-    const top = waiting[waiting.length - 1];
-    const [node, at] = top;
-    if (at === 0) { if (state[node]) { waiting.pop(); continue; } state[node] = 1; }
-    if (at < out[node].length) {
-      top[1]++;
-      if (!state[out[node][at]]) waiting.push([out[node][at], 0]);
-    } else {
-      order.push(node);
-      state[node] = 2;
-      waiting.pop();
-    }
-  }
-}
-
-/** Columns by how far a node is from those that nothing leads to; nodes that nothing leads to or from stand below in a grid. */
-function laidOut(count, edges, most) {
-  const linked = new Set(edges.flatMap(([from, to]) => [from, to]));
-  const rank = ranksOf(count, edges);
-  const columns = [], spots = new Array(count);
-  for (let node = 0; node < count; node++) if (linked.has(node)) (columns[Math.min(rank[node], 40)] ??= []).push(node);
-  let deepest = 0, at = 0;
-  for (const column of columns) {
-    if (!column) continue;
-    for (let from = 0; from < column.length; from += most, at++) {
-      column.slice(from, from + most).forEach(
-        (node, row) => { spots[node] = [EDGE + at * (WIDTH + ACROSS), EDGE + row * (HEIGHT + DOWN)]; }
-      );
-      deepest = Math.max(deepest, Math.min(column.length, most));
-    }
-  }
-  const across = Math.max(4, at), top = deepest ? EDGE + deepest * (HEIGHT + DOWN) + EDGE : EDGE;
-  let lone = 0;
-  for (let node = 0; node < count; node++) {
-    if (spots[node]) continue;
-    spots[node] = [EDGE + (lone % across) * (WIDTH + DOWN), top + Math.floor(lone / across) * (HEIGHT + DOWN)];
-    lone++;
-  }
-  return spots;
-}
-
-function curve([x1, y1], [x2, y2], isOwn) {
-  const from = [x1 + WIDTH, y1 + HEIGHT / 2], to = [x2, y2 + HEIGHT / 2];
-  if (isOwn) return `M${x1 + WIDTH - 30} ${y1} c0 -16 24 -16 24 0`;
-  if (x2 > x1) {
-    const bend = Math.max(30, (to[0] - from[0]) / 2);
-    return `M${from[0]} ${from[1]} C${from[0] + bend} ${from[1]} ${to[0] - bend} ${to[1]} ${to[0]} ${to[1]}`;
-  }
-  const low = Math.max(y1, y2) + HEIGHT + 14; // back below both
-  return `M${x1 + WIDTH - 12} ${y1 + HEIGHT} C${x1 + WIDTH - 12} ${low + 8} ${x2 + 12} ${low + 8} ${x2 + 12} ${y2 + HEIGHT}`;
-}
-
-function arrow() {
+function arrow(id) {
   const tip = drawn("path", { d: "M0 0 L8 4 L0 8 z", class: "tip" });
   return drawn(
     "defs", {},
     drawn(
       "marker",
-      { id: "tip", viewBox: "0 0 8 8", refX: 7, refY: 4, markerWidth: 8, markerHeight: 8, markerUnits: "userSpaceOnUse", orient: "auto" },
+      { id, viewBox: "0 0 8 8", refX: 7, refY: 4, markerWidth: 8, markerHeight: 8, markerUnits: "userSpaceOnUse", orient: "auto" },
       tip,
     ),
   );
 }
 
-/** A graph: `nodes` have `name`, `under` and classes, `edges` are `[from, to, isLoop, title, count]`. */
-export function graphOf(nodes, edges, classesOf, choose, most = 24) {
-  const spots = laidOut(nodes.length, edges, most);
-  const width = Math.max(300, ...spots.map(([x]) => x + WIDTH + 60)), height = Math.max(
-    80, ...spots.map(([, y]) => y + HEIGHT + EDGE),
-  );
-  const made = drawn("svg", { width, height, viewBox: `0 0 ${width} ${height}`, role: "img" }, arrow());
-  for (const [from, to, isLoop, title] of edges) {
-    const isGrey = [from, to].some((at) => classesOf(nodes[at]).includes("grey"));
-    made.append(
-      drawn(
-        "path",
-        { d: curve(
-          spots[from], spots[to], from === to,
-        ), class: `edge ${isLoop ? "loop" : ""} ${isGrey ? "grey" : ""}`, "marker-end": "url(#tip)", "data-edge": `${nodes[from].name} ${nodes[to].name}` },
-        title ? drawn("title", { text: title.split("\n") }) : null,
-      )
-    );
-  }
-  nodes.forEach((node, at) => made.append(nodeOf(node, spots[at], classesOf(node), () => choose(node))));
-  return made;
+/** Cubic curves as SVG writes them. */
+export function pathOf([first, ...rest]) {
+  const curves = [];
+  for (let at = 0; at + 2 < rest.length; at += 3) curves.push(`C${rest.slice(at, at + 3).map(([x, y]) => `${x} ${y}`).join(" ")}`);
+  return `M${first[0]} ${first[1]} ${curves.join(" ")}`;
 }
 
-function nodeOf(node, [x, y], classes, choose) {
-  const error = node.error && !node.error_sure ? `${node.error}, may be over` : node.error;
-  const under = [error, node.under].filter(Boolean).join("  ");
-  return drawn(
-    "g", { class: `node ${classes}`, transform: `translate(${x} ${y})`, onclick: choose, "data-node": node.name },
-    drawn("title", { text: [node.name, under] }), drawn("rect", { width: WIDTH, height: HEIGHT, rx: 4 }),
-    drawn("text", { x: 8, y: 14, text: short(node.name, 24) }),
-    drawn("text", { x: 8, y: 27, class: "under", text: short(under, 26) }),
-  );
+let drawings = 0;
+
+/** A graph that can be zoomed, moved, and gone through by keys. */
+export class Drawing {
+  /** `choose(node)` opens a node, `classesOf(node)` are its classes, and `label` says what the graph is of. */
+  constructor(label, choose, classesOf) {
+    Object.assign(this, { label, choose, classesOf });
+    this.tip = `tip${++drawings}`;
+    this.zoom = 1;
+    this.place = el("div", { class: "scroll graph", "data-zoom": 1 });
+    this.place.addEventListener("wheel", (event) => this.wheel(event), { passive: false });
+    this.place.addEventListener("pointerdown", (event) => this.drag(event));
+    this.place.addEventListener("keydown", (event) => this.pressed(event));
+    const button = (text, title, does) => el("button", { type: "button", text, title, "aria-label": title, onclick: does });
+    this.buttons = el(
+      "span", { class: "zoom", role: "group", "aria-label": "Zoom" }, button("−", "zoom out", () => this.by(1 / STEP)),
+      button("+", "zoom in", () => this.by(STEP)), button("1:1", "the size of texts", () => this.to(1)), button("fit", "show all of it", () => this.fit()),
+    );
+  }
+
+  show(graph) {
+    const focused = this.place.contains(document.activeElement) ? document.activeElement.dataset.node : null;
+    this.graph = graph;
+    this.svg = drawn(
+      "svg", { viewBox: `0 0 ${graph.width} ${graph.height}`, role: "group", "aria-label": `${this.label}: ${graph.nodes.length} boxes, ${graph.edges.length} arrows` },
+      arrow(this.tip),
+    );
+    for (const edge of graph.edges) this.svg.append(this.edge(edge));
+    this.boxes = graph.nodes.map((node) => this.node(node));
+    this.svg.append(...this.boxes);
+    this.place.replaceChildren(this.svg);
+    this.to(this.zoom);
+    const next = this.boxes.find((it) => it.dataset.node === (focused ?? this.at)) ?? this.boxes[0];
+    next?.setAttribute("tabindex", 0);
+    if (focused) next?.focus({ preventScroll: true });
+    this.light();
+  }
+
+  edge([from, to, isLoop, title, count, signal, way]) {
+    const nodes = [this.graph.nodes[from], this.graph.nodes[to]];
+    const isGrey = nodes.some((it) => this.classesOf(it).includes("grey"));
+    return drawn(
+      "path",
+      {
+        d: pathOf(way), class: `edge ${isLoop ? "loop" : ""} ${isGrey ? "grey" : ""}`, "marker-end": `url(#${this.tip})`,
+        "data-edge": `${nodes[0].name} ${nodes[1].name}`, "data-signal": signal, "data-from": from, "data-to": to,
+      },
+      drawn("title", { text: [`${nodes[0].name} → ${nodes[1].name}`, ...title.split("\n")] }),
+    );
+  }
+
+  node(node) {
+    const error = node.error && !node.error_sure ? `${node.error}, may be over` : node.error;
+    const texts = [node.label, [error, node.under].filter(Boolean).join("  ")].filter((it) => it !== undefined);
+    const open = () => this.choose(node);
+    return drawn(
+      "g",
+      {
+        class: `node ${this.classesOf(node)}`, transform: `translate(${node.x} ${node.y})`, onclick: open, "data-node": node.name,
+        tabindex: -1, role: "button", "aria-label": [node.name, ...texts].filter(Boolean).join(", "), onfocus: (event) => this.focused(event.currentTarget),
+      },
+      drawn("title", { text: [node.name, ...texts] }), drawn("rect", { width: node.width, height: node.height, rx: 4 }),
+      drawn("text", { x: 8, y: 14, text: short(node.name, LETTERS - 2) }),
+      texts.map((text, at) => drawn("text", { x: 8, y: 27 + 13 * at, class: "under", text: short(text, LETTERS) })),
+    );
+  }
+
+  // ---- which edges are lit ----
+
+  /** Lights the edges of a signal, or none. */
+  lit(signal) {
+    this.signal = signal;
+    this.light();
+  }
+
+  focused(box) {
+    for (const it of this.boxes) it.setAttribute("tabindex", it === box ? 0 : -1);
+    this.at = box.dataset.node;
+    this.light();
+  }
+
+  light() {
+    const at = this.place.contains(document.activeElement) ? this.boxes.indexOf(document.activeElement) : -1;
+    for (const it of this.svg.querySelectorAll(".edge")) {
+      const isOf = at >= 0 && (Number(it.dataset.from) === at || Number(it.dataset.to) === at);
+      it.classList.toggle("lit", isOf || Boolean(this.signal) && it.dataset.signal === this.signal);
+    }
+  }
+
+  // ---- zoom and movement ----
+
+  /** Zooms to a factor, so that a point of the window stays where it is: the middle, if none is given. */
+  to(zoom, [x, y] = [this.place.clientWidth / 2, this.place.clientHeight / 2]) {
+    const next = Math.min(ZOOM_MOST, Math.max(ZOOM_LEAST, zoom)), before = this.zoom;
+    const left = (this.place.scrollLeft + x) / before, top = (this.place.scrollTop + y) / before;
+    this.zoom = next;
+    this.place.dataset.zoom = next.toFixed(3);
+    if (!this.svg) return;
+    this.svg.setAttribute("width", this.graph.width * next);
+    this.svg.setAttribute("height", this.graph.height * next);
+    if (next === before) return;
+    this.place.scrollLeft = left * next - x;
+    this.place.scrollTop = top * next - y;
+  }
+
+  by(factor) {
+    this.to(this.zoom * factor);
+  }
+
+  fit() {
+    if (this.graph) this.to(Math.min(1, this.place.clientWidth / this.graph.width, this.place.clientHeight / this.graph.height));
+  }
+
+  wheel(event) {
+    if (!event.ctrlKey) return;
+    event.preventDefault();
+    const all = this.place.getBoundingClientRect();
+    this.to(this.zoom * STEP ** (event.deltaY < 0 ? 1 : -1), [event.clientX - all.left, event.clientY - all.top]);
+  }
+
+  drag(event) {
+    if (event.button !== 0 || event.target.closest(".node")) return;
+    const { place } = this, start = [event.clientX + place.scrollLeft, event.clientY + place.scrollTop];
+    const move = (now) => { place.scrollLeft = start[0] - now.clientX; place.scrollTop = start[1] - now.clientY; };
+    const end = () => { place.removeEventListener("pointermove", move); place.classList.remove("dragged"); };
+    place.setPointerCapture(event.pointerId);
+    place.classList.add("dragged");
+    place.addEventListener("pointermove", move);
+    place.addEventListener("pointerup", end, { once: true });
+    place.addEventListener("pointercancel", end, { once: true });
+  }
+
+  // ---- keys ----
+
+  pressed(event) {
+    if (event.ctrlKey || event.altKey || event.metaKey) return;
+    const at = this.boxes?.indexOf(document.activeElement) ?? -1;
+    const does = { "+": () => this.by(STEP), "-": () => this.by(1 / STEP), 0: () => this.fit() }[event.key];
+    const way = { ArrowRight: [1, 0], ArrowLeft: [-1, 0], ArrowDown: [0, 1], ArrowUp: [0, -1] }[event.key];
+    if (does) does();
+    else if (at >= 0 && way) this.step(at, way);
+    else if (at >= 0 && (event.key === "Enter" || event.key === " ")) this.choose(this.graph.nodes[at]);
+    else return;
+    event.preventDefault();
+  }
+
+  /** Moves the focus to the nearest box in a direction. */
+  step(at, [right, down]) {
+    const middle = (it) => [it.x + it.width / 2, it.y + it.height / 2], [x, y] = middle(this.graph.nodes[at]);
+    let best = -1, least = Infinity;
+    this.graph.nodes.forEach((it, number) => {
+      const [dx, dy] = [middle(it)[0] - x, middle(it)[1] - y], along = dx * right + dy * down, aside = Math.abs(dx * down + dy * right);
+      const far = along + 3 * aside;
+      if (along > 1 && aside <= 4 * along && far < least) [best, least] = [number, far];
+    });
+    if (best < 0) return;
+    this.boxes[best].focus({ preventScroll: true });
+    this.boxes[best].scrollIntoView({ block: "nearest", inline: "nearest" });
+  }
+}
+
+/** The signals of a graph, the most frequent first: each lights its edges. */
+export function legend(drawing, graph, most = 12) {
+  const counts = new Map();
+  for (const [, , , , , signal] of graph.edges) counts.set(signal, (counts.get(signal) ?? 0) + 1);
+  const first = [...counts].sort((a, b) => b[1] - a[1]).slice(0, most);
+  const place = el("span", { class: "legend", role: "group", "aria-label": "Signals" });
+  const draw = () => {
+    for (const it of place.children) it.setAttribute("aria-pressed", String(it.dataset.signal === drawing.signal));
+  };
+  place.append(...first.map(([signal, count]) => {
+    const made = el(
+      "button", { type: "button", class: "signal code", "data-signal": signal, title: `light its ${count} arrows`, onclick: () => { drawing.lit(drawing.signal === signal ? null : signal); draw(); } },
+    );
+    write(made, `${short(signal, 30)} ${count}`);
+    return made;
+  }));
+  draw();
+  return place;
 }

@@ -3,7 +3,7 @@
 import { clear, el, link, name, redraw, say, short, shown } from "./elements.js";
 import { get, oneAtATime, post } from "./asking.js";
 import { Field, parametersOf } from "./editing.js";
-import { starOf } from "./star.js";
+import { Star } from "./star.js";
 
 /** Whether something of an object is not known that could be asked. */
 function isUnknown(it) {
@@ -21,7 +21,7 @@ export class ObjectView {
   constructor(page) {
     this.page = page;
     this.place = el("div", { class: "detail", id: "object", tabindex: -1, role: "region", "aria-label": "Object" });
-    this.fields = [];
+    this.star = new Star(page);
     this.refresh = oneAtATime(() => this.load());
   }
 
@@ -195,7 +195,7 @@ export class ObjectView {
     return el(
       "div", {}, el("h2", { text: "Connections" }), doubt,
       rows.length ? [
-        starOf(it, (number) => this.page.choose({ object: number })),
+        this.star.of(it.session, it.object),
         el("table", { id: "connections" }, el("tr", {}, head), rows),
       ] : el("p", { class: "faint", text: "none is known" }),
     );

@@ -1,29 +1,38 @@
 // One object between those that call it and those that it calls.
 
-import { graphOf } from "./drawing.js";
+import { el } from "./elements.js";
+import { get, oneAtATime } from "./asking.js";
+import { Drawing } from "./drawing.js";
 
-/** An object between those that call it and those that it calls. */
-export function starOf(it, choose) {
-  const own = { name: `#${it.object}`, under: `${it.class ?? "?"}${it.name ? ` ${it.name}` : ""}`, object: it.object, own: true };
-  const nodes = [own], edges = [], at = new Map();
-  const node = (way, number, under) => {
-    if (number === it.object) return 0;
-    const key = `${way} ${number}`;
-    if (!at.has(key)) { at.set(key, nodes.length); nodes.push({ name: `#${number}`, under, object: number }); }
-    return at.get(key);
-  };
-  for (const row of it.in.slice(0, 40)) edges.push(
-    [node("in", row.sender, row.sender_label), 0, false, `${row.signal} → ${row.method}`]
-  );
-  for (const row of it.out.slice(0, 40)) if (row.receiver !== it.object) edges.push(
-    [0, node("out", row.receiver, row.receiver_label), false, `${row.signal} → ${row.method}`]
-  );
-  return drawnIn(graphOf(nodes, edges, (one) => (one.own ? "chosen" : ""), (one) => choose(one.object), 12));
-}
+export class Star {
+  constructor(page) {
+    this.page = page;
+    this.drawing = new Drawing("Connections of the object", (node) => this.choose(node), (node) => this.classes(node));
+    this.place = el("div", { class: "star" }, this.drawing.place);
+    this.load = oneAtATime(() => this.draw());
+  }
 
-function drawnIn(svg) {
-  const place = document.createElement("div");
-  place.className = "scroll";
-  place.append(svg);
-  return place;
+  choose(node) {
+    this.page.choose(node.outside ? { session: node.session, object: null } : { object: node.object });
+  }
+
+  classes(node) {
+    return [node.object === this.page.state.object ? "chosen" : "", node.outside ? "outside" : ""].join(" ");
+  }
+
+  /** The place of the drawing, which is drawn once it is known. */
+  of(session, object) {
+    Object.assign(this, { session, object });
+    this.load();
+    return this.place;
+  }
+
+  async draw() {
+    const { session, object } = this;
+    const found = await get("graph", { kind: "connections", session, object, near: 1 });
+    const key = JSON.stringify([session, object, found]);
+    if (key === this.key) return;
+    this.key = key;
+    if (found?.nodes.length) this.drawing.show(found);
+  }
 }
