@@ -31,7 +31,7 @@ WORDS_OF_RECIPE = 200
 WORDS_MOST = {
     "README.md": 1_200,
     "docs/TUTORIAL.md": 3_000,
-    **dict.fromkeys(("docs/FRONT.md", "docs/WORKERS.md", "clients/inspecting/README.md", "clients/python/README.md"), 1_500),
+    **dict.fromkeys(("docs/FRONT.md", "docs/WEB.md", "docs/WORKERS.md", "clients/inspecting/README.md", "clients/python/README.md"), 1_500),
 }
 RUN_BY_TESTS = re.compile(r"^```(?:session|part|console|shell|python)\b", re.MULTILINE)
 

@@ -2,16 +2,17 @@
 
 use std::time::Duration;
 
-use mio::net::UnixStream;
 use serde_json::{json, Map, Value};
 
 use crate::front::Front;
 use crate::groups::{group_of, is_group, BETWEEN};
 use crate::lines::{asked_of_front, has_only, is_name, line_of, refusal, RESET};
+use crate::network::Peer;
 use crate::people::{
     Came, Client, ClientKey, Link, Owner, Session, SessionKey, Speaker, SpeakerKey, Speech, UNREAD_OF_ALL, UNREAD_SLOW,
 };
 use crate::tokens::{token, Kind};
+use crate::wire::Wire;
 
 /// The longest time that answers wait for further ones. It grows with the speakers that wait for turns, up to the last value.
 const HELD: Duration = Duration::from_millis(1);
@@ -31,17 +32,19 @@ pub const ASKS_NOTHING: &str = "its first line asks for nothing that there is";
 
 impl Front {
     /// Adds a new client.
-    pub fn enter_client(&mut self, stream: UnixStream) {
+    pub fn enter_client(&mut self, stream: impl Into<Wire>, peer: Option<Box<Peer>>) {
         self.count += 1;
         let number = self.count;
         let key = self.clients.vacant_entry().key();
         let mut link = Link::new(stream, token(Kind::Client, key));
         link.watch(self.poll.registry());
+        link.is_readable = peer.is_some(); // what came with a handshake causes no event
         let speech =
             if self.named_by_clients { Speech::Named(Box::default()) } else { Speech::One(self.speaker_for(key, number)) };
-        self.clients.insert(Client { number, link, speech, is_touched: false });
+        let how = peer.as_ref().map_or_else(String::new, |peer| peer.how());
+        self.clients.insert(Client { number, link, peer, speech, is_touched: false });
         self.touch(key);
-        self.log.note(&format!("c{number} has come"));
+        self.log.note(&format!("c{number} has come{how}"));
     }
 
     /// Makes the speaker of a new client, which has a session of its own.
@@ -380,11 +383,19 @@ impl Front {
         self.unread -= client.link.counted;
         self.log.note(&format!("c{} {}", client.number, client.link.how_done()));
         let is_left = client.link.is_left();
-        drop(client.link);
+        match client.peer {
+            Some(_) => self.part(client.link.stream),
+            None => drop(client.link),
+        }
         match client.speech {
             Speech::One(speaker) => self.leave_session(key, speaker, is_left),
             Speech::Named(voices) => self.leave_all(key, *voices),
         }
+        self.make_room();
+    }
+
+    /// Lets clients in again after a connection was closed, unless too many disconnected ones have commands to be done.
+    pub fn make_room(&mut self) {
         if self.left < LEFT_MOST {
             self.doors.reopen();
         }

@@ -7,6 +7,7 @@ use std::path::PathBuf;
 use crate::groups::BETWEEN;
 use crate::lines::{is_name, is_own_name};
 use crate::log::{quoted, say, write_all};
+use crate::network_options::NetworkOptions;
 use crate::sockets::is_pipe;
 
 /// The text that is written if the words ask for help.
@@ -56,6 +57,7 @@ pub struct Options {
     pub workers: Option<usize>,
     pub by_name: Option<bool>,
     pub control: Option<PathBuf>,
+    pub network: NetworkOptions,
     pub socket: PathBuf,
     pub program: OsString,
     pub args: Vec<OsString>,
@@ -187,6 +189,7 @@ fn read_option(options: &mut Options, reader: &mut Reader, text: &str) -> Result
         "--health-mode" => options.health_mode = Some(mode(name, &reader.value(name, own)?)?),
         "--watchdog" => options.watchdog = Some(seconds(name, &reader.value(name, own)?)?),
         "--control" => options.control = Some(path(name, OsStr::new(&reader.value(name, own)?))?),
+        _ if NetworkOptions::has(name) => options.network.read(name, &reader.value(name, own)?)?,
         _ => return Ok(false),
     }
     Ok(true)
@@ -213,6 +216,7 @@ fn check(options: &Options) -> Result<(), String> {
     if options.is_tied && !is_pipe(0) {
         return wrong("--tied needs a pipe, a socket or a terminal as standard input");
     }
+    options.network.check()?;
     check_workers(options)
 }
 
@@ -247,7 +251,7 @@ fn check_workers(options: &Options) -> Result<(), String> {
 
 // ---- values ----
 
-fn wrong_value<T>(name: &str, word: &str, what: &str) -> Result<T, String> {
+pub fn wrong_value<T>(name: &str, word: &str, what: &str) -> Result<T, String> {
     Err(format!("argument {name}: {} is no {what}", quoted(word)))
 }
 
@@ -262,7 +266,7 @@ fn mode(name: &str, word: &str) -> Result<u32, String> {
 }
 
 /// Reads a path, which must not be empty.
-fn path(name: &str, word: &OsStr) -> Result<PathBuf, String> {
+pub fn path(name: &str, word: &OsStr) -> Result<PathBuf, String> {
     if word.is_empty() {
         return Err(format!("argument {name}: a path is not empty"));
     }

@@ -23,6 +23,10 @@ const PAUSE: Duration = Duration::from_secs(1);
 #[derive(Clone, Copy, Debug, PartialEq, Eq)]
 pub enum Comers {
     Clients,
+    /// Clients over TCP in the clear, from this machine.
+    Tcp,
+    /// Clients over TLS.
+    Tls,
     Monitors,
     Operators,
     /// Checks of the front's health.
@@ -32,7 +36,6 @@ pub enum Comers {
 /// A socket that is listened at.
 pub enum Listener {
     Unix(UnixListener),
-    /// Over the network the front accepts only checks of its health.
     Tcp(TcpListener),
 }
 
@@ -195,6 +198,8 @@ impl Front {
             self.doors.add(listener, comers, self.poll.registry())?;
             let word = match comers {
                 Comers::Clients => "listening",
+                Comers::Tcp => "TCP",
+                Comers::Tls => "TLS",
                 Comers::Monitors => "monitors",
                 Comers::Operators => "control",
                 Comers::Checks => "health",
@@ -215,7 +220,8 @@ impl Front {
             for _ in 0..AT_ONCE {
                 match (self.doors.next(at), comers) {
                     (None, _) => break,
-                    (Some(stream), Comers::Clients) => self.enter_client(stream),
+                    (Some(stream), Comers::Clients) => self.enter_client(stream, None),
+                    (Some(stream), Comers::Tcp | Comers::Tls) => self.arrive(stream, comers),
                     (Some(_), Comers::Checks) if self.checks >= CHECKS_MOST => {} // too many at once: this one is closed
                     (Some(stream), _) => self.enter_guest(stream, comers),
                 }

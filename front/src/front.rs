@@ -17,6 +17,7 @@ use crate::guests::Guest;
 use crate::inspector::Inspector;
 use crate::live::Live;
 use crate::log::{Ended, Log};
+use crate::network::Network;
 use crate::notifying::Notifier;
 use crate::people::{Client, ClientKey, GroupKey, Owner, ReplayKey, Session, SessionKey, Speaker};
 use crate::pool::Pool;
@@ -66,6 +67,7 @@ pub struct Front {
     pub speakers: Slab<Speaker>,
     pub sessions: Slab<Session>,
     pub guests: HashMap<usize, Guest>,
+    pub network: Network,
     pub next_guest: usize,
     pub workers: Vec<Worker>,
     /// The command line of a server.
@@ -139,6 +141,7 @@ impl Front {
             speakers,
             sessions,
             guests: HashMap::new(),
+            network: Network::default(),
             next_guest: 0,
             server_words,
             pool: None,
@@ -209,8 +212,14 @@ impl Front {
     /// Does what is due now; returns the time until more is due.
     fn due(&mut self) -> Option<Duration> {
         let mut due = self.touch_held();
-        let others =
-            [self.notifier.tick(), self.doors.look_again(), self.next_due(), self.look_at_servers(), self.look_at_checks()];
+        let others = [
+            self.notifier.tick(),
+            self.doors.look_again(),
+            self.next_due(),
+            self.look_at_servers(),
+            self.look_at_checks(),
+            self.look_at_network(),
+        ];
         for other in others.into_iter().flatten() {
             due = Some(due.map_or(other, |due| due.min(other)));
         }
@@ -252,6 +261,8 @@ impl Front {
             Kind::Input => self.look_at_input()?,
             Kind::Inspector => self.stir_inspector(is_readable, is_hung_up),
             Kind::Hangup => self.hear_hangup(),
+            Kind::Arrival => self.stir_arrival(key),
+            Kind::Parting => self.stir_parting(key),
         }
         Ok(())
     }

@@ -1,4 +1,4 @@
-//! Gives many clients of a Unix-domain socket a session each of one `metad`, or of several.
+//! Gives many clients of a Unix-domain socket, or over the network, a session each of one `metad`, or of several.
 //!
 //! `lines` reads the lines of both sides, and `queue` keeps bytes and lines that wait. `people` has the state of
 //! connections, sessions and speakers, and `turns` decides whose command a server is given next. `server` is a process, and
@@ -8,7 +8,9 @@
 //! `moving` lets a group change its server. `naming` is for clients that name sessions by themselves, `control` is where
 //! operators ask a running front for groups, `asking` is a run that asks, `inspector` is the process that shows the front as
 //! a page, and `asked` checks what that process asks for. `live` sends clients their events as they come. `rotating`
-//! opens records again by their names, and `eagerness` decides whether the loop polls before it sleeps.
+//! opens records again by their names, and `eagerness` decides whether the loop polls before it sleeps. `network` lets
+//! clients in over TCP and TLS, `tls` has the certificates, `subject` reads the name in one, and `wire` is a connection of
+//! any form, in bytes.
 
 #![forbid(unsafe_code)]
 
@@ -30,6 +32,8 @@ mod live;
 mod log;
 mod moving;
 mod naming;
+mod network;
+mod network_options;
 mod notifying;
 mod people;
 mod pool;
@@ -43,8 +47,11 @@ mod rotating;
 mod server;
 mod sockets;
 mod spawn;
+mod subject;
+mod tls;
 mod tokens;
 mod turns;
+mod wire;
 mod worker;
 
 use std::env;

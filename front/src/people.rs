@@ -4,11 +4,12 @@ use std::collections::{HashMap, HashSet, VecDeque};
 use std::io::{ErrorKind, Read};
 use std::time::Instant;
 
-use mio::net::UnixStream;
-use mio::{Interest, Registry, Token};
+use mio::{Registry, Token};
 
 use crate::lines::member_of;
+use crate::network::Peer;
 use crate::queue::{Cutter, Pending, Queue};
+use crate::wire::Wire;
 
 pub type ClientKey = usize;
 pub type SpeakerKey = usize;
@@ -27,7 +28,7 @@ const EXPECTED_AT_FIRST: usize = 1_024;
 
 /// The front's end of a connection. It sends lines to the other side, and the front never waits for it.
 pub struct Link {
-    pub stream: UnixStream,
+    pub stream: Wire,
     pub token: Token,
     pub unread: Pending,
     pub cutter: Cutter,
@@ -65,9 +66,9 @@ pub enum Came {
 }
 
 impl Link {
-    pub fn new(stream: UnixStream, token: Token) -> Link {
+    pub fn new(stream: impl Into<Wire>, token: Token) -> Link {
         Link {
-            stream,
+            stream: stream.into(),
             token,
             unread: Pending::default(),
             cutter: Cutter::default(),
@@ -89,9 +90,7 @@ impl Link {
 
     /// Begins to wait for events of the connection.
     pub fn watch(&mut self, registry: &Registry) {
-        if registry.register(&mut self.stream, self.token, Interest::READABLE).is_err() {
-            self.is_broken = true;
-        }
+        self.is_broken |= self.stream.register(registry, self.token).is_err();
     }
 
     /// Records what the connection is ready for.
@@ -109,7 +108,7 @@ impl Link {
                 return Came::End;
             }
             Ok(count) => {
-                self.is_readable = count == chunk.len() || self.is_hung_up;
+                self.is_readable = count == chunk.len() || self.is_hung_up || !self.stream.is_clear();
                 return Came::Bytes(count);
             }
             Err(error) if error.kind() == ErrorKind::WouldBlock => self.is_readable = false,
@@ -140,15 +139,16 @@ impl Link {
 
     /// Writes as much of the unread bytes as the other side takes, and waits for room if that was not all.
     pub fn write(&mut self, registry: &Registry) {
+        if self.stream.wants_to_write() {
+            let _ = self.stream.send(); // an error comes again where more is written or read
+        }
         if self.unread.is_empty() {
             return;
         }
         match self.unread.give(&mut self.stream) {
             Ok(is_all) if is_all == self.watches_writing => {
                 self.watches_writing = !is_all;
-                let writing = Interest::READABLE | Interest::WRITABLE;
-                let interest = if is_all { Interest::READABLE } else { writing };
-                self.is_broken |= registry.reregister(&mut self.stream, self.token, interest).is_err();
+                self.is_broken |= self.stream.await_room(registry, self.token, !is_all).is_err();
             }
             Ok(_) => {}
             Err(_) => self.fall_silent(),
@@ -188,7 +188,8 @@ impl Link {
 
     /// Whether the connection is to be closed; the argument says whether an answer is still awaited.
     pub fn is_done(&self, awaits: bool) -> bool {
-        let has_all = self.has_ended && self.unread.is_empty() && !awaits;
+        let has_read = self.is_deaf || self.unread.is_empty() && !self.stream.wants_to_write();
+        let has_all = self.has_ended && has_read && !awaits;
         has_all || self.is_broken || self.has_overflown || self.unread.len() > UNREAD_MOST
     }
 
@@ -351,6 +352,8 @@ pub struct Voices {
 pub struct Client {
     pub number: u64,
     pub link: Link,
+    /// Who it is, if it has come over the network.
+    pub peer: Option<Box<Peer>>,
     pub speech: Speech,
     /// It is on the list of those that are to be looked after.
     pub is_touched: bool,

@@ -21,6 +21,7 @@ use crate::front::{Front, Stop};
 use crate::health::CHECKS_MOST;
 use crate::inspector::{say_where, Inspector};
 use crate::log::{reason, Ended, Log};
+use crate::network::Network;
 use crate::people::Link;
 use crate::pool::Pool;
 use crate::records::folder;
@@ -120,6 +121,9 @@ fn listeners(options: &Options, kept: &mut Kept) -> Result<Vec<(Listener, Comers
         Some(Place::Address(address)) => all.push((Listener::Tcp(listening_over_network(*address)?), Comers::Checks)),
         None => {}
     }
+    for (address, comers) in options.network.doors() {
+        all.push((Listener::Tcp(listening_over_network(address)?), comers));
+    }
     all.extend(clients.into_iter().map(|listener| (listener, Comers::Clients)));
     Ok(all)
 }
@@ -130,6 +134,7 @@ fn front_of(options: &Options) -> Result<Front, Stop> {
     let mut front = Front::new(options.workers.unwrap_or(1), words, Log::new(options.is_quiet))?;
     options.share.iter().for_each(|name| front.let_share(name));
     front.live.are_all = options.is_live;
+    front.network = Network::new(options.network.files())?;
     front.patience = options.watchdog.map(Duration::from_secs);
     front.named_by_clients = options.by_name == Some(true);
     if let Some(workers) = options.workers {

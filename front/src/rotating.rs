@@ -16,6 +16,7 @@ impl Front {
             has_come = true;
         }
         if has_come {
+            self.read_certificates_again();
             self.open_records_again();
         }
     }
@@ -45,6 +46,9 @@ impl Front {
     }
 
     fn say_nothing_is_recorded(&mut self) {
+        if self.network.has_certificates() {
+            return; // which were read again
+        }
         self.log.say("hangup: there is no record that could be opened again");
     }
 }

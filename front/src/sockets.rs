@@ -64,7 +64,7 @@ fn bind(path: &Path, mode: Option<u32>) -> io::Result<(UnixListener, Bound)> {
     Ok((listener, bound))
 }
 
-/// Makes a socket at this address for checks of the front's health.
+/// Makes a socket at this address, for clients or for checks of the front's health.
 pub fn listening_over_network(address: SocketAddr) -> Result<TcpListener, Ended> {
     let bound = TcpListener::bind(address).and_then(|listener| listener.set_nonblocking(true).map(|()| listener));
     bound.map_err(|error| Ended(format!("{address} cannot be bound: {}", reason(&error))))

@@ -14,9 +14,13 @@ pub enum Kind {
     Input,
     Inspector,
     Hangup,
+    /// A connection over the network whose handshake is not done.
+    Arrival,
+    /// A connection over the network that is closed once the other side has closed too.
+    Parting,
 }
 
-const KINDS: [Kind; 9] = [
+const KINDS: [Kind; 11] = [
     Kind::Client,
     Kind::Guest,
     Kind::ServerOutput,
@@ -26,6 +30,8 @@ const KINDS: [Kind; 9] = [
     Kind::Input,
     Kind::Inspector,
     Kind::Hangup,
+    Kind::Arrival,
+    Kind::Parting,
 ];
 
 /// The token of a source, by its kind and its number among those of the kind.

@@ -66,6 +66,7 @@ from .monitors import Monitor, monitor
 from .programs import Word
 from .proxies import Connected, Heard, Method, Property, Proxy, SignalSpy, wait_for
 from .shapes import with_relay
+from .tls import Tls
 from .waiting import Calls
 
 __version__ = "0.8.0"
@@ -122,6 +123,7 @@ __all__ = [
     "Spun",
     "Status",
     "StrangeLine",
+    "Tls",
     "Value",
     "Warned",
     "Word",

@@ -43,6 +43,7 @@ from .programs import ProgramConnection, Word
 from .reaching import Making
 from .session_commands import Awaiting
 from .shapes import Shape, with_relay
+from .tls import Tls
 from .tools import fault_in
 from .waiting import not_in_time
 
@@ -292,10 +293,15 @@ async def _started(connection: ProgramConnection, answer: Answer, given: Sequenc
 
 
 async def connect(
-    path: Word, share: Optional[str] = None, group: Optional[str] = None, *, live: Optional[bool] = None
+    path: Word,
+    share: Optional[str] = None,
+    group: Optional[str] = None,
+    *,
+    live: Optional[bool] = None,
+    tls: Optional[Tls] = None,
 ) -> Server:
-    """Connects with the Unix-domain socket of a front, as `metad.connect` does. The event loop runs meanwhile."""
-    making = Making(path, share, group, live)
+    """Connects with a front, as `metad.connect` does. The event loop runs meanwhile."""
+    making = Making(path, share, group, live, tls)
     try:
         await came(making)
     except BaseException:

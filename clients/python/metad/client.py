@@ -25,6 +25,7 @@ from .reaching import SocketConnection
 from .session_commands import Waiting
 from .shapes import Shape
 from .sockets import connected
+from .tls import Tls
 from .tools import explained
 from .waiting import Calls, Done, not_in_time, wait_until
 
@@ -355,9 +356,16 @@ def start(
 
 
 def connect(
-    path: Word, share: Optional[str] = None, group: Optional[str] = None, *, live: Optional[bool] = None
+    path: Word,
+    share: Optional[str] = None,
+    group: Optional[str] = None,
+    *,
+    live: Optional[bool] = None,
+    tls: Optional[Tls] = None,
 ) -> Server:
-    """Connects with the Unix-domain socket of a front. It raises `OSError` if nobody listens there.
+    """Connects with a front: with the path of its Unix-domain socket, with `tls://HOST:PORT`, or with `tcp://HOST:PORT` on the
+    same machine. It raises `OSError` if nobody listens there, or if a certificate is not accepted. `tls` has the files that
+    TLS needs: who signs the server's certificate, and this client's own.
 
     A front gives each connection one session, whatever names are asked for: take one `Session` of it. Its `known_as` is
     the name by which other clients join it. With `share` that is the session of this name, which the front lets several
@@ -367,6 +375,6 @@ def connect(
     The session is live where the front has live sessions: events come unasked, and `wait_for` and `calls` wait for them.
     `live=True` raises `NotLive` where the front has none, and `live=False` does not ask for it: events wait for `spin`.
     """
-    connection = SocketConnection(partial(connected, path), share, group, live)
+    connection = SocketConnection(partial(connected, path, tls), share, group, live)
     connection.open()
     return Server.of(connection)

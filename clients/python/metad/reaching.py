@@ -1,4 +1,4 @@
-"""Connections through the Unix-domain socket of a front, and the requests to it before any command is given.
+"""Connections through the sockets of a front, and the requests to it before any command is given.
 
 The client asks a front for a live session: the front then gives `spin` by itself, and events come unasked. A front without
 live sessions refuses that and closes the connection, so the client makes a second one, which does not ask.
@@ -17,18 +17,19 @@ from .lines import Value, line_of, line_with
 from .once import Once
 from .pairing import Fault
 from .programs import Word
-from .sockets import connected
+from .sockets import Link, connected
+from .tls import Tls
 
 HELLO = {"front": "hello"}
 
-Connect = Callable[[], socket.socket]
+Connect = Callable[[], Link]
 """Makes a connection with a front, without any request yet."""
 
 
 class Reached(NamedTuple):
     """A connection with a front that has answered its requests."""
 
-    link: socket.socket
+    link: Link
     reader: IO[bytes]
     is_live: bool
     """Whether events come unasked."""
@@ -79,7 +80,7 @@ def first_line(share: Optional[str], group: Optional[str]) -> Dict[str, Value]:
     return {} if group is None else {**HELLO, "group": group}
 
 
-def asking(link: socket.socket, asked: Dict[str, Value], timeout: Optional[float]) -> Reached:
+def asking(link: Link, asked: Dict[str, Value], timeout: Optional[float]) -> Reached:
     """Sends this request, if any, as a first line. If the front refuses it, raises `Refused` and closes the connection."""
     reader = link.makefile("rb")
     try:
@@ -93,7 +94,7 @@ def asking(link: socket.socket, asked: Dict[str, Value], timeout: Optional[float
     return Reached(link, reader, answer.get("live") is True)
 
 
-def answered(link: socket.socket, reader: IO[bytes], asked: Dict[str, Value]) -> Dict[str, Value]:
+def answered(link: Link, reader: IO[bytes], asked: Dict[str, Value]) -> Dict[str, Value]:
     """The front's answer to a first line."""
     try:
         link.sendall(line_with(asked))
@@ -111,7 +112,7 @@ def answered(link: socket.socket, reader: IO[bytes], asked: Dict[str, Value]) ->
 
 
 class SocketConnection(Connection):
-    """A connection through the Unix-domain socket of a front, which may speak for a session that is shared, or for one of a
+    """A connection through a socket of a front, which may speak for a session that is shared, or for one of a
     group."""
 
     _ends_when_hung_up = True
@@ -144,12 +145,14 @@ class SocketConnection(Connection):
 class Making(Once):
     """A connection that a thread of its own makes; it comes when that has succeeded or failed."""
 
-    def __init__(self, path: Word, share: Optional[str], group: Optional[str], live: Optional[bool]) -> None:
+    def __init__(
+        self, path: Word, share: Optional[str], group: Optional[str], live: Optional[bool], tls: Optional[Tls] = None
+    ) -> None:
         super().__init__()
-        self._path = path
+        self._path, self._tls = path, tls
         self._asked = share, group, live
         self._is_wanted = True
-        self._link: Optional[socket.socket] = None
+        self._link: Optional[Link] = None
         self._made: Optional[SocketConnection] = None
         self._fault: Optional[Exception] = None
         threading.Thread(target=self._run, name="metad connecting", daemon=True).start()
@@ -163,10 +166,10 @@ class Making(Once):
         if not self._is_wanted:
             self.give_up()
 
-    def _connect(self) -> socket.socket:
+    def _connect(self) -> Link:
         if not self._is_wanted:
             raise ConnectionClosed
-        self._link = connected(self._path)
+        self._link = connected(self._path, self._tls)
         if not self._is_wanted:
             self.give_up()
         return self._link
