@@ -87,17 +87,18 @@ if (Symbol.asyncDispose) Client.prototype[Symbol.asyncDispose] = Client.prototyp
 /**
  * Connects with a server.
  *
- * @param {any} target the path of a front's socket; `tcp://HOST:PORT`; `{program, args, classes, env, cwd}`, which is
+ * @param {any} target the path of a front's socket; `tls://HOST:PORT`, `tcp://HOST:PORT`; `{program, args, classes, env, cwd}`, which is
  *   started; or, in a browser too, a WebSocket's URL, a transport (see `transports.mjs`) or a function that makes one
  * @param {{share?: string, group?: string, live?: boolean, timeout?: number | null, startTimeout?: number | null,
- *   closeTimeout?: number | null}} [options] a session that is shared, or a group, of a front; whether events are to
+ *   closeTimeout?: number | null, tls?: object}} [options] a session that is shared, or a group, of a front; whether events are to
  *   come unasked (asked for where the front has that, `true` insists on it, `false` does not ask); milliseconds in which
- *   each command, the beginning, and the end have to be done
+ *   each command, the beginning, and the end have to be done; for `tls://` what Node's `tls.connect` takes, as `ca`, `cert`
+ *   and `key`
  * @returns {Promise<Client>}
  */
 export async function connect(target, options = {}) {
   const { startTimeout = START_MS } = options;
-  const connector = connectorOf(target);
+  const connector = connectorOf(target, options.tls);
   const reached = connector.program ? await started(connector, startTimeout) : await reach(connector, options, startTimeout);
   return new Client(reached, options);
 }
@@ -143,6 +144,7 @@ async function reach(connector, { share, group, live }, timeout) {
 /** Whether a front that has answered so may still be one without live sessions. */
 function goesOn(error, live) {
   if (error instanceof Refused) return true;
+  if (error.cause) return false; // TLS has said what is wrong
   return !live && (error instanceof ConnectionClosed || error instanceof StrangeLine);
 }
 

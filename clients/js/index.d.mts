@@ -108,6 +108,17 @@ export interface ConnectOptions {
   timeout?: number | null;
   startTimeout?: number | null;
   closeTimeout?: number | null;
+  /** For `tls://HOST:PORT` in Node: what `tls.connect` takes. */
+  tls?: TlsOptions;
+}
+
+/** Certificates and keys in PEM form, and further options of Node's `tls.connect`. */
+export interface TlsOptions {
+  ca?: string | Uint8Array;
+  cert?: string | Uint8Array;
+  key?: string | Uint8Array;
+  servername?: string;
+  [option: string]: unknown;
 }
 
 export declare function connect(

@@ -8,6 +8,7 @@ import { mkdtemp, rm, writeFile } from "node:fs/promises";
 import net from "node:net";
 import { tmpdir } from "node:os";
 import path from "node:path";
+import tls from "node:tls";
 
 import { ConnectionClosed, NotReached, NotStarted, ServerGone } from "./errors.mjs";
 import { writeJson } from "./json.mjs";
@@ -37,6 +38,33 @@ export async function connectSocket(place, where, timeout) {
   return new SocketTransport(socket);
 }
 
+/**
+ * Connects over TLS.
+ * @param {{host: string, port: number}} place
+ * @param {object} [given] what `tls.connect` takes
+ * @param {string} where the place in words
+ * @param {number | null} timeout
+ */
+export async function connectTls(place, given, where, timeout) {
+  let socket;
+  try {
+    await within(timeout, `${where} is not connected`, (resolve, reject) => {
+      const fail = (cause) => reject(new NotReached(notReached(where, cause), { cause }));
+      try {
+        socket = tls.connect({ ...given, ...place, allowHalfOpen: true }, resolve);
+      } catch (cause) {
+        return fail(cause); // a certificate that cannot be read
+      }
+      socket.once("error", fail);
+    });
+  } catch (error) {
+    socket?.on("error", () => {});
+    socket?.destroy();
+    throw error;
+  }
+  return new SocketTransport(socket);
+}
+
 function notReached(where, cause) {
   const why = { ENOENT: "there is no such socket", ECONNREFUSED: "nobody listens there" }[cause.code] ?? cause.message;
   return `${where} cannot be reached: ${why}; is a front running?`;
@@ -49,14 +77,24 @@ export class SocketTransport {
   onclose = null;
   onerror = null;
   #socket;
+  #error = null;
 
   constructor(socket) {
     this.#socket = socket;
     socket.setNoDelay?.(true);
     socket.on("data", (data) => this.onmessage?.({ data }));
     socket.on("end", () => socket.end());
-    socket.on("error", (error) => this.onerror?.({ error }));
-    socket.on("close", () => this.onclose?.({ fault: () => new ConnectionClosed() }));
+    socket.on("error", (error) => {
+      this.#error = error;
+      this.onerror?.({ error });
+    });
+    socket.on("close", () => this.onclose?.({ fault: () => this.#closed() }));
+  }
+
+  /** Why nothing more comes. By TLS the other side says what is wrong, as where it wants a certificate. */
+  #closed() {
+    if (!/^ERR_SSL_/.test(this.#error?.code)) return new ConnectionClosed();
+    return new ConnectionClosed(`the connection was closed: ${this.#error.message}`, { cause: this.#error });
   }
 
   send(text) {

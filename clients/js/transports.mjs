@@ -17,10 +17,14 @@ const LONGEST = 2 ** 31 - 1; // milliseconds of a timer
 /**
  * What makes the transports of a target, and whether it can make more than one.
  * @param {any} target as `connect` takes it
+ * @param {object} [tls] what Node's `tls.connect` takes: `ca`, `cert`, `key`, `servername` and so on
  * @returns {{open: (timeout: number | null) => Promise<any>, isAgain: boolean, program?: object}}
  */
-export function connectorOf(target) {
-  if (typeof target === "string") return { open: openerOf(target), isAgain: true };
+export function connectorOf(target, tls) {
+  if (tls !== undefined && !(typeof target === "string" && target.startsWith("tls://"))) {
+    throw new NoValue("the option tls is for tls://HOST:PORT");
+  }
+  if (typeof target === "string") return { open: openerOf(target, tls), isAgain: true };
   if (typeof target === "function") return { open: openerBy(target), isAgain: true };
   if (typeof target?.program === "string") {
     return { open: async () => (await node()).startProgram(target), isAgain: false, program: target };
@@ -28,7 +32,7 @@ export function connectorOf(target) {
   if (typeof target?.send === "function" && typeof target?.close === "function") {
     return { open: (timeout) => opened(target, timeout, "the transport"), isAgain: false };
   }
-  const targets = "a path, tcp://HOST:PORT, ws://.., {program} or an object with send and close";
+  const targets = "a path, tls://HOST:PORT, tcp://HOST:PORT, ws://.., {program} or an object with send and close";
   throw new NoValue(`${shown(target)} is nothing to connect with: give ${targets}`);
 }
 
@@ -43,14 +47,15 @@ function node() {
   return import("./node_transports.mjs"); // which a browser never asks for
 }
 
-function openerOf(target) {
+function openerOf(target, tls) {
   if (/^wss?:/.test(target)) return (timeout) => opened(webSocket(target), timeout, target);
-  const tcp = /^tcp:\/\/(?:\[([^\]]+)\]|([^:/]+)):(\d+)\/?$/.exec(target);
-  if (tcp) {
-    const place = { host: tcp[1] ?? tcp[2], port: Number(tcp[3]) };
+  const found = /^(tcp|tls):\/\/(?:\[([^\]]+)\]|([^:/]+)):(\d+)\/?$/.exec(target);
+  if (found) {
+    const place = { host: found[2] ?? found[3], port: Number(found[4]) };
+    if (found[1] === "tls") return async (timeout) => (await node()).connectTls(place, tls, target, timeout);
     return async (timeout) => (await node()).connectSocket(place, target, timeout);
   }
-  if (/^[a-z]+:\/\//.test(target)) throw new NoValue(`${target} is nothing to connect with: tcp://HOST:PORT and ws://.. are`);
+  if (/^[a-z]+:\/\//.test(target)) throw new NoValue(`${target} is nothing to connect with: tls://HOST:PORT, tcp://HOST:PORT and ws://.. are`);
   return async (timeout) => (await node()).connectSocket({ path: target }, target, timeout);
 }
 
