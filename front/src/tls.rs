@@ -5,11 +5,12 @@ use std::io::{self, BufReader, ErrorKind, Read, Write};
 use std::os::unix::io::{AsRawFd, RawFd};
 use std::path::{Path, PathBuf};
 use std::sync::Arc;
+use std::time::SystemTime;
 
 use mio::net::UnixStream;
-use rustls::server::{AllowAnyAuthenticatedClient, NoServerSessionStorage};
+use rustls::server::{AllowAnyAuthenticatedClient, ClientCertVerified, ClientCertVerifier, NoServerSessionStorage};
 use rustls::sign::any_supported_type;
-use rustls::{Certificate, PrivateKey, RootCertStore, ServerConfig, ServerConnection, SignatureScheme};
+use rustls::{Certificate, DistinguishedNames, PrivateKey, RootCertStore, ServerConfig, ServerConnection, SignatureScheme};
 use rustls_pemfile::Item;
 use webpki::{EndEntityCert, SignatureAlgorithm};
 
@@ -18,6 +19,8 @@ use crate::subject::subject_of;
 
 /// The most bytes that are sealed before the other side has taken them.
 const SEALED_MOST: usize = 16_384;
+/// The most certificates that a client may send in addition to its own.
+const BETWEEN_MOST: usize = 4;
 
 /// The kinds of signatures by which a key is compared with its certificate.
 const KINDS: [(SignatureScheme, &SignatureAlgorithm); 4] = [
@@ -45,7 +48,10 @@ pub fn settings(files: &Files) -> Result<Arc<ServerConfig>, Ended> {
     }
     let builder = ServerConfig::builder().with_safe_defaults();
     let builder = match &files.clients {
-        Some(path) => builder.with_client_cert_verifier(AllowAnyAuthenticatedClient::new(roots_in(path)?)),
+        Some(path) => {
+            let verifier = AllowAnyAuthenticatedClient::new(roots_in(path)?);
+            builder.with_client_cert_verifier(Arc::new(ShortChains(verifier)))
+        }
         None => builder.with_no_client_auth(),
     };
     let fault = |error| fault_of(&files.key, &format!("cannot be used: {error}"));
@@ -106,6 +112,28 @@ fn roots_in(path: &Path) -> Result<RootCertStore, Ended> {
         roots.add(&certificate).map_err(|error| fault_of(path, &format!("cannot be used: {error}")))?;
     }
     Ok(roots)
+}
+
+/// Verifies the certificates of clients as `rustls` does, if there are only a few between a client's and an authority's. The
+/// ways between them are tried one after the other, and with many certificates that would take hours.
+struct ShortChains(Arc<dyn ClientCertVerifier>);
+
+impl ClientCertVerifier for ShortChains {
+    fn client_auth_root_subjects(&self) -> Option<DistinguishedNames> {
+        self.0.client_auth_root_subjects()
+    }
+
+    fn verify_client_cert(
+        &self,
+        own: &Certificate,
+        between: &[Certificate],
+        now: SystemTime,
+    ) -> Result<ClientCertVerified, rustls::Error> {
+        if between.len() > BETWEEN_MOST {
+            return Err(rustls::Error::General(format!("the client has sent more than {BETWEEN_MOST} further certificates")));
+        }
+        self.0.verify_client_cert(own, between, now)
+    }
 }
 
 /// A connection over TLS.

@@ -45,11 +45,11 @@ def openssl(*words, folder=None):
 class Authority:
     """A CA, which makes certificates in a folder of its own, each with its key beside it: NAME.pem and NAME.key."""
 
-    def __init__(self, room, name="authority"):
+    def __init__(self, room, name="authority", subject=None):
         self.room = Path(room, name)
         self.room.mkdir()
         (self.room / "openssl.cnf").write_text(CONFIG)
-        self.certificate, self.key = self._made(name, "v3", f"/CN={name}", ["-x509", "-days", "30"])
+        self.certificate, self.key = self._made(name, "v3", f"/CN={subject or name}", ["-x509", "-days", "30"])
 
     def _made(self, name, section, subject, more):
         """The paths of a certificate, or of a request for one, and of its key, which is quick to make."""

@@ -24,6 +24,7 @@ from .stand_servers import wait_until_true
 HANDSHAKE_SECONDS = 10
 VERSIONS = (ssl.TLSVersion.TLSv1_2, ssl.TLSVersion.TLSv1_3)
 LINE_MOST = 65_536
+CROWD = 30  # certificates, between which there are 427,518,000 ways of six
 CONSOLE = re.compile(rf"^```console\n{BLOCK}```$", re.MULTILINE)
 TWISTED = "/O=Example, Limited/OU=Desk+UID=7/CN=Zo\u00eb <z>"  # a subject with signs that are escaped
 
@@ -178,6 +179,17 @@ class Certificates(NetworkCases):
                     wait_until_true(self, lambda: self.failures_in(process) == count, f"the log says why {what} was refused")
             with Client(path) as client:
                 self.assertEqual(client.name(), "c1", "no number was given to those that were not let in")
+
+    def test_many_certificates(self):
+        """Certificates that are not signed by each other, and could be by their names, keep nobody waiting."""
+        crowd = [Authority(Path(self.room), f"crowd{number}", "crowd") for number in range(CROWD)]
+        own, key = crowd[0].client("eve")
+        own.write_text("".join(path.read_text() for path in (own, *(one.certificate for one in crowd))))
+        with self.tls_front(clients=self.authority) as (port, path, process), Client(path) as other:
+            for version in VERSIONS:
+                self.failure(port, context_of(self.authority, (own, key), version, version), version)
+                self.assertEqual(other.name(), "c1", "another client")
+            self.said_of(process, "has failed: .*the client has sent more than 4 further certificates")
 
     def test_wrong_server(self):
         """A client that does not trust the front's certificate says so, and the front serves others."""
