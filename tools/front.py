@@ -19,6 +19,7 @@ from typing import Callable, Dict, List, Optional
 ROOT = Path(__file__).resolve().parent.parent
 SOURCE = ROOT / "front"
 WORK = ROOT / "bin" / "build-front"
+VERSION = ROOT / "clients" / "python" / "metad" / "__init__.py"
 SYSTEM = Path("/usr/share/cargo/registry")
 PACKAGES = (
     "cargo", "rustc", "librust-asn1-dev", "librust-blake2b-simd-dev", "librust-listenfd-dev", "librust-memchr-dev", "librust-mio-dev",
@@ -66,12 +67,19 @@ def lay_out() -> List[str]:
     return ["--config", "system.toml", "--offline"]
 
 
+def version() -> str:
+    """The version of metad, which the front shows."""
+    (found,) = re.findall(r'^__version__ = "(.+)"$', VERSION.read_text(), re.MULTILINE)
+    return found
+
+
 def run_cargo(*words: str) -> None:
     """Has cargo do something with the package."""
     program = cargo()
     if program is None:
         raise Unable(ADVICE)
     own = {**os.environ, "CARGO_TARGET_DIR": str(WORK / "target"), "PATH": f"{Path(program).parent}{os.pathsep}{os.environ['PATH']}"}
+    own["METAD_VERSION"] = version()
     if subprocess.run([program, *lay_out(), *words], cwd=WORK, env=own).returncode:
         raise Unable(f"cargo has not done it. Where it cannot fetch crates, {ADVICE}")
 

@@ -34,6 +34,7 @@ impl Front {
     /// Adds a new client.
     pub fn enter_client(&mut self, stream: impl Into<Wire>, peer: Option<Box<Peer>>) {
         self.count += 1;
+        self.metrics.clients += 1;
         let number = self.count;
         let key = self.clients.vacant_entry().key();
         let mut link = Link::new(stream, token(Kind::Client, key));
@@ -92,6 +93,7 @@ impl Front {
     pub fn deliver(&mut self, key: ClientKey, lines: &[u8]) {
         if let Some(client) = self.clients.get_mut(key) {
             client.link.tell(lines);
+            self.metrics.send(lines);
             if !client.is_touched {
                 client.is_touched = true;
                 self.touched.push(key);
@@ -103,6 +105,7 @@ impl Front {
     pub fn tell_client(&mut self, key: ClientKey, line: &[u8]) {
         if let Some(client) = self.clients.get_mut(key) {
             client.link.tell(line);
+            self.metrics.send(line);
         }
     }
 
@@ -262,15 +265,20 @@ impl Front {
             Speech::One(speaker) => &mut self.speakers[*speaker].waiting,
             Speech::Named(_) => &mut self.sorted,
         };
+        let (before, bytes) = (queue.count(), if let Came::Bytes(count) = came { count } else { 0 });
         match came {
             Came::Nothing => return,
             Came::Bytes(count) => link.cutter.feed(&self.chunk[..count], |line| queue.push(line)),
             Came::End => link.cutter.finish(|line| queue.push(line)),
         }
+        self.metrics.receive(bytes, queue.count() - before);
         if queue.is_empty() {
             return;
         }
         client.link.has_spoken = true;
+        if let Speech::One(speaker) = client.speech {
+            self.speakers[speaker].came = self.metrics.now();
+        }
         match client.speech {
             Speech::One(speaker) if !has_spoken => self.hear_first(key, speaker),
             Speech::One(_) => {}
@@ -366,14 +374,18 @@ impl Front {
         let (client, session) = (&mut self.clients[key], &self.sessions[session]);
         let answer = json!({"reply": true, "session": session.name});
         let live = json!({"live": true, "reply": true, "session": session.name});
-        client.link.tell(&line_of(if is_live { &live } else { &answer }));
+        let line = line_of(if is_live { &live } else { &answer });
+        client.link.tell(&line);
+        self.metrics.send(&line);
         self.log.note(&format!("c{} speaks for {}", client.number, session.name));
     }
 
     /// Refuses a client's first line, and closes the client.
     pub fn refuse(&mut self, key: ClientKey, code: &str, fault: &str) {
+        self.metrics.refuse(code);
         let link = &mut self.clients[key].link;
         link.tell(&refusal(code));
+        self.metrics.send(&refusal(code));
         link.refuse(fault);
     }
 
@@ -381,6 +393,7 @@ impl Front {
     fn close_client(&mut self, key: ClientKey) {
         let client = self.clients.remove(key);
         self.unread -= client.link.counted;
+        self.metrics.leave(client.link.leaving());
         self.log.note(&format!("c{} {}", client.number, client.link.how_done()));
         let is_left = client.link.is_left();
         match client.peer {

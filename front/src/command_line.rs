@@ -54,6 +54,8 @@ pub struct Options {
     pub watchdog: Option<u64>,
     pub health: Option<Place>,
     pub health_mode: Option<u32>,
+    pub metrics: Option<Place>,
+    pub metrics_mode: Option<u32>,
     pub workers: Option<usize>,
     pub by_name: Option<bool>,
     pub control: Option<PathBuf>,
@@ -187,6 +189,8 @@ fn read_option(options: &mut Options, reader: &mut Reader, text: &str) -> Result
         "--group-from" => options.by_name = Some(by_name(name, &reader.value(name, own)?)?),
         "--health" => options.health = Some(place(name, &reader.value(name, own)?)?),
         "--health-mode" => options.health_mode = Some(mode(name, &reader.value(name, own)?)?),
+        "--metrics" => options.metrics = Some(place(name, &reader.value(name, own)?)?),
+        "--metrics-mode" => options.metrics_mode = Some(mode(name, &reader.value(name, own)?)?),
         "--watchdog" => options.watchdog = Some(seconds(name, &reader.value(name, own)?)?),
         "--control" => options.control = Some(path(name, OsStr::new(&reader.value(name, own)?))?),
         _ if NetworkOptions::has(name) => options.network.read(name, &reader.value(name, own)?)?,
@@ -206,6 +210,9 @@ fn check(options: &Options) -> Result<(), String> {
     }
     if options.health_mode.is_some() && !matches!(options.health, Some(Place::Path(_))) {
         return wrong("--health-mode needs --health with a path");
+    }
+    if options.metrics_mode.is_some() && !matches!(options.metrics, Some(Place::Path(_))) {
+        return wrong("--metrics-mode needs --metrics with a path");
     }
     if options.inspect.is_none() && (options.inspect_ask || options.inspect_write) {
         return wrong("--inspect-ask and --inspect-write need --inspect");

@@ -26,6 +26,9 @@ impl Front {
     }
 
     fn answer_operator(&mut self, key: usize, said: &Value) {
+        if let Some(code) = said["error"].as_str() {
+            self.metrics.refuse(code);
+        }
         if let Some(guest) = self.guests.get_mut(&key) {
             guest.link.tell(&line_of(said));
             self.touch_guest(key);

@@ -12,6 +12,7 @@ use mio::{Interest, Registry};
 
 use crate::front::Front;
 use crate::health::CHECKS_MOST;
+use crate::scraping::SCRAPES_MOST;
 use crate::tokens::{token, Kind};
 
 /// Connections that are accepted at one door before the other doors have their turn.
@@ -31,6 +32,15 @@ pub enum Comers {
     Operators,
     /// Checks of the front's health.
     Checks,
+    /// Requests for metrics.
+    Scrapes,
+}
+
+impl Comers {
+    /// Whether they ask by HTTP about the front itself, and so take no client's place.
+    pub fn are_checks(self) -> bool {
+        matches!(self, Comers::Checks | Comers::Scrapes)
+    }
 }
 
 /// A socket that is listened at.
@@ -127,7 +137,7 @@ impl Doors {
 
     /// Whether a door lets people in. Doors for checks of the front's health always do.
     fn is_open(&self, door: &Door) -> bool {
-        !self.are_shut || door.comers == Comers::Checks
+        !self.are_shut || door.comers.are_checks()
     }
 
     /// Lets nobody in until somebody disconnects.
@@ -166,7 +176,7 @@ impl Doors {
             match door.listener.accept() {
                 Ok(stream) => {
                     let is_last = self.files_most.map_or(false, |most| stream.as_raw_fd() >= most);
-                    self.are_shut |= is_last && door.comers != Comers::Checks;
+                    self.are_shut |= is_last && !door.comers.are_checks();
                     return Some(stream);
                 }
                 Err(error) if matches!(error.kind(), ErrorKind::Interrupted | ErrorKind::ConnectionAborted) => {}
@@ -176,7 +186,7 @@ impl Doors {
                 }
                 Err(_) => {
                     // checks of the front's health wait too
-                    self.doors[at].is_stirred = door.comers != Comers::Checks;
+                    self.doors[at].is_stirred = !door.comers.are_checks();
                     self.are_shut = true;
                     self.again = Some(Instant::now() + PAUSE);
                     return None;
@@ -203,6 +213,7 @@ impl Front {
                 Comers::Monitors => "monitors",
                 Comers::Operators => "control",
                 Comers::Checks => "health",
+                Comers::Scrapes => "metrics",
             };
             self.log.say(&format!("{word} at {place}"));
             if comers == Comers::Clients {
@@ -223,6 +234,7 @@ impl Front {
                     (Some(stream), Comers::Clients) => self.enter_client(stream, None),
                     (Some(stream), Comers::Tcp | Comers::Tls) => self.arrive(stream, comers),
                     (Some(_), Comers::Checks) if self.checks >= CHECKS_MOST => {} // too many at once: this one is closed
+                    (Some(_), Comers::Scrapes) if self.scrapes >= SCRAPES_MOST => {}
                     (Some(stream), _) => self.enter_guest(stream, comers),
                 }
             }

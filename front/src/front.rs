@@ -18,6 +18,7 @@ use crate::inspector::Inspector;
 use crate::live::Live;
 use crate::log::{Ended, Log};
 use crate::network::Network;
+use crate::metrics::Metrics;
 use crate::notifying::Notifier;
 use crate::people::{Client, ClientKey, GroupKey, Owner, ReplayKey, Session, SessionKey, Speaker};
 use crate::pool::Pool;
@@ -99,11 +100,14 @@ pub struct Front {
     /// The number of clients so far.
     pub count: u64,
     /// The numbers of guests so far, by kind.
-    pub guest_counts: [usize; 3],
+    pub guest_counts: [usize; 4],
     /// The number of connected monitors.
     pub monitors: usize,
     /// The number of connected checks of the front's health.
     pub checks: usize,
+    /// The number of connected requests for metrics.
+    pub scrapes: usize,
+    pub metrics: Metrics,
     /// The number of disconnected clients whose commands are still to be done.
     pub left: usize,
     /// Bytes that all clients together have not read.
@@ -160,8 +164,10 @@ impl Front {
             named_by_clients: false,
             shared: HashMap::new(),
             count: 0,
-            guest_counts: [0; 3],
+            guest_counts: [0; 4],
             checks: 0,
+            scrapes: 0,
+            metrics: Metrics::new(count),
             monitors: 0,
             left: 0,
             unread: 0,

@@ -42,18 +42,20 @@ impl Front {
     pub fn enter_guest(&mut self, stream: UnixStream, comers: Comers) {
         let (place, kind, errand) = match comers {
             Comers::Operators => (1, "operator", Errand::Operator(0)),
-            Comers::Checks => (2, "check", Errand::Health(Check::new())),
+            Comers::Checks => (2, "check", Errand::Health(Check::new(false))),
+            Comers::Scrapes => (3, "scrape", Errand::Health(Check::new(true))),
             _ => (0, "monitor", Errand::Monitor(None)),
         };
         self.guest_counts[place] += 1;
         self.monitors += usize::from(place == 0);
         self.checks += usize::from(place == 2);
+        self.scrapes += usize::from(place == 3);
         let name = format!("{kind} {}", self.guest_counts[place]);
         let key = self.next_guest;
         self.next_guest += 1;
         let mut link = Link::new(stream, token(Kind::Guest, key));
         link.watch(self.poll.registry());
-        if comers != Comers::Checks {
+        if !comers.are_checks() {
             self.log.note(&format!("{name} has come"));
         }
         self.guests.insert(key, Guest { name, link, errand, is_touched: false });
@@ -92,6 +94,7 @@ impl Front {
                 if guest.link.leaves_too_much() {
                     self.log.note(&format!("{} {}", guest.name, guest.link.how_done()));
                     guest.link.cut(&refusal(LEFT_OUT));
+                    self.metrics.errors.count(LEFT_OUT.as_bytes());
                 }
                 if !std::mem::replace(&mut guest.is_touched, true) {
                     self.touched_guests.push(*key);
@@ -165,6 +168,7 @@ impl Front {
                         *chosen = Some(name);
                     }
                     None => {
+                        self.metrics.refuse(NOT_KNOWN);
                         guest.link.tell(&refusal(NOT_KNOWN));
                         guest.link.refuse(ASKS_NOTHING);
                     }
@@ -203,9 +207,13 @@ impl Front {
     /// Closes a guest.
     fn close_guest(&mut self, key: usize) {
         if let Some(guest) = self.guests.remove(&key) {
-            let is_check = matches!(guest.errand, Errand::Health(_));
+            let (is_check, is_scrape) = match &guest.errand {
+                Errand::Health(check) => (true, check.is_of_metrics),
+                _ => (false, false),
+            };
             self.monitors -= usize::from(matches!(guest.errand, Errand::Monitor(_)));
-            self.checks -= usize::from(is_check);
+            self.checks -= usize::from(is_check && !is_scrape);
+            self.scrapes -= usize::from(is_scrape);
             let (name, how, is_cut) = (guest.name, guest.link.how_done(), guest.link.is_cut);
             drop(guest.link);
             if !is_check {

@@ -9,8 +9,9 @@
 use std::time::{Duration, Instant};
 
 use crate::front::{Front, NO_SESSION};
-use crate::guests::Errand;
+use crate::guests::{Errand, Guest};
 use crate::people::{Came, Owner, Speaker};
+use crate::scraping::{CONTENT, PATH};
 
 /// A command for no session. The server answers it by an error, and keeps nothing of it.
 pub const NOTHING: &[u8] = b"{\"do\":\"status\",\"session\":\"-\"}";
@@ -22,6 +23,8 @@ pub const CHECKS_MOST: usize = 8;
 const REQUEST_MOST: usize = 8_192;
 /// The longest time that a server may take to answer, and that a request may take to arrive.
 const PATIENCE: Duration = Duration::from_secs(2);
+/// The time after that in which an answer has to be read.
+const TIME_TO_READ: Duration = Duration::from_secs(8);
 
 /// The state of a check.
 pub struct Check {
@@ -29,15 +32,18 @@ pub struct Check {
     is_asked: bool,
     /// It asks only whether the front and its servers live.
     is_of_life: bool,
+    /// It asks for metrics.
+    pub is_of_metrics: bool,
     /// The number of servers that have not answered.
     pub awaited: usize,
     until: Instant,
 }
 
 impl Check {
-    /// Makes a check that has not begun.
-    pub fn new() -> Check {
-        Check { request: Vec::new(), is_asked: false, is_of_life: false, awaited: 0, until: Instant::now() + PATIENCE }
+    /// Makes a check that has not begun, of health or of metrics.
+    pub fn new(is_of_metrics: bool) -> Check {
+        let until = Instant::now() + PATIENCE;
+        Check { request: Vec::new(), is_asked: false, is_of_life: false, is_of_metrics, awaited: 0, until }
     }
 }
 
@@ -48,13 +54,13 @@ fn asked_in(request: &[u8]) -> Option<(&[u8], &[u8])> {
     is_whole.then(|| (words.next().unwrap_or_default(), words.next().unwrap_or_default()))
 }
 
-/// An answer of one word. The answer to a `HEAD` request leaves the word out.
-fn answer_of(status: &str, word: &str, is_head: bool) -> Vec<u8> {
-    let length = word.len() + 1;
+/// An answer with a text of this type. The answer to a `HEAD` request leaves the text out.
+fn answer_of(status: &str, content: &str, text: &str, is_head: bool) -> Vec<u8> {
+    let length = text.len();
     let head = format!(
-        "HTTP/1.0 {status}\r\nContent-Type: text/plain\r\nContent-Length: {length}\r\nCache-Control: no-store\r\nConnection: close\r\n"
+        "HTTP/1.0 {status}\r\nContent-Type: {content}\r\nContent-Length: {length}\r\nCache-Control: no-store\r\nConnection: close\r\n"
     );
-    let body = if is_head { String::new() } else { format!("{word}\n") };
+    let body = if is_head { "" } else { text };
     format!("{head}\r\n{body}").into_bytes()
 }
 
@@ -75,6 +81,11 @@ impl Front {
         };
         check.request.extend_from_slice(&self.chunk[..count]);
         match asked_in(&check.request) {
+            Some((b"GET" | b"HEAD", path)) if check.is_of_metrics => {
+                let is_there = path == PATH;
+                check.is_asked = true;
+                self.answer_scrape(key, is_there);
+            }
             Some((b"GET" | b"HEAD", path)) => {
                 (check.is_asked, check.is_of_life) = (true, path == LIVE);
                 self.check_health(key);
@@ -124,10 +135,11 @@ impl Front {
     /// Answers `slow` to checks that have waited too long for a server, and closes those that sent no request in time; returns
     /// the time until the next is due.
     pub fn look_at_checks(&mut self) -> Option<Duration> {
-        if self.checks == 0 {
+        if self.checks + self.scrapes == 0 {
             return None;
         }
         let now = Instant::now();
+        self.close_unread_checks(now);
         let awaited = self.guests.iter().filter(|(_, guest)| !guest.link.has_ended);
         let awaited = awaited.filter_map(|(key, guest)| match &guest.errand {
             Errand::Health(check) => Some((*key, check.until, check.is_asked)),
@@ -141,7 +153,24 @@ impl Front {
             }
         }
         let next = awaited.iter().filter(|(_, until, _)| *until > now).map(|(_, until, _)| *until).min();
-        next.map(|until| until - now)
+        let unread = awaited.len() < self.checks + self.scrapes;
+        let next = next.map(|until| until - now);
+        if unread { Some(next.map_or(PATIENCE, |next| next.min(PATIENCE))) } else { next }
+    }
+
+    /// Closes checks that have not read their answers for a long time.
+    fn close_unread_checks(&mut self, now: Instant) {
+        let is_late = |guest: &Guest| match &guest.errand {
+            Errand::Health(check) => guest.link.has_ended && !guest.link.is_deaf && check.until + TIME_TO_READ <= now,
+            _ => false,
+        };
+        let late: Vec<usize> = self.guests.iter().filter(|(_, guest)| is_late(guest)).map(|(key, _)| *key).collect();
+        for key in late {
+            if let Some(guest) = self.guests.get_mut(&key) {
+                guest.link.overflow();
+            }
+            self.touch_guest(key);
+        }
     }
 
     /// Sends the front's health to a check.
@@ -154,7 +183,20 @@ impl Front {
         self.answer_check(key, if is_well { "200 OK" } else { "503 Service Unavailable" }, state);
     }
 
+    /// Answers a request for metrics.
+    fn answer_scrape(&mut self, key: usize, is_there: bool) {
+        if !is_there {
+            return self.answer_check(key, "404 Not Found", "/metrics");
+        }
+        let page = self.page_of_metrics();
+        self.answer_request(key, "200 OK", CONTENT, &page);
+    }
+
     fn answer_check(&mut self, key: usize, status: &str, word: &str) {
+        self.answer_request(key, status, "text/plain", &format!("{word}\n"));
+    }
+
+    fn answer_request(&mut self, key: usize, status: &str, content: &str, text: &str) {
         if let Some(guest) = self.guests.get_mut(&key).filter(|guest| guest.link.fault.is_empty()) {
             let is_head = match &mut guest.errand {
                 Errand::Health(check) => {
@@ -163,7 +205,7 @@ impl Front {
                 }
                 _ => return,
             };
-            guest.link.tell(&answer_of(status, word, is_head));
+            guest.link.tell(&answer_of(status, content, text, is_head));
             guest.link.refuse("its question is answered");
             self.touch_guest(key);
         }

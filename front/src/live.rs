@@ -34,6 +34,11 @@ pub struct Live {
 }
 
 impl Live {
+    /// The number of live sessions.
+    pub fn count(&self) -> usize {
+        self.count
+    }
+
     /// Whether there is any live session.
     pub fn is_any(&self) -> bool {
         self.count > 0

@@ -11,6 +11,7 @@
 //! opens records again by their names, and `eagerness` decides whether the loop polls before it sleeps. `network` lets
 //! clients in over TCP and TLS, `tls` has the certificates, `subject` reads the name in one, and `wire` is a connection of
 //! any form, in bytes.
+//! `metrics` counts, and `scraping` shows the counts.
 
 #![forbid(unsafe_code)]
 
@@ -30,6 +31,7 @@ mod inspector;
 mod lines;
 mod live;
 mod log;
+mod metrics;
 mod moving;
 mod naming;
 mod network;
@@ -44,6 +46,7 @@ mod replaying;
 mod resuming;
 mod ring;
 mod rotating;
+mod scraping;
 mod server;
 mod sockets;
 mod spawn;

@@ -43,6 +43,7 @@ impl Front {
         let speaker = &mut self.speakers[voice];
         let is_busy = speaker.awaits();
         speaker.waiting.push(line);
+        speaker.came = self.metrics.now();
         let more = speaker.more.get_or_insert_with(Box::default);
         more.named.push_back(session);
         if more.members.insert(session) {

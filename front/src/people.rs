@@ -8,6 +8,7 @@ use mio::{Registry, Token};
 
 use crate::lines::member_of;
 use crate::network::Peer;
+use crate::metrics::Leaving;
 use crate::queue::{Cutter, Pending, Queue};
 use crate::wire::Wire;
 
@@ -186,6 +187,17 @@ impl Link {
         self.is_deaf && self.has_ended && self.fault.is_empty() && !self.has_overflown
     }
 
+    /// Why the connection has ended, for those who count.
+    pub fn leaving(&self) -> Leaving {
+        if self.has_overflown || self.leaves_too_much() {
+            Leaving::Unread
+        } else if self.fault.is_empty() {
+            Leaving::Left
+        } else {
+            Leaving::Refused
+        }
+    }
+
     /// Whether the connection is to be closed; the argument says whether an answer is still awaited.
     pub fn is_done(&self, awaits: bool) -> bool {
         let has_read = self.is_deaf || self.unread.is_empty() && !self.stream.wants_to_write();
@@ -272,6 +284,8 @@ pub struct Speaker {
     pub before_spin: usize,
     /// The number of commands that were given to the server and are not answered.
     pub under_way: usize,
+    /// When the lines that wait were read, if times are taken.
+    pub came: Option<Instant>,
     /// Its share of the server's work so far, in bytes.
     pub served: u64,
     /// The expected length in bytes of its next answer, estimated from the last ones.
@@ -311,6 +325,7 @@ impl Speaker {
             owes_spin: false,
             before_spin: 0,
             under_way: 0,
+            came: None,
             served: 0,
             expected: EXPECTED_AT_FIRST,
             has_turn: false,

@@ -206,7 +206,11 @@ impl Front {
                 self.sessions[session].members.retain(|member| *member != client);
             }
             let link = &mut self.clients[client].link;
-            names.iter().for_each(|name| link.tell(&error_line(LOST, name)));
+            for name in &names {
+                link.tell(&error_line(LOST, name));
+                self.metrics.send(&error_line(LOST, name));
+                self.metrics.errors.count(LOST.as_bytes());
+            }
             link.refuse(&fault);
             if let Speech::Named(voices) = &mut self.clients[client].speech {
                 voices.of_groups.remove(&key);
@@ -393,7 +397,10 @@ impl Front {
         let (program, args) = &self.server_words;
         let started = Server::start(program, args, None);
         match started.and_then(|server| self.begin_server(at, server)) {
-            Ok(()) => self.say_if_whole(at),
+            Ok(()) => {
+                self.metrics.restarts[at] += 1;
+                self.say_if_whole(at);
+            }
             Err(ended) => {
                 let worker = &mut self.workers[at];
                 worker.due = now + PAUSE_MOST;

@@ -25,6 +25,7 @@ use crate::network::Network;
 use crate::people::Link;
 use crate::pool::Pool;
 use crate::records::folder;
+use crate::scraping::SCRAPES_MOST;
 use crate::server::{Record, Server};
 use crate::sockets::{listening, listening_over_network, passed, Bound};
 use crate::spawn::{end_all, keep_open, started, SECONDS_TO_END};
@@ -116,10 +117,14 @@ fn listeners(options: &Options, kept: &mut Kept) -> Result<Vec<(Listener, Comers
     if let Some(path) = &options.control {
         all.push((bind(path, Some(FOR_ITS_OWNER))?, Comers::Operators));
     }
-    match &options.health {
-        Some(Place::Path(path)) => all.push((bind(path, options.health_mode.or(options.mode))?, Comers::Checks)),
-        Some(Place::Address(address)) => all.push((Listener::Tcp(listening_over_network(*address)?), Comers::Checks)),
-        None => {}
+    let places =
+        [(&options.health, options.health_mode, Comers::Checks), (&options.metrics, options.metrics_mode, Comers::Scrapes)];
+    for (place, mode, comers) in places {
+        match place {
+            Some(Place::Path(path)) => all.push((bind(path, mode.or(options.mode))?, comers)),
+            Some(Place::Address(address)) => all.push((Listener::Tcp(listening_over_network(*address)?), comers)),
+            None => {}
+        }
     }
     for (address, comers) in options.network.doors() {
         all.push((Listener::Tcp(listening_over_network(address)?), comers));
@@ -142,7 +147,9 @@ fn front_of(options: &Options) -> Result<Front, Stop> {
         front.pool = Some(Pool::new(workers, folder));
     }
     let kept_for_servers = if options.workers.is_some() { FILES_KEPT } else { 0 };
+    front.metrics.is_on = options.metrics.is_some();
     let kept_for_checks = if options.health.is_some() { CHECKS_MOST as u64 + 1 } else { 0 };
+    let kept_for_checks = kept_for_checks + if options.metrics.is_some() { SCRAPES_MOST as u64 + 2 } else { 0 };
     let files = getrlimit(Resource::RLIMIT_NOFILE).map_or(RLIM_INFINITY, |(soft, _)| soft);
     if files != RLIM_INFINITY && kept_for_servers + kept_for_checks > 0 {
         front.doors.files_most = Some(files.saturating_sub(kept_for_servers + kept_for_checks) as i32);

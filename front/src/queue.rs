@@ -62,6 +62,7 @@ fn clear(bytes: &mut Vec<u8>) {
 pub struct Queue {
     bytes: Vec<u8>,
     start: usize,
+    count: usize,
 }
 
 impl Queue {
@@ -72,6 +73,7 @@ impl Queue {
     pub fn push(&mut self, line: &[u8]) {
         self.bytes.extend_from_slice(line);
         self.bytes.push(b'\n');
+        self.count += 1;
     }
 
     /// The first line, without its end.
@@ -84,6 +86,7 @@ impl Queue {
     pub fn pop(&mut self) {
         let length = self.first().map_or(0, |line| line.len() + 1);
         self.start += length;
+        self.count = self.count.saturating_sub(1);
         if self.is_empty() {
             self.clear();
         }
@@ -104,14 +107,14 @@ impl Queue {
     }
 
     /// The number of lines that wait.
-    #[cfg(test)]
     pub fn count(&self) -> usize {
-        memchr_iter(b'\n', &self.bytes[self.start..]).count()
+        self.count
     }
 
     pub fn clear(&mut self) {
         clear(&mut self.bytes);
         self.start = 0;
+        self.count = 0;
     }
 }
 

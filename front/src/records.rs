@@ -104,6 +104,11 @@ impl GroupRecord {
         }
     }
 
+    /// Its size in bytes.
+    pub fn size(&self) -> u64 {
+        self.size
+    }
+
     /// Whether it has a file.
     pub fn is_in_file(&self) -> bool {
         self.is_there

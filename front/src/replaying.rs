@@ -71,6 +71,7 @@ fn first_line(lines: &[u8]) -> &[u8] {
 impl Front {
     /// Plans a replay of a group on a worker, after those that wait there already.
     pub fn add_replay(&mut self, group: GroupKey, worker: usize, purpose: Purpose) -> ReplayKey {
+        self.metrics.replay(purpose);
         let key = self.next_replay;
         self.next_replay += 1;
         let speaker = self.speakers.insert(Speaker::new(Owner::Replay(key), NO_SESSION));
@@ -243,6 +244,7 @@ impl Front {
     /// Ends a replay, with a fault or with an empty text.
     fn end_replay(&mut self, key: ReplayKey, fault: &str) {
         if let Some(replay) = self.leave_replay(key) {
+            self.metrics.replays_failed += u64::from(!fault.is_empty());
             match replay.purpose {
                 Purpose::BringBack | Purpose::Resume => self.brought(&replay, fault),
                 Purpose::Move => self.moved(replay.group, true, fault),

@@ -13,6 +13,7 @@
 
 use std::cmp::Reverse;
 use std::collections::{BinaryHeap, VecDeque};
+use std::time::Instant;
 
 use slab::Slab;
 
@@ -77,6 +78,9 @@ pub struct Command {
     pub is_spin: bool,
     /// It may post events, while there are live sessions.
     pub may_post: bool,
+    /// When it came from its client, and when the server was given it, if times are taken.
+    pub came: Option<Instant>,
+    pub given: Option<Instant>,
 }
 
 /// The speakers that wait for their turns, and the commands under way in their order.
@@ -181,6 +185,8 @@ impl Turns {
             hears,
             is_spin: false,
             may_post: false,
+            came: None,
+            given: None,
         });
     }
 

@@ -223,6 +223,7 @@ impl Front {
             Hears::Clients => line,
             hears => self.fresh(hears, line),
         };
+        self.metrics.answer(at, &command, line, !fresh.is_empty());
         if !fresh.is_empty() {
             if let Some(group) = group {
                 self.groups[group].told(group, fresh, &mut self.changed, &mut self.log);
@@ -326,6 +327,11 @@ impl Front {
             worker.silent_since = Instant::now();
         }
         worker.turns.give(key, speaker, length, session, hears);
+        if hears == Hears::Clients {
+            let came = speaker.came.filter(|_| matches!(speaker.owner, Owner::Client(_)) && !is_spin);
+            self.metrics.give(&mut worker.turns, came);
+        }
+        self.metrics.spins += u64::from(is_spin);
         match speaker.owner {
             Owner::Replay(replay) => self.read_ahead_if_empty(replay),
             Owner::Health(_) => {}

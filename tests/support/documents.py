@@ -18,6 +18,7 @@ QT = ROOT / "docs" / "QT.md"
 FRONT_PAGE = ROOT / "docs" / "FRONT.md"
 WORKERS_PAGE = ROOT / "docs" / "WORKERS.md"
 WEB_PAGE = ROOT / "docs" / "WEB.md"
+OPERATING_PAGE = ROOT / "docs" / "OPERATING.md"
 VERSION = re.compile(r"^`metad` (\S+) is proved with `([^`]+)`", re.MULTILINE)  # of the program and of the prover
 BLOCK = r"((?:(?!```).*\n)*)"  # the lines of a fenced block
 EXAMPLE = re.compile(rf"(?:^```classes\n{BLOCK}```\n+)?^```session((?: .*)?)\n{BLOCK}```$", re.MULTILINE)
