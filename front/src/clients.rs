@@ -7,6 +7,7 @@ use serde_json::{json, Map, Value};
 use crate::front::Front;
 use crate::groups::{group_of, is_group, BETWEEN};
 use crate::lines::{asked_of_front, has_only, is_name, line_of, refusal, RESET};
+use crate::metrics::LEAVINGS;
 use crate::network::Peer;
 use crate::people::{
     Came, Client, ClientKey, Link, Owner, Session, SessionKey, Speaker, SpeakerKey, Speech, UNREAD_OF_ALL, UNREAD_SLOW,
@@ -45,7 +46,7 @@ impl Front {
         let how = peer.as_ref().map_or_else(String::new, |peer| peer.how());
         self.clients.insert(Client { number, link, peer, speech, is_touched: false });
         self.touch(key);
-        self.log.note(&format!("c{number} has come{how}"));
+        self.log.note("client_came", json!({"client": number}), &format!("c{number} has come{how}"));
     }
 
     /// Makes the speaker of a new client, which has a session of its own.
@@ -377,7 +378,8 @@ impl Front {
         let line = line_of(if is_live { &live } else { &answer });
         client.link.tell(&line);
         self.metrics.send(&line);
-        self.log.note(&format!("c{} speaks for {}", client.number, session.name));
+        let fields = json!({"client": client.number, "session": session.name, "live": is_live});
+        self.log.note("client_named", fields, &format!("c{} speaks for {}", client.number, session.name));
     }
 
     /// Refuses a client's first line, and closes the client.
@@ -394,7 +396,9 @@ impl Front {
         let client = self.clients.remove(key);
         self.unread -= client.link.counted;
         self.metrics.leave(client.link.leaving());
-        self.log.note(&format!("c{} {}", client.number, client.link.how_done()));
+        let (number, how) = (client.number, client.link.how_done());
+        let reason = LEAVINGS[client.link.leaving() as usize];
+        self.log.note("client_gone", json!({"client": number, "reason": reason, "how": how}), &format!("c{number} {how}"));
         let is_left = client.link.is_left();
         match client.peer {
             Some(_) => self.part(client.link.stream),

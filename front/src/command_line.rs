@@ -6,7 +6,7 @@ use std::path::PathBuf;
 
 use crate::groups::BETWEEN;
 use crate::lines::{is_name, is_own_name};
-use crate::log::{quoted, say, write_all};
+use crate::log::{quoted, say, write_all, Level, Style, LEVELS};
 use crate::network_options::NetworkOptions;
 use crate::sockets::is_pipe;
 
@@ -40,7 +40,7 @@ pub enum Place {
 #[derive(Debug, Default, PartialEq, Eq)]
 pub struct Options {
     pub mode: Option<u32>,
-    pub is_quiet: bool,
+    pub style: Style,
     pub record: Option<PathBuf>,
     pub share: Vec<String>,
     pub monitor: Option<PathBuf>,
@@ -166,7 +166,7 @@ fn read_option(options: &mut Options, reader: &mut Reader, text: &str) -> Result
         None => (text, None),
     };
     let flag = match name {
-        "--quiet" => Some(&mut options.is_quiet),
+        "--quiet" => Some(&mut options.style.is_quiet),
         "--inspect-ask" => Some(&mut options.inspect_ask),
         "--inspect-write" => Some(&mut options.inspect_write),
         "--tied" => Some(&mut options.is_tied),
@@ -191,6 +191,9 @@ fn read_option(options: &mut Options, reader: &mut Reader, text: &str) -> Result
         "--health-mode" => options.health_mode = Some(mode(name, &reader.value(name, own)?)?),
         "--metrics" => options.metrics = Some(place(name, &reader.value(name, own)?)?),
         "--metrics-mode" => options.metrics_mode = Some(mode(name, &reader.value(name, own)?)?),
+        "--log-format" => options.style.is_json = is_json(name, &reader.value(name, own)?)?,
+        "--log-level" => options.style.level = level(name, &reader.value(name, own)?)?,
+        "--log-rate" => options.style.rate = Some(rate(name, &reader.value(name, own)?)?),
         "--watchdog" => options.watchdog = Some(seconds(name, &reader.value(name, own)?)?),
         "--control" => options.control = Some(path(name, OsStr::new(&reader.value(name, own)?))?),
         _ if NetworkOptions::has(name) => options.network.read(name, &reader.value(name, own)?)?,
@@ -323,6 +326,29 @@ fn seconds(name: &str, word: &str) -> Result<u64, String> {
     }
 }
 
+fn is_json(name: &str, word: &str) -> Result<bool, String> {
+    match word {
+        "text" => Ok(false),
+        "json" => Ok(true),
+        _ => Err(format!("argument {name}: invalid choice: {} (choose from 'text', 'json')", quoted(word))),
+    }
+}
+
+fn level(name: &str, word: &str) -> Result<Level, String> {
+    let levels: Vec<String> = LEVELS.iter().map(|level| quoted(level)).collect();
+    let fault = || format!("argument {name}: invalid choice: {} (choose from {})", quoted(word), levels.join(", "));
+    Level::named(word).ok_or_else(fault)
+}
+
+/// Reads the number of lines of one kind that are logged in a second; 0 is no limit.
+fn rate(name: &str, word: &str) -> Result<u64, String> {
+    match word.parse() {
+        Ok(0) if word == "0" => Ok(u64::MAX),
+        Ok(lines @ 1..=1_000_000) if word.bytes().all(|byte| byte.is_ascii_digit()) => Ok(lines),
+        _ => wrong_value(name, word, "number of lines a second, from 0 to 1000000"),
+    }
+}
+
 /// Reads a number of one or two digits that does not begin with 0.
 fn count_in(word: &str) -> Option<usize> {
     let is_number =
@@ -391,7 +417,7 @@ mod tests {
         let words = ["--quiet", "--mode=0660", "--share", "team", "s", "--workers", "2", "p", "--quiet", "--", "-h", ""];
         match read_all(&words) {
             Words::Serve(options) => {
-                assert!(options.is_quiet && options.mode == Some(0o660) && options.workers == Some(2));
+                assert!(options.style.is_quiet && options.mode == Some(0o660) && options.workers == Some(2));
                 assert_eq!((options.socket.to_str(), options.program.to_str()), (Some("s"), Some("p")));
                 assert_eq!(options.args, ["--quiet", "--", "-h", ""]);
             }

@@ -6,6 +6,7 @@ use crate::clients::NOT_KNOWN;
 use crate::front::Front;
 use crate::guests::Errand;
 use crate::lines::{asked_of_front, has_only, line_of, NOBODY};
+use crate::log::Level;
 use crate::people::{ClientKey, GroupKey, Owner};
 
 /// The reason why a group does not move: a code and a text.
@@ -74,7 +75,8 @@ impl Front {
                 }
                 let found = &self.groups[group];
                 let (name, before) = (&found.name, self.workers[found.worker].number);
-                self.log.note(&format!("{name} is moved from worker {before} to {}", target + 1));
+                let fields = json!({"group": name, "from": before, "worker": target + 1});
+                self.log.note("move_begun", fields, &format!("{name} is moved from worker {before} to {}", target + 1));
                 self.begin_move(group, target, key);
             }
         }
@@ -113,10 +115,12 @@ impl Front {
         }
         let (name, worker) = (&self.groups[key].name, self.groups[key].worker + 1);
         let answer = if fault.is_empty() {
-            self.log.note(&format!("{name} is with worker {worker}"));
+            let fields = json!({"group": name, "worker": worker});
+            self.log.note("move_done", fields, &format!("{name} is with worker {worker}"));
             json!({"reply": true, "group": name, "worker": worker})
         } else {
-            self.log.say(&format!("{name} has not moved: {fault}"));
+            let fields = json!({"group": name, "worker": worker, "why": fault});
+            self.log.say(Level::Warn, "move_failed", fields, &format!("{name} has not moved: {fault}"));
             json!({"error": "F09", "why": fault, "group": name, "worker": worker})
         };
         self.answer_operator(guest, &answer);

@@ -9,9 +9,11 @@ use std::time::{Duration, Instant};
 use mio::net::UnixStream;
 use mio::unix::SourceFd;
 use mio::{Interest, Registry};
+use serde_json::json;
 
 use crate::front::Front;
 use crate::health::CHECKS_MOST;
+use crate::log::Level;
 use crate::scraping::SCRAPES_MOST;
 use crate::tokens::{token, Kind};
 
@@ -215,7 +217,7 @@ impl Front {
                 Comers::Checks => "health",
                 Comers::Scrapes => "metrics",
             };
-            self.log.say(&format!("{word} at {place}"));
+            self.log.say(Level::Info, "listening", json!({"for": word, "at": place}), &format!("{word} at {place}"));
             if comers == Comers::Clients {
                 places.push(place);
             }

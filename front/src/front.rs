@@ -225,6 +225,7 @@ impl Front {
             self.look_at_servers(),
             self.look_at_checks(),
             self.look_at_network(),
+            self.log.tick(),
         ];
         for other in others.into_iter().flatten() {
             due = Some(due.map_or(other, |due| due.min(other)));

@@ -4,11 +4,11 @@
 
 use std::collections::{HashMap, HashSet};
 
-use serde_json::Value;
+use serde_json::{json, Value};
 
 use crate::front::Front;
 use crate::lines::{has_only, is_name, is_own_name, may_have, object_of, put_with_member, NOBODY};
-use crate::log::Log;
+use crate::log::{Level, Log};
 use crate::moving::Move;
 use crate::people::{GroupKey, SessionKey, SpeakerKey};
 use crate::records::GroupRecord;
@@ -156,9 +156,14 @@ impl Front {
         if is_join && self.in_vain < IN_VAIN_MOST && mine.is_new(other) {
             self.in_vain += 1;
             let name = &mine.name;
-            self.log.say(&format!("{name} has joined {other}, which is another group: nothing will come of it"));
+            let is_known = self.pool.as_ref().map_or(false, |pool| pool.groups.contains_key(other));
+            let (other, group) = if is_known { (other, json!(other)) } else { ("a session", json!(null)) };
+            let which = if is_known { "is another group" } else { "is of another group" };
+            let words = format!("{name} has joined {other}, which {which}: nothing will come of it");
+            self.log.say(Level::Warn, "join_in_vain", json!({"group": name, "other": group}), &words);
             if self.in_vain == IN_VAIN_MOST {
-                self.log.say("further joins of other groups are not mentioned");
+                let words = "further joins of other groups are not mentioned";
+                self.log.say(Level::Warn, "joins_not_mentioned", json!({}), words);
             }
         }
         Some(changed)

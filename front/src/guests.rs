@@ -6,6 +6,7 @@ use std::time::{Duration, Instant};
 
 use mio::net::UnixStream;
 use nix::poll::{poll, PollFd, PollFlags};
+use serde_json::json;
 
 use crate::clients::{ASKS_NOTHING, NOT_KNOWN};
 use crate::doors::Comers;
@@ -56,7 +57,7 @@ impl Front {
         let mut link = Link::new(stream, token(Kind::Guest, key));
         link.watch(self.poll.registry());
         if !comers.are_checks() {
-            self.log.note(&format!("{name} has come"));
+            self.log.note("guest_came", json!({"guest": name}), &format!("{name} has come"));
         }
         self.guests.insert(key, Guest { name, link, errand, is_touched: false });
         self.touch_guest(key);
@@ -92,7 +93,8 @@ impl Front {
             if is_concerned && guest.link.fault.is_empty() {
                 guest.link.tell(lines);
                 if guest.link.leaves_too_much() {
-                    self.log.note(&format!("{} {}", guest.name, guest.link.how_done()));
+                    let (name, how) = (&guest.name, guest.link.how_done());
+                    self.log.note("guest_gone", json!({"guest": name, "how": how}), &format!("{name} {how}"));
                     guest.link.cut(&refusal(LEFT_OUT));
                     self.metrics.errors.count(LEFT_OUT.as_bytes());
                 }
@@ -220,7 +222,8 @@ impl Front {
                 self.doors.reopen();
             }
             if !is_check && !is_cut {
-                self.log.note(&format!("{name} {how}")); // for one that was cut off this was logged when lines were left out
+                // for one that was cut off this was logged when lines were left out
+                self.log.note("guest_gone", json!({"guest": name, "how": how}), &format!("{name} {how}"));
             }
         }
     }

@@ -155,7 +155,11 @@ impl Front {
         let next = awaited.iter().filter(|(_, until, _)| *until > now).map(|(_, until, _)| *until).min();
         let unread = awaited.len() < self.checks + self.scrapes;
         let next = next.map(|until| until - now);
-        if unread { Some(next.map_or(PATIENCE, |next| next.min(PATIENCE))) } else { next }
+        if unread {
+            Some(next.map_or(PATIENCE, |next| next.min(PATIENCE)))
+        } else {
+            next
+        }
     }
 
     /// Closes checks that have not read their answers for a long time.

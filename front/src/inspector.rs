@@ -15,7 +15,7 @@ use slab::Slab;
 use crate::asked::{asked_in, Leave};
 use crate::front::Front;
 use crate::lines::{is_name, line_of};
-use crate::log::Log;
+use crate::log::{Level, Log};
 use crate::people::{Came, Link, Owner, Session, SessionKey, Speaker, SpeakerKey};
 use crate::queue::Queue;
 use crate::spawn::kill_at_once;
@@ -207,7 +207,8 @@ impl Front {
                 kill_at_once(page);
             }
             let how = if fault.is_empty() { "has ended".to_string() } else { format!("was dropped, since {fault}") };
-            self.log.say(&format!("the inspector {how}, and nothing more is shown"));
+            let words = format!("the inspector {how}, and nothing more is shown");
+            self.log.say(Level::Warn, "inspector_ended", json!({"how": how}), &words);
         }
     }
 
@@ -282,7 +283,8 @@ impl Front {
     fn warn_of_inspector(&mut self) {
         if let Some(inspector) = self.inspector.as_mut().filter(|inspector| !inspector.has_warned) {
             inspector.has_warned = true;
-            self.log.say("the inspector asked for a command that is not allowed, which is refused");
+            let words = "the inspector asked for a command that is not allowed, which is refused";
+            self.log.say(Level::Warn, "inspector_refused", json!({}), words);
         }
     }
 
@@ -353,5 +355,6 @@ impl Front {
 
 /// Logs where the front is shown.
 pub fn say_where(log: &mut Log, port: u16, token: &str) {
-    log.say(&format!("shown at http://127.0.0.1:{port}/{token}/"));
+    let words = format!("shown at http://127.0.0.1:{port}/{token}/");
+    log.say(Level::Info, "inspector_shown", json!({"port": port, "token": token}), &words);
 }

@@ -3,7 +3,7 @@
 use memchr::memmem;
 use serde_json::{Map, Value};
 
-use crate::log::{bytes_as_text, Ended};
+use crate::log::bytes_as_text;
 
 /// The most bytes that a line of input may have, without its end.
 pub const LINE_MOST: usize = 65_536;
@@ -59,11 +59,7 @@ pub fn is_answer(line: &[u8]) -> bool {
 
 /// The session that a line of the server names. Keys come in byte order, so this one is the last, or the last before
 /// `warning`. No text inside the line can look like it, since its quotes would be escaped.
-pub fn session_of(line: &[u8]) -> Result<&str, Ended> {
-    session_at_end(line).ok_or_else(|| Ended(format!("the server wrote no line of the protocol: {}", shown(line))))
-}
-
-fn session_at_end(line: &[u8]) -> Option<&str> {
+pub fn session_of(line: &[u8]) -> Option<&str> {
     let at = memmem::rfind(line, SESSION).filter(|&at| at > 0 && line[0] == b'{')?;
     let rest = &line[at + SESSION.len()..];
     let length = rest.iter().position(|&byte| byte == b'"')?;
@@ -220,7 +216,7 @@ mod tests {
 
     #[test]
     fn the_session_of_a_line_is_its_last_key() {
-        let named = |line: &str| session_of(line.as_bytes()).ok().map(str::to_string);
+        let named = |line: &str| session_of(line.as_bytes()).map(str::to_string);
         assert_eq!(named("{\"reply\":1,\"session\":\"c1\"}\n").as_deref(), Some("c1"));
         assert_eq!(named("{\"error\":\"E01\",\"session\":\"-\"}\n").as_deref(), Some("-"));
         assert_eq!(named("{\"object\":1,\"session\":\"a\",\"warning\":\"E04\"}\n").as_deref(), Some("a"));

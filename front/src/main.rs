@@ -62,9 +62,9 @@ use std::ffi::OsString;
 use std::io::{self, ErrorKind, Write};
 use std::process::ExitCode;
 
-use command_line::{read, say_wrong, Words, HELP};
+use command_line::{read, say_wrong, Options, Words, HELP};
 use front::Stop;
-use log::{reason, say, Ended};
+use log::{reason, say, say_end, Ended};
 
 fn main() -> ExitCode {
     let words: Vec<OsString> = env::args_os().skip(1).collect();
@@ -76,19 +76,21 @@ fn main() -> ExitCode {
         Words::Groups(path) => shown(asking::groups(&path)),
         Words::Move(path, group, worker) => shown(asking::move_group(&path, &group, worker)),
         Words::Wrong(usage, fault) => say_wrong(usage, &fault),
-        Words::Serve(options) => match program::serve(*options) {
-            Ok(()) | Err(Stop::Asked) => 0,
-            Err(Stop::Ended(Ended(why))) => {
-                say(&why);
-                1
-            }
-            Err(Stop::NotServed(Ended(why), status)) => {
-                say(&why);
-                status
-            }
-        },
+        Words::Serve(options) => served(*options),
     };
     status.into()
+}
+
+/// Serves; returns the exit status of the run.
+fn served(options: Options) -> u8 {
+    let style = options.style;
+    let (why, status) = match program::serve(options) {
+        Ok(()) | Err(Stop::Asked) => return 0,
+        Err(Stop::Ended(Ended(why))) => (why, 1),
+        Err(Stop::NotServed(Ended(why), status)) => (why, status),
+    };
+    say_end(&style, &why);
+    status
 }
 
 /// Prints a text on standard output; returns the exit status of the run.

@@ -12,11 +12,12 @@ use std::time::{Duration, Instant};
 use mio::net::UnixStream;
 use mio::Interest;
 use rustls::ServerConfig;
+use serde_json::json;
 use socket2::{SockRef, TcpKeepalive};
 
 use crate::doors::Comers;
 use crate::front::Front;
-use crate::log::{reason, Ended};
+use crate::log::{reason, Ended, Level};
 use crate::tls::{settings, Files, Sealed};
 use crate::tokens::{token, Kind};
 use crate::wire::Wire;
@@ -112,7 +113,7 @@ impl Front {
                 let until = Instant::now() + HANDSHAKE;
                 self.network.arrivals.insert(number, Arrival { sealed, peer, until });
             }
-            Err(Ended(why)) => self.log.note(&format!("a handshake from {} has failed: {why}", peer.address)),
+            Err(Ended(why)) => self.note_failed(&peer.address, &why),
         }
         if self.network.arrivals.len() > HANDSHAKES_MOST {
             self.refuse_oldest("there are too many");
@@ -137,9 +138,14 @@ impl Front {
         }
     }
 
+    fn note_failed(&mut self, address: &str, why: &str) {
+        let fields = json!({"address": address, "reason": why});
+        self.log.note("handshake_failed", fields, &format!("a handshake from {address} has failed: {why}"));
+    }
+
     /// Closes a connection whose handshake has failed. Alerts that say why are still read by the other side.
     fn refuse_arrival(&mut self, arrival: Arrival, why: &str) {
-        self.log.note(&format!("a handshake from {} has failed: {why}", arrival.peer.address));
+        self.note_failed(&arrival.peer.address, why);
         self.part(Wire::Tls(Box::new(arrival.sealed)));
     }
 
@@ -204,9 +210,13 @@ impl Front {
         match settings(files) {
             Ok(settings) => {
                 self.network.settings = Some(settings);
-                self.log.say("hangup: the certificates were read again");
+                let words = "hangup: the certificates were read again";
+                self.log.say(Level::Info, "certificates_read", json!({}), words);
             }
-            Err(Ended(why)) => self.log.say(&format!("hangup: {why}; the certificates from before are used")),
+            Err(Ended(why)) => {
+                let words = format!("hangup: {why}; the certificates from before are used");
+                self.log.say(Level::Warn, "certificates_not_read", json!({"reason": why}), &words);
+            }
         }
     }
 }

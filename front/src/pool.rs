@@ -4,10 +4,12 @@ use std::collections::HashMap;
 use std::path::PathBuf;
 use std::time::{Duration, Instant};
 
+use serde_json::json;
+
 use crate::front::{Front, NO_SESSION};
 use crate::groups::Group;
 use crate::lines::{error_line, NOBODY};
-use crate::log::Ended;
+use crate::log::{Ended, Level};
 use crate::people::{GroupKey, Owner, ReplayKey, SessionKey, SpeakerKey, Speech};
 use crate::records::{GroupRecord, ENDING};
 use crate::replaying::{Purpose, Replay};
@@ -256,7 +258,9 @@ impl Front {
         if worker.is_first && !worker.has_written && status.map_or(false, |status| NOT_STARTED.contains(&status)) {
             return Err(ended);
         }
-        self.log.say(&format!("worker {}: {}", worker.number, ended.0));
+        let number = worker.number;
+        let fields = json!({"worker": number, "why": ended.0});
+        self.log.say(Level::Error, "worker_ended", fields, &format!("worker {number}: {}", ended.0));
         worker.is_first = false;
         worker.starts_in_vain = if worker.has_written { 0 } else { (worker.starts_in_vain + 1).min(20) };
         worker.due = Instant::now() + PAUSE_MOST.min(PAUSE * (2_u32.pow(worker.starts_in_vain) - 1));
@@ -334,7 +338,9 @@ impl Front {
         }
         worker.due = begun + EARLY;
         let seconds = worker.due.saturating_duration_since(now).as_secs_f64().round();
-        self.log.say(&format!("worker {} has ended too often, and begins anew in {seconds} seconds", worker.number));
+        let number = worker.number;
+        let words = format!("worker {number} has ended too often, and begins anew in {seconds} seconds");
+        self.log.say(Level::Error, "worker_paused", json!({"worker": number, "seconds": seconds}), &words);
         groups.to_vec()
     }
 
@@ -357,7 +363,8 @@ impl Front {
                 let is_resumed = resumed.contains(&key);
                 self.add_replay(key, at, if is_resumed { Purpose::Resume } else { Purpose::BringBack });
             } else {
-                self.log.say(&format!("what {} held is lost", group.name));
+                let words = format!("what {} held is lost", group.name);
+                self.log.say(Level::Error, "group_lost", json!({"group": group.name}), &words);
                 self.close_group(key);
             }
         }
@@ -373,7 +380,8 @@ impl Front {
             self.release(key);
         } else {
             let group = &mut self.groups[key];
-            self.log.say(&format!("{} cannot be brought back: {fault}", group.name));
+            let words = format!("{} cannot be brought back: {fault}", group.name);
+            self.log.say(Level::Error, "group_not_restored", json!({"group": group.name, "why": fault}), &words);
             let names = std::mem::take(&mut group.named);
             self.sweep(at, names);
             self.close_group(key);
@@ -384,7 +392,8 @@ impl Front {
     fn say_if_whole(&mut self, at: usize) {
         let worker = &self.workers[at];
         if worker.replays.is_empty() {
-            self.log.say(&format!("worker {} is where it was", worker.number));
+            let words = format!("worker {} is where it was", worker.number);
+            self.log.say(Level::Info, "worker_restored", json!({"worker": worker.number}), &words);
         }
     }
 
@@ -404,7 +413,9 @@ impl Front {
             Err(ended) => {
                 let worker = &mut self.workers[at];
                 worker.due = now + PAUSE_MOST;
-                self.log.say(&format!("worker {}: {}", worker.number, ended.0));
+                let words = format!("worker {}: {}", worker.number, ended.0);
+                let fields = json!({"worker": worker.number, "why": ended.0});
+                self.log.say(Level::Error, "worker_not_started", fields, &words);
             }
         }
     }

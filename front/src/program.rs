@@ -136,7 +136,7 @@ fn listeners(options: &Options, kept: &mut Kept) -> Result<Vec<(Listener, Comers
 /// Makes the front that the options ask for, without servers.
 fn front_of(options: &Options) -> Result<Front, Stop> {
     let words = (options.program.clone(), options.args.clone());
-    let mut front = Front::new(options.workers.unwrap_or(1), words, Log::new(options.is_quiet))?;
+    let mut front = Front::new(options.workers.unwrap_or(1), words, Log::new(options.style))?;
     options.share.iter().for_each(|name| front.let_share(name));
     front.live.are_all = options.is_live;
     front.network = Network::new(options.network.files())?;

@@ -9,8 +9,9 @@ use std::os::unix::fs::{DirBuilderExt, OpenOptionsExt};
 use std::path::{Path, PathBuf};
 
 use nix::unistd::{access, AccessFlags};
+use serde_json::json;
 
-use crate::log::{reason, Ended, Log};
+use crate::log::{reason, Ended, Level, Log};
 use crate::server::RECORD_FLAGS;
 
 const GIVEN: &[u8] = b"> ";
@@ -91,7 +92,9 @@ impl GroupRecord {
         if let Err(error) = written {
             self.is_whole = false;
             let path = path.display();
-            log.say(&format!("{path} cannot be written: {}; its group cannot be brought back", reason(&error)));
+            let words = format!("{path} cannot be written: {}; its group cannot be brought back", reason(&error));
+            let fields = json!({"path": path.to_string(), "why": reason(&error)});
+            log.say(Level::Error, "record_not_written", fields, &words);
         }
     }
 
@@ -121,7 +124,8 @@ impl GroupRecord {
         if self.is_whole && size != Some(self.size) {
             self.is_whole = false;
             let path = self.path.as_ref().map_or_else(String::new, |path| path.display().to_string());
-            log.say(&format!("{path} is not what it was; its group cannot be brought back until its sessions are reset"));
+            let words = format!("{path} is not what it was; its group cannot be brought back until its sessions are reset");
+            log.say(Level::Error, "record_changed", json!({"path": path}), &words);
         }
         self.is_whole
     }
@@ -208,11 +212,13 @@ pub struct Told {
     content: Content,
     held: Vec<u8>,
     line: Vec<u8>,
+    /// The number of lines that were taken to their ends.
+    pub count: usize,
 }
 
 impl Told {
     pub fn new(content: Content) -> Told {
-        Told { content, held: Vec::new(), line: Vec::new() }
+        Told { content, held: Vec::new(), line: Vec::new(), count: 0 }
     }
 
     /// The next bytes, as many as asked for, or as many as there are.
@@ -220,7 +226,9 @@ impl Told {
         while self.held.len() < count && self.content.next(false, &mut self.line) {
             self.held.extend_from_slice(&self.line);
         }
-        self.held.drain(..count.min(self.held.len())).collect()
+        let taken: Vec<u8> = self.held.drain(..count.min(self.held.len())).collect();
+        self.count += memchr::memchr_iter(b'\n', &taken).count();
+        taken
     }
 
     /// The line that begins with these bytes, as far as the record has it.
@@ -253,7 +261,7 @@ mod tests {
 
     #[test]
     fn what_was_given_and_told_is_read_apart() {
-        let mut log = Log::new(true);
+        let mut log = Log::new(crate::log::Style::default());
         let mut record = GroupRecord::new(None);
         record.given(b"one", &mut log);
         record.given(b"two", &mut log);

@@ -3,8 +3,11 @@
 //! The lines that it writes are compared with the record, byte for byte, and sent to nobody. Commands that were under way when
 //! the other server ended are given last: clients receive only the part of the answers that they have not received yet.
 
+use memchr::memchr_iter;
+use serde_json::json;
+
 use crate::front::{Front, NO_SESSION};
-use crate::log::{bytes_as_text, reason};
+use crate::log::{reason, Level};
 use crate::people::{GroupKey, Owner, ReplayKey, Speaker, SpeakerKey};
 use crate::records::{Given, Told};
 use crate::turns::{Command, Hears};
@@ -54,13 +57,24 @@ impl Replay {
             }
             same += line.len();
         }
+        let left = memchr_iter(b'\n', &wanted[same..]).count();
+        let number = self.told.as_ref().map_or(0, |told| told.count) - left + 1;
         let was = self.told.as_mut().map_or_else(Vec::new, |told| told.line_at(first_line(&wanted[same..])));
-        format!("it was told {}, and is told {}", shown(&was), shown(first_line(&came[same..])))
+        format!("answer {number} of its record is {}, and is now {}", shown(&was), shown(first_line(&came[same..])))
     }
 }
 
+/// What kind of line a server wrote, and how long it is; not what is in it, which may be a client's.
 fn shown(line: &[u8]) -> String {
-    bytes_as_text(line.strip_suffix(b"\n").unwrap_or(line))
+    let length = line.strip_suffix(b"\n").unwrap_or(line).len();
+    let kind = match line {
+        b"" => return "missing".to_string(),
+        _ if line.starts_with(b"{\"reply\":") => "a reply",
+        _ if line.starts_with(b"{\"error\":") => "an error",
+        _ if line.ends_with(b"}\n") => "a call or a warning",
+        _ => "no whole line",
+    };
+    format!("{kind} of {length} bytes")
 }
 
 /// The first of these lines, with its end if it has one.
@@ -120,6 +134,13 @@ impl Front {
         replay.to_read = count.saturating_sub(lost);
         replay.unanswered = replay.to_read;
         let (worker, speaker, has_lines) = (replay.worker, replay.speaker, replay.unanswered > 0);
+        let words = format!("{} is replayed on worker {}", group.name, worker + 1);
+        self.log.say(
+            Level::Debug,
+            "replay_begun",
+            json!({"group": group.name, "worker": worker + 1, "lines": count}),
+            &words,
+        );
         if has_lines {
             self.read_ahead(key);
             self.workers[worker].turns.await_turn(speaker, &mut self.speakers[speaker]);
@@ -245,6 +266,9 @@ impl Front {
     fn end_replay(&mut self, key: ReplayKey, fault: &str) {
         if let Some(replay) = self.leave_replay(key) {
             self.metrics.replays_failed += u64::from(!fault.is_empty());
+            let name = &self.groups[replay.group].name;
+            let fields = json!({"group": name, "worker": replay.worker + 1, "why": fault});
+            self.log.say(Level::Debug, "replay_ended", fields, &format!("the replay of {name} has ended"));
             match replay.purpose {
                 Purpose::BringBack | Purpose::Resume => self.brought(&replay, fault),
                 Purpose::Move => self.moved(replay.group, true, fault),

@@ -7,10 +7,12 @@
 use std::fs;
 use std::path::Path;
 
+use serde_json::json;
+
 use crate::front::Front;
 use crate::groups::{group_of, BETWEEN};
 use crate::lines::{is_name, is_own_name, NOBODY, RESET};
-use crate::log::{reason, Ended};
+use crate::log::{reason, Ended, Level};
 use crate::naming::session_in;
 use crate::people::{GroupKey, Owner, Session, Speaker};
 use crate::records::{lines_given, GroupRecord, ENDING};
@@ -53,7 +55,8 @@ impl Front {
         let (at, count) = (group.worker, group.filled.len());
         let numbers = group.named.iter().filter_map(|session| number_in(session));
         self.count = numbers.max().unwrap_or(0).max(self.count);
-        self.log.say(&format!("{name} is brought back, with {count} sessions"));
+        let words = format!("{name} is brought back, with {count} sessions");
+        self.log.say(Level::Info, "group_resumed", json!({"group": name, "sessions": count}), &words);
         for session in self.shared.iter().filter(|(session, _)| group_of(session) == name) {
             self.sessions[*session.1].group = Some(key);
             self.groups[key].sessions.insert(session.0.clone(), *session.1);

@@ -2,7 +2,10 @@
 
 use std::io::Read;
 
+use serde_json::json;
+
 use crate::front::Front;
+use crate::log::Level;
 
 impl Front {
     /// Handles the hangups that have come; several count as one.
@@ -32,7 +35,9 @@ impl Front {
                     gone += usize::from(!record.is_still_there(&mut self.log));
                 }
                 let folder = folder.display();
-                self.log.say(&format!("hangup: {} of {count} records are where they were in {folder}", count - gone));
+                let level = if gone > 0 { Level::Warn } else { Level::Info };
+                let words = format!("hangup: {} of {count} records are where they were in {folder}", count - gone);
+                self.log.say(level, "records_checked", json!({"records": count, "missing": gone}), &words);
             }
             Some(None) => self.say_nothing_is_recorded(),
             None => {
@@ -49,6 +54,7 @@ impl Front {
         if self.network.has_certificates() {
             return; // which were read again
         }
-        self.log.say("hangup: there is no record that could be opened again");
+        let words = "hangup: there is no record that could be opened again";
+        self.log.say(Level::Info, "nothing_recorded", json!({}), words);
     }
 }

@@ -8,6 +8,7 @@ use std::time::SystemTime;
 
 use crate::front::Front;
 use crate::guests::Errand;
+use crate::log::LEVELS;
 use crate::metrics::{Histogram, Metrics, BOUNDS, LEAVINGS, PURPOSES};
 
 /// The type of the page's content.
@@ -97,6 +98,9 @@ impl Front {
         write_traffic(&mut page, &self.metrics);
         self.write_workers(&mut page);
         self.write_groups(&mut page);
+        let logged = named(&LEVELS, &self.log.logged);
+        page.each("log_lines_total", "counter", "Lines of the log.", "level", logged);
+        page.one("log_lines_missing_total", "counter", "Lines that were left out of the log.", self.log.missing);
         page.0
     }
 
@@ -132,9 +136,21 @@ impl Front {
         let help = "Clients of the server whose commands wait for their turns, about.";
         page.each("worker_queue_clients", "gauge", help, "worker", each().zip(waiting));
         let under_way = self.workers.iter().map(|worker| worker.turns.under_way.len());
-        page.each("commands_under_way", "gauge", "Commands that the server has not answered.", "worker", each().zip(under_way));
+        page.each(
+            "commands_under_way",
+            "gauge",
+            "Commands that the server has not answered.",
+            "worker",
+            each().zip(under_way),
+        );
         let answered = each().zip(metrics.answered.iter().copied());
-        page.each("commands_answered_total", "counter", "Commands of clients that the server has answered, and spins.", "worker", answered);
+        page.each(
+            "commands_answered_total",
+            "counter",
+            "Commands of clients that the server has answered, and spins.",
+            "worker",
+            answered,
+        );
         let memory = self.workers.iter().filter_map(|worker| {
             let server = worker.server.as_ref()?;
             Some((worker.number.to_string(), memory_of(&server.child.id().to_string())?))
@@ -169,9 +185,23 @@ fn write_traffic(page: &mut Page, metrics: &Metrics) {
     page.one("received_bytes_total", "counter", "Bytes of clients.", metrics.received.bytes);
     page.one("sent_lines_total", "counter", "Lines for clients.", metrics.sent.lines);
     page.one("sent_bytes_total", "counter", "Bytes for clients.", metrics.sent.bytes);
-    page.each("errors_total", "counter", "Errors that clients, monitors and operators were answered.", "code", metrics.errors.all());
+    page.each(
+        "errors_total",
+        "counter",
+        "Errors that clients, monitors and operators were answered.",
+        "code",
+        metrics.errors.all(),
+    );
     page.one("refused_requests_total", "counter", "Requests to the front itself that it refused.", metrics.refused);
     page.one("spins_total", "counter", "Commands spin that the front gave for live sessions.", metrics.spins);
-    page.histogram("command_wait_seconds", "Time from a client's command to the moment its server begins it.", &metrics.waiting);
-    page.histogram("command_service_seconds", "Time that a server took for a command, as the front sees it.", &metrics.service);
+    page.histogram(
+        "command_wait_seconds",
+        "Time from a client's command to the moment its server begins it.",
+        &metrics.waiting,
+    );
+    page.histogram(
+        "command_service_seconds",
+        "Time that a server took for a command, as the front sees it.",
+        &metrics.service,
+    );
 }

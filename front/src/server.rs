@@ -13,8 +13,9 @@ use std::time::Instant;
 use mio::unix::SourceFd;
 use mio::{Interest, Registry, Token};
 use nix::fcntl::{fcntl, FcntlArg, OFlag};
+use serde_json::json;
 
-use crate::log::{reason, Ended, Log};
+use crate::log::{reason, Ended, Level, Log};
 use crate::queue::Pending;
 use crate::spawn::{started, SECONDS_TO_END};
 
@@ -55,12 +56,15 @@ impl Record {
         match opened {
             Ok(file) => {
                 self.file = Some(file);
-                log.say(&format!("hangup: {path} is opened again"));
+                let words = format!("hangup: {path} is opened again");
+                log.say(Level::Info, "record_opened_again", json!({"path": path.to_string()}), &words);
             }
             Err(error) => {
                 let goes_on =
                     if self.file.is_some() { "the file that was open is written on" } else { "nothing is recorded" };
-                log.say(&format!("hangup: {path} cannot be opened again: {}; {goes_on}", reason(&error)));
+                let words = format!("hangup: {path} cannot be opened again: {}; {goes_on}", reason(&error));
+                let fields = json!({"path": path.to_string(), "why": reason(&error)});
+                log.say(Level::Error, "record_not_opened_again", fields, &words);
             }
         }
     }
@@ -71,7 +75,9 @@ impl Record {
         if let Err(error) = written {
             self.file = None;
             let path = self.path.display();
-            log.say(&format!("{path} cannot be written: {}; nothing more is recorded", reason(&error)));
+            let words = format!("{path} cannot be written: {}; nothing more is recorded", reason(&error));
+            let fields = json!({"path": path.to_string(), "why": reason(&error)});
+            log.say(Level::Error, "record_not_written", fields, &words);
         }
     }
 }

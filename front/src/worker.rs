@@ -4,12 +4,13 @@ use std::collections::VecDeque;
 use std::time::{Duration, Instant};
 
 use memchr::memchr;
+use serde_json::json;
 
 use crate::front::Front;
 use crate::health::NOTHING;
 use crate::lines::{is_answer, put_with_member, session_of, shown, NOBODY, RESET};
 use crate::live::SPIN;
-use crate::log::Ended;
+use crate::log::{Ended, Level};
 use crate::people::{GroupKey, Owner, ReplayKey, SpeakerKey};
 use crate::server::{Brought, Server};
 use crate::spawn::end_all;
@@ -30,6 +31,8 @@ pub struct Worker {
     pub is_first: bool,
     /// Its process has written something.
     pub has_written: bool,
+    /// Its process was given lines of clients.
+    has_lines: bool,
     /// Some of what it has just written is not to be shown.
     is_sifted: bool,
     /// The number of its last processes, one after another, that ended without having written anything.
@@ -52,6 +55,7 @@ impl Worker {
             replays: VecDeque::new(),
             is_first: true,
             has_written: false,
+            has_lines: false,
             is_sifted: false,
             starts_in_vain: 0,
             early: VecDeque::new(),
@@ -69,6 +73,7 @@ impl Front {
         let worker = &mut self.workers[at];
         worker.server = Some(server);
         worker.has_written = false;
+        worker.has_lines = false;
         Ok(())
     }
 
@@ -162,10 +167,25 @@ impl Front {
     fn check(&self, at: usize, line: &[u8]) -> Result<(), Ended> {
         let command = self.command(at, line)?;
         let session = &self.sessions[command.session];
-        if session.ends(line) || session_of(line)? == session.name || command.hears.is_silent() {
+        if session.ends(line) || self.session_in(at, line)? == session.name || command.hears.is_silent() {
             return Ok(());
         }
-        Err(Ended(format!("the server did not tell {} in its turn: {}", session.name, shown(line))))
+        Err(Ended(format!("the server did not tell {} in its turn: {}", session.name, self.shown(at, line))))
+    }
+
+    /// The session that a line of a server names.
+    fn session_in<'a>(&self, at: usize, line: &'a [u8]) -> Result<&'a str, Ended> {
+        let fault = || Ended(format!("the server wrote no line of the protocol: {}", self.shown(at, line)));
+        session_of(line).ok_or_else(fault)
+    }
+
+    /// The first of these lines of a server for a message. Once the server was given a line of a client, only how long its own
+    /// line is, since it may have what the client has written.
+    fn shown(&self, at: usize, lines: &[u8]) -> String {
+        match self.workers[at].has_lines {
+            false => shown(lines),
+            true => format!("a line of {} bytes", memchr(b'\n', lines).unwrap_or(lines.len())),
+        }
     }
 
     /// The command that a server is doing, to which these lines belong.
@@ -174,8 +194,8 @@ impl Front {
             Some(command) => Ok(*command),
             None => {
                 let end = memchr(b'\n', lines).map_or(lines.len(), |end| end + 1);
-                session_of(&lines[..end])?; // fails if this is no line of the protocol
-                Err(Ended(format!("the server wrote a line that nobody has asked for: {}", shown(lines))))
+                self.session_in(at, &lines[..end])?; // fails if this is no line of the protocol
+                Err(Ended(format!("the server wrote a line that nobody has asked for: {}", self.shown(at, lines))))
             }
         }
     }
@@ -212,9 +232,10 @@ impl Front {
         let session = &self.sessions[command.session];
         let is_own = session.ends(line);
         if !is_own {
-            let name = session_of(line)?;
+            let name = self.session_in(at, line)?;
             if !command.hears.is_silent() && name != session.name && name != NOBODY {
-                return Err(Ended(format!("the server did not answer {} in its turn: {}", session.name, shown(line))));
+                let (name, shown) = (&session.name, self.shown(at, line));
+                return Err(Ended(format!("the server did not answer {name} in its turn: {shown}")));
             }
         }
         let group = session.group;
@@ -238,7 +259,11 @@ impl Front {
         if !fresh.is_empty() {
             self.show_sifted(at, fresh);
             if self.has_monitors() {
-                let name = if is_own { self.sessions[command.session].name.clone() } else { session_of(line)?.to_string() };
+                let name = if is_own {
+                    self.sessions[command.session].name.clone()
+                } else {
+                    self.session_in(at, line)?.to_string()
+                };
                 self.tell_monitors(&name, fresh);
             }
         }
@@ -315,6 +340,7 @@ impl Front {
             (_, true) => server.give(|out| out.extend_from_slice(line)),
             (_, false) => server.give(|out| put_with_member(out, line, member)),
         };
+        worker.has_lines |= !is_check;
         if !is_spin {
             speaker.waiting.pop();
         }
@@ -386,6 +412,7 @@ impl Front {
     pub fn put(&mut self, at: usize, command: Command, line: &[u8]) {
         let worker = &mut self.workers[at];
         worker.turns.put(command);
+        worker.has_lines = true;
         if let Some(server) = &mut worker.server {
             server.give(|out| out.extend_from_slice(line));
         }
@@ -427,10 +454,9 @@ impl Front {
             match &mut worker.server {
                 Some(server) if left.is_zero() => {
                     let seconds = patience.as_secs();
-                    self.log.say(&format!(
-                        "worker {}: the server has been silent for {seconds} seconds, and is ended",
-                        worker.number
-                    ));
+                    let number = worker.number;
+                    let words = format!("worker {number}: the server has been silent for {seconds} seconds, and is ended");
+                    self.log.say(Level::Error, "worker_silent", json!({"worker": number, "seconds": seconds}), &words);
                     end_all(&mut [&mut server.child], Duration::ZERO);
                     worker.silent_since = Instant::now();
                 }

@@ -103,7 +103,8 @@ class Resumed(WorkerCases):
         self.records.mkdir(mode=0o700)
         (self.records / "desk.lines").write_text(f'> {NAMED % "desk"}\n{reply(7, "desk")}\n')
         path, process = self.start("--group-from", "name", "--resume")
-        why = "it was told b'{}', and is told b'{}'".format(reply(7, "desk"), reply(1, "desk"))
+        length = len(reply(7, "desk"))
+        why = f"answer 1 of its record is a reply of {length} bytes, and is now a reply of {length} bytes"
         process.log.wait_for(self, f"metad-front: desk cannot be brought back: {why}", process)
         with Client(path) as client:
             self.assertEqual(client.ask(NAMED % "desk"), reply(1, "desk"), "a new session")

@@ -176,7 +176,9 @@ class Ends(WorkerCases):
                 self.kill_all(process)
                 self.assertEqual(odd.told(), [error("F04", "odd__c1")], "the one that differs")
                 self.assertEqual(even.ask(NEW), reply(4, "even__c2"), "the other")
-            wanted = "metad-front: odd cannot be brought back: it was told b'{}', and is told b'{}'".format(reply(2, "odd__c1"), reply(3, "odd__c1"))
+            length = len(reply(2, "odd__c1"))
+            why = f"answer 2 of its record is a reply of {length} bytes, and is now a reply of {length} bytes"
+            wanted = f"metad-front: odd cannot be brought back: {why}"
             self.assertIn(wanted, process.log.lines(), "what is said")
             with Client(path) as later:
                 self.assertEqual(later.ask(hello("odd")), reply(True, "odd__c3"), "a later one")

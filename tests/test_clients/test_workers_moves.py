@@ -127,7 +127,7 @@ class Moves(WorkerCases):
             name, place = f"{MOVED}__c1", self.places()[MOVED]
             second = [client.ask(NEW) for _ in range(3)][1]
             other = reply(3 if second == reply(2, name) else 2, name)
-            why = f"it was told b'{second}', and is told b'{other}'"
+            why = f"answer 2 of its record is a reply of {len(second)} bytes, and is now a reply of {len(other)} bytes"
             told = self.ask_front(front="move", group=MOVED, worker=3 - place)
             self.assertEqual(told, {"error": "F09", "group": MOVED, "why": why, "worker": place}, "a move to the other one")
             self.assertEqual(client.ask(NEW), reply(4, name), "its next object")
