@@ -75,6 +75,12 @@ def sums(leaves: int) -> dict:
     return {"+": [sums(half), sums(leaves - half)]} if half else {"const": 1}
 
 
+def added(forms: List[dict]) -> dict:
+    """The sum of some forms, of which there is one at least."""
+    half = len(forms) // 2
+    return {"+": [added(forms[:half]), added(forms[half:])]} if half else forms[0]
+
+
 def as_large_as_may_be(leaf: dict) -> dict:
     """An expression of 64 forms that comes to 30 more than one of them."""
     return {"if": [{"const": True}, {"+": [sums(30), leaf]}, {"const": 0}]}
@@ -251,7 +257,7 @@ def below(parents: List[int], top: int) -> int:
 
 
 BUILT_IN = (int, len, list, min, range, set, sorted, sum)
-OF_LINES = (After, Refused, below, binary, calls, chains, children_of, deep_classes, ends, errors, joined, ran, spun, star, to, warns)
+OF_LINES = (After, Refused, added, below, binary, calls, chains, children_of, deep_classes, ends, errors, joined, ran, spun, star, to, warns)
 NAMES_OF_LINES: Names = {
     **{it.__name__: it for it in (*BUILT_IN, *OF_LINES)},
     **{"after": After, "large": as_large_as_may_be, "refused": Refused, "__builtins__": {}},

@@ -1,13 +1,15 @@
 -- What a change reaches, of what is kept.
 use Rattle.std.proofs.Common.{◌≡◌, ◌∙◌, ◌||◌, ℕ, ◌+◌, ◌<◌, ◌≤◌, Bool, true, false, cond, not, List, [], ◌∷◌, ◌++◌, Option, Some, None, Result, Ok, Err, OnOk}
-use Rattle.std.proofs.Common.{All, Contains, find, is_some, length, get_or, option_map, take, append_assoc, length-append, refl, sym, ap, subst, arith}
+use Rattle.std.proofs.Common.{All, Contains, find, is_some, length, get_or, option_map, take}
+use Rattle.std.proofs.Common.{append_assoc, length-append, refl, sym, ap, subst, suc, arith, ⊎_elim}
 use Rattle.std.specs.Prelude.{OnErr}
-use Rattle.std.proofs.lemmas.Bool.{false_from_ne_true, or_left}
+use Rattle.std.specs.List.{AllWithin}
+use Rattle.std.proofs.lemmas.Bool.{both_ways, cases_lt, false_from_ne_true, or_left}
 use Rattle.std.proofs.lemmas.List.{take_more, take-append-le}
 use Rattle.std.proofs.lemmas.List.Elements.{All-contains, All-more, All-weaker, filter_passes}
 use Rattle.std.proofs.lemmas.List.Folds.{list_any-append}
-use Rattle.shared_rows.specs.Links.{without_link}
-use Rattle.shared_rows.proofs.LinkedLemmas.{contains_first, contains_later, length-without}
+use Rattle.std.proofs.lemmas.List.Sums.{length-filter, count_by-le-length}
+use Rattle.shared_rows.proofs.LinkedLemmas.{contains_first, contains_later}
 use Rattle.property_store.proofs.ForCallers.{filter_all}
 use Rattle.property_store.specs.declared.property.Property.{Property}
 use Rattle.property_store.specs.Property.{among, is_property}
@@ -16,10 +18,10 @@ use Rattle.binding_values.specs.declared.eval_result.EvalResult.{EvalResult}
 use Rattle.binding_values.specs.declared.readers.Edge.{Edge}
 use Rattle.binding_values.specs.Keeping.{IsPut}
 use Rattle.binding_values.specs.EvalResult.{IsWithin, Keeping, kept_of}
-use Rattle.binding_values.specs.Reached.{AreKeptToo, AreLetGo, HasReaders, IsLonger, IsReached, without}
-use Rattle.binding_values.specs.Readers.{AreAmong, AreFewer, IsUnread, edge_cmp, edge_of}
-use Rattle.binding_values.proofs.FuelLemmas.{property_eq}
-use Rattle.binding_values.proofs.ReaderLemmas.{edge_gone, edge_total}
+use Rattle.binding_values.specs.Reached.{AreKeptToo, AreLetGo, HasReaders, IsLonger, IsReached, IsUnread, without}
+use Rattle.binding_values.specs.Readers.{AreAmong, AreFewer, IsEdgeAt, edge_of, is_ahead, leads_from}
+use Rattle.binding_values.proofs.FuelLemmas.{is_itself, property_eq}
+use Rattle.binding_values.proofs.ReaderLemmas.{ahead_apart, leads_itself}
 use Rattle.binding_values.proofs.SortedLemmas.{is_property_sym}
 
 -- what is kept of the others
@@ -78,19 +80,13 @@ readers_fewer at rows old new fewer has q kept is k d lt = fewer.others (get_or 
 pub readers_of_none : (edges : List Edge) → HasReaders [] edges
 readers_of_none edges q kept is = absurd (cc)
 
-pub unread_within : (old new : List Edge) → AreAmong new old → (q : Property) → IsUnread old q → IsUnread new q
-unread_within old new within q unread reader there = unread reader (within (edge_of q reader) there)
-
--- an edge that goes, and what is kept of its reader
-
-pub reader_gone : (read reader : Property) (rows : List CacheEntry) (edges : List Edge) → HasReaders rows edges
-    → HasReaders (without reader rows) (without_link edge_cmp edges (edge_of read reader))
-reader_gone read reader rows edges has = readers_fewer reader rows edges (without_link edge_cmp edges (edge_of read reader)) (edge_gone edges read reader)
-    (readers_without reader rows edges has)
-
-pub one_fewer : (edges : List Edge) (read reader : Property) → Contains edges (edge_of read reader)
-    → length (without_link edge_cmp edges (edge_of read reader)) < length edges
-one_fewer edges read reader there = length-without edge_total edges (edge_of read reader) there
+pub unread_within : (edges : List Edge) (old new : List CacheEntry) → IsWithin (kept_of new) (kept_of old) → (q : Property) → IsUnread edges old q
+    → IsUnread edges new q
+unread_within edges old new within q unread reader there = by (kept_of new reader) refl
+  where
+    by : (o : Option EvalResult) → kept_of new reader ≡ o → o ≡ None
+    by None is = refl
+    by (Some kept) is = absurd (let gone = sym (unread reader there) ∙ within reader kept is in cc)
 
 -- touched properties
 
@@ -146,6 +142,44 @@ one_gone before touched at rows gone q = kept_without at rows q
     by false true = refl
     by false false = refl
 
+-- where nothing is kept of a property, nothing changes where it goes
+pub none_gone_more : (before : Keeping) (touched : List Property) (at : Property) (rows : List CacheEntry) → kept_of rows at ≡ None
+    → AreLetGo before touched rows → AreLetGo before touched (without at rows)
+none_gone_more before touched at rows none gone q = kept_without at rows q ∙ (by (is_property at q) refl ∙ gone q)
+  where
+    by : (t : Bool) → is_property at q ≡ t → cond t None (kept_of rows q) ≡ kept_of rows q
+    by true e = sym (ap (kept_of rows) (sym (property_eq at q e)) ∙ none)
+    by false e = refl
+
+-- what is kept of a property makes one entry fewer where it goes
+pub one_fewer : (at : Property) (rows : List CacheEntry) → is_some (kept_of rows at) ≡ true → length (without at rows) < length rows
+one_fewer at [] there = absurd (cc)
+one_fewer at (row ∷ rows) there = by (is_property at row.at) refl there (one_fewer at rows)
+  where
+    fewer : length (without at rows) ≤ length rows
+    fewer = omega (
+      arith,
+      length-filter (λ (row : CacheEntry). not (is_property at row.at)) rows,
+      count_by-le-length (λ (row : CacheEntry). not (is_property at row.at)) rows,
+    )
+
+    by : (t : Bool) → is_property at row.at ≡ t
+        → is_some (option_map (λ (row : CacheEntry). row.kept) (cond t (Some row) (find (λ (row : CacheEntry). is_property at row.at) rows))) ≡ true
+        → (is_some (kept_of rows at) ≡ true → length (without at rows) < length rows)
+        → length (cond (not t) (row ∷ without at rows) (without at rows)) < suc (length rows)
+    by true e there rest = omega (arith, fewer)
+    by false e there rest = let less = rest there in omega (arith, less)
+
+pub no_more : (at : Property) (rows : List CacheEntry) → length (without at rows) ≤ length rows
+no_more at rows = omega (
+  arith,
+  length-filter (λ (row : CacheEntry). not (is_property at row.at)) rows,
+  count_by-le-length (λ (row : CacheEntry). not (is_property at row.at)) rows,
+)
+
+pub within_without : (at : Property) (rows : List CacheEntry) → IsWithin (kept_of (without at rows)) (kept_of rows)
+within_without at rows q kept is = (other_kept at rows q kept is).1
+
 pub gone_more : (before : Keeping) (touched : List Property) (k : ℕ) (default : Property) (rows : List CacheEntry) → k < length touched
     → AreLetGo before (take k touched) rows → AreLetGo before (take (k + 1) touched) (without (get_or touched k default) rows)
 gone_more before touched k default rows within gone = subst (λ some. AreLetGo before some (without (get_or touched k default) rows))
@@ -154,22 +188,96 @@ gone_more before touched k default rows within gone = subst (λ some. AreLetGo b
     more : (l : List Property) (k : ℕ) → k < length l → take (k + 1) l ≡ take k l ++ get_or l k default ∷ []
     more l k lt = take_more l k default lt
 
--- what a property was read by is gone, and so for those before it
+-- a reader is touched where something was kept of it
 
-pub unread_more : (old new : List Property) (edges fewer : List Edge) (at : ℕ) (d : Property) → at < length old → IsLonger old new → AreAmong fewer edges
-    → All (IsUnread edges) (take at old) → IsUnread fewer (get_or old at d) → All (IsUnread fewer) (take (at + 1) new)
-unread_more old new edges fewer at d lt longer within all here =
-    subst (All (IsUnread fewer)) (sym (longer_take old new longer (at + 1) (omega (arith, lt))))
-    (All-more (IsUnread fewer) old at d lt (All-weaker (IsUnread edges) (IsUnread fewer) (unread_within edges fewer within) (take at old) all) here)
+not_some : {A : Type 0} (o : Option A) → is_some o ≡ false → o ≡ None
+not_some None none = refl
+not_some (Some a) none = absurd (cc)
 
--- where nothing has read what is touched any longer
-pub nothing_reads : (before : Keeping) (touched : List Property) (rows : List CacheEntry) (edges : List Edge) → AreLetGo before touched rows
-    → All (IsUnread edges) touched → HasReaders rows edges → IsReached before touched rows
-nothing_reads before touched rows edges gone unread has = record {
+pub touch_gone : (stood : Bool) (before : Keeping) (old new : List Property) (reader : Property) (rows after : List CacheEntry)
+    → stood ≡ is_some (kept_of rows reader) → new ≡ cond stood (old ++ reader ∷ []) old → after ≡ without reader rows
+    → AreLetGo before old rows → AreLetGo before new after
+touch_gone true before old new reader rows after is new_is after_is gone =
+    subst (λ touched. AreLetGo before touched after) (sym new_is)
+    (subst (AreLetGo before (old ++ reader ∷ [])) (sym after_is) (one_gone before old reader rows gone))
+touch_gone false before old new reader rows after is new_is after_is gone =
+    subst (λ touched. AreLetGo before touched after) (sym new_is)
+    (subst (AreLetGo before old) (sym after_is) (none_gone_more before old reader rows (not_some (kept_of rows reader) (sym is)) gone))
+
+pub touch_longer : (stood : Bool) (first old new : List Property) (reader : Property) → new ≡ cond stood (old ++ reader ∷ []) old → IsLonger first old
+    → IsLonger first new
+touch_longer true first old new reader new_is longer = subst (IsLonger first) (sym new_is) (longer_push first old reader longer)
+touch_longer false first old new reader new_is longer = subst (IsLonger first) (sym new_is) longer
+
+pub touch_less : (stood : Bool) (old new : List Property) (reader : Property) (rows after : List CacheEntry) → stood ≡ is_some (kept_of rows reader)
+    → new ≡ cond stood (old ++ reader ∷ []) old → after ≡ without reader rows → length after + length new ≤ length rows + length old
+touch_less true old new reader rows after is new_is after_is =
+    let fewer = one_fewer reader rows (sym is) in
+    omega (arith, fewer, ap length new_is, ap length after_is, length-append old (reader ∷ []))
+touch_less false old new reader rows after is new_is after_is =
+    let fewer = no_more reader rows in
+    omega (arith, fewer, ap length new_is, ap length after_is)
+
+-- what has read a property is stale, and so for those before it
+
+pub unread_more : (old new : List Property) (edges : List Edge) (rows fewer : List CacheEntry) (at : ℕ) (d : Property) → at < length old → IsLonger old new
+    → IsWithin (kept_of fewer) (kept_of rows) → All (IsUnread edges rows) (take at old) → IsUnread edges fewer (get_or old at d)
+    → All (IsUnread edges fewer) (take (at + 1) new)
+unread_more old new edges rows fewer at d lt longer within all here =
+    subst (All (IsUnread edges fewer)) (sym (longer_take old new longer (at + 1) (omega (arith, lt))))
+    (All-more (IsUnread edges fewer) old at d lt
+    (All-weaker (IsUnread edges rows) (IsUnread edges fewer) (unread_within edges rows fewer within) (take at old) all) here)
+
+-- where nothing that is kept has read what is touched
+pub nothing_reads : (before : Keeping) (touched : List Property) (rows all : List CacheEntry) (edges : List Edge) → AreLetGo before touched rows
+    → All (IsUnread edges rows) touched → IsWithin (kept_of rows) (kept_of all) → HasReaders all edges → IsReached before touched rows
+nothing_reads before touched rows all edges gone unread within has = record {
   gone = gone;
   unread = λ q kept is k d lt. false_from_ne_true (among (get_or kept.reads k d) touched) (λ on.
-      All-contains (IsUnread edges) touched (get_or kept.reads k d) unread (among_contains (get_or kept.reads k d) touched on) q (has q kept is k d lt));
+      let none = All-contains (IsUnread edges rows) touched (get_or kept.reads k d) unread (among_contains (get_or kept.reads k d) touched on) q
+      (has q kept (within q kept is) k d lt) in
+      let both : None ≡ Some kept = sym none ∙ is in cc);
 }
+
+-- the edges before a position of a property lead to nothing that is kept
+abbrev pub AreDone : List Edge → List CacheEntry → Property → ℕ → Type 0
+AreDone edges rows read at = AllWithin (λ edge. leads_from read edge ≡ true
+    → kept_of rows (record { object = edge.reader_object; number = edge.reader_number }) ≡ None) edges 0 at
+
+pub done_first : (edges : List Edge) (rows : List CacheEntry) (read : Property) (at : ℕ) → AllWithin (λ edge. is_ahead read edge ≡ true) edges 0 at
+    → AreDone edges rows read at
+done_first edges rows read at ahead k d low high leads = absurd (ahead_apart read (get_or edges k d) (ahead k d low high) leads)
+
+pub done_next : (edges : List Edge) (rows : List CacheEntry) (read reader : Property) (at : ℕ) → IsEdgeAt edges at (edge_of read reader)
+    → AreDone edges rows read at → AreDone edges (without reader rows) read (at + 1)
+done_next edges rows read reader at is done k d low high leads = ⊎_elim
+    (λ (front : k < at). none_without (record { object = (get_or edges k d).reader_object; number = (get_or edges k d).reader_number })
+    (done k d low front leads))
+    (λ (behind : at ≤ k).
+    let here : get_or edges k d ≡ edge_of read reader = ap (λ n. get_or edges n d) (let same : k ≡ at = omega (arith, behind, high) in same) ∙ is.here d in
+    subst (λ (edge : Edge). kept_of (without reader rows) (record { object = edge.reader_object; number = edge.reader_number }) ≡ None) (sym here)
+    (kept_without reader rows reader ∙ ap (λ t. cond t None (kept_of rows reader)) (is_itself reader)))
+    (cases_lt k at)
+  where
+    none_without : (q : Property) → kept_of rows q ≡ None → kept_of (without reader rows) q ≡ None
+    none_without q none = kept_without reader rows q ∙ by (is_property reader q)
+      where
+        by : (t : Bool) → cond t None (kept_of rows q) ≡ None
+        by true = refl
+        by false = none
+
+pub done_all : (edges : List Edge) (rows : List CacheEntry) (read : Property) (at : ℕ) → AreDone edges rows read at
+    → AllWithin (λ edge. leads_from read edge ≡ false) edges at (length edges) → IsUnread edges rows read
+done_all edges rows read at done past reader there = All-contains
+    (λ (edge : Edge). leads_from read edge ≡ true → kept_of rows (record { object = edge.reader_object; number = edge.reader_number }) ≡ None)
+    edges (edge_of read reader) all there (leads_itself read reader)
+  where
+    all : All (λ (edge : Edge). leads_from read edge ≡ true
+        → kept_of rows (record { object = edge.reader_object; number = edge.reader_number }) ≡ None) edges
+    all k d lt leads = ⊎_elim
+        (λ (front : k < at). done k d (omega arith) front leads)
+        (λ (behind : at ≤ k). absurd (both_ways _ (past k d behind lt) leads))
+        (cases_lt k at)
 
 -- rows behind others
 
@@ -216,6 +324,18 @@ pub kept_next : (rows after : List CacheEntry) (row : CacheEntry) (rest all : Li
 kept_next rows after row rest all same before q =
     kept_join after rest q ∙ (ap (λ o. first_kept o (kept_of rest q)) (same q)
     ∙ (sym (kept_join (rows ++ row ∷ []) rest q) ∙ (ap (λ l. kept_of l q) (append_assoc rows (row ∷ []) rest) ∙ before q)))
+
+-- where a property is put, what was kept of it is nothing to what is kept then
+pub put_over : (row : CacheEntry) (old between new : List CacheEntry)
+    → ((q : Property) → is_property row.at q ≡ false → kept_of between q ≡ kept_of old q) → IsPut row between new → IsPut row old new
+put_over row old between new same put q = put q ∙ by (is_property q row.at) refl
+  where
+    by : (t : Bool) → is_property q row.at ≡ t → cond t (Some row.kept) (kept_of between q) ≡ cond t (Some row.kept) (kept_of old q)
+    by true e = refl
+    by false e = same q (is_property_sym row.at q ∙ e)
+
+pub same_without : (at : Property) (rows : List CacheEntry) (q : Property) → is_property at q ≡ false → kept_of (without at rows) q ≡ kept_of rows q
+same_without at rows q differs = kept_without at rows q ∙ ap (λ t. cond t None (kept_of rows q)) differs
 
 -- with what is put, what it has read knows its reader
 pub readers_put : (row : CacheEntry) (old new : List CacheEntry) (edges : List Edge) → IsPut row old new

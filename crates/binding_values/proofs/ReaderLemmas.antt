@@ -1,22 +1,25 @@
 -- Which bound properties have read a property.
-use Rattle.std.proofs.Common.{◌≡◌, ◌≢◌, ◌∙◌, ◌⊎◌, ℕ, ◌<◌, ◌≤◌, false, not, List, Some, None, All, Contains, length, refl, sym, ap, subst, arith, ⊎_elim, take}
-use Rattle.std.proofs.Common.{get_or, ◌+◌}
+use Rattle.std.proofs.Common.{◌≡◌, ◌≢◌, ◌∙◌, ◌⊎◌, ℕ, ◌<◌, ◌≤◌, false, not, List, All, Contains, length, refl, ap, arith, ⊎_elim, take}
+use Rattle.std.proofs.Common.{get_or, ◌+◌, ◌-◌, ◌==◌, ◌&&◌, true, inl, inr}
 use Rattle.std.specs.Cmp.{IsTotalOrder}
-use Rattle.std.specs.Ordering.{is_eq, is_lt, nat_cmp, ordering_then}
+use Rattle.std.specs.Ordering.{is_eq, nat_cmp, ordering_then}
 use Rattle.std.specs.declared.cmp.Ordering.{Ordering}
 use Rattle.std.specs.declared.cmp.Ordering.TheVariants.{Less, Equal, Greater}
-use Rattle.std.proofs.lemmas.Bool.{both_ways}
+use Rattle.std.specs.List.{AllWithin}
+use Rattle.std.specs.List.Sorted.{IsPartitionedBy}
+use Rattle.std.proofs.lemmas.Bool.{both_ways, cases_Bool, cases_lt}
+use Rattle.std.proofs.lemmas.List.{get_or_default}
 use Rattle.std.proofs.lemmas.Bool.Decides.{nat_tests}
 use Rattle.std.proofs.lemmas.Cmp.{nat_cmp_total, on_total, ranked, then_total}
 use Rattle.std.proofs.lemmas.List.Elements.{All-more, All-weaker}
 use Rattle.std.proofs.lemmas.List.Sums.{length-filter, count_by-le-length}
-use Rattle.shared_rows.specs.Links.{IsInOrder, first_from, with_link, without_link}
-use Rattle.shared_rows.proofs.LinkedLemmas.{first_none, first_some, with_itself, with_others, without_from, without_others}
+use Rattle.shared_rows.specs.Links.{IsInOrder, with_link, without_link}
+use Rattle.shared_rows.proofs.LinkedLemmas.{with_itself, with_others, without_from, without_others}
 use Rattle.property_store.specs.declared.property.Property.{Property}
 use Rattle.property_store.specs.Property.{is_property}
 use Rattle.binding_values.proofs.FuelLemmas.{is_itself}
 use Rattle.binding_values.specs.declared.readers.Edge.{Edge}
-use Rattle.binding_values.specs.Readers.{AreAmong, AreFewer, IsUnread, edge_cmp, edge_of}
+use Rattle.binding_values.specs.Readers.{AreAmong, AreFewer, IsStart, edge_cmp, edge_of, is_ahead, leads_from}
 
 pub edge_total : IsTotalOrder edge_cmp
 edge_total = then_total (on_total (λ (edge : Edge). edge.read_object) nat_cmp_total)
@@ -48,51 +51,76 @@ edge_same x y e = by (nat_cmp x.read_object y.read_object) (nat_cmp x.read_numbe
     by Equal Equal Equal Less e f g h i = absurd (cc)
     by Equal Equal Equal Greater e f g h i = absurd (cc)
 
--- the first edge that a property can have
-abbrev pub from : Property → Edge
-from read = edge_of read (record { object = 0; number = 0 })
+-- an edge of a property that stands before another is none of that one
 
--- what it says in numbers that the first edge is not below the second
-pub record IsAtLeast (x y : Edge) : Type 0 where
-  pub object : y.read_object ≤ x.read_object
-  pub number : y.read_object ≡ x.read_object → y.read_number ≤ x.read_number
+pub ahead_apart : (read : Property) (edge : Edge) → is_ahead read edge ≡ true → leads_from read edge ≡ true → ⊥
+ahead_apart read edge ahead leads = grind (arith, nat_tests, ahead, leads)
 
-at_least : (x y : Edge) → is_lt (edge_cmp x y) ≡ false → IsAtLeast x y
-at_least x y e = record { object = grind (arith, nat_tests, e); number = λ same. grind (arith, nat_tests, e, same) }
-
-not_below : (read reader : Property) → is_lt (edge_cmp (edge_of read reader) (from read)) ≡ false
-not_below read reader = by read.object read.number reader.object reader.number
+pub leads_itself : (read reader : Property) → leads_from read (edge_of read reader) ≡ true
+leads_itself read reader = by read.object read.number
   where
-    by : (a b c d : ℕ) → is_lt (ordering_then (nat_cmp a a) (ordering_then (nat_cmp b b) (ordering_then (nat_cmp c 0) (nat_cmp d 0)))) ≡ false
-    by a b c d = grind (arith, nat_tests)
+    by : (a b : ℕ) → ((a == a) && (b == b)) ≡ true
+    by a b = grind (arith, nat_tests)
+
+-- the edges stand by what they lead from
+
+earlier_edge : (x y : Edge) → edge_cmp x y ≡ Less → (x.read_object < y.read_object) ⊎ ((x.read_object ≡ y.read_object) × (x.read_number ≤ y.read_number))
+earlier_edge x y e = by (nat_cmp x.read_object y.read_object) (nat_cmp x.read_number y.read_number) refl refl e
+  where
+    by : (a b : Ordering) → a ≡ nat_cmp x.read_object y.read_object → b ≡ nat_cmp x.read_number y.read_number
+        → ordering_then a (ordering_then b (ordering_then (nat_cmp x.reader_object y.reader_object) (nat_cmp x.reader_number y.reader_number))) ≡ Less
+        → (x.read_object < y.read_object) ⊎ ((x.read_object ≡ y.read_object) × (x.read_number ≤ y.read_number))
+    by Less b a_is b_is e = inl (ranked x.read_object y.read_object Less a_is)
+    by Greater b a_is b_is e = absurd (cc)
+    by Equal Less a_is b_is e = inr (
+      ranked x.read_object y.read_object Equal a_is,
+      (let less = ranked x.read_number y.read_number Less b_is in omega (arith, less)),
+    )
+    by Equal Equal a_is b_is e = inr (
+      ranked x.read_object y.read_object Equal a_is,
+      (let same = ranked x.read_number y.read_number Equal b_is in omega (arith, same)),
+    )
+    by Equal Greater a_is b_is e = absurd (cc)
+
+ahead_before : (read : Property) (x y : Edge) → edge_cmp x y ≡ Less → is_ahead read y ≡ true → is_ahead read x ≡ true
+ahead_before read x y less ahead = ⊎_elim
+    (λ (object : x.read_object < y.read_object). grind (arith, nat_tests, ahead, object))
+    (λ (both : (x.read_object ≡ y.read_object) × (x.read_number ≤ y.read_number)). grind (arith, nat_tests, ahead, both.0, both.1))
+    (earlier_edge x y less)
 
 module _ (edges : List Edge) (order : IsInOrder edge_cmp edges) (read : Property) where
-  -- where no edge is at least the first of a property, none is the property's
-  pub none_of : first_from edge_cmp edges (from read) ≡ None → IsUnread edges read
-  none_of none reader there =
-      let below = first_none edge_total edge_same edges (from read) none (edge_of read reader) there in
-      both_ways _ (not_below read reader) below
+  pub ahead_parted : IsPartitionedBy (is_ahead read) edges
+  ahead_parted i j d upto within ahead = ⊎_elim
+      (λ (front : i < j). ahead_before read (get_or edges i d) (get_or edges j d) (order i j d front within) ahead)
+      (λ (at : j ≤ i). let same : i ≡ j = omega (arith, at, upto) in ap (λ n. is_ahead read (get_or edges n d)) same ∙ ahead)
+      (cases_lt i j)
 
-  -- nor where the least of those is another's
-  pub others_of : (least : Edge) → first_from edge_cmp edges (from read) ≡ Some least → (least.read_object ≢ read.object) ⊎ (least.read_number ≢ read.number)
-      → IsUnread edges read
-  others_of least found differs reader there =
-      let first = first_some edge_total edge_same edges order (from read) least found in
-      let low = at_least least (from read) first.1 in
-      let above = at_least (edge_of read reader) least (first.2 (edge_of read reader) there (not_below read reader)) in
-      let same : least.read_object ≡ read.object = omega (arith, low.object, above.object) in
-      let low_number : read.number ≤ least.read_number = low.number (sym same) in
-      let above_number : least.read_number ≤ read.number = above.number same in
-      ⊎_elim (λ other. other same) (λ other. other (omega arith)) differs
+  pub start_at : (at : ℕ) → at ≤ length edges → (0 < at → (d : Edge) → is_ahead read (get_or edges (at - 1) d) ≡ true)
+      → (at < length edges → (d : Edge) → is_ahead read (get_or edges at d) ≡ false) → IsStart edges read at
+  start_at at within low high = (
+    λ k d first upto. ahead_parted k (at - 1) d (omega (arith, upto)) (omega (arith, upto, within)) (low (omega (arith, upto)) d),
+    λ k d from inside. ⊎_elim
+        (λ (ahead : is_ahead read (get_or edges k d) ≡ true).
+        absurd (both_ways _ (high (omega (arith, from, inside)) d) (ahead_parted at k d from inside ahead)))
+        (λ (not_ahead : is_ahead read (get_or edges k d) ≡ false). not_ahead)
+        (cases_Bool (is_ahead read (get_or edges k d))),
+  )
 
-  -- else that one is an edge of the property
-  pub one_of : (least : Edge) → first_from edge_cmp edges (from read) ≡ Some least → least.read_object ≡ read.object → least.read_number ≡ read.number
-      → Contains edges (edge_of read (record { object = least.reader_object; number = least.reader_number }))
-  one_of least found object number =
-      subst (Contains edges)
-      (ap (λ i. record { read_object = i; read_number = least.read_number; reader_object = least.reader_object; reader_number = least.reader_number }) object
-      ∙ ap (λ i. record { read_object = read.object; read_number = i; reader_object = least.reader_object; reader_number = least.reader_number }) number)
-      (first_some edge_total edge_same edges order (from read) least found).0
+  -- behind an edge that leads neither from a property before this one nor from this one, none leads from this one
+  pub past_all : (at : ℕ) (d : Edge) → at < length edges → is_ahead read (get_or edges at d) ≡ false → leads_from read (get_or edges at d) ≡ false
+      → AllWithin (λ edge. leads_from read edge ≡ false) edges at (length edges)
+  past_all at d within here other k e from inside = ⊎_elim
+      (λ (behind : at < k). later (get_or edges at e) (get_or edges k e) (order at k e behind inside)
+      (ap (is_ahead read) (get_or_default edges at e d within) ∙ here) (ap (leads_from read) (get_or_default edges at e d within) ∙ other))
+      (λ (there : k ≤ at). let same : k ≡ at = omega (arith, there, from) in
+      ap (λ n. leads_from read (get_or edges n e)) same ∙ (ap (leads_from read) (get_or_default edges at e d within) ∙ other))
+      (cases_lt at k)
+    where
+      later : (x y : Edge) → edge_cmp x y ≡ Less → is_ahead read x ≡ false → leads_from read x ≡ false → leads_from read y ≡ false
+      later x y less ahead leads = ⊎_elim
+          (λ (object : x.read_object < y.read_object). grind (arith, nat_tests, ahead, leads, object))
+          (λ (both : (x.read_object ≡ y.read_object) × (x.read_number ≤ y.read_number)). grind (arith, nat_tests, ahead, leads, both.0, both.1))
+          (earlier_edge x y less)
 
 -- more edges, and fewer
 

@@ -1,7 +1,7 @@
 -- Rows of properties by rising object and number.
 use Rattle.std.proofs.Common.{◌≡◌, ◌∙◌, ℕ, zero, suc, ◌+◌, ◌<◌, ◌≤◌, ◌==◌, ◌&&◌, ◌||◌, nat_lt, Bool, true, false, List, [], ◌∷◌, ◌++◌, Option, Some, None, All}
-use Rattle.std.proofs.Common.{filter, find, length, get_or, set, take, drop, refl, sym, ap, subst, arith, ⊎_elim}
-use Rattle.std.specs.List.{AllWithin, insert, slice_get}
+use Rattle.std.proofs.Common.{filter, find, length, not, get_or, set, take, drop, refl, sym, ap, subst, arith, ⊎_elim}
+use Rattle.std.specs.List.{AllWithin, insert, remove, slice_get}
 use Rattle.std.specs.Option.{option_map_or}
 use Rattle.std.proofs.lemmas.Option.{slice_get-get_or, slice_get_past}
 use Rattle.std.proofs.lemmas.List.Elements.{All-cons, filter_passes}
@@ -11,6 +11,7 @@ use Rattle.std.proofs.lemmas.List.{get_or_default}
 use Rattle.std.proofs.lemmas.Bool.Decides.{nat_tests}
 use Rattle.property_store.specs.declared.property.Property.{Property}
 use Rattle.property_store.specs.Property.{is_property}
+use Rattle.property_store.proofs.ForCallers.{filter_all}
 use Rattle.binding_values.specs.Sorted.{IsCountBefore, IsRising, is_before}
 use Rattle.binding_values.proofs.FuelLemmas.{property_eq}
 use Rattle.binding_values.proofs.MapLemmas.{pairs_append}
@@ -171,6 +172,19 @@ filter_drop p (row ∷ rows) (suc k) before behind =
     let here : p row ≡ false = before 0 row (omega arith) (omega arith) in
     rw here (filter_drop p rows k (λ j d low high. before (suc j) d (omega arith) (omega arith)) (λ j d low high. behind (suc j) d (omega arith) (omega arith)))
 
+-- a filter that all pass but one
+
+filter_but : {X : Type 0} (p : X → Bool) (rows : List X) (k : ℕ) → k < length rows → AllWithin (λ row. p row ≡ true) rows 0 k
+    → ((d : X) → p (get_or rows k d) ≡ false) → AllWithin (λ row. p row ≡ true) rows (suc k) (length rows) → filter p rows ≡ remove rows k
+filter_but p [] k within before here behind = absurd (omega arith)
+filter_but p (row ∷ rows) zero within before here behind =
+    let off : p row ≡ false = here row in
+    rw off (filter_all p rows (λ k d lt. behind (suc k) d (omega arith) (omega arith)))
+filter_but p (row ∷ rows) (suc k) within before here behind =
+    let on : p row ≡ true = before 0 row (omega arith) (omega arith) in
+    rw on (ap (λ ys. row ∷ ys) (filter_but p rows k (omega arith) (λ j d low high. before (suc j) d (omega arith) (omega arith)) here
+    (λ j d low high. behind (suc j) d (omega arith) (omega arith))))
+
 -- another row in place of one, and one more row
 
 set_split : {X : Type 0} (xs : List X) (i : ℕ) (x : X) → i < length xs → set xs i x ≡ take i xs ++ x ∷ drop (suc i) xs
@@ -245,6 +259,24 @@ module _ {X : Type 0} (f : X → Property) (rows : List X) (place : ℕ) (at : P
 
       is : (d : X) → f (get_or rows place d) ≡ at
       is d = sym (property_eq at (f (get_or rows place d)) (stands_so t asked d there ∙ e))
+
+  -- what is left without the row of the property
+  module _ (rising : IsRising f rows) (is : IsCountBefore f rows at place) (t : Bool) (asked : Asked t) where
+    pub left_without : t ≡ true → filter (λ row. not (is_property at (f row))) rows ≡ remove rows place
+    left_without e =
+        let within = stands_within t asked e in
+        let here : (d : X) → is_property at (f (get_or rows place d)) ≡ true = λ d. stands_so t asked d within ∙ e in
+        filter_but (λ row. not (is_property at (f row))) rows place within (λ k d low high. ap not (before_other f rows at place is k d low high))
+        (λ d. ap not (here d))
+        (λ k d low high. ap not (is_other at (f (get_or rows k d)) (all_after f rows at place is rising d within (here d) k d low high)))
+
+    -- where it has none
+    pub all_left : t ≡ false → filter (λ row. not (is_property at (f row))) rows ≡ rows
+    all_left e = filter_all (λ row. not (is_property at (f row))) rows (λ k d lt. ap not (⊎_elim
+        (λ (before : k < place). before_other f rows at place is k d (omega arith) before)
+        (λ (behind : place ≤ k). is_other at (f (get_or rows k d))
+        (all_behind f rows at place is rising (λ d within. stands_so t asked d within ∙ e) k d behind lt))
+        (cases_lt k place)))
 
 -- rows before, one, and rows behind
 

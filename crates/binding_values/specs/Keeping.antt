@@ -1,17 +1,37 @@
 -- What is kept from one change to the next.
-use Rattle.std.specs.Prelude.{◌≡◌, List, Option, Some, filter_map, if◌then◌else◌, option_map}
+use Rattle.std.specs.Prelude.{◌≡◌, List, Option, None, Some, filter_map, if◌then◌else◌, option_map}
 use Rattle.binding_values.specs.declared.eval_result.CacheEntry.{CacheEntry}
+use Rattle.binding_values.specs.declared.eval_result.EvalResult.{EvalResult}
 use Rattle.binding_values.specs.declared.kept_rows.KeptRow.{KeptRow}
 use Rattle.binding_values.specs.EvalResult.{kept_of}
 use Rattle.property_store.specs.declared.property.Property.{Property}
 use Rattle.property_store.specs.Property.{is_property}
 
--- the rows of properties of which something is kept
-abbrev pub done_of : KeptRow → Option CacheEntry
-done_of row = option_map (λ kept. record { at = row.at; kept = kept }) row.kept
+-- a property's result, as an entry
+abbrev pub entry_of : Property → Option EvalResult → Option CacheEntry
+entry_of at found = option_map (λ kept. record { at = at; kept = kept }) found
 
+-- the entries that rows have by what each of them holds
+abbrev pub held_by : (KeptRow → Option EvalResult) → List KeptRow → List CacheEntry
+held_by held rows = filter_map (λ row. entry_of row.at (held row)) rows
+
+-- the result of a row that is not stale
+abbrev pub fresh : KeptRow → Option EvalResult
+fresh row = if row.is_stale then None else row.kept
+
+-- what is kept
 abbrev pub standing : List KeptRow → List CacheEntry
-standing rows = filter_map done_of rows
+standing rows = held_by fresh rows
+
+-- the last results, stale or not
+abbrev pub entries : List KeptRow → List CacheEntry
+entries rows = held_by (λ row. row.kept) rows
+
+-- the last result of a property has read these
+pub record HasRead (rows : List KeptRow) (at : Property) (reads : List Property) : Type 0 where
+  pub last : EvalResult
+  pub found : kept_of (entries rows) at ≡ Some last
+  pub same : last.reads ≡ reads
 
 -- this is kept of its property, and of the others what was kept of them
 abbrev pub IsPut : CacheEntry → List CacheEntry → List CacheEntry → Type 0

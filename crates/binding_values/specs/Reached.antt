@@ -25,6 +25,10 @@ pub record IsReached (before : Keeping) (touched : List Property) (rows : List C
   pub gone : AreLetGo before touched rows
   pub unread : (q : Property) (kept : EvalResult) → kept_of rows q ≡ Some kept → All (λ read. among read touched ≡ false) kept.reads
 
+-- nothing is kept of what has read this property
+abbrev pub IsUnread : List Edge → List CacheEntry → Property → Type 0
+IsUnread edges rows read = (reader : Property) → Contains edges (edge_of read reader) → kept_of rows reader ≡ None
+
 -- others came behind these properties
 abbrev pub IsLonger : List Property → List Property → Type 0
 IsLonger old new = (more : List Property) × (new ≡ old ++ more)

@@ -1,5 +1,6 @@
 -- Which bound properties have read a property. No clause of a public function cites this module.
-use Rattle.std.specs.Prelude.{◌≡◌, ◌≤◌, false, List, Contains, length}
+use Rattle.std.specs.Prelude.{◌≡◌, ◌<◌, ◌≤◌, ◌==◌, ◌&&◌, ◌||◌, ℕ, Bool, true, false, List, Contains, length, nat_lt, slice_index_or}
+use Rattle.std.specs.List.Sorted.{IsPartitionPoint}
 use Rattle.std.specs.Ordering.{nat_cmp, ordering_then}
 use Rattle.std.specs.declared.cmp.Ordering.{Ordering}
 use Rattle.property_store.specs.declared.property.Property.{Property}
@@ -18,9 +19,22 @@ edge_cmp x y = ordering_then (nat_cmp x.read_object y.read_object) (ordering_the
 abbrev pub AreAmong : List Edge → List Edge → Type 0
 AreAmong some more = (edge : Edge) → Contains some edge → Contains more edge
 
--- no property has read this one
-abbrev pub IsUnread : List Edge → Property → Type 0
-IsUnread edges read = (reader : Property) → Contains edges (edge_of read reader) → ⊥
+-- an edge leads from a property that stands before this one
+abbrev pub is_ahead : Property → Edge → Bool
+is_ahead read edge = nat_lt edge.read_object read.object || (edge.read_object == read.object && nat_lt edge.read_number read.number)
+
+-- an edge leads from this property
+abbrev pub leads_from : Property → Edge → Bool
+leads_from read edge = edge.read_object == read.object && edge.read_number == read.number
+
+-- the edges before this position lead from properties before this one, and the others do not
+abbrev pub IsStart : List Edge → Property → ℕ → Type 0
+IsStart edges read = IsPartitionPoint (λ edge. is_ahead read edge ≡ true) (λ edge. is_ahead read edge ≡ false) edges
+
+-- an edge stands at a position
+pub record IsEdgeAt (edges : List Edge) (at : ℕ) (edge : Edge) : Type 0 where
+  pub within : at < length edges
+  pub here : (default : Edge) → slice_index_or edges at default ≡ edge
 
 -- edges of one reader are gone, and no others
 pub record AreFewer (reader : Property) (old new : List Edge) : Type 0 where

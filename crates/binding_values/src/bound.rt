@@ -8,7 +8,7 @@ ghost use Rattle.property_store.specs.Property.{is_property};
 
 use crate::binding::Binding;
 use crate::sorted::{count_before, is_at, row_at};
-use property_store::{Property, is_property};
+use property_store::Property;
 use std::alloc::{AllocError, Global};
 use std::marker::Model;
 use term_core::Expr;
@@ -86,7 +86,11 @@ impl Bound {
     pub fn remove(&mut self, at: Property)
         ensures { self.new ≡ filter (λ binding. not (is_property at binding.at)) self.old }
     {
-        self.rows.retain(|binding| !is_property(at, binding.at));
+        let place = count_before(self.rows.as_slice(), at);
+        if !is_at(self.rows.as_slice(), place, at) {
+            return;
+        }
+        self.rows.remove(place);
     }
 
     /// Binds no property of an object any longer.

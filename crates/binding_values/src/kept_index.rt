@@ -1,11 +1,13 @@
 //! The index keeps results of bound properties from one change to the next, and which of them have read which
 //! property.
-ghost use Rattle.std.specs.Prelude.{◌≡◌, ◌+◌, ◌≤◌, ◌∷◌, [], OnOk, filter, length, not};
+ghost use Rattle.std.specs.Prelude.{◌≡◌, ◌+◌, ◌≤◌, ◌∷◌, [], All, Contains, OnOk, false, filter, length, not};
 ghost use Rattle.std.specs.Option.{option_map};
+ghost use Rattle.property_store.specs.declared.property.Property.{Property};
 ghost use Rattle.property_store.specs.Property.{is_property};
-ghost use Rattle.binding_values.specs.EvalResult.{Keeping, kept_of};
-ghost use Rattle.binding_values.specs.Reached.{AreKeptToo, AreLetGo, HasReaders, IsLonger, IsReached, without};
-ghost use Rattle.binding_values.specs.Readers.{AreAmong, IsUnread};
+ghost use Rattle.binding_values.specs.EvalResult.{IsWithin, Keeping, kept_of};
+ghost use Rattle.binding_values.specs.Keeping.{entries, standing};
+ghost use Rattle.binding_values.specs.Reached.{AreKeptToo, AreLetGo, HasReaders, IsLonger, IsReached, IsUnread, without};
+ghost use Rattle.binding_values.specs.Readers.{edge_of};
 
 use crate::eval_result::{CacheEntry, EvalResult};
 use crate::kept_rows::KeptRows;
@@ -14,7 +16,8 @@ use property_store::Property;
 use std::alloc::{AllocError, Global};
 use std::marker::Model;
 
-/// The index holds results of bound properties, and leads from each property to those that have read it.
+/// The index holds results of bound properties, and leads from each property to those that have read it. The edges of
+/// a stale result stay until the next one has read other properties.
 #[derive(Drop)]
 pub struct KeptIndex {
     rows: KeptRows,
@@ -25,15 +28,16 @@ impl Model for KeptIndex {
     ghost use Rattle.std.specs.Prelude.{List};
     ghost use Rattle.binding_values.specs.declared.eval_result.CacheEntry.{CacheEntry};
     ghost use Rattle.binding_values.specs.Coded.{coded_eval_cache};
+    ghost use Rattle.binding_values.specs.Keeping.{entries, standing};
     ghost use Rattle.binding_values.specs.Reached.{HasReaders};
 
     ghost Value = { List CacheEntry };
 
     ghost coded = { coded_eval_cache };
 
-    ghost view = { λ kept. kept.rows };
+    ghost view = { λ kept. standing kept.rows };
 
-    ghost invariant = { λ kept. HasReaders kept.rows kept.readers };
+    ghost invariant = { λ kept. HasReaders (entries kept.rows) kept.readers };
 }
 
 impl KeptIndex {
@@ -57,7 +61,7 @@ impl KeptIndex {
     pub fn forget(&mut self, at: Property)
         ensures { self.new ≡ filter (λ row. not (is_property at row.at)) self.old }
     {
-        let_go(&mut self.rows, &mut self.readers, at, None);
+        let_go(&mut self.rows, &mut self.readers, at);
         self.rows.remove(at);
     }
 
@@ -75,7 +79,7 @@ impl KeptIndex {
         ensures reached { OnOk result (IsReached (kept_of self.old) touched.new.items self.new) }
         ensures longer { OnOk result (IsLonger touched.old.items touched.new.items) }
     {
-        spread(&mut self.rows, &mut self.readers, touched)
+        spread(&mut self.rows, &self.readers, touched)
     }
 
     /// Keeps what was found of properties of which nothing is kept.
@@ -86,84 +90,104 @@ impl KeptIndex {
     }
 }
 
-/// Lets go of what is kept of a property. Its row stands, for what is kept of it next. One that it has read may not
-/// know it any longer already.
-fn let_go(rows: &mut KeptRows, readers: &mut Readers, at: Property, but: Option<Property>)
-    requires { HasReaders (without at rows.old) readers.old }
-    ensures rows { rows.new ≡ without at rows.old }
-    ensures readers { HasReaders rows.new readers.new }
-    ensures within { AreAmong readers.new readers.old }
-    ensures few { length readers.new ≤ length readers.old }
+/// Lets go of the last result of a property, and of the edges to it.
+fn let_go(rows: &mut KeptRows, readers: &mut Readers, at: Property)
+    requires { HasReaders (entries rows.old) readers.old }
+    ensures standing { standing rows.new ≡ without at (standing rows.old) }
+    ensures entries { entries rows.new ≡ without at (entries rows.old) }
+    ensures readers { HasReaders (entries rows.new) readers.new }
 {
     if let Some(kept) = rows.take(at) {
-        readers.remove_all(kept.reads.as_slice(), at, but);
+        readers.remove_all(kept.reads.as_slice(), at);
     }
 }
 
-fn let_go_all(rows: &mut KeptRows, readers: &mut Readers, touched: &[Property])
-    requires { HasReaders rows.old readers.old }
-    ensures gone { AreLetGo (kept_of rows.old) touched.now rows.new }
-    ensures readers { HasReaders rows.new readers.new }
+fn invalidate_all(rows: &mut KeptRows, touched: &[Property])
+    ensures gone { AreLetGo (kept_of (standing rows.old)) touched.now (standing rows.new) }
+    ensures entries { entries rows.new ≡ entries rows.old }
 {
     for at in touched {
-        let_go(rows, readers, *at, None);
+        rows.invalidate(*at);
     }
 }
 
-/// Puts what has read a property behind those that are touched, and lets go of what is kept of it. Since nothing
-/// is known any longer to have read what is touched, none of these is put there again.
+/// Puts what has read a property behind those that are touched, and makes its results stale. What is stale already is
+/// touched already. The edges are looked for at the position `near` first, which then is the one behind them.
 fn touch_readers(
     rows: &mut KeptRows,
-    readers: &mut Readers,
+    readers: &Readers,
     read: Property,
     touched: &mut Vec<Property>,
+    near: &mut usize,
 ) -> Result<(), AllocError>
-    requires { HasReaders rows.old readers.old }
-    ensures gone { OnOk result ((before : Keeping) → AreLetGo before touched.old.items rows.old → AreLetGo before touched.new.items rows.new) }
-    ensures unread { OnOk result (IsUnread readers.new read) }
+    ensures gone { OnOk result ((before : Keeping)
+        → AreLetGo before touched.old.items (standing rows.old) → AreLetGo before touched.new.items (standing rows.new)) }
+    ensures unread { OnOk result (IsUnread readers.now (standing rows.new) read) }
     ensures longer { OnOk result (IsLonger touched.old.items touched.new.items) }
-    ensures less { OnOk result (length readers.new + length touched.new.items ≤ length readers.old + length touched.old.items) }
-    ensures within { AreAmong readers.new readers.old }
-    ensures readers { HasReaders rows.new readers.new }
+    ensures less { OnOk result (length (standing rows.new) + length touched.new.items ≤ length (standing rows.old) + length touched.old.items) }
+    ensures within { OnOk result (IsWithin (kept_of (standing rows.new)) (kept_of (standing rows.old))) }
+    ensures entries { entries rows.new ≡ entries rows.old }
 {
-    'readers: while let Some(reader) = readers.first_of(read) {
-        touched.push(reader)?;
-        readers.remove(read, reader);
-        let_go(rows, readers, reader, Some(read));
+    let mut at = readers.start_of(read, *near);
+    'readers: while let Some((reader, next)) = readers.reader_at(read, at) {
+        if rows.invalidate(reader) {
+            touched.push(reader)?;
+        }
+        at = next;
     }
+    *near = at;
     Ok(())
 }
 
-/// Lets go of what is kept of touched properties and of all that these reach, and puts what they reach behind them.
+/// Makes the results of touched properties stale, and those of all that these reach, and puts what they reach behind
+/// them.
 fn spread(
     rows: &mut KeptRows,
-    readers: &mut Readers,
+    readers: &Readers,
     touched: &mut Vec<Property>,
 ) -> Result<(), AllocError>
-    requires { HasReaders rows.old readers.old }
-    ensures reached { OnOk result (IsReached (kept_of rows.old) touched.new.items rows.new) }
+    requires { HasReaders (entries rows.old) readers.now }
+    ensures reached { OnOk result (IsReached (kept_of (standing rows.old)) touched.new.items (standing rows.new)) }
     ensures longer { OnOk result (IsLonger touched.old.items touched.new.items) }
-    ensures readers { HasReaders rows.new readers.new }
+    ensures entries { entries rows.new ≡ entries rows.old }
 {
-    let_go_all(rows, readers, touched.as_slice());
+    invalidate_all(rows, touched.as_slice());
+    let mut near = 0;
     let mut at = 0;
     while at < touched.len() {
-        touch_readers(rows, readers, touched[at], touched)?;
+        touch_readers(rows, readers, touched[at], touched, &mut near)?;
         at += 1;
     }
+    let _ = rows.count();
     Ok(())
+}
+
+/// Lets edges lead to a property from those that its result has read. Where its last result has read the same they do
+/// already, and nothing moves.
+fn lead_to(rows: &mut KeptRows, readers: &mut Readers, row: &CacheEntry) -> Result<(), AllocError>
+    requires { HasReaders (entries rows.old) readers.old }
+    ensures others { (q : Property) → is_property row.now.at q ≡ false → kept_of (standing rows.new) q ≡ kept_of (standing rows.old) q }
+    ensures readers { HasReaders (entries rows.new) readers.new }
+    ensures led { OnOk result (All (λ read. Contains readers.new (edge_of read row.now.at)) row.now.kept.reads) }
+{
+    let reads = row.kept.reads.as_slice();
+    if rows.has_read(row.at, reads) {
+        return Ok(());
+    }
+    let_go(rows, readers, row.at);
+    readers.add_all(reads, row.at)
 }
 
 /// Keeps what was found of a property, unless something is kept of it.
 fn keep(rows: &mut KeptRows, readers: &mut Readers, row: CacheEntry) -> Result<(), AllocError>
-    requires { HasReaders rows.old readers.old }
-    ensures kept { OnOk result (AreKeptToo (row ∷ []) rows.old rows.new) }
-    ensures readers { HasReaders rows.new readers.new }
+    requires { HasReaders (entries rows.old) readers.old }
+    ensures kept { OnOk result (AreKeptToo (row ∷ []) (standing rows.old) (standing rows.new)) }
+    ensures readers { HasReaders (entries rows.new) readers.new }
 {
     if rows.at(row.at).is_some() {
         return Ok(());
     }
-    readers.add_all(row.kept.reads.as_slice(), row.at)?;
+    lead_to(rows, readers, &row)?;
     rows.put(row)
 }
 
@@ -172,9 +196,9 @@ fn keep_all(
     readers: &mut Readers,
     found: Vec<CacheEntry>,
 ) -> Result<(), AllocError>
-    requires { HasReaders rows.old readers.old }
-    ensures kept { OnOk result (AreKeptToo found.items rows.old rows.new) }
-    ensures readers { HasReaders rows.new readers.new }
+    requires { HasReaders (entries rows.old) readers.old }
+    ensures kept { OnOk result (AreKeptToo found.items (standing rows.old) (standing rows.new)) }
+    ensures readers { HasReaders (entries rows.new) readers.new }
 {
     for row in found {
         keep(rows, readers, row)?;

@@ -1,9 +1,11 @@
 //! These rows keep results of bound properties from one change to the next.
-ghost use Rattle.std.specs.Prelude.{◌≡◌, [], OnErr, OnOk, filter, not};
-ghost use Rattle.std.specs.Option.{option_map};
+ghost use Rattle.std.specs.Prelude.{◌≡◌, [], IsTrue, OnErr, OnOk, filter, not};
+ghost use Rattle.std.specs.Option.{is_some, option_map};
 ghost use Rattle.property_store.specs.Property.{is_property};
 ghost use Rattle.binding_values.specs.EvalResult.{kept_of};
-ghost use Rattle.binding_values.specs.Keeping.{IsPut};
+ghost use Rattle.binding_values.specs.Keeping.{HasRead, IsPut, entries, fresh, standing};
+ghost use Rattle.binding_values.specs.Reached.{without};
+ghost use Rattle.binding_values.specs.Sorted.{IsRising};
 
 use crate::eval_result::{CacheEntry, EvalResult};
 use crate::sorted::{HasProperty, count_before, is_at, row_at};
@@ -11,11 +13,13 @@ use property_store::{Property, is_property};
 use std::alloc::{AllocError, Global};
 use std::marker::Model;
 
-/// A property, and what is kept of it. Where that was let go the row stays, for what is kept of it next.
+/// A property, and the result of its last evaluation. A result that is stale stays until the next one, which mostly
+/// has read the same properties.
 #[derive(Drop)]
 pub(crate) struct KeptRow {
     pub(crate) at: Property,
     pub(crate) kept: Option<EvalResult>,
+    pub(crate) is_stale: bool,
 }
 
 impl HasProperty for KeptRow {
@@ -26,6 +30,33 @@ impl HasProperty for KeptRow {
     }
 }
 
+impl KeptRow {
+    /// The result, where it is not stale.
+    fn fresh(&self) -> Option<&EvalResult>
+        ensures { option_map (λ kept. kept.now) result ≡ fresh self.now }
+    {
+        if self.is_stale {
+            return None;
+        }
+        self.kept.as_ref()
+    }
+}
+
+/// Whether two lists name the same properties in the same order.
+fn is_same_list(one: &[Property], other: &[Property]) -> bool
+    ensures { IsTrue result → one.now ≡ other.now }
+{
+    if one.len() != other.len() {
+        return false;
+    }
+    for i in 0..one.len() {
+        if !is_property(one[i], other[i]) {
+            return false;
+        }
+    }
+    true
+}
+
 /// The rows hold results of properties, by rising object and number.
 #[derive(Drop)]
 pub struct KeptRows {
@@ -34,16 +65,12 @@ pub struct KeptRows {
 
 impl Model for KeptRows {
     ghost use Rattle.std.specs.Prelude.{List};
-    ghost use Rattle.binding_values.specs.declared.eval_result.CacheEntry.{CacheEntry};
-    ghost use Rattle.binding_values.specs.Coded.{coded_eval_cache};
-    ghost use Rattle.binding_values.specs.Keeping.{standing};
+    ghost use Rattle.binding_values.specs.declared.kept_rows.KeptRow.{KeptRow};
     ghost use Rattle.binding_values.specs.Sorted.{IsRising};
 
-    ghost Value = { List CacheEntry };
+    ghost Value = { List KeptRow };
 
-    ghost coded = { coded_eval_cache };
-
-    ghost view = { λ kept. standing kept.rows.items };
+    ghost view = { λ kept. kept.rows.items };
 
     ghost invariant = { λ kept. IsRising (λ row. row.at) kept.rows.items };
 }
@@ -57,34 +84,74 @@ impl KeptRows {
         }
     }
 
+    /// How many rows there are.
+    pub fn count(&self) -> usize
+        ensures { IsRising (λ row. row.at) self.now }
+    {
+        self.rows.len()
+    }
+
     /// Returns the result of a property, where one is kept.
     pub fn at(&self, at: Property) -> Option<&EvalResult>
-        ensures { option_map (λ kept. kept.now) result ≡ kept_of self.now at }
+        ensures { option_map (λ kept. kept.now) result ≡ kept_of (standing self.now) at }
     {
         let row = row_at(self.rows.as_slice(), at)?;
-        row.kept.as_ref()
+        row.fresh()
+    }
+
+    /// Whether the last result of a property, which may be stale, has read these properties.
+    pub fn has_read(&self, at: Property, reads: &[Property]) -> bool
+        ensures { IsTrue result → HasRead self.now at reads.now }
+    {
+        let Some(row) = row_at(self.rows.as_slice(), at) else {
+            return false;
+        };
+        match &row.kept {
+            Some(kept) => is_same_list(kept.reads.as_slice(), reads),
+            None => false,
+        }
     }
 
     /// Keeps this of its property, whatever was kept of it. Where something was, this takes no memory.
     pub fn put(&mut self, row: CacheEntry) -> Result<(), AllocError>
-        ensures ok { OnOk result (IsPut row self.old self.new) }
+        ensures standing { OnOk result (IsPut row (standing self.old) (standing self.new)) }
+        ensures entries { OnOk result (IsPut row (entries self.old) (entries self.new)) }
         ensures err { OnErr result (self.new ≡ self.old) }
     {
         let (at, kept) = row.into_parts();
-        let kept = Some(kept);
+        let new = KeptRow {
+            at,
+            kept: Some(kept),
+            is_stale: false,
+        };
         let place = count_before(self.rows.as_slice(), at);
         if is_at(self.rows.as_slice(), place, at) {
-            self.rows[place] = KeptRow { at, kept };
+            self.rows[place] = new;
             return Ok(());
         }
-        self.rows.insert(place, KeptRow { at, kept })?;
+        self.rows.insert(place, new)?;
         Ok(())
     }
 
-    /// Lets go of what is kept of a property, and returns it.
+    /// Makes the result of a property stale, and returns whether one was kept.
+    pub fn invalidate(&mut self, at: Property) -> bool
+        ensures stood { result ≡ is_some (kept_of (standing self.old) at) }
+        ensures standing { standing self.new ≡ without at (standing self.old) }
+        ensures entries { entries self.new ≡ entries self.old }
+    {
+        let place = count_before(self.rows.as_slice(), at);
+        if !is_at(self.rows.as_slice(), place, at) {
+            return false;
+        }
+        let stood = self.rows[place].fresh().is_some();
+        self.rows[place].is_stale = true;
+        stood
+    }
+
+    /// Returns the last result of a property, stale or not, and keeps nothing of it.
     pub fn take(&mut self, at: Property) -> Option<EvalResult>
-        ensures taken { result ≡ kept_of self.old at }
-        ensures new { self.new ≡ filter (λ row. not (is_property at row.at)) self.old }
+        ensures standing { standing self.new ≡ without at (standing self.old) }
+        ensures entries { entries self.new ≡ without at (entries self.old) }
     {
         let place = count_before(self.rows.as_slice(), at);
         if !is_at(self.rows.as_slice(), place, at) {
@@ -93,11 +160,15 @@ impl KeptRows {
         self.rows[place].kept.take()
     }
 
-    /// Lets go of a property of which nothing will be kept soon.
+    /// Removes the row of a property of which nothing will be kept soon.
     pub fn remove(&mut self, at: Property)
         ensures { self.new ≡ filter (λ row. not (is_property at row.at)) self.old }
     {
-        self.rows.retain(|row| !is_property(at, row.at));
+        let place = count_before(self.rows.as_slice(), at);
+        if !is_at(self.rows.as_slice(), place, at) {
+            return;
+        }
+        self.rows.remove(place);
     }
 
     /// Lets go of all.

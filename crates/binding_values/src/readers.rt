@@ -1,9 +1,10 @@
 //! Which bound properties have read a property.
-ghost use Rattle.std.specs.Prelude.{◌≡◌, [], All, Contains, IfNone, IfSome, OnErr, OnOk};
+ghost use Rattle.std.specs.Prelude.{◌≡◌, ◌+◌, [], All, Contains, IfNone, IfSome, OnErr, OnOk, false, length, true};
+ghost use Rattle.std.specs.List.{AllWithin};
 ghost use Rattle.shared_rows.specs.Links.{with_link, without_link};
-ghost use Rattle.binding_values.specs.Readers.{AreAmong, AreFewer, IsUnread, edge_cmp, edge_of};
+ghost use Rattle.binding_values.specs.Readers.{AreAmong, AreFewer, IsEdgeAt, IsStart, edge_cmp, edge_of, is_ahead, leads_from};
 
-use property_store::{Property, is_property};
+use property_store::Property;
 use shared_rows::Links;
 use std::alloc::{AllocError, Global};
 use std::marker::Model;
@@ -28,11 +29,27 @@ fn edge_of(read: Property, reader: Property) -> Edge
     }
 }
 
-fn is_this(this: Option<Property>, at: Property) -> bool {
-    match this {
-        Some(this) => is_property(this, at),
-        None => false,
+/// Whether an edge leads from a property that stands before this one.
+fn is_ahead(read: Property, edge: Edge) -> bool
+    ensures { result ≡ is_ahead read edge }
+{
+    edge.read_object < read.object
+        || (edge.read_object == read.object && edge.read_number < read.number)
+}
+
+/// Whether a position parts the edges of properties before this one from the others.
+fn is_start(edges: &Links<Edge>, read: Property, at: usize) -> bool
+    ensures { result ≡ true → IsStart edges.now.links read at }
+{
+    let all = edges.as_buffer();
+    let len = all.len();
+    if at > len {
+        return false;
     }
+    if at > 0 && !is_ahead(read, all.get(at - 1)) {
+        return false;
+    }
+    at == len || !is_ahead(read, all.get(at))
 }
 
 /// The edges lead from properties to those that have read them: those of one property stand together.
@@ -59,23 +76,37 @@ impl Readers {
         }
     }
 
-    /// A property that has read this one.
-    pub(crate) fn first_of(&self, read: Property) -> Option<Property>
-        ensures found { IfSome result (λ reader. Contains self.now (edge_of read reader)) }
-        ensures none { IfNone result (IsUnread self.now read) }
+    /// The position from which on the edges lead from this property, and then from those behind it. The position `near`
+    /// is tried first.
+    pub(crate) fn start_of(&self, read: Property, near: usize) -> usize
+        ensures { IsStart self.now read result }
     {
-        let first = Property {
-            object: 0,
-            number: 0,
-        };
-        let edge = self.edges.first_from(edge_of(read, first))?;
+        if is_start(&self.edges, read, near) {
+            return near;
+        }
+        let all = self.edges.as_buffer();
+        all.partition_point(|edge| is_ahead(read, *edge))
+    }
+
+    /// The property that the edge at a position leads to, where it leads from this one, and the next position.
+    pub(crate) fn reader_at(&self, read: Property, at: usize) -> Option<(Property, usize)>
+        requires { AllWithin (λ edge. is_ahead read edge ≡ false) self.now at (length self.now) }
+        ensures found { IfSome result (λ found. IsEdgeAt self.now at (edge_of read found.0) × (found.1 ≡ at + 1)) }
+        ensures none { IfNone result (AllWithin (λ edge. leads_from read edge ≡ false) self.now at (length self.now)) }
+    {
+        let all = self.edges.as_buffer();
+        if at >= all.len() {
+            return None;
+        }
+        let edge = all.get(at);
         if edge.read_object != read.object || edge.read_number != read.number {
             return None;
         }
-        Some(Property {
+        let reader = Property {
             object: edge.reader_object,
             number: edge.reader_number,
-        })
+        };
+        Some((reader, at + 1))
     }
 
     pub(crate) fn add(&mut self, read: Property, reader: Property) -> Result<(), AllocError>
@@ -102,15 +133,12 @@ impl Readers {
         Ok(())
     }
 
-    /// Removes a reader from each of the properties that it has read, except for the one that has already lost
-    /// it.
-    pub(crate) fn remove_all(&mut self, reads: &[Property], reader: Property, but: Option<Property>)
+    /// Removes a reader from each of the properties that it has read.
+    pub(crate) fn remove_all(&mut self, reads: &[Property], reader: Property)
         ensures { AreFewer reader self.old self.new }
     {
         for read in reads {
-            if !is_this(but, *read) {
-                self.remove(*read, reader);
-            }
+            self.remove(*read, reader);
         }
     }
 

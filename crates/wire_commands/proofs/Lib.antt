@@ -1,4 +1,3 @@
-pub mod FamilyLemmas
 pub mod FormLemmas
 pub mod FoundLemmas
 pub mod HeldLemmas

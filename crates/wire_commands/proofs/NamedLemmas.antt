@@ -24,6 +24,7 @@ use Rattle.wire_commands.specs.Held.{Held, absent, any, list, mode, none, number
 use Rattle.wire_commands.specs.Held.{has_property_keys, object_property, priority_in, reads}
 use Rattle.wire_commands.specs.Keys.{Key, key_word, needed, optional}
 use Rattle.wire_commands.specs.Properties as properties
+use Rattle.wire_commands.specs.Shared.{alone, of_class, of_object, of_property, of_search}
 use Rattle.wire_commands.specs.Sharing as sharing
 use Rattle.wire_commands.specs.Sharing.{texts_of}
 use Rattle.wire_commands.specs.Signals as signals
@@ -74,19 +75,19 @@ AskNamed [] = Unit {0}
 AskNamed (form ∷ forms) = AsksNamed form.keys form.asks × AskNamed forms
 
 trees_named : AskNamed trees.forms
-unfolding trees.forms
+unfolding trees.forms of_object of_search
 trees_named = search
 
 properties_named : AskNamed properties.forms
-unfolding properties.forms
+unfolding properties.forms of_object of_property
 properties_named = search
 
 bindings_named : AskNamed bindings.forms
-unfolding bindings.forms
+unfolding bindings.forms alone of_property
 bindings_named = search
 
 classes_named : AskNamed classes.forms
-unfolding classes.forms
+unfolding classes.forms alone of_class
 classes_named = search
 
 signals_named : AskNamed signals.forms
@@ -94,7 +95,7 @@ unfolding signals.forms
 signals_named = search
 
 events_named : AskNamed events.forms
-unfolding events.forms
+unfolding events.forms alone of_object
 events_named = search
 
 -- the texts of an array are there, or nothing is asked
@@ -102,7 +103,7 @@ joins_named : AsksNamed sharing.join.keys sharing.join.asks
 joins_named = λ from session name named elements target method. asks (texts_of elements) _ (λ kinds. (session, named))
 
 sharing_named : AskNamed sharing.forms
-unfolding sharing.forms
+unfolding sharing.forms alone
 sharing_named = search (joins_named)
 
 -- a key that is read holds one of these
@@ -170,13 +171,13 @@ form_asks json form each =
     (λ only. all_named json form.keys form.asks each) (λ more. tt)
 
 -- or by a word in such forms
-word_asks : (json : Data) (word : List ℕ) (forms : List Form) → AskNamed forms → IsNamed (asked_by forms word json >>= λ asked. asked)
+word_asks : (json : Data) (word : List ℕ) (forms : List Form) → AskNamed forms → IsNamed (asked_by forms word json)
 unfolding asked_by
 word_asks json word [] each = tt
 word_asks json word (form ∷ forms) each = by (bytes_eq word form.word) (form_asks json form each.0) (word_asks json word forms each.1)
   where
-    by : (same : Bool) → IsNamed (asked_in form json) → IsNamed (option_map (λ form. asked_in form json) (form_named forms word) >>= λ asked. asked)
-        → IsNamed (option_map (λ form. asked_in form json) (if same then Some form else form_named forms word) >>= λ asked. asked)
+    by : (same : Bool) → IsNamed (asked_in form json) → IsNamed (form_named forms word >>= λ form. asked_in form json)
+        → IsNamed ((if same then Some form else form_named forms word) >>= λ form. asked_in form json)
     by true here later = here
     by false here later = later
 
@@ -186,9 +187,9 @@ both_named (form ∷ forms) others each rest = (each.0, both_named forms others 
 
 all_forms_named : AskNamed all_forms
 all_forms_named =
-    both_named _ sharing.forms (both_named _ events.forms (both_named _ signals.forms (both_named _ classes.forms
-    (both_named _ bindings.forms (both_named trees.forms properties.forms trees_named properties_named) bindings_named)
-    classes_named) signals_named) events_named) sharing_named
+    both_named trees.forms _ trees_named (both_named properties.forms _ properties_named
+    (both_named bindings.forms _ bindings_named (both_named classes.forms _ classes_named
+    (both_named signals.forms _ signals_named (both_named events.forms sharing.forms events_named sharing_named)))))
 
 pub asked_named : (json : Data) → IfSome (asked_of json) IsNamedAsked
 unfolding asked_of

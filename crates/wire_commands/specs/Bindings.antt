@@ -7,6 +7,7 @@ use Rattle.wire_commands.specs.declared.keys.Holds.TheVariants.{Name, Number, Pr
 use Rattle.wire_commands.specs.Form.{Form}
 use Rattle.wire_commands.specs.Held.{Held, json_of, number_of, property_of, text_of}
 use Rattle.wire_commands.specs.Keys.{needed, optional}
+use Rattle.wire_commands.specs.Shared.{alone, of_property}
 
 -- `bind` binds a property to an expression, which may be any JSON
 abbrev pub bind_of : List Held → Option Asked
@@ -21,37 +22,16 @@ abbrev pub bind : Form
 bind = record { word = codes "bind"; keys = needed (codes "object") Number ∷ needed (codes "property") Name ∷ needed (codes "to") Any ∷ []; asks = bind_of }
 
 -- `unbind` binds a property no longer
-abbrev pub unbind_of : List Held → Option Asked
-unbind_of (target ∷ property ∷ []) = do
-  number ← number_of target
-  name ← text_of property
-  Some (Unbind number name)
-unbind_of held = None
-
 abbrev pub unbind : Form
-unbind = record { word = codes "unbind"; keys = needed (codes "object") Number ∷ needed (codes "property") Name ∷ []; asks = unbind_of }
+unbind = of_property (codes "unbind") Unbind
 
 -- `bindingError` tells the error that a property stands for
-abbrev pub binding_error_of : List Held → Option Asked
-binding_error_of (target ∷ property ∷ []) = do
-  number ← number_of target
-  name ← text_of property
-  Some (Ask (BindingError number name))
-binding_error_of held = None
-
 abbrev pub binding_error : Form
-binding_error = record { word = codes "bindingError"; keys = needed (codes "object") Number ∷ needed (codes "property") Name ∷ []; asks = binding_error_of }
+binding_error = of_property (codes "bindingError") (λ target name. Ask (BindingError target name))
 
 -- `binding` tells the expression that a property is bound to
-abbrev pub binding_of : List Held → Option Asked
-binding_of (target ∷ property ∷ []) = do
-  number ← number_of target
-  name ← text_of property
-  Some (Ask (Binding number name))
-binding_of held = None
-
 abbrev pub binding : Form
-binding = record { word = codes "binding"; keys = needed (codes "object") Number ∷ needed (codes "property") Name ∷ []; asks = binding_of }
+binding = of_property (codes "binding") (λ target name. Ask (Binding target name))
 
 -- `bindings` tells which properties are bound
 abbrev pub bindings_of : List Held → Option Asked
@@ -62,20 +42,12 @@ abbrev pub bindings : Form
 bindings = record { word = codes "bindings"; keys = optional (codes "after") Property ∷ []; asks = bindings_of }
 
 -- `begin` begins a group
-abbrev pub begin_of : List Held → Option Asked
-begin_of [] = Some Begin
-begin_of held = None
-
 abbrev pub begin : Form
-begin = record { word = codes "begin"; keys = []; asks = begin_of }
+begin = alone (codes "begin") Begin
 
 -- `end` ends a group
-abbrev pub end_of : List Held → Option Asked
-end_of [] = Some End
-end_of held = None
-
 abbrev pub end : Form
-end = record { word = codes "end"; keys = []; asks = end_of }
+end = alone (codes "end") End
 
 -- the forms of these commands
 unfoldable pub forms : List Form

@@ -12,9 +12,27 @@ use Rattle.wire_commands.specs.Signals as signals
 use Rattle.wire_commands.specs.Events as events
 use Rattle.wire_commands.specs.Sharing as sharing
 
--- the forms of all commands, family by family
+-- the forms of all commands, family by family: the words that a family does not know are those of the families after it
+abbrev pub from_sharing : List Form
+from_sharing = sharing.forms
+
+abbrev pub from_events : List Form
+from_events = events.forms ++ from_sharing
+
+abbrev pub from_signals : List Form
+from_signals = signals.forms ++ from_events
+
+abbrev pub from_classes : List Form
+from_classes = classes.forms ++ from_signals
+
+abbrev pub from_bindings : List Form
+from_bindings = bindings.forms ++ from_classes
+
+abbrev pub from_properties : List Form
+from_properties = properties.forms ++ from_bindings
+
 abbrev pub all_forms : List Form
-all_forms = trees.forms ++ properties.forms ++ bindings.forms ++ classes.forms ++ signals.forms ++ events.forms ++ sharing.forms
+all_forms = trees.forms ++ from_properties
 
 -- their words
 abbrev pub all_words : List (List ℕ)
@@ -24,5 +42,4 @@ all_words = map (λ form. form.word) all_forms
 unfoldable pub asked_of : Data → Option Asked
 asked_of json = do
   word ← text_at (codes "do") json
-  asked ← asked_by all_forms word json
-  asked
+  asked_by all_forms word json

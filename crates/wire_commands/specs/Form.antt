@@ -1,6 +1,5 @@
 -- The form of a command.
-use Rattle.std.specs.Prelude.{◌≡◌, ℕ, List, Option, Some, None, Result, IfOk, bytes_eq, option_map}
-use Rattle.std.specs.declared.alloc.AllocError.{AllocError}
+use Rattle.std.specs.Prelude.{◌≡◌, ℕ, List, Option, bytes_eq, option_map}
 use Rattle.std.specs.List.{find}
 use Rattle.serde_json.specs.Data.{Data, object}
 use Rattle.json_reading.specs.Fields.{◌>>=◌}
@@ -29,16 +28,14 @@ AreHeld keys json held = (form : Form) → form.keys ≡ keys → asked_in form 
 abbrev pub form_named : List Form → List ℕ → Option Form
 form_named forms word = find (λ form. bytes_eq word form.word) forms
 
--- what JSON asks by a word in one of these forms; nothing, where the word is none of theirs
-unfoldable pub asked_by : List Form → List ℕ → Data → Option (Option Asked)
-asked_by forms word json = option_map (λ form. asked_in form json) (form_named forms word)
+-- what JSON asks by a word in one of these forms
+unfoldable pub asked_by : List Form → List ℕ → Data → Option Asked
+asked_by forms word json = form_named forms word >>= λ form. asked_in form json
 
 -- a command asks what the members ask in a form
 abbrev pub Asks : Form → List Member → Option Command → Type 0
 Asks form members command = option_map asked command ≡ asked_in form (object (members_in members))
 
--- what is read by a word: nothing where it is none of these forms, and else what the members ask in its form, unless
--- memory runs out
-abbrev pub AsksBy : List Form → List ℕ → List Member → Option (Result (Option Command) AllocError) → Type 0
-AsksBy forms word members None = asked_by forms word (object (members_in members)) ≡ None
-AsksBy forms word members (Some read) = IfOk read (λ command. asked_by forms word (object (members_in members)) ≡ Some (option_map asked command))
+-- a command asks what the members ask by a word in one of these forms
+abbrev pub AsksBy : List Form → List ℕ → List Member → Option Command → Type 0
+AsksBy forms word members command = option_map asked command ≡ asked_by forms word (object (members_in members))

@@ -2,6 +2,7 @@ pub mod Keys
 pub mod Held
 pub mod Found
 pub mod Form
+pub mod Shared
 pub mod Trees
 pub mod Properties
 pub mod Bindings

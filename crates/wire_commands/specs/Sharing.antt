@@ -9,6 +9,7 @@ use Rattle.wire_commands.specs.declared.keys.Holds.TheVariants.{Name, Number, Te
 use Rattle.wire_commands.specs.Form.{Form}
 use Rattle.wire_commands.specs.Held.{Held, number_of, text_of, list_of}
 use Rattle.wire_commands.specs.Keys.{needed}
+use Rattle.wire_commands.specs.Shared.{alone}
 
 -- `publish` publishes a signal of an object under a name
 abbrev pub publish_of : List Held → Option Asked
@@ -79,28 +80,16 @@ leave = record {
 }
 
 -- `reset` begins anew
-abbrev pub reset_of : List Held → Option Asked
-reset_of [] = Some Reset
-reset_of held = None
-
 abbrev pub reset : Form
-reset = record { word = codes "reset"; keys = []; asks = reset_of }
+reset = alone (codes "reset") Reset
 
 -- `publications` lists what the session publishes
-abbrev pub publications_of : List Held → Option Asked
-publications_of [] = Some (Ask Publications)
-publications_of held = None
-
 abbrev pub publications : Form
-publications = record { word = codes "publications"; keys = []; asks = publications_of }
+publications = alone (codes "publications") (Ask Publications)
 
 -- `joins` lists what the session joins
-abbrev pub joins_of : List Held → Option Asked
-joins_of [] = Some (Ask Joins)
-joins_of held = None
-
 abbrev pub joins : Form
-joins = record { word = codes "joins"; keys = []; asks = joins_of }
+joins = alone (codes "joins") (Ask Joins)
 
 -- the forms of these commands
 unfoldable pub forms : List Form

@@ -3,10 +3,11 @@ use Rattle.std.specs.Prelude.{List, [], ◌∷◌, Option, Some, None, codes, op
 use Rattle.session_model.specs.Asked.{Asked, New, Delete, Do, Ask}
 use Rattle.session_model.specs.declared.operation.Operation.TheVariants.{SetParent}
 use Rattle.session_model.specs.declared.query.Query.TheVariants.{Children, Find, FindAll, Object, Parent}
-use Rattle.wire_commands.specs.declared.keys.Holds.TheVariants.{Name, Text, Number, NumberOrNull}
+use Rattle.wire_commands.specs.declared.keys.Holds.TheVariants.{Name, Number, NumberOrNull}
 use Rattle.wire_commands.specs.Form.{Form}
 use Rattle.wire_commands.specs.Held.{Held, number_of, text_of}
 use Rattle.wire_commands.specs.Keys.{needed, optional}
+use Rattle.wire_commands.specs.Shared.{of_object, of_search}
 
 -- `new` makes an object of a class, below a parent where one is named
 abbrev pub new_of : List Held → Option Asked
@@ -17,12 +18,8 @@ abbrev pub new : Form
 new = record { word = codes "new"; keys = needed (codes "class") Name ∷ optional (codes "parent") Number ∷ []; asks = new_of }
 
 -- `delete` deletes an object
-abbrev pub delete_of : List Held → Option Asked
-delete_of (target ∷ []) = option_map Delete (number_of target)
-delete_of held = None
-
 abbrev pub delete : Form
-delete = record { word = codes "delete"; keys = needed (codes "object") Number ∷ []; asks = delete_of }
+delete = of_object (codes "delete") Delete
 
 -- `setParent` gives an object another parent; null makes it a root
 abbrev pub set_parent_of : List Held → Option Asked
@@ -41,40 +38,20 @@ abbrev pub children : Form
 children = record { word = codes "children"; keys = optional (codes "object") Number ∷ []; asks = children_of }
 
 -- `find` looks for an object below another one
-abbrev pub find_of : List Held → Option Asked
-find_of (target ∷ name ∷ class ∷ []) = option_map (λ number. Ask (Find number (text_of name) (text_of class))) (number_of target)
-find_of held = None
-
 abbrev pub find : Form
-find = record { word = codes "find"; keys = needed (codes "object") Number ∷ optional (codes "name") Text ∷ optional (codes "class") Name ∷ []; asks = find_of }
+find = of_search (codes "find") (λ target name class. Ask (Find target name class))
 
 -- `parent` asks for the parent of an object
-abbrev pub parent_of : List Held → Option Asked
-parent_of (target ∷ []) = option_map (λ number. Ask (Parent number)) (number_of target)
-parent_of held = None
-
 abbrev pub parent : Form
-parent = record { word = codes "parent"; keys = needed (codes "object") Number ∷ []; asks = parent_of }
+parent = of_object (codes "parent") (λ target. Ask (Parent target))
 
 -- `findAll` looks for all objects below another one
-abbrev pub find_all_of : List Held → Option Asked
-find_all_of (target ∷ name ∷ class ∷ []) = option_map (λ number. Ask (FindAll number (text_of name) (text_of class))) (number_of target)
-find_all_of held = None
-
 abbrev pub find_all : Form
-find_all = record {
-  word = codes "findAll";
-  keys = needed (codes "object") Number ∷ optional (codes "name") Text ∷ optional (codes "class") Name ∷ [];
-  asks = find_all_of;
-}
+find_all = of_search (codes "findAll") (λ target name class. Ask (FindAll target name class))
 
 -- `object` describes an object
-abbrev pub describe_object_of : List Held → Option Asked
-describe_object_of (target ∷ []) = option_map (λ number. Ask (Object number)) (number_of target)
-describe_object_of held = None
-
 abbrev pub describe_object : Form
-describe_object = record { word = codes "object"; keys = needed (codes "object") Number ∷ []; asks = describe_object_of }
+describe_object = of_object (codes "object") (λ target. Ask (Object target))
 
 -- the forms of these commands
 unfoldable pub forms : List Form

@@ -1,26 +1,29 @@
 //! The commands of bindings and groups.
-#![tactic(auto, unfolding(crate::specs::Form::asked_by, crate::specs::Bindings::forms))]
 
 ghost use Rattle.std.specs.Prelude.{IfOk};
+ghost use Rattle.wire_commands.specs.Commands.{from_bindings};
 ghost use Rattle.wire_commands.specs.Form.{Asks, AsksBy};
-ghost use Rattle.wire_commands.specs.Bindings.{begin, bind, binding, binding_error, bindings, end, forms, unbind};
+ghost use Rattle.wire_commands.specs.Bindings.{begin, bind, binding, binding_error, bindings, end, unbind};
 
+use crate::classes;
 use crate::held::{Held, held_by};
 use crate::keys::{Holds, Key};
+use crate::shared::{is_alone, property_in};
 use json_reading::Member;
 use session_model::{Command, Query};
 use std::alloc::{AllocError, Global};
 
-/// Reads a command of bindings and groups. Answers nothing where the word is none of theirs.
+/// Reads a command of bindings and groups. Any other word is read by the next family.
 #[inline(always)]
+#[tactic(auto, unfolding(crate::specs::Form::asked_by, crate::specs::Bindings::forms, crate::specs::Shared::alone, crate::specs::Shared::of_property))]
 pub(crate) fn read(
     alloc: Global,
     word: &str,
     members: &[Member<'_>],
-) -> Option<Result<Option<Command>, AllocError>>
-    ensures { AsksBy forms word.now members.now result }
+) -> Result<Option<Command>, AllocError>
+    ensures { IfOk result (AsksBy from_bindings word.now members.now) }
 {
-    Some(match word {
+    match word {
         "bind" => bind(alloc, members),
         "unbind" => unbind(alloc, members),
         "bindingError" => binding_error(alloc, members),
@@ -28,8 +31,8 @@ pub(crate) fn read(
         "bindings" => bindings(alloc, members),
         "begin" => Ok(begin(members)),
         "end" => Ok(end(members)),
-        _ => return None,
-    })
+        _ => classes::read(alloc, word, members),
+    }
 }
 
 const BIND: [Key; 3] = [
@@ -60,68 +63,34 @@ fn bind(alloc: Global, members: &[Member<'_>]) -> Result<Option<Command>, AllocE
     }
 }
 
-const UNBIND: [Key; 2] = [
-    Key::Needed("object", Holds::Number),
-    Key::Needed("property", Holds::Name),
-];
-
 /// `unbind`: an object and a property.
 fn unbind(alloc: Global, members: &[Member<'_>]) -> Result<Option<Command>, AllocError>
     ensures { IfOk result (Asks unbind members.now) }
 {
-    let mut held = [Held::Absent; 2];
-    if !held_by(members, &UNBIND, &mut held) {
+    let Some((object, property)) = property_in(alloc, members)? else {
         return Ok(None);
-    }
-    let [object, property] = held;
-    match (object.number(), property.text(alloc)?) {
-        (Some(object), Some(property)) => Ok(Some(Command::Unbind { object, property })),
-        _ => Ok(None),
-    }
+    };
+    Ok(Some(Command::Unbind { object, property }))
 }
-
-const BINDING_ERROR: [Key; 2] = [
-    Key::Needed("object", Holds::Number),
-    Key::Needed("property", Holds::Name),
-];
 
 /// `bindingError`: an object and a property.
 fn binding_error(alloc: Global, members: &[Member<'_>]) -> Result<Option<Command>, AllocError>
     ensures { IfOk result (Asks binding_error members.now) }
 {
-    let mut held = [Held::Absent; 2];
-    if !held_by(members, &BINDING_ERROR, &mut held) {
+    let Some((object, property)) = property_in(alloc, members)? else {
         return Ok(None);
-    }
-    let [object, property] = held;
-    match (object.number(), property.text(alloc)?) {
-        (Some(object), Some(property)) => {
-            Ok(Some(Command::Ask(Query::BindingError { object, property })))
-        }
-        _ => Ok(None),
-    }
+    };
+    Ok(Some(Command::Ask(Query::BindingError { object, property })))
 }
-
-const BINDING: [Key; 2] = [
-    Key::Needed("object", Holds::Number),
-    Key::Needed("property", Holds::Name),
-];
 
 /// `binding`: an object and a property.
 fn binding(alloc: Global, members: &[Member<'_>]) -> Result<Option<Command>, AllocError>
     ensures { IfOk result (Asks binding members.now) }
 {
-    let mut held = [Held::Absent; 2];
-    if !held_by(members, &BINDING, &mut held) {
+    let Some((object, property)) = property_in(alloc, members)? else {
         return Ok(None);
-    }
-    let [object, property] = held;
-    match (object.number(), property.text(alloc)?) {
-        (Some(object), Some(property)) => {
-            Ok(Some(Command::Ask(Query::Binding { object, property })))
-        }
-        _ => Ok(None),
-    }
+    };
+    Ok(Some(Command::Ask(Query::Binding { object, property })))
 }
 
 const BINDINGS: [Key; 1] = [Key::Optional("after", Holds::Property)];
@@ -139,25 +108,21 @@ fn bindings(alloc: Global, members: &[Member<'_>]) -> Result<Option<Command>, Al
     Ok(Some(Command::Ask(Query::Bindings { after })))
 }
 
-const BEGIN: [Key; 0] = [];
-
 /// `begin`: nothing more.
 fn begin(members: &[Member<'_>]) -> Option<Command>
     ensures { Asks begin members.now result }
 {
-    if !held_by(members, &BEGIN, &mut []) {
+    if !is_alone(members) {
         return None;
     }
     Some(Command::Begin)
 }
 
-const END: [Key; 0] = [];
-
 /// `end`: nothing more.
 fn end(members: &[Member<'_>]) -> Option<Command>
     ensures { Asks end members.now result }
 {
-    if !held_by(members, &END, &mut []) {
+    if !is_alone(members) {
         return None;
     }
     Some(Command::End)

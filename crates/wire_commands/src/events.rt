@@ -1,57 +1,52 @@
 //! The commands of the event loop.
-#![tactic(auto, unfolding(crate::specs::Form::asked_by, crate::specs::Events::forms))]
 
+ghost use Rattle.std.specs.Prelude.{IfOk};
+ghost use Rattle.wire_commands.specs.Commands.{from_events};
 ghost use Rattle.wire_commands.specs.Form.{Asks, AsksBy};
-ghost use Rattle.wire_commands.specs.Events.{block, delete_later, forms, spin, status};
+ghost use Rattle.wire_commands.specs.Events.{block, delete_later, spin, status};
 
 use crate::held::{Held, held_by};
 use crate::keys::{Holds, Key};
+use crate::shared::{is_alone, object_in};
+use crate::sharing;
 use json_reading::Member;
 use session_model::{Command, Query};
 use std::alloc::{AllocError, Global};
 
-/// Reads a command of the event loop. Answers nothing where the word is none of theirs.
+/// Reads a command of the event loop. Any other word is read by the next family.
 #[inline(always)]
+#[tactic(auto, unfolding(crate::specs::Form::asked_by, crate::specs::Events::forms, crate::specs::Shared::alone, crate::specs::Shared::of_object))]
 pub(crate) fn read(
     alloc: Global,
     word: &str,
     members: &[Member<'_>],
-) -> Option<Result<Option<Command>, AllocError>>
-    ensures { AsksBy forms word.now members.now result }
+) -> Result<Option<Command>, AllocError>
+    ensures { IfOk result (AsksBy from_events word.now members.now) }
 {
-    Some(match word {
+    match word {
         "spin" => Ok(spin(members)),
         "deleteLater" => Ok(delete_later(members)),
         "block" => Ok(block(members)),
         "status" => Ok(status(members)),
-        _ => return None,
-    })
+        _ => sharing::read(alloc, word, members),
+    }
 }
-
-const SPIN: [Key; 0] = [];
 
 /// `spin`: nothing more.
 fn spin(members: &[Member<'_>]) -> Option<Command>
     ensures { Asks spin members.now result }
 {
-    if !held_by(members, &SPIN, &mut []) {
+    if !is_alone(members) {
         return None;
     }
     Some(Command::Spin)
 }
 
-const DELETE_LATER: [Key; 1] = [Key::Needed("object", Holds::Number)];
-
 /// `deleteLater`: an object.
 fn delete_later(members: &[Member<'_>]) -> Option<Command>
     ensures { Asks delete_later members.now result }
 {
-    let mut held = [Held::Absent; 1];
-    if !held_by(members, &DELETE_LATER, &mut held) {
-        return None;
-    }
-    let [object] = held;
-    let object = object.number()?;
+    let object = object_in(members)?;
     Some(Command::DeleteLater { object })
 }
 
@@ -74,13 +69,11 @@ fn block(members: &[Member<'_>]) -> Option<Command>
     Some(Command::Block { object, on })
 }
 
-const STATUS: [Key; 0] = [];
-
 /// `status`: nothing more.
 fn status(members: &[Member<'_>]) -> Option<Command>
     ensures { Asks status members.now result }
 {
-    if !held_by(members, &STATUS, &mut []) {
+    if !is_alone(members) {
         return None;
     }
     Some(Command::Ask(Query::Status))

@@ -16,6 +16,7 @@ mod held;
 mod keys;
 mod named_property;
 mod properties;
+mod shared;
 mod sharing;
 mod signals;
 mod trees;

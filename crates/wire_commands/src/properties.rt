@@ -1,32 +1,35 @@
 //! The commands of properties.
-#![tactic(auto, unfolding(crate::specs::Form::asked_by, crate::specs::Properties::forms))]
 
 ghost use Rattle.std.specs.Prelude.{IfOk};
+ghost use Rattle.wire_commands.specs.Commands.{from_properties};
 ghost use Rattle.wire_commands.specs.Form.{Asks, AsksBy};
-ghost use Rattle.wire_commands.specs.Properties.{dynamic_names, forms, get, properties, set};
+ghost use Rattle.wire_commands.specs.Properties.{dynamic_names, get, properties, set};
 
+use crate::bindings;
 use crate::held::{Held, held_by};
 use crate::keys::{Holds, Key};
+use crate::shared::{object_in, property_in};
 use json_reading::Member;
 use session_model::{Command, Query};
 use std::alloc::{AllocError, Global};
 
-/// Reads a command of properties. Answers nothing where the word is none of theirs.
+/// Reads a command of properties. Any other word is read by the next family.
 #[inline(always)]
+#[tactic(auto, unfolding(crate::specs::Form::asked_by, crate::specs::Properties::forms, crate::specs::Shared::of_object, crate::specs::Shared::of_property))]
 pub(crate) fn read(
     alloc: Global,
     word: &str,
     members: &[Member<'_>],
-) -> Option<Result<Option<Command>, AllocError>>
-    ensures { AsksBy forms word.now members.now result }
+) -> Result<Option<Command>, AllocError>
+    ensures { IfOk result (AsksBy from_properties word.now members.now) }
 {
-    Some(match word {
+    match word {
         "set" => set(alloc, members),
         "get" => get(alloc, members),
         "dynamicNames" => Ok(dynamic_names(members)),
         "properties" => Ok(properties(members)),
-        _ => return None,
-    })
+        _ => bindings::read(alloc, word, members),
+    }
 }
 
 const SET: [Key; 3] = [
@@ -57,52 +60,28 @@ fn set(alloc: Global, members: &[Member<'_>]) -> Result<Option<Command>, AllocEr
     }
 }
 
-const GET: [Key; 2] = [
-    Key::Needed("object", Holds::Number),
-    Key::Needed("property", Holds::Name),
-];
-
 /// `get`: an object and a property.
 fn get(alloc: Global, members: &[Member<'_>]) -> Result<Option<Command>, AllocError>
     ensures { IfOk result (Asks get members.now) }
 {
-    let mut held = [Held::Absent; 2];
-    if !held_by(members, &GET, &mut held) {
+    let Some((object, property)) = property_in(alloc, members)? else {
         return Ok(None);
-    }
-    let [object, property] = held;
-    match (object.number(), property.text(alloc)?) {
-        (Some(object), Some(property)) => Ok(Some(Command::Ask(Query::Get { object, property }))),
-        _ => Ok(None),
-    }
+    };
+    Ok(Some(Command::Ask(Query::Get { object, property })))
 }
-
-const DYNAMIC_NAMES: [Key; 1] = [Key::Needed("object", Holds::Number)];
 
 /// `dynamicNames`: an object.
 fn dynamic_names(members: &[Member<'_>]) -> Option<Command>
     ensures { Asks dynamic_names members.now result }
 {
-    let mut held = [Held::Absent; 1];
-    if !held_by(members, &DYNAMIC_NAMES, &mut held) {
-        return None;
-    }
-    let [object] = held;
-    let object = object.number()?;
+    let object = object_in(members)?;
     Some(Command::Ask(Query::DynamicNames { object }))
 }
-
-const PROPERTIES: [Key; 1] = [Key::Needed("object", Holds::Number)];
 
 /// `properties`: an object.
 fn properties(members: &[Member<'_>]) -> Option<Command>
     ensures { Asks properties members.now result }
 {
-    let mut held = [Held::Absent; 1];
-    if !held_by(members, &PROPERTIES, &mut held) {
-        return None;
-    }
-    let [object] = held;
-    let object = object.number()?;
+    let object = object_in(members)?;
     Some(Command::Ask(Query::Properties { object }))
 }

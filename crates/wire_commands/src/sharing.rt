@@ -1,31 +1,32 @@
 //! The commands of publications and joins, and the one that begins anew.
-#![tactic(auto, unfolding(crate::specs::Form::asked_by, crate::specs::Sharing::forms))]
 
 ghost use Rattle.std.specs.Prelude.{◌≡◌, IfOk, map, option_and_then};
 ghost use Rattle.serde_json.specs.View.{view};
+ghost use Rattle.wire_commands.specs.Commands.{from_sharing};
 ghost use Rattle.wire_commands.specs.Form.{Asks, AsksBy};
 ghost use Rattle.wire_commands.specs.Held.{held_seen, list_of};
-ghost use Rattle.wire_commands.specs.Sharing.{forms, join, joins, leave, publications, publish, reset, texts_of, unpublish};
+ghost use Rattle.wire_commands.specs.Sharing.{join, joins, leave, publications, publish, reset, texts_of, unpublish};
 
 use crate::held::{Held, held_by};
 use crate::keys::{Holds, Key};
+use crate::shared::is_alone;
 use json_reading::Member;
 use plain_types::{Items, Text};
 use serde_json::Value;
 use session_model::{Command, Query};
 use std::alloc::{AllocError, Global};
 
-/// Reads a command of publications and joins, or the one that begins anew. Answers nothing where the word is none
-/// of theirs.
+/// Reads a command of publications and joins, or the one that begins anew.
 #[inline(always)]
+#[tactic(auto, unfolding(crate::specs::Form::asked_by, crate::specs::Sharing::forms, crate::specs::Shared::alone))]
 pub(crate) fn read(
     alloc: Global,
     word: &str,
     members: &[Member<'_>],
-) -> Option<Result<Option<Command>, AllocError>>
-    ensures { AsksBy forms word.now members.now result }
+) -> Result<Option<Command>, AllocError>
+    ensures { IfOk result (AsksBy from_sharing word.now members.now) }
 {
-    Some(match word {
+    match word {
         "publish" => publish(alloc, members),
         "unpublish" => unpublish(alloc, members),
         "join" => join(alloc, members),
@@ -33,8 +34,8 @@ pub(crate) fn read(
         "reset" => Ok(reset(members)),
         "publications" => Ok(publications(members)),
         "joins" => Ok(joins(members)),
-        _ => return None,
-    })
+        _ => Ok(None),
+    }
 }
 
 const PUBLISH: [Key; 3] = [
@@ -175,37 +176,31 @@ fn leave(alloc: Global, members: &[Member<'_>]) -> Result<Option<Command>, Alloc
     }))
 }
 
-const RESET: [Key; 0] = [];
-
 /// `reset`: nothing more.
 fn reset(members: &[Member<'_>]) -> Option<Command>
     ensures { Asks reset members.now result }
 {
-    if !held_by(members, &RESET, &mut []) {
+    if !is_alone(members) {
         return None;
     }
     Some(Command::Reset)
 }
 
-const PUBLICATIONS: [Key; 0] = [];
-
 /// `publications`: nothing more.
 fn publications(members: &[Member<'_>]) -> Option<Command>
     ensures { Asks publications members.now result }
 {
-    if !held_by(members, &PUBLICATIONS, &mut []) {
+    if !is_alone(members) {
         return None;
     }
     Some(Command::Ask(Query::Publications))
 }
 
-const JOINS: [Key; 0] = [];
-
 /// `joins`: nothing more.
 fn joins(members: &[Member<'_>]) -> Option<Command>
     ensures { Asks joins members.now result }
 {
-    if !held_by(members, &JOINS, &mut []) {
+    if !is_alone(members) {
         return None;
     }
     Some(Command::Ask(Query::Joins))

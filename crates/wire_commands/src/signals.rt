@@ -1,33 +1,35 @@
 //! The commands of signals and slots.
-#![tactic(auto, unfolding(crate::specs::Form::asked_by, crate::specs::Signals::forms))]
 
 ghost use Rattle.std.specs.Prelude.{IfOk};
+ghost use Rattle.wire_commands.specs.Commands.{from_signals};
 ghost use Rattle.wire_commands.specs.Form.{Asks, AsksBy};
-ghost use Rattle.wire_commands.specs.Signals.{connect, connect_functor, connections, disconnect, forms, invoke};
+ghost use Rattle.wire_commands.specs.Signals.{connect, connect_functor, connections, disconnect, invoke};
 
+use crate::events;
 use crate::held::{Held, held_by};
 use crate::keys::{Holds, Key};
 use json_reading::Member;
 use session_model::{Command, Query};
 use std::alloc::{AllocError, Global};
 
-/// Reads a command of signals and slots. Answers nothing where the word is none of theirs.
+/// Reads a command of signals and slots. Any other word is read by the next family.
 #[inline(always)]
+#[tactic(auto, unfolding(crate::specs::Form::asked_by, crate::specs::Signals::forms))]
 pub(crate) fn read(
     alloc: Global,
     word: &str,
     members: &[Member<'_>],
-) -> Option<Result<Option<Command>, AllocError>>
-    ensures { AsksBy forms word.now members.now result }
+) -> Result<Option<Command>, AllocError>
+    ensures { IfOk result (AsksBy from_signals word.now members.now) }
 {
-    Some(match word {
+    match word {
         "connect" => connect(alloc, members),
         "connectFunctor" => connect_functor(alloc, members),
         "disconnect" => disconnect(alloc, members),
         "invoke" => invoke(alloc, members),
         "connections" => Ok(connections(members)),
-        _ => return None,
-    })
+        _ => events::read(alloc, word, members),
+    }
 }
 
 const CONNECT: [Key; 7] = [

@@ -1,26 +1,29 @@
 //! The commands of trees of objects.
-#![tactic(auto, unfolding(crate::specs::Form::asked_by, crate::specs::Trees::forms))]
 
 ghost use Rattle.std.specs.Prelude.{IfOk};
+ghost use Rattle.wire_commands.specs.Commands.{all_forms};
 ghost use Rattle.wire_commands.specs.Form.{Asks, AsksBy};
-ghost use Rattle.wire_commands.specs.Trees.{children, delete, describe_object, find, find_all, forms, new, parent, set_parent};
+ghost use Rattle.wire_commands.specs.Trees.{children, delete, describe_object, find, find_all, new, parent, set_parent};
 
 use crate::held::{Held, held_by};
 use crate::keys::{Holds, Key};
+use crate::properties;
+use crate::shared::{Search, object_in, search_in};
 use json_reading::Member;
 use session_model::{Command, Query};
 use std::alloc::{AllocError, Global};
 
-/// Reads a command of trees of objects. Answers nothing where the word is none of theirs.
+/// Reads a command of trees of objects. Any other word is read by the next family.
 #[inline(always)]
+#[tactic(auto, unfolding(crate::specs::Form::asked_by, crate::specs::Trees::forms, crate::specs::Shared::of_object, crate::specs::Shared::of_search))]
 pub(crate) fn read(
     alloc: Global,
     word: &str,
     members: &[Member<'_>],
-) -> Option<Result<Option<Command>, AllocError>>
-    ensures { AsksBy forms word.now members.now result }
+) -> Result<Option<Command>, AllocError>
+    ensures { IfOk result (AsksBy all_forms word.now members.now) }
 {
-    Some(match word {
+    match word {
         "new" => new(alloc, members),
         "delete" => Ok(delete(members)),
         "setParent" => Ok(set_parent(members)),
@@ -29,8 +32,8 @@ pub(crate) fn read(
         "parent" => Ok(parent(members)),
         "findAll" => find_all(alloc, members),
         "object" => Ok(describe_object(members)),
-        _ => return None,
-    })
+        _ => properties::read(alloc, word, members),
+    }
 }
 
 const NEW: [Key; 2] = [
@@ -54,18 +57,11 @@ fn new(alloc: Global, members: &[Member<'_>]) -> Result<Option<Command>, AllocEr
     Ok(Some(Command::New { class, parent }))
 }
 
-const DELETE: [Key; 1] = [Key::Needed("object", Holds::Number)];
-
 /// `delete`: an object.
 fn delete(members: &[Member<'_>]) -> Option<Command>
     ensures { Asks delete members.now result }
 {
-    let mut held = [Held::Absent; 1];
-    if !held_by(members, &DELETE, &mut held) {
-        return None;
-    }
-    let [object] = held;
-    let object = object.number()?;
+    let object = object_in(members)?;
     Some(Command::Delete { object })
 }
 
@@ -103,26 +99,20 @@ fn children(members: &[Member<'_>]) -> Option<Command>
     Some(Command::Ask(Query::Children { object }))
 }
 
-const FIND: [Key; 3] = [
-    Key::Needed("object", Holds::Number),
-    Key::Optional("name", Holds::Text),
-    Key::Optional("class", Holds::Name),
-];
-
 /// `find`: an object, and a name and a class where these are given.
 fn find(alloc: Global, members: &[Member<'_>]) -> Result<Option<Command>, AllocError>
     ensures { IfOk result (Asks find members.now) }
 {
-    let mut held = [Held::Absent; 3];
-    if !held_by(members, &FIND, &mut held) {
-        return Ok(None);
-    }
-    let [object, name, class] = held;
-    let Some(object) = object.number() else {
+    let Some(
+        Search {
+            object,
+            name,
+            class,
+        },
+    ) = search_in(alloc, members)?
+    else {
         return Ok(None);
     };
-    let name = name.text(alloc)?;
-    let class = class.text(alloc)?;
     Ok(Some(Command::Ask(Query::Find {
         object,
         name,
@@ -130,41 +120,28 @@ fn find(alloc: Global, members: &[Member<'_>]) -> Result<Option<Command>, AllocE
     })))
 }
 
-const PARENT: [Key; 1] = [Key::Needed("object", Holds::Number)];
-
 /// `parent`: an object.
 fn parent(members: &[Member<'_>]) -> Option<Command>
     ensures { Asks parent members.now result }
 {
-    let mut held = [Held::Absent; 1];
-    if !held_by(members, &PARENT, &mut held) {
-        return None;
-    }
-    let [object] = held;
-    let object = object.number()?;
+    let object = object_in(members)?;
     Some(Command::Ask(Query::Parent { object }))
 }
-
-const FIND_ALL: [Key; 3] = [
-    Key::Needed("object", Holds::Number),
-    Key::Optional("name", Holds::Text),
-    Key::Optional("class", Holds::Name),
-];
 
 /// `findAll`: an object, and a name and a class where these are given.
 fn find_all(alloc: Global, members: &[Member<'_>]) -> Result<Option<Command>, AllocError>
     ensures { IfOk result (Asks find_all members.now) }
 {
-    let mut held = [Held::Absent; 3];
-    if !held_by(members, &FIND_ALL, &mut held) {
-        return Ok(None);
-    }
-    let [object, name, class] = held;
-    let Some(object) = object.number() else {
+    let Some(
+        Search {
+            object,
+            name,
+            class,
+        },
+    ) = search_in(alloc, members)?
+    else {
         return Ok(None);
     };
-    let name = name.text(alloc)?;
-    let class = class.text(alloc)?;
     Ok(Some(Command::Ask(Query::FindAll {
         object,
         name,
@@ -172,17 +149,10 @@ fn find_all(alloc: Global, members: &[Member<'_>]) -> Result<Option<Command>, Al
     })))
 }
 
-const OBJECT: [Key; 1] = [Key::Needed("object", Holds::Number)];
-
 /// `object`: an object.
 fn describe_object(members: &[Member<'_>]) -> Option<Command>
     ensures { Asks describe_object members.now result }
 {
-    let mut held = [Held::Absent; 1];
-    if !held_by(members, &OBJECT, &mut held) {
-        return None;
-    }
-    let [object] = held;
-    let object = object.number()?;
+    let object = object_in(members)?;
     Some(Command::Ask(Query::Object { object }))
 }

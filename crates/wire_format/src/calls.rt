@@ -102,7 +102,7 @@ fn put_number(memory: &mut [u8], at: usize, number: u32) -> usize
 
 /// Puts a text behind the first bytes, and says where it ends.
 #[inline(always)]
-fn put(memory: &mut [u8], at: usize, text: &str) -> usize
+pub(crate) fn put(memory: &mut [u8], at: usize, text: &str) -> usize
     requires { at + length text.now ≤ length memory.old }
     ensures { Placed memory.old memory.new at text.now result }
 {

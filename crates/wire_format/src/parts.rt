@@ -1,11 +1,12 @@
 //! The text of a line in parts, for where no memory is taken.
-ghost use Rattle.std.specs.Prelude.{◌≡◌, IsTrue, IfSome};
+ghost use Rattle.std.specs.Prelude.{◌≡◌, IfSome, IsTrue};
 ghost use Rattle.std.specs.List.{flat_map};
 ghost use Rattle.std.specs.Option.{is_some};
 ghost use Rattle.session_model.specs.declared.line.Line.TheVariants.{Error};
 ghost use Rattle.wire_format.specs.Parts.{has_parts, text_of_parts};
 ghost use Rattle.wire_format.specs.Text.{text_of_line, is_session_text};
 
+use crate::calls::{CALL_BYTES, put};
 use crate::shown::{Shown, shown_as};
 use crate::writing::is_plain;
 use itoa::Buffer as Digits;
@@ -32,6 +33,25 @@ impl<'a> Parts<'a> {
         let session: &'a str = self.session;
         let closing: &'a str = "\"}\n";
         [opening, told, between, session, closing]
+    }
+
+    /// The text of the line, where its parts are short. The memory is lent, and nothing of what it holds is read.
+    #[inline(always)]
+    pub fn text<'m>(&self, memory: &'m mut [u8; CALL_BYTES]) -> Option<&'m [u8]>
+        ensures { IfSome result (λ text. text.now ≡ text_of_parts self.now) }
+    {
+        if self.opening.len() > 32 || self.told.len() > 64 {
+            return None;
+        }
+        if self.between.len() > 32 || self.session.len() > 64 {
+            return None;
+        }
+        let end = put(memory, 0, self.opening);
+        let end = put(memory, end, self.told);
+        let end = put(memory, end, self.between);
+        let end = put(memory, end, self.session);
+        let end = put(memory, end, "\"}\n");
+        Some(&memory[..end])
     }
 }
 

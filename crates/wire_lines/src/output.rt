@@ -191,6 +191,10 @@ impl Output {
             (text_of_parts parts.now) }
         ensures failed { CountsErrors (W.failures writer.old) (W.failures writer.new) result }
     {
+        let mut memory = [0; CALL_BYTES];
+        if let Some(text) = parts.text(&mut memory) {
+            return self.gathered.send(writer, text);
+        }
         let parts = parts.in_order();
         for part in &parts {
             self.gathered.send(writer, part.as_bytes())?;

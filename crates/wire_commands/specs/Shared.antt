@@ -1,0 +1,55 @@
+-- Forms that several commands have.
+use Rattle.std.specs.Prelude.{ℕ, List, [], ◌∷◌, Option, Some, None, codes, option_map}
+use Rattle.json_reading.specs.Fields.{◌>>=◌}
+use Rattle.session_model.specs.Asked.{Asked}
+use Rattle.wire_commands.specs.declared.keys.Holds.TheVariants.{Name, Number, Text}
+use Rattle.wire_commands.specs.Form.{Form}
+use Rattle.wire_commands.specs.Held.{Held, number_of, text_of}
+use Rattle.wire_commands.specs.Keys.{needed, optional}
+
+-- a word that needs nothing more
+abbrev pub with_nothing : Asked → List Held → Option Asked
+with_nothing asked [] = Some asked
+with_nothing asked held = None
+
+unfoldable pub alone : List ℕ → Asked → Form
+alone word asked = record { word = word; keys = []; asks = with_nothing asked }
+
+-- a word that needs an object
+abbrev pub with_object : (ℕ → Asked) → List Held → Option Asked
+with_object asks (target ∷ []) = option_map asks (number_of target)
+with_object asks held = None
+
+unfoldable pub of_object : List ℕ → (ℕ → Asked) → Form
+of_object word asks = record { word = word; keys = needed (codes "object") Number ∷ []; asks = with_object asks }
+
+-- a word that needs a property of an object
+abbrev pub with_property : (ℕ → List ℕ → Asked) → List Held → Option Asked
+with_property asks (target ∷ property ∷ []) = do
+  number ← number_of target
+  name ← text_of property
+  Some (asks number name)
+with_property asks held = None
+
+unfoldable pub of_property : List ℕ → (ℕ → List ℕ → Asked) → Form
+of_property word asks = record { word = word; keys = needed (codes "object") Number ∷ needed (codes "property") Name ∷ []; asks = with_property asks }
+
+-- a word that needs a class
+abbrev pub with_class : (List ℕ → Asked) → List Held → Option Asked
+with_class asks (class ∷ []) = option_map asks (text_of class)
+with_class asks held = None
+
+unfoldable pub of_class : List ℕ → (List ℕ → Asked) → Form
+of_class word asks = record { word = word; keys = needed (codes "class") Name ∷ []; asks = with_class asks }
+
+-- a word that needs an object below which something is looked for, by a name and a class where these are given
+abbrev pub with_search : (ℕ → Option (List ℕ) → Option (List ℕ) → Asked) → List Held → Option Asked
+with_search asks (target ∷ name ∷ class ∷ []) = option_map (λ number. asks number (text_of name) (text_of class)) (number_of target)
+with_search asks held = None
+
+unfoldable pub of_search : List ℕ → (ℕ → Option (List ℕ) → Option (List ℕ) → Asked) → Form
+of_search word asks = record {
+  word = word;
+  keys = needed (codes "object") Number ∷ optional (codes "name") Text ∷ optional (codes "class") Name ∷ [];
+  asks = with_search asks;
+}
