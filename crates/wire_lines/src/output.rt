@@ -192,9 +192,18 @@ impl Output {
         ensures failed { CountsErrors (W.failures writer.old) (W.failures writer.new) result }
     {
         let mut memory = [0; CALL_BYTES];
-        if let Some(text) = parts.text(&mut memory) {
-            return self.gathered.send(writer, text);
+        match parts.text(&mut memory) {
+            Some(text) => self.gathered.send(writer, text),
+            None => self.say_each(parts, writer),
         }
+    }
+
+    /// Says the parts one by one, where they are too long for one text.
+    fn say_each<W: Sink>(&mut self, parts: &Parts<'_>, writer: &mut W) -> Result<(), Failed>
+        ensures said { SentAll (out (W.held writer.old) self.old.gathered) (out (W.held writer.new) self.new.gathered) result
+            (text_of_parts parts.now) }
+        ensures failed { CountsErrors (W.failures writer.old) (W.failures writer.new) result }
+    {
         let parts = parts.in_order();
         for part in &parts {
             self.gathered.send(writer, part.as_bytes())?;

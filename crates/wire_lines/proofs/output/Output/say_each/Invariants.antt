@@ -2,7 +2,7 @@
 use Rattle.std.proofs.Common.{◌≡◌, take}
 use Rattle.std.specs.List.{flat_map}
 use Rattle.wire_lines.specs.Sending.{Sent, out}
-use Rattle.wire_lines.proofs.output.Output.say_parts.Given as goal
+use Rattle.wire_lines.proofs.output.Output.say_each.Given as goal
 
 abbrev pub invariant-loop-part : goal.invariant-loop-part
 invariant-loop-part g l = record {

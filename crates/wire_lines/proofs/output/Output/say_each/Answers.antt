@@ -4,7 +4,7 @@ use Rattle.std.specs.Prelude.{List, ℕ}
 use Rattle.std.proofs.lemmas.Grind.{common_steps}
 use Rattle.wire_lines.specs.Sending.{out, SentFront}
 use Rattle.wire_lines.proofs.Sent.{SentAll-failed, Sent-next, SentFront-next}
-use Rattle.wire_lines.proofs.output.Output.say_parts.Goals as goal
+use Rattle.wire_lines.proofs.output.Output.say_each.Goals as goal
 
 pub returns-in_err-send-clause-said : goal.returns-in_err-send-clause-said
 returns-in_err-send-clause-said g c =
