@@ -52,6 +52,7 @@ pub struct Options {
     pub is_live: bool,
     pub is_resumed: bool,
     pub watchdog: Option<u64>,
+    pub compact_at: Option<u64>,
     pub health: Option<Place>,
     pub health_mode: Option<u32>,
     pub metrics: Option<Place>,
@@ -194,6 +195,7 @@ fn read_option(options: &mut Options, reader: &mut Reader, text: &str) -> Result
         "--log-format" => options.style.is_json = is_json(name, &reader.value(name, own)?)?,
         "--log-level" => options.style.level = level(name, &reader.value(name, own)?)?,
         "--log-rate" => options.style.rate = Some(rate(name, &reader.value(name, own)?)?),
+        "--compact-at" => options.compact_at = Some(bytes(name, &reader.value(name, own)?)?),
         "--watchdog" => options.watchdog = Some(seconds(name, &reader.value(name, own)?)?),
         "--control" => options.control = Some(path(name, OsStr::new(&reader.value(name, own)?))?),
         _ if NetworkOptions::has(name) => options.network.read(name, &reader.value(name, own)?)?,
@@ -222,6 +224,9 @@ fn check(options: &Options) -> Result<(), String> {
     }
     if options.is_resumed && (options.record.is_none() || options.workers.is_none()) {
         return wrong("--resume needs --record and --workers");
+    }
+    if options.compact_at.is_some() && (options.record.is_none() || options.workers.is_none()) {
+        return wrong("--compact-at needs --record and --workers");
     }
     if options.is_tied && !is_pipe(0) {
         return wrong("--tied needs a pipe, a socket or a terminal as standard input");
@@ -315,6 +320,14 @@ fn workers(name: &str, word: &str) -> Result<usize, String> {
     match count_in(word) {
         Some(count) if count <= WORKERS_MOST => Ok(count),
         _ => wrong_value(name, word, "number of servers, from 1 to 64"),
+    }
+}
+
+/// Reads a size in bytes, of at least a few lines.
+fn bytes(name: &str, word: &str) -> Result<u64, String> {
+    match word.parse() {
+        Ok(size @ 4_096..=1_000_000_000_000) if word.bytes().all(|byte| byte.is_ascii_digit()) => Ok(size),
+        _ => wrong_value(name, word, "number of bytes, at least 4096"),
     }
 }
 

@@ -10,6 +10,7 @@ use mio::event::Event;
 use mio::{Events, Poll};
 use slab::Slab;
 
+use crate::compacting::Compacting;
 use crate::doors::Doors;
 use crate::eagerness::{Eagerness, LOOK};
 use crate::groups::Group;
@@ -108,6 +109,7 @@ pub struct Front {
     /// The number of connected requests for metrics.
     pub scrapes: usize,
     pub metrics: Metrics,
+    pub compacting: Compacting,
     /// The number of disconnected clients whose commands are still to be done.
     pub left: usize,
     /// Bytes that all clients together have not read.
@@ -168,6 +170,7 @@ impl Front {
             checks: 0,
             scrapes: 0,
             metrics: Metrics::new(count),
+            compacting: Compacting::default(),
             monitors: 0,
             left: 0,
             unread: 0,
@@ -270,6 +273,7 @@ impl Front {
             Kind::Hangup => self.hear_hangup(),
             Kind::Arrival => self.stir_arrival(key),
             Kind::Parting => self.stir_parting(key),
+            Kind::Compaction => self.hear_compaction(),
         }
         Ok(())
     }

@@ -12,6 +12,7 @@
 //! clients in over TCP and TLS, `tls` has the certificates, `subject` reads the name in one, and `wire` is a connection of
 //! any form, in bytes.
 //! `metrics` counts, and `scraping` shows the counts.
+//! `compacting` shortens records.
 
 #![forbid(unsafe_code)]
 
@@ -20,6 +21,7 @@ mod asking;
 mod clients;
 mod command_line;
 mod commands;
+mod compacting;
 mod control;
 mod doors;
 mod eagerness;

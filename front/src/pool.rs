@@ -103,6 +103,9 @@ impl Front {
 
     /// Looks after a group that has nothing under way.
     pub fn idle(&mut self, key: GroupKey) {
+        if self.compact_when_idle(key) {
+            return;
+        }
         let group = &mut self.groups[key];
         if std::mem::take(&mut group.moves_when_idle) {
             self.start_move(key);
@@ -120,6 +123,7 @@ impl Front {
 
     /// Drops a group of which nothing is left.
     fn forget_group(&mut self, key: GroupKey) {
+        self.leave_compaction(key);
         let mut group = self.groups.remove(key);
         self.changed.remove(&key);
         if let Some(pool) = &mut self.pool {
@@ -237,11 +241,13 @@ impl Front {
                 self.give(at);
             }
         }
-        for key in self.changed.drain() {
+        for key in std::mem::take(&mut self.changed) {
             if let Some(record) = self.groups.get_mut(key).and_then(|group| group.record.as_mut()) {
                 record.write(&mut self.log);
             }
+            self.note_record(key);
         }
+        self.compact_next();
         Ok(())
     }
 
@@ -351,6 +357,7 @@ impl Front {
         let suspects: Vec<u64> = early.iter().filter_map(|(_, number)| *number).collect();
         groups.sort_by_key(|key| suspects.contains(&self.groups[*key].number));
         for key in groups {
+            self.leave_compaction(key);
             if self.groups[key].moving.is_some() {
                 self.give_up_move(key, "its worker has ended meanwhile");
             }

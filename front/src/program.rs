@@ -16,6 +16,7 @@ use signal_hook::consts::{SIGHUP, SIGINT, SIGTERM};
 
 use crate::asked::Leave;
 use crate::command_line::{Options, Place, PASSED};
+use crate::compacting::sweep_folder;
 use crate::doors::{Comers, Listener};
 use crate::front::{Front, Stop};
 use crate::health::CHECKS_MOST;
@@ -28,7 +29,7 @@ use crate::records::folder;
 use crate::scraping::SCRAPES_MOST;
 use crate::server::{Record, Server};
 use crate::sockets::{listening, listening_over_network, passed, Bound};
-use crate::spawn::{end_all, keep_open, started, SECONDS_TO_END};
+use crate::spawn::{end_all, keep_open, kill, started, SECONDS_TO_END};
 use crate::tokens::{token, Kind};
 
 const FOR_ITS_OWNER: u32 = 0o600;
@@ -59,6 +60,9 @@ pub fn serve(options: Options) -> Result<(), Stop> {
         front.inspector = None;
         if let Some(page) = &mut front.page {
             end_all(&mut [page], TIME_TO_END);
+        }
+        if let Some(compaction) = &mut front.compacting.under_way {
+            kill(&mut compaction.child);
         }
         children
             .extend(front.workers.iter_mut().filter_map(|worker| worker.server.as_mut()).map(|server| &mut server.child));
@@ -144,7 +148,9 @@ fn front_of(options: &Options) -> Result<Front, Stop> {
     front.named_by_clients = options.by_name == Some(true);
     if let Some(workers) = options.workers {
         let folder = options.record.as_ref().map(|path| folder(path)).transpose()?;
+        folder.iter().for_each(|folder| sweep_folder(folder));
         front.pool = Some(Pool::new(workers, folder));
+        front.compacting.at = options.compact_at;
     }
     let kept_for_servers = if options.workers.is_some() { FILES_KEPT } else { 0 };
     front.metrics.is_on = options.metrics.is_some();
@@ -211,7 +217,7 @@ fn show(front: &mut Front, options: &Options, port: u16) -> Result<Child, Stop> 
     keep_open(far.as_raw_fd())?;
     keep_open(door.as_raw_fd())?;
     let words = [
-        page_program()?.into_os_string(),
+        program_beside("inspect")?.into_os_string(),
         format!("--feed={}", far.as_raw_fd()).into(),
         format!("--door={}", door.as_raw_fd()).into(),
     ];
@@ -230,13 +236,14 @@ fn show(front: &mut Front, options: &Options, port: u16) -> Result<Child, Stop> 
     Ok(child)
 }
 
-/// The program of the page: installed next to this one, or in the repository.
-fn page_program() -> Result<PathBuf, Ended> {
+/// A program in Python: installed next to this one, or in the repository.
+pub fn program_beside(name: &str) -> Result<PathBuf, Ended> {
     let own = fs::read_link("/proc/self/exe").unwrap_or_default();
     let folder = own.parent().map(PathBuf::from).unwrap_or_default();
-    let places = ["inspect", "../share/metad/inspect", "../clients/inspect"];
-    let found = places.iter().map(|place| folder.join(place)).find(|path| path.is_file());
-    found.ok_or_else(|| Ended("the inspector cannot be started: it is not installed".to_string()))
+    let places = ["", "../share/metad/", "../clients/"];
+    let found = places.iter().map(|place| folder.join(format!("{place}{name}"))).find(|path| path.is_file());
+    let shown = if name == "inspect" { "the inspector" } else { name };
+    found.ok_or_else(|| Ended(format!("{shown} cannot be started: it is not installed")))
 }
 
 /// A random word that nobody can guess.

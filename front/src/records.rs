@@ -4,7 +4,7 @@
 //! they were given and written, so an answer may come after the command that was given next.
 
 use std::fs::{self, File, OpenOptions};
-use std::io::{self, BufRead, BufReader, Cursor, Write};
+use std::io::{self, BufRead, BufReader, Cursor, Read, Seek, SeekFrom, Write};
 use std::os::unix::fs::{DirBuilderExt, OpenOptionsExt};
 use std::path::{Path, PathBuf};
 
@@ -29,11 +29,23 @@ pub struct GroupRecord {
     pub count: usize,
     pub is_whole: bool,
     is_there: bool,
+    /// It is not compacted before it has more bytes than this.
+    pub compact_from: u64,
+    /// How often it was emptied or replaced.
+    round: u64,
+}
+
+/// A place in a record at which all lines that were given are answered.
+pub struct Mark {
+    pub size: u64,
+    count: usize,
+    round: u64,
 }
 
 impl GroupRecord {
     pub fn new(path: Option<PathBuf>) -> GroupRecord {
-        GroupRecord { path, fresh: Vec::new(), size: 0, count: 0, is_whole: true, is_there: false }
+        let fresh = Vec::new();
+        GroupRecord { path, fresh, size: 0, count: 0, is_whole: true, is_there: false, compact_from: 0, round: 0 }
     }
 
     /// Opens the record of an earlier front, without a partial line at its end.
@@ -42,7 +54,7 @@ impl GroupRecord {
         OpenOptions::new().write(true).custom_flags(RECORD_FLAGS.bits()).open(path)?.set_len(whole)?;
         let count = lines_given(path)?.count();
         let (path, fresh) = (Some(path.to_path_buf()), Vec::new());
-        Ok(GroupRecord { path, fresh, size: whole, count, is_whole: true, is_there: true })
+        Ok(GroupRecord { path, fresh, size: whole, count, is_whole: true, is_there: true, compact_from: 0, round: 0 })
     }
 
     /// Records a line that is given to the server.
@@ -102,6 +114,7 @@ impl GroupRecord {
     pub fn begin_anew(&mut self) {
         self.fresh.clear();
         (self.size, self.count, self.is_whole) = (0, 0, true);
+        (self.compact_from, self.round) = (0, self.round + 1);
         if let Some(path) = self.path.as_ref().filter(|_| self.is_there) {
             self.is_there = OpenOptions::new().write(true).open(path).and_then(|file| file.set_len(0)).is_ok();
         }
@@ -128,6 +141,38 @@ impl GroupRecord {
             log.say(Level::Error, "record_changed", json!({"path": path}), &words);
         }
         self.is_whole
+    }
+
+    /// Its path and its present end, if all of it is in a file.
+    pub fn mark(&mut self, log: &mut Log) -> Option<(PathBuf, Mark)> {
+        self.write(log);
+        let path = self.path.as_ref().filter(|_| self.is_whole && self.is_there)?;
+        Some((path.clone(), Mark { size: self.size, count: self.count, round: self.round }))
+    }
+
+    /// Replaces the file by another one that has, in place of what is before a mark, so many lines that were given and so many
+    /// bytes, and has so many bytes after the mark already. Returns false if what is before the mark has changed meanwhile.
+    pub fn replace(&mut self, mark: &Mark, by: &Path, made: (usize, u64, u64), log: &mut Log) -> io::Result<bool> {
+        self.write(log);
+        let path = match self.path.as_ref().filter(|_| self.is_whole && self.round == mark.round) {
+            Some(path) => path,
+            None => return Ok(false),
+        };
+        let (lines, bytes, copied) = made;
+        let mut old = open(path)?;
+        let mut new = OpenOptions::new().append(true).custom_flags(RECORD_FLAGS.bits()).open(by)?;
+        let is_right = old.metadata()?.len() == self.size && new.metadata()?.len() == bytes + copied;
+        let rest = self.size.checked_sub(mark.size + copied).filter(|_| is_right);
+        let rest = rest.ok_or_else(|| io::Error::new(io::ErrorKind::InvalidData, "a file is not what it was"))?;
+        old.seek(SeekFrom::Start(mark.size + copied))?;
+        let added = io::copy(&mut old.take(rest), &mut new)?;
+        if added < rest {
+            return Err(io::ErrorKind::UnexpectedEof.into());
+        }
+        fs::rename(by, path)?;
+        (self.size, self.count) = (bytes + copied + rest, lines + self.count - mark.count);
+        self.round += 1;
+        Ok(true)
     }
 
     /// Removes the file.

@@ -6,6 +6,7 @@ use std::fmt::{Display, Write};
 use std::fs;
 use std::time::SystemTime;
 
+use crate::compacting::OUTCOMES;
 use crate::front::Front;
 use crate::guests::Errand;
 use crate::log::LEVELS;
@@ -172,6 +173,8 @@ impl Front {
         }
         page.one("record_bytes", "gauge", "Size of the records of all groups.", bytes);
         page.one("records_broken", "gauge", "Groups whose records can restore nothing.", broken);
+        let outcomes = named(&OUTCOMES, &self.compacting.outcomes);
+        page.each("compactions_total", "counter", "Records that were to be compacted.", "outcome", outcomes);
         let replays = named(&PURPOSES, &self.metrics.replays);
         page.each("replays_total", "counter", "Groups that were to be restored from their records.", "purpose", replays);
         page.one("replays_failed_total", "counter", "Groups that could not be restored.", self.metrics.replays_failed);

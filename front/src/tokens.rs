@@ -18,9 +18,10 @@ pub enum Kind {
     Arrival,
     /// A connection over the network that is closed once the other side has closed too.
     Parting,
+    Compaction,
 }
 
-const KINDS: [Kind; 11] = [
+const KINDS: [Kind; 12] = [
     Kind::Client,
     Kind::Guest,
     Kind::ServerOutput,
@@ -32,6 +33,7 @@ const KINDS: [Kind; 11] = [
     Kind::Hangup,
     Kind::Arrival,
     Kind::Parting,
+    Kind::Compaction,
 ];
 
 /// The token of a source, by its kind and its number among those of the kind.
