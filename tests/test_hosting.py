@@ -295,7 +295,7 @@ class Cluster(FrontCases):
         self.assertEqual(self.service["spec"]["selector"], labels)
         self.assertEqual(self.set["spec"]["serviceName"], self.service["metadata"]["name"])
         self.assertEqual(self.service["spec"]["clusterIP"], "None", "a headless service")
-        (port,), (inner,) = self.service["spec"]["ports"], self.door["ports"]
+        (port, _), (inner,) = self.service["spec"]["ports"], self.door["ports"]
         self.assertEqual((port["targetPort"], port["port"]), (inner["name"], inner["containerPort"]))
         claimed = {it["metadata"]["name"] for it in self.set["spec"]["volumeClaimTemplates"]}
         volumes = {it["name"] for it in self.pod["volumes"]} | claimed
@@ -329,8 +329,7 @@ class Cluster(FrontCases):
         """The probes pass where front and server answer, and fail where the server does not, and where there is no front. The
         front is started by its container's words, at another address."""
         path, log = Path(self.room, "metad.sock"), Log(Path(self.room, "log"))
-        here = {"/run/metad": self.room, "/var/lib/metad": self.room, f"0.0.0.0:{self.health_port()}": "127.0.0.1:0"}
-        words = [self.here(it, here) for it in self.front["command"]]
+        words = self.words_here()
         taken = parser().parse_args(words[1:])
         self.assertEqual((taken.socket, taken.args[0]), (str(path), "--turns"))
         probes = [self.front[it]["httpGet"] for it in ("readinessProbe", "livenessProbe")]
@@ -338,9 +337,7 @@ class Cluster(FrontCases):
         given = [FRONT, *(self.program if it == "/usr/local/bin/metad" else it for it in words[1:])]
         with log.path.open("wb") as stderr, subprocess.Popen(given, stderr=stderr) as process:
             try:
-                log.wait_for(self, f"metad-front: listening at {path}", process)
-                (line,) = [line for line in log.lines() if "health at" in line]
-                port = int(line.rpartition(":")[2])
+                port = self.port_of("health", log, path)
                 self.wait_for_probes(probes, port, [200, 200])
                 server = int(Path(f"/proc/{process.pid}/task/{process.pid}/children").read_text())
                 os.kill(server, signal.SIGSTOP)
@@ -353,10 +350,44 @@ class Cluster(FrontCases):
             self.probe(probes[0], port)
         self.assertEqual(Path(self.room, "record").read_text(), "", "what the server was given by clients")
 
-    def health_port(self):
-        (port,) = self.front["ports"]
-        self.assertEqual(port["name"], "health")
-        return port["containerPort"]
+    def words_here(self):
+        """The words of the front's container, with paths and ports of this machine."""
+        here = {"/run/metad": self.room, "/var/lib/metad": self.room}
+        here.update({f"0.0.0.0:{it['containerPort']}": "127.0.0.1:0" for it in self.front["ports"]})
+        return [self.here(it, here) for it in self.front["command"]]
+
+    def port_of(self, what, log, path):
+        """The port at which a front says that it answers, once it listens."""
+        until = time.monotonic() + PATIENCE
+        while not any(it["fields"].get("at") == str(path) for it in map(json.loads, log.lines())):
+            self.assertLess(time.monotonic(), until, log.lines())
+            time.sleep(0.01)
+        (place,) = (it["fields"]["at"] for it in map(json.loads, log.lines()) if it["fields"].get("for") == what)
+        return int(place.rpartition(":")[2])
+
+    def test_metrics(self):
+        """The annotations and the service monitor lead to the port at which the container's front answers with its metrics."""
+        ports = {it["name"]: it["containerPort"] for it in self.front["ports"]}
+        self.assertEqual(ports.keys(), {"health", "metrics"})
+        told = self.set["spec"]["template"]["metadata"]["annotations"]
+        wanted = {"scrape": "true", "port": str(ports["metrics"]), "path": "/metrics"}
+        self.assertEqual(told, {f"prometheus.io/{name}": value for name, value in wanted.items()})
+        monitor = json.loads((KUBERNETES / "servicemonitor.yaml").read_text())
+        self.assertEqual((monitor["apiVersion"], monitor["kind"]), ("monitoring.coreos.com/v1", "ServiceMonitor"))
+        self.assertEqual(monitor["spec"]["selector"]["matchLabels"], self.service["metadata"]["labels"])
+        (end,) = monitor["spec"]["endpoints"]
+        (port,) = (it for it in self.service["spec"]["ports"] if it["name"] == end["port"])
+        self.assertEqual((port["targetPort"], port["port"], end["path"]), ("metrics", ports["metrics"], "/metrics"))
+        path, log = Path(self.room, "metad.sock"), Log(Path(self.room, "log"))
+        given = [FRONT, *(self.program if it == PROGRAM else it for it in self.words_here()[1:])]
+        with log.path.open("wb") as stderr, subprocess.Popen(given, stderr=stderr) as process:
+            try:
+                link = HTTPConnection("127.0.0.1", self.port_of("metrics", log, path), timeout=PATIENCE)
+                link.request("GET", end["path"])
+                self.assertIn(b"\nmetad_front_clients 0\n", link.getresponse().read())
+                link.close()
+            finally:
+                process.terminate()
 
     def wait_for_probes(self, probes, port, wanted):
         """Waits until probes are answered so."""
