@@ -6,6 +6,7 @@ import json
 from dataclasses import dataclass
 from typing import Any, Dict, List, Sequence
 
+from metad.asking import Asked
 from metad.dumping import Snapshot, commands_of, snapshot
 
 from .serving import Kept, Server
@@ -40,12 +41,17 @@ class Contents:
     told: List[bytes]
 
 
+def keys_of(asked: Asked[Any]) -> Dict[str, Any]:
+    """The keys of a command as the protocol has them: those that are words of Python have an underscore there."""
+    return {key.rstrip("_"): value for key, value in asked.keys.items()}
+
+
 def contents_of(server: Server, session: str) -> Contents:
     """Asks for what a session holds."""
     steps, told = snapshot(), []
     asked = next(steps)
     while True:
-        answers = server.ask([line_of(session, it.do, **it.keys) for it in asked])
+        answers = server.ask([line_of(session, it.do, **keys_of(it)) for it in asked])
         told += [line for answer in answers for line in answer]
         replies = [reply_in(it.do, answer) for it, answer in zip(asked, answers)]
         try:

@@ -22,6 +22,8 @@ from .trying import has_events, state_of  # noqa: E402
 NAME = "compact"
 USAGE = f"{NAME} [--bytes N] RECORD INTO PROGRAM [ARGS...]"
 NICE = 10
+EVENTS = "events wait"
+"""Why a record is kept that may be compacted soon."""
 HELP = """\
 RECORD is the record of a group, as metad-front keeps it with --workers and --record. PROGRAM with ARGS is the server of
 the front. INTO becomes a record that makes the same sessions with the same objects, properties, bindings, connections,
@@ -74,7 +76,7 @@ def compacted(words: Sequence[str], path: Path, bytes_read: int) -> tuple[List[b
         replay(server, path, bytes_read)
         before = state_of(server, sessions)
     if any(has_events(it) for it in before["held"]):
-        raise Kept("events wait")
+        raise Kept(EVENTS)
     given = [line for it in before["held"] for line in makings(it, before["numbers"][it.session])]
     with Server(words) as server:
         answers = server.ask(given)
@@ -93,7 +95,7 @@ def made(given: argparse.Namespace) -> Dict[str, Any]:
     try:
         lines, answers = compacted([given.program, *given.args], given.record, bytes_read)
     except Kept as why:
-        return {"outcome": "kept", "why": str(why)}
+        return {"outcome": "kept", "why": str(why), "soon": str(why) == EVENTS}
     if sum(map(len, lines)) >= bytes_read:
         return {"outcome": "kept", "why": "it would not be shorter"}
     if os.getppid() != parent:

@@ -212,7 +212,7 @@ impl Front {
         let _ = fs::remove_file(&compaction.into); // where it was taken there is none of this name any more
         let name = name.unwrap_or_default();
         let (before, seconds) = (compaction.mark.size, compaction.begun.elapsed().as_secs_f64());
-        self.put_off(&compaction, outcome.as_ref().ok().copied().flatten());
+        self.put_off(&compaction, outcome.as_ref().ok().copied().flatten(), said["soon"] == true);
         match outcome {
             Ok(Some(after)) => {
                 self.compacting.outcomes[0] += 1;
@@ -234,11 +234,13 @@ impl Front {
         }
     }
 
-    /// Compacts a record again only when it has twice the size that was needed, which is that of the new one if there is one.
-    fn put_off(&mut self, compaction: &Compaction, needed: Option<u64>) {
+    /// Compacts a record again only when it has twice the size that was needed, which is that of the new one if there is one;
+    /// or a quarter more, if it was only not the right moment.
+    fn put_off(&mut self, compaction: &Compaction, needed: Option<u64>, is_soon: bool) {
         let group = self.groups.get_mut(compaction.group).filter(|group| group.number == compaction.number);
         if let Some(record) = group.and_then(|group| group.record.as_mut()) {
-            record.compact_from = 2 * needed.unwrap_or_else(|| record.size());
+            let kept = if is_soon { record.size() / 4 * 5 } else { 2 * record.size() };
+            record.compact_from = needed.map_or(kept, |needed| 2 * needed);
             self.note_record(compaction.group);
         }
     }

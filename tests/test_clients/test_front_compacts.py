@@ -7,8 +7,14 @@ import shutil
 import signal
 import subprocess
 import sys
+from collections import Counter
 from contextlib import contextmanager
 from pathlib import Path
+from tempfile import TemporaryDirectory
+
+from compacting.program import compacted
+from compacting.record import write
+from compacting.serving import Kept, Server
 
 from tests.support.lines import text_of
 from tests.support.program import ROOT
@@ -22,6 +28,7 @@ AT = 20_000
 SHARE = '{"front":"share","session":"desk__team"}'
 CELL = text_of({"do": "new", "class": "Cell"})
 GROUPS, COMMANDS, ROUNDS = 4, 80, 4
+CUTS = int(os.environ.get("CUTS", "40"))  # random records that are cut
 STEPS = {
     "begun": "stop()",
     "half": "new = open(into, 'wb'); new.write(old[: len(old) // 2]); new.flush(); stop()",
@@ -320,6 +327,41 @@ class Tool(CompactCases):
         ran = self.ran(record, Path(self.room, "short"), "/nowhere")
         self.assertEqual((ran.returncode, ran.stderr), (1, "compact: /nowhere cannot be started: No such file or directory\n"))
 
+    def test_random(self):
+        """After a short record a server answers all further commands of random sessions as it does after the long one, byte for
+        byte, wherever the record was cut."""
+        seed = seed_of(self)
+        came = self.check_each([(f"{seed} {at}", f"{seed} {at}") for at in range(CUTS)], self.cut_and_compare, lambda tried: tried[0])
+        words = [why for _, why in came]
+        self.tell(f"compacted: {words.count('')}, {Counter(filter(None, words))}")
+        self.assertGreater(words.count(""), CUTS // 10, words)
+
+    def cut_and_compare(self, seed):
+        """What is wrong after a short record in place of the first part of a random one, or None; and why it was kept."""
+        with TemporaryDirectory(prefix="metad-compacts-") as room:
+            runs = Runs(seed, 1, 60, room)
+            words = [self.program, *runs.words]
+            given = [text_of(command).encode() for command in runs.steps]
+            chance = random.Random(seed)
+            cut = chance.randrange(len(given) // 4, len(given))
+            with Server(words) as server:
+                answers = server.ask(given)
+            record = Path(room, "record")
+            with record.open("wb") as file:
+                write(file, given[:cut], answers[:cut])
+            try:
+                short, told = compacted(words, record, record.stat().st_size)
+            except Kept as why:
+                return None, str(why)
+            with Server(words) as server:
+                again = server.ask([*short, *given[cut:]])
+        if again[: len(short)] != told:
+            return f"{seed}: the short record is answered otherwise", ""
+        differs = next((at for at, pair in enumerate(zip(again[len(short) :], answers[cut:])) if pair[0] != pair[1]), None)
+        if differs is None:
+            return None, ""
+        return f"{seed}: cut at {cut}, line {cut + differs}: {given[cut + differs]}: {again[len(short) + differs]}, {answers[cut + differs]}", ""
+
     def test_another_server(self):
         """A record that the server answers otherwise is kept."""
         record, into = Path(self.room, "desk.lines"), Path(self.room, "short")
@@ -327,7 +369,7 @@ class Tool(CompactCases):
         record.write_text(f"> {given}\n{reply(2, 'a')}\n")
         ran = self.ran(record, into, self.program)
         self.assertEqual((ran.returncode, ran.stderr), (0, ""))
-        self.assertEqual(json.loads(ran.stdout), {"outcome": "kept", "why": "the server answers the record otherwise"})
+        self.assertEqual(json.loads(ran.stdout), {"outcome": "kept", "why": "the server answers the record otherwise", "soon": False})
         self.assertFalse(into.exists())
 
     def test_replayed(self):
