@@ -78,7 +78,8 @@ impl Front {
             None => return,
         };
         let record = self.groups.get(key).and_then(|group| group.record.as_ref());
-        let is_long = record.map_or(false, |record| record.is_whole && record.size() > at.max(record.compact_from));
+        let record = record.filter(|record| record.is_whole && record.is_in_file());
+        let is_long = record.map_or(false, |record| record.size() > at.max(record.compact_from));
         if is_long && !self.compacting.waiting.contains(&key) {
             self.compacting.waiting.push(key);
         }

@@ -27,7 +27,7 @@ COMPACT = ROOT / "clients" / "compact"
 AT = 20_000
 SHARE = '{"front":"share","session":"desk__team"}'
 CELL = text_of({"do": "new", "class": "Cell"})
-GROUPS, COMMANDS, ROUNDS = 4, 80, 4
+GROUPS, COMMANDS, ROUNDS, KILLS = 4, 80, 3, 10
 CUTS = int(os.environ.get("CUTS", "40"))  # random records that are cut
 STEPS = {
     "begun": "stop()",
@@ -72,9 +72,12 @@ def answers_until_killed(client):
 
 
 class ServerKiller(Killer):
-    """Kills servers, and not the program that shortens records."""
+    """Kills servers a few times, and not the program that shortens records."""
 
     def kill(self):
+        if self.kills == KILLS:
+            self.ended.set()
+            return
         before, servers = self.said("was ended by signal 9"), [it for it in servers_of(self.process) if not is_python(it)]
         if servers:
             os.kill(self.chance.choice(servers), signal.SIGKILL)
