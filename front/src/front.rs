@@ -208,6 +208,7 @@ impl Front {
                 self.stir(event)?;
             }
             self.let_in();
+            self.shake_hands();
             self.work()?;
             for _ in 0..ROUNDS {
                 if !self.is_stirred() {
@@ -298,6 +299,7 @@ impl Front {
             || !self.touched.is_empty()
             || !self.touched_guests.is_empty()
             || self.doors.is_stirred()
+            || self.network.is_stirred()
     }
 
     /// The time until the next process is to be started, if one is.

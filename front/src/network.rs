@@ -4,7 +4,7 @@
 //! is like any other. When the front closes it, it first says that nothing more comes, and waits a short time until the
 //! other side has closed too: otherwise what it has sent last could be lost.
 
-use std::collections::BTreeMap;
+use std::collections::{BTreeMap, VecDeque};
 use std::io::{ErrorKind, Read};
 use std::sync::Arc;
 use std::time::{Duration, Instant};
@@ -26,6 +26,8 @@ use crate::wire::Wire;
 const HANDSHAKE: Duration = Duration::from_secs(10);
 /// The most handshakes at the same time. If there are more, the oldest one is closed.
 const HANDSHAKES_MOST: usize = 1_024;
+/// The most steps of handshakes that are done before others have their turn.
+const SHAKEN_AT_ONCE: usize = 8;
 /// The longest time that the front waits for the other side to close, and the most connections for which it does.
 const PARTING: Duration = Duration::from_secs(2);
 const PARTINGS_MOST: usize = 256;
@@ -64,6 +66,8 @@ struct Arrival {
     sealed: Sealed,
     peer: Box<Peer>,
     until: Instant,
+    /// It is on the list of those that can continue.
+    is_ready: bool,
 }
 
 /// The state of connections over the network that are no clients.
@@ -73,6 +77,8 @@ pub struct Network {
     settings: Option<Arc<ServerConfig>>,
     /// Handshakes by their numbers, the oldest first.
     arrivals: BTreeMap<usize, Arrival>,
+    /// Handshakes that can continue.
+    ready: VecDeque<usize>,
     partings: BTreeMap<usize, (UnixStream, Instant)>,
     count: usize,
 }
@@ -86,6 +92,11 @@ impl Network {
 
     pub fn has_certificates(&self) -> bool {
         self.files.is_some()
+    }
+
+    /// Whether a handshake can continue.
+    pub fn is_stirred(&self) -> bool {
+        !self.ready.is_empty()
     }
 
     fn number(&mut self) -> usize {
@@ -111,7 +122,7 @@ impl Front {
         match Sealed::new(stream, &settings) {
             Ok(sealed) => {
                 let until = Instant::now() + HANDSHAKE;
-                self.network.arrivals.insert(number, Arrival { sealed, peer, until });
+                self.network.arrivals.insert(number, Arrival { sealed, peer, until, is_ready: false });
             }
             Err(Ended(why)) => self.note_failed(&peer.address, &why),
         }
@@ -120,12 +131,30 @@ impl Front {
         }
     }
 
-    /// Continues with a handshake.
+    /// Records that a handshake can continue.
     pub fn stir_arrival(&mut self, number: usize) {
+        if let Some(arrival) = self.network.arrivals.get_mut(&number).filter(|arrival| !arrival.is_ready) {
+            arrival.is_ready = true;
+            self.network.ready.push_back(number);
+        }
+    }
+
+    /// Continues with the handshakes that can, a few of them at once: their signatures take the time of many lines.
+    pub fn shake_hands(&mut self) {
+        for _ in 0..SHAKEN_AT_ONCE {
+            match self.network.ready.pop_front() {
+                Some(number) => self.shake(number),
+                None => return,
+            }
+        }
+    }
+
+    fn shake(&mut self, number: usize) {
         let mut arrival = match self.network.arrivals.remove(&number) {
             Some(arrival) => arrival,
             None => return,
         };
+        arrival.is_ready = false;
         match arrival.sealed.shake() {
             Ok(()) => {
                 arrival.peer.subject = arrival.sealed.subject();

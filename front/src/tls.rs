@@ -130,7 +130,8 @@ impl ClientCertVerifier for ShortChains {
         now: SystemTime,
     ) -> Result<ClientCertVerified, rustls::Error> {
         if between.len() > BETWEEN_MOST {
-            return Err(rustls::Error::General(format!("the client has sent more than {BETWEEN_MOST} further certificates")));
+            let fault = format!("the client has sent more than {BETWEEN_MOST} further certificates");
+            return Err(rustls::Error::General(fault));
         }
         self.0.verify_client_cert(own, between, now)
     }
