@@ -23,7 +23,7 @@ const SEALED_MOST: usize = 16_384;
 const BETWEEN_MOST: usize = 4;
 
 /// The kinds of signatures by which a key is compared with its certificate.
-const KINDS: [(SignatureScheme, &SignatureAlgorithm); 4] = [
+static KINDS: [(SignatureScheme, &SignatureAlgorithm); 4] = [
     (SignatureScheme::ECDSA_NISTP256_SHA256, &webpki::ECDSA_P256_SHA256),
     (SignatureScheme::ECDSA_NISTP384_SHA384, &webpki::ECDSA_P384_SHA384),
     (SignatureScheme::ED25519, &webpki::ED25519),
