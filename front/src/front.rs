@@ -208,7 +208,9 @@ impl Front {
                 self.stir(event)?;
             }
             self.let_in();
-            self.shake_hands();
+            if self.network.is_stirred() {
+                self.shake_hands();
+            }
             self.work()?;
             for _ in 0..ROUNDS {
                 if !self.is_stirred() {
@@ -228,11 +230,13 @@ impl Front {
             self.next_due(),
             self.look_at_servers(),
             self.look_at_checks(),
-            self.look_at_network(),
             self.log.tick(),
         ];
         for other in others.into_iter().flatten() {
             due = Some(due.map_or(other, |due| due.min(other)));
+        }
+        if self.network.is_awaited() {
+            due = due.into_iter().chain(self.look_at_network()).min();
         }
         due
     }

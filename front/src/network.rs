@@ -94,6 +94,11 @@ impl Network {
         self.files.is_some()
     }
 
+    /// Whether there are handshakes, or connections that are about to be closed.
+    pub fn is_awaited(&self) -> bool {
+        !(self.arrivals.is_empty() && self.partings.is_empty())
+    }
+
     /// Whether a handshake can continue.
     pub fn is_stirred(&self) -> bool {
         !self.ready.is_empty()
@@ -213,9 +218,6 @@ impl Front {
     /// Closes connections whose handshake takes too long, or whose other side does not close; returns the time until the
     /// next is due.
     pub fn look_at_network(&mut self) -> Option<Duration> {
-        if self.network.arrivals.is_empty() && self.network.partings.is_empty() {
-            return None;
-        }
         let now = Instant::now();
         while self.network.arrivals.values().next().map_or(false, |arrival| arrival.until <= now) {
             self.refuse_oldest(&format!("it has taken more than {} seconds", HANDSHAKE.as_secs()));

@@ -140,10 +140,8 @@ impl Link {
 
     /// Writes as much of the unread bytes as the other side takes, and waits for room if that was not all.
     pub fn write(&mut self, registry: &Registry) {
-        if self.stream.wants_to_write() {
-            let _ = self.stream.send(); // an error comes again where more is written or read
-        }
         if self.unread.is_empty() {
+            let _ = self.stream.send(); // what is sealed already; an error comes again where more is written or read
             return;
         }
         match self.unread.give(&mut self.stream) {
