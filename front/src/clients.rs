@@ -43,10 +43,13 @@ impl Front {
         link.is_readable = peer.is_some(); // what came with a handshake causes no event
         let speech =
             if self.named_by_clients { Speech::Named(Box::default()) } else { Speech::One(self.speaker_for(key, number)) };
-        let how = peer.as_ref().map_or_else(String::new, |peer| peer.how());
+        let (how, fields) = match &peer {
+            Some(peer) => (peer.how(), peer.fields(number)),
+            None => (String::new(), json!({"client": number})),
+        };
         self.clients.insert(Client { number, link, peer, speech, is_touched: false });
         self.touch(key);
-        self.log.note("client_came", json!({"client": number}), &format!("c{number} has come{how}"));
+        self.log.note("client_came", fields, &format!("c{number} has come{how}"));
     }
 
     /// Makes the speaker of a new client, which has a session of its own.

@@ -12,7 +12,7 @@ use std::time::{Duration, Instant};
 use mio::net::UnixStream;
 use mio::Interest;
 use rustls::ServerConfig;
-use serde_json::json;
+use serde_json::{json, Value};
 use socket2::{SockRef, TcpKeepalive};
 
 use crate::doors::Comers;
@@ -55,9 +55,25 @@ impl Peer {
 
     /// How it has come, in words.
     pub fn how(&self) -> String {
-        let form = if self.is_sealed { "TLS" } else { "TCP" };
         let name = self.subject.as_ref().map_or_else(String::new, |subject| format!(" as {subject}"));
-        format!(" over {form} from {}{name}", self.address)
+        format!(" over {} from {}{name}", self.form(), self.address)
+    }
+
+    /// The same as parts of a line of the log, for the client of this number.
+    pub fn fields(&self, client: u64) -> Value {
+        let mut fields = json!({"client": client, "over": self.form(), "address": self.address});
+        if let Some(subject) = &self.subject {
+            fields["subject"] = subject.as_str().into();
+        }
+        fields
+    }
+
+    fn form(&self) -> &'static str {
+        if self.is_sealed {
+            "TLS"
+        } else {
+            "TCP"
+        }
     }
 }
 

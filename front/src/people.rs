@@ -7,8 +7,8 @@ use std::time::Instant;
 use mio::{Registry, Token};
 
 use crate::lines::member_of;
-use crate::network::Peer;
 use crate::metrics::Leaving;
+use crate::network::Peer;
 use crate::queue::{Cutter, Pending, Queue};
 use crate::wire::Wire;
 

@@ -20,6 +20,7 @@ from .certificates import Authority, subject_of
 from .fronts import FRONT, NEW, PATIENCE, STATUS, Client, error, front_help, reply
 from .networked import ANY_PORT, HERE, NetworkCases, NetworkClient, context_of, port_of
 from .stand_servers import wait_until_true
+from .test_front_logs import LogCases
 
 HANDSHAKE_SECONDS = 10
 VERSIONS = (ssl.TLSVersion.TLSv1_2, ssl.TLSVersion.TLSv1_3)
@@ -226,6 +227,26 @@ class Certificates(NetworkCases):
                 process.send_signal(signal.SIGHUP)
                 self.said_of(process, "hangup: .*shown.key has no private key .*; the certificates from before are used")
                 self.assertEqual((self.shown_at(port), client.name()), (second, name))
+
+
+class Logged(LogCases, NetworkCases):
+    """The log as JSON."""
+
+    def test_events(self):
+        """It has how a client has come, from where, and as whom; and why a handshake has failed."""
+        with self.logged(*self.tls_words(clients=self.authority)) as (path, process, log):
+            (at,) = [it["at"] for it in log.of("listening") if it["for"] == "TLS"]
+            port = int(at.rpartition(":")[2])
+            with NetworkClient(port, context_of(self.authority, self.authority.client("anna"))) as client, Client(path):
+                wanted = {"client": 1, "over": "TLS", "address": f"{HERE}:{client.link.getsockname()[1]}", "subject": "CN=anna"}
+                log.wait_for_event(self, "client_came", **wanted)
+                log.wait_for_event(self, "client_came", client=2)
+            with socket.create_connection((HERE, port), PATIENCE) as link:
+                address = f"{HERE}:{link.getsockname()[1]}"
+                link.sendall(b"nonsense, and not TLS\n")
+                log.wait_for_event(self, "handshake_failed", address=address, reason="received corrupt message")
+            process.send_signal(signal.SIGHUP)
+            log.wait_for_event(self, "certificates_read")
 
 
 class Handshakes(NetworkCases):
