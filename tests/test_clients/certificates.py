@@ -51,18 +51,18 @@ class Authority:
         (self.room / "openssl.cnf").write_text(CONFIG)
         self.certificate, self.key = self._made(name, "v3", f"/CN={subject or name}", ["-x509", "-days", "30"])
 
-    def _made(self, name, section, subject, more):
-        """The paths of a certificate, or of a request for one, and of its key, which is quick to make."""
+    def _made(self, name, section, subject, more, kind=None):
+        """The paths of a certificate, or of a request for one, and of its key, of a kind that is quick to make."""
         made, key = self.room / f"{name}.pem", self.room / f"{name}.key"
-        curve = ["-newkey", "ec", "-pkeyopt", "ec_paramgen_curve:P-256", "-nodes", "-keyout", key]
+        new = [*(kind or ["-newkey", "ec", "-pkeyopt", "ec_paramgen_curve:P-256"]), "-nodes", "-keyout", key]
         names = ["-subj", subject, "-utf8", "-multivalue-rdn"]
-        openssl("req", "-new", "-config", "openssl.cnf", "-extensions", section, *curve, *names, *more, "-out", made, folder=self.room)
+        openssl("req", "-new", "-config", "openssl.cnf", "-extensions", section, *new, *names, *more, "-out", made, folder=self.room)
         return made, key
 
-    def client(self, name, subject=None, section="client"):
+    def client(self, name, subject=None, section="client", kind=None):
         """A certificate for clients that this CA signs."""
         own = ["-x509", "-CA", self.certificate, "-CAkey", self.key, "-days", "30"]
-        return self._made(name, section, subject or f"/CN={name}", own)
+        return self._made(name, section, subject or f"/CN={name}", own, kind)
 
     def server(self, name="server"):
         """A certificate for servers at this machine."""

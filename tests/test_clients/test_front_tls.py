@@ -16,7 +16,7 @@ from pathlib import Path
 from tests.support.documents import BLOCK, WEB_PAGE
 from tests.support.pages import check_page
 
-from .certificates import Authority, subject_of
+from .certificates import Authority, openssl, subject_of
 from .fronts import FRONT, NEW, PATIENCE, STATUS, Client, error, front_help, reply
 from .networked import ANY_PORT, HERE, NetworkCases, NetworkClient, context_of, port_of
 from .stand_servers import wait_until_true
@@ -202,6 +202,20 @@ class Certificates(NetworkCases):
             self.said_of(process, "has failed: received fatal alert: UnknownCA")
             with NetworkClient(port, context_of(self.authority)) as client:
                 self.assertEqual(client.name(), "c1")
+
+    def test_keys(self):
+        """Keys of each usual kind, in each of the forms that openssl writes."""
+        for kind, new, old in (("rsa", ["-newkey", "rsa:2048"], ["rsa", "-traditional"]), ("ec", None, ["ec"]), ("ed25519", ["-newkey", "ed25519"], None)):
+            certificate, key = self.authority.client(kind, section="server", kind=new)
+            keys = [key]
+            if old is not None:
+                keys.append(key.with_suffix(".old"))
+                openssl(old[0], "-in", key, *old[1:], "-out", keys[1])
+            for path in keys:
+                words = ["--tls", ANY_PORT, "--tls-cert", certificate, "--tls-key", path]
+                with self.subTest(key=path.name, begins=path.read_text().splitlines()[0]), self.front(options=words) as (_, process):
+                    with NetworkClient(port_of(process.log, "TLS"), context_of(self.authority)) as client:
+                        self.assertEqual(client.name(), "c1")
 
     def shown_at(self, port):
         """The certificate that a front shows."""
