@@ -171,7 +171,7 @@ impl Sealed {
         self.session.peer_certificates().and_then(|all| all.first()).map(|own| subject_of(&own.0))
     }
 
-    /// Reads sealed bytes and opens them; returns their number. What the protocol answers by itself is sent.
+    /// Reads sealed bytes and opens them; returns their number. What the protocol itself answers is sent.
     fn take(&mut self) -> io::Result<usize> {
         let count = loop {
             match self.session.read_tls(&mut self.stream) {

@@ -43,7 +43,7 @@ def openssl(*words, folder=None):
 
 
 class Authority:
-    """A CA, which makes certificates in a folder of its own, each with its key beside it: NAME.pem and NAME.key."""
+    """A CA, which makes certificates in a folder of its own, each with its key next to it: NAME.pem and NAME.key."""
 
     def __init__(self, room, name="authority", subject=None):
         self.room = Path(room, name)

@@ -1,4 +1,4 @@
-"""The Python client over TLS and TCP: what it is told, how it ends, and what it says of certificates."""
+"""The Python client over TLS and TCP: what it receives, how it ends, and what it says of certificates."""
 
 import asyncio
 import socket
@@ -122,4 +122,4 @@ class OverTcp(NetworkCases):
         self.assertIn("is a front running that listens there?", str(refused))
         for place in ("tls://localhost", "tcp://:1", "tls://host:port", "tls://[::1:5"):
             self.assertIn("HOST:PORT", str(self.raised(place, ValueError, metad.connect, place)))
-        self.raised("TLS where there is none", ValueError, metad.connect, "tcp://localhost:1", tls=metad.Tls())
+        self.raised("TLS where it is not spoken", ValueError, metad.connect, "tcp://localhost:1", tls=metad.Tls())

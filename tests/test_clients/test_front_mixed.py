@@ -44,7 +44,7 @@ class Mixed(NetworkCases):
         return [lambda: Client(path), lambda: WholeClient(tcp), *sealed]
 
     def test_many(self):
-        """200 clients at once, a quarter of them each way, are told what each of them is told alone."""
+        """200 clients at once, a quarter of them each way, receive what each of them receives alone."""
         classes = classes_in(self.room, CLASSES)
         lives = [list(life_of(number)) for number in range(LIVES)]
 
@@ -61,7 +61,7 @@ class Mixed(NetworkCases):
         self.assertEqual(len({name for name, _ in told}), CLIENTS, "how many names")
         wanted = [alone([self.program, classes], "NAME", life) for life in lives]
         for at, (name, lines) in enumerate(told):
-            self.assertEqual(lines, [line.replace('"NAME"', f'"{name}"') for line in wanted[at % LIVES]], f"what {name} is told")
+            self.assertEqual(lines, [line.replace('"NAME"', f'"{name}"') for line in wanted[at % LIVES]], f"what {name} receives")
 
     def stream(self, chance):
         """Random lines, among them blank ones, long ones, and those that ask for a session of others."""
@@ -79,7 +79,7 @@ class Mixed(NetworkCases):
         return b"\n".join(lines) + chance.choice((b"", b"\n"))
 
     def told_in(self, way, data, chance):
-        """All that the only client of a front is told, whose bytes are cut anywhere."""
+        """All that the only client of a front receives, whose bytes are cut anywhere."""
         options = ("--quiet", "--tcp", ANY_PORT, *self.tls_words(clients=self.authority))
         with self.front(classes_in(self.room, CLASSES), options=options) as (path, process):
             with self.ways(path, process)[way]() as client:
@@ -99,4 +99,4 @@ class Mixed(NetworkCases):
             data = self.stream(chance)
             first, *others = [self.told_in(way, data, chance) for way in range(4)]
             self.assertGreater(first.count(b"\n"), LINES / 2, "lines that are answered")
-            self.assertTrue(all(it == first for it in others), f"what is told is the same, SEED={seed}")
+            self.assertTrue(all(it == first for it in others), f"the answers are the same, SEED={seed}")

@@ -31,7 +31,7 @@ TWISTED = "/O=Example, Limited/OU=Desk+UID=7/CN=Zo\u00eb <z>"  # a subject with 
 
 
 class Sessions(NetworkCases):
-    """What a client is told does not depend on how it has come."""
+    """What a client receives does not depend on how it has come."""
 
     def test_versions(self):
         """Clients of TLS 1.2 and of 1.3, and one of the Unix-domain socket, have a session each, and join each other."""
@@ -48,7 +48,7 @@ class Sessions(NetworkCases):
                     self.assertEqual(client.ask(json.dumps(join)), reply(True, own), "a join")
                     local.ask('{"do":"set","object":1,"property":"x","value":%d}' % number)
                     client.say('{"do":"spin"}')
-                    self.assertEqual(json.loads(client.hear())["args"], [number], "what it is told")
+                    self.assertEqual(json.loads(client.hear())["args"], [number], "what it receives")
                     client.hear()
             self.assertRegex(self.said_of(process, "over TLS"), r"c2 has come over TLS from 127\.0\.0\.1:\d+$")
 
@@ -77,7 +77,7 @@ class Sessions(NetworkCases):
             self.assertEqual(told, list(range(1, 501)), "the answers")
 
     def test_refused_first_line(self):
-        """The refusal of a first line arrives, though more lines were sent behind it."""
+        """The refusal of a first line arrives, though more lines were sent after it."""
         asked = '{"front":"share","session":"team"}'
         with self.tls_front() as (port, _, _):
             for _ in range(20):
@@ -154,7 +154,7 @@ class Certificates(NetworkCases):
             self.assertIn("CN=anna", process.log.path.read_text())
 
     def failure(self, port, context, version):
-        """What a client is told whose handshake fails: an error of TLS, at the latest when it reads."""
+        """What a client receives whose handshake fails: an error of TLS, at the latest when it reads."""
         try:
             with NetworkClient(port, context) as client:
                 client.say(STATUS)
@@ -264,7 +264,7 @@ class Logged(LogCases, NetworkCases):
 
 
 class Handshakes(NetworkCases):
-    """Handshakes that are none, that do not end, and that are many."""
+    """Handshakes that are not TLS, that do not end, and that are many."""
 
     def test_plain_bytes(self):
         """Bytes that are no TLS are refused by an alert, and the connection is closed."""
@@ -302,7 +302,7 @@ class Handshakes(NetworkCases):
                 self.assertEqual(client.name(), name, "one whose handshake was done")
 
     def test_gone(self):
-        """Those that go within a handshake leave nothing behind."""
+        """Those that go within a handshake leave nothing open."""
         with self.tls_front() as (port, _, process):
             files = f"/proc/{process.pid}/fd"
             before = len(os.listdir(files))

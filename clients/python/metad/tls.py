@@ -1,7 +1,7 @@
 """Connections over TLS, for two threads at once: one that reads and one that writes.
 
 The objects of `ssl` are not made for two threads at once. So the bytes of a connection go through buffers in memory here: a
-lock guards what seals and opens them, and nobody waits for the other side while holding it.
+lock guards what seals and opens them, and no thread holds it while it waits for the other side.
 """
 
 from __future__ import annotations
@@ -77,7 +77,7 @@ class TlsLink:
                 self._incoming.write_eof()
 
     def _send_rest(self, waits: bool) -> None:
-        """Sends what TLS has to say by itself. Without waiting, it leaves that to a thread that sends just now."""
+        """Sends what TLS itself has to say. Without waiting, it leaves that to a thread that sends just now."""
         if not self._sending.acquire(waits):
             return
         try:
