@@ -251,10 +251,12 @@ class Logged(LogCases, NetworkCases):
         with self.logged(*self.tls_words(clients=self.authority)) as (path, process, log):
             (at,) = [it["at"] for it in log.of("listening") if it["for"] == "TLS"]
             port = int(at.rpartition(":")[2])
-            with NetworkClient(port, context_of(self.authority, self.authority.client("anna"))) as client, Client(path):
+            with NetworkClient(port, context_of(self.authority, self.authority.client("anna"))) as client:
+                self.assertEqual(client.name(), "c1", "the first that is let in")
                 wanted = {"client": 1, "over": "TLS", "address": f"{HERE}:{client.link.getsockname()[1]}", "subject": "CN=anna"}
                 log.wait_for_event(self, "client_came", **wanted)
-                log.wait_for_event(self, "client_came", client=2)
+                with Client(path):
+                    log.wait_for_event(self, "client_came", client=2)
             with socket.create_connection((HERE, port), PATIENCE) as link:
                 address = f"{HERE}:{link.getsockname()[1]}"
                 link.sendall(b"nonsense, and not TLS\n")
