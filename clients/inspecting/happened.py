@@ -17,7 +17,6 @@ from .world import NOBODY, World
 COUNT_MOST = 300
 LOOKED_AT = 20_000  # commands that are looked at for one answer
 TEXT_SHOWN = 200
-EMISSIONS_MOST = 1_500
 OBJECT_KEYS = ("object", "sender", "receiver", "context", "parent")
 
 Json = Dict[str, Any]
@@ -181,22 +180,7 @@ def chain(world: World, number: int, call: int) -> List[Json]:
     return found[::-1]
 
 
-# ---- emissions ----
-
-
-def emissions(world: World, sought: Sought, count: int) -> Json:
-    """The newest emissions, in the order in which they came."""
-    found: List[List[Any]] = []
-    oldest = None
-    for entry in newest(world, sought, None):
-        for at, it in reversed(list(enumerate(entry.emissions))):
-            if (sought.object is None or it.object == sought.object) and sought.signal in it.signal:
-                calls = len(it.calls) + len(it.events)
-                found.append([entry.number, at, entry.session, it.object, it.signal, calls, entry.ended or entry.given])
-        oldest = entry.number
-        if len(found) >= min(count, EMISSIONS_MOST):
-            break
-    return {"rows": found[::-1], "oldest": oldest, "now": world.now}
+# ---- slots ----
 
 
 def busiest(world: World, session: str, order: str, count: int) -> Json:

@@ -5,7 +5,7 @@ from __future__ import annotations
 from dataclasses import dataclass
 from typing import Any, Callable, Dict, FrozenSet, List, Optional, Set, Tuple
 
-from . import graphs, happened, searching, views
+from . import graphs, happened, searching, timeline, views
 from .allowed import is_allowed, is_session, text_of, value_of
 from .entries import Entry
 from .drawing import Layouts, drawn
@@ -49,6 +49,11 @@ def part_of(asked: Asked) -> Tuple[int, int]:
     return number_in(asked, "from", 0) or 0, number_in(asked, "count", 60) or 0
 
 
+def span_of(asked: Asked) -> timeline.Span:
+    """The span of time that is asked for."""
+    return number_in(asked, "from"), number_in(asked, "to")
+
+
 class Pages:
     """Answers what the page asks for."""
 
@@ -62,7 +67,8 @@ class Pages:
         self.layouts = Layouts()
         self.gets: Dict[str, Callable[[World, Asked], Any]] = {
             "about": self.about, "sessions": self.sessions, "place": self.place_of, "tree": self.tree, "object": self.object,
-            "lines": self.lines, "entry": self.entry, "chain": self.chain, "emissions": self.emissions, "slots": self.slots,
+            "lines": self.lines, "entry": self.entry, "chain": self.chain, "emissions": self.emissions, "values": self.values,
+            "slots": self.slots,
         }  # fmt: skip
 
     @property
@@ -152,7 +158,12 @@ class Pages:
         return None if entry is None or call >= len(entry.calls) else happened.chain(world, entry.number, call)
 
     def emissions(self, world: World, asked: Asked) -> Json:
-        return happened.emissions(world, self.sought(asked), number_in(asked, "count", 500) or 0)
+        count, bins = number_in(asked, "count", 500) or 0, number_in(asked, "bins", 100) or 1
+        return timeline.emissions(world, self.sought(asked), span_of(asked), count, bins)
+
+    def values(self, world: World, asked: Asked) -> Json:
+        spot = (number_in(asked, "object", 0) or 0, asked["property"])
+        return timeline.values(world, asked["session"], spot, span_of(asked))
 
     def slots(self, world: World, asked: Asked) -> Json:
         return happened.busiest(world, asked.get("session", ""), asked.get("sort", "calls"), number_in(asked, "count", 100) or 0)

@@ -23,6 +23,10 @@ NUMBERS = [
     "9223372036854775808", "-9223372036854775808", "-9223372036854775809", "18446744073709551615", "18446744073709551616",
 ]  # fmt: skip
 NO_NUMBERS = ["", "1.0", "1e3", "x", "--1", "1 2", "0x10", "null", "true"]
+VIEWS = {
+    "objects": "[data-property]", "happened": "[data-entry]", "timeline": ".tick", "graphs": ".node", "busiest": "[data-slot]", "search": "[data-found]",
+}  # with what each of them shows
+CHOSEN = {"graphs": "{graph: 'connections'}", "search": "{sought: 'bell'}"}
 LONG = "a long name " * 30
 TURNED = "\u05d0\u05d1\u05d2 12"  # letters that are read from right to left
 SEEN_ROW = "document.getElementById(document.activeElement.getAttribute('aria-activedescendant'))"
@@ -251,12 +255,11 @@ class Eyes(InputCases):
             browser.wait_for("document.querySelectorAll('#properties [data-property]').length > 1")
             for scheme in ("light", "dark"):
                 browser.prefer(scheme)
-                for view in ("objects", "happened", "timeline", "graphs", "busiest", "search"):
+                for view, shown in VIEWS.items():
                     browser.click(f"[data-view={view}]")
-                    if view == "search":
-                        browser.value("page.choose({sought: 'bell'})")
-                        browser.wait_for("document.querySelectorAll('[data-found]').length > 0")
-                    browser.wait_for("!document.querySelector('#view').matches(':empty')")
+                    if view in CHOSEN:
+                        browser.value(f"page.choose({CHOSEN[view]})")
+                    browser.wait_for(f"document.querySelectorAll('#view {shown}').length > 0")
                     self.assertEqual(accessible.faults_in(browser, is_reached=scheme == "light" and view in ("objects", "graphs")), [], (scheme, view))
 
     def test_written(self):
@@ -299,8 +302,11 @@ class Eyes(InputCases):
             browser.size(900, 700)
             browser.click("[data-session=c1]")
             browser.click('[data-object="1"]')
-            for view in ("objects", "happened", "timeline", "graphs", "busiest", "search"):
+            for view, shown in VIEWS.items():
                 browser.click(f"[data-view={view}]")
+                if view in CHOSEN:
+                    browser.value(f"page.choose({CHOSEN[view]})")
+                browser.wait_for(f"document.querySelectorAll('#view {shown}').length > 0")
                 self.assertLessEqual(browser.value("document.documentElement.scrollWidth"), 900, view)
                 outside = "[...document.querySelectorAll('button, input, select')].filter((it) => it.checkVisibility() && !it.closest('.detail, .scroll, .pinned, svg') && it.getBoundingClientRect().right > 900.5).map((it) => it.outerHTML)"
                 self.assertEqual(browser.value(outside), [], view)

@@ -38,7 +38,7 @@ export class BusiestView {
       "see",
     ];
     clear(
-      this.table, el("tr", {}, head.map((text, at) => el("th", { class: at > 1 ? "number" : null, text }))),
+      this.table, el("tr", {}, head.map((text, at) => el("th", { scope: "col", class: at > 1 ? "number" : null, text }))),
       found.rows.map((row) => this.row(row, found.calls, isTimed)),
     );
   }
