@@ -3,6 +3,7 @@
 from __future__ import annotations
 
 import json
+import select
 import socket
 import threading
 from time import monotonic_ns
@@ -128,8 +129,11 @@ def first_line(link: socket.socket) -> Dict[str, Any]:
 
 
 def follow(feed: Feed, link: socket.socket) -> None:
-    """Takes what the front tells until it ends."""
+    """Takes what the front tells until it ends. Where nothing more has come, what is known is not late."""
     while True:
+        if not select.select([link], [], [], 0)[0]:
+            with feed.world.lock:
+                feed.world.lag = 0
         data = link.recv(CHUNK)
         if not data:
             return

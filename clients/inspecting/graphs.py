@@ -158,12 +158,14 @@ def listening(world: World, chosen: str, steps: int = 0) -> Json:
     """Who listens to whom; of a session that is chosen, who can reach it by its joins and those of others."""
     sources: Dict[str, Set[str]] = {}
     drawing = Drawing()
-    for session in world.sessions.values():
+    there = [it for it in world.sessions.values() if not it.is_gone]
+    for session in there:
         for join in session.joins:
             sources.setdefault(session.name, set()).add(join.source)
             drawing.edge(join.source, session.name, join.name, f"→ #{join.object} {join.method}")
     linked = list(dict.fromkeys([*sources, *(it for ends in sources.values() for it in sorted(ends))]))
-    others = [name for name in world.sessions if name not in set(linked)]
+    known = set(linked)
+    others = [it.name for it in there if it.name not in known]
     shown = dict.fromkeys([*([chosen] if chosen else []), *linked, *others])
     reaching = reached(sources, [chosen]) if chosen else set(shown)
     for name in shown:

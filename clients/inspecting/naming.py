@@ -2,6 +2,7 @@
 
 from __future__ import annotations
 
+from functools import lru_cache
 from typing import Any, List, Tuple
 
 from .session import Session
@@ -18,6 +19,7 @@ def split_digits(name: str) -> List[str]:
     return pieces
 
 
+@lru_cache(maxsize=16_384)
 def in_order(name: str) -> Tuple[Any, ...]:
     """A key that sorts c2 before c10."""
     return tuple(int(part) if part.isdecimal() and part.isascii() else part for part in split_digits(name))

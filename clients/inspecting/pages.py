@@ -7,14 +7,15 @@ from typing import Any, Callable, Dict, FrozenSet, List, Optional, Set, Tuple
 
 from . import graphs, happened, searching, timeline, views
 from .allowed import is_allowed, is_session, text_of, value_of
+from .answers import Answers
 from .entries import Entry
 from .drawing import Layouts, drawn
 from .evaluating import settle_errors
 from .feed import Asking
-from .happened import Sought
+from .happened import Sought, dumped
 from .looking import Looks
 from .replay import Replay
-from .world import World
+from .world import MILLION, World
 
 ASKED_MOST = 4_096  # objects that are asked for their children at once
 
@@ -65,6 +66,7 @@ class Pages:
         self.replay = replay
         self.looks = Looks(asking.ask)
         self.layouts = Layouts()
+        self.answers = Answers()
         self.gets: Dict[str, Callable[[World, Asked], Any]] = {
             "about": self.about, "sessions": self.sessions, "place": self.place_of, "tree": self.tree, "object": self.object,
             "lines": self.lines, "entry": self.entry, "chain": self.chain, "emissions": self.emissions, "values": self.values,
@@ -84,6 +86,24 @@ class Pages:
     def place(self) -> Json:
         """How far a record is shown."""
         return self.replay.place() if self.replay else {}
+
+    def moment(self, world: World) -> Tuple[int, ...]:
+        """What answers depend on: what is known, where a record is shown, the second, and how late what is known is."""
+        return (id(world), world.version, world.lines, len(world.under_way), world.clock() // MILLION, world.lag)
+
+    def answer(self, name: str, asked: Asked) -> bytes:
+        """What is asked by a name, as the page reads it: made once for all browsers that ask for the same."""
+        world = self.world
+        with world.lock:
+            moment = self.moment(world)
+        return self.answers.get(moment, (name, *sorted(asked.items())), lambda: dumped(self.get(name, asked)))
+
+    def answer_news(self) -> bytes:
+        """The news as the page reads them."""
+        world = self.world
+        with world.lock:
+            moment = self.moment(world)
+        return self.answers.get(moment, "news", lambda: dumped(self.news()))
 
     def get(self, name: str, asked: Asked) -> Any:
         """Answers what is asked by a name, with null where nothing is known of it; refuses a name that there is not."""

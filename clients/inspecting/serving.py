@@ -24,8 +24,8 @@ BODY_MOST = 65_536
 SECONDS_OF_NEWS = 0.2  # between two pieces of news, where there is any
 SECONDS_OF_QUIET = 5  # after which it is said that there is none
 SECONDS_TO_TAKE = 10  # in which a browser takes what it is told, or is let go
-NEWS_MOST = 16  # browsers that are told news at once
-CONNECTIONS_MOST = 32  # of all browsers together
+NEWS_MOST = 32  # browsers that are told news at once
+CONNECTIONS_MOST = 6 * NEWS_MOST  # of all browsers together: as many as each of them opens
 SECONDS_TO_BEGIN = 5  # in which the first request of a connection has to come, whole and with the token
 SECONDS_OF_REST = 20  # in which each further one has to
 POLICY = "; ".join((
@@ -173,7 +173,7 @@ class Handler(BaseHTTPRequestHandler):
         found = self.server.files.get(name or "index.html")
         if found is not None:
             return self.send(200, *found)
-        self.send(200, "application/json", dumped(self.server.pages.get(name, asked)))
+        self.send(200, "application/json", self.server.pages.answer(name, asked))
 
     def post(self, name: str, _asked: Dict[str, str]) -> None:
         """Does what the page asks for."""
@@ -219,7 +219,7 @@ class Handler(BaseHTTPRequestHandler):
         before: Optional[bytes] = None
         told_at = 0.0
         while True:
-            news = dumped(self.server.pages.news())
+            news = self.server.pages.answer_news()
             if news != before or time.monotonic() - told_at > SECONDS_OF_QUIET:
                 self.wfile.write(b"data: " + news + b"\n\n")
                 before, told_at = news, time.monotonic()

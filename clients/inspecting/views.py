@@ -27,7 +27,7 @@ def summary(world: World) -> Json:
     """What stands at the top of the page, and what is told of each moment."""
     return {
         "version": world.version,
-        "sessions": len(world.sessions),
+        "sessions": sum(not it.is_gone for it in world.sessions.values()),
         "commands": world.entries.count,
         "lines": world.lines,
         "rate": world.total_rates.rate(world.clock() // MILLION),

@@ -21,7 +21,7 @@ from .inspectors import InspectCases, address_in
 
 MANY = 1_000
 OBJECTS = 4_096
-FIRST_PICTURE, WHERE_BUSY = 2, 60  # seconds up to the first picture
+FIRST_PICTURE, WHERE_BUSY = 1, 60  # seconds up to the first picture
 ROWS_MOST = 150  # rows that are in the page at once
 MARKUP = "<img src=x onerror=document.title='run'><b>bold</b>"
 FALL = {"do": "invoke", "object": 1, "method": "fall()", "args": []}  # by which nearly all objects go

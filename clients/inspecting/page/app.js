@@ -105,7 +105,7 @@ class Page {
       `${news.sessions} session${news.sessions === 1 ? "" : "s"}`, `${news.commands} commands`, `${news.lines} lines`,
     ];
     if (!this.about.record) parts.push(`${news.rate} lines/s`);
-    if (news.behind) parts.push(`behind by ${span(news.behind)}`);
+    if (news.behind) parts.push(`late by ${span(news.behind)}`);
     if (news.left_out) parts.push(`${news.left_out} lines left out`);
     const place = document.getElementById("state");
     write(place, parts.join(" · "));
