@@ -36,7 +36,7 @@ export class ChainView {
       "div", {},
       el("h2", { text: `Line ${it.entry} of ${it.session}${it.by_inspector ? ", by this page" : ""}${time}` }),
       el("div", { class: "code", text: short(it.text, 4000) }),
-      el("p", {}, link("before", () => page.openEntry(it.entry - 1)), " ", link("behind", () => page.openEntry(it.entry + 1))),
+      el("p", {}, link("before", () => page.openEntry(it.entry - 1)), " ", link("after", () => page.openEntry(it.entry + 1))),
     );
   }
 

@@ -171,7 +171,8 @@ export class TimelineView {
   rates({ rates, from, to }, x, top) {
     const most = Math.max(1, ...rates), each = (to - from) / rates.length, wide = this.across / rates.length;
     const high = (count) => ((PLOT - 14) * count) / most, perSecond = (count) => (count / each) * 1e6;
-    const label = this.page.about.record ? `at most ${most} in ${Math.max(1, Math.round(each / 1000))} lines` : `at most ${round(perSecond(most))} signals/s`;
+    const lines = Math.max(1, Math.round(each / 1000)), many = lines > 1 ? `${lines} lines` : "a line";
+    const label = this.page.about.record ? `at most ${most} in ${many}` : `at most ${round(perSecond(most))} signals/s`;
     const bars = rates.map((count, at) => count && drawn(
       "rect", { x: x(from + at * each), y: top + PLOT - 14 - high(count), width: Math.max(1, wide - 1), height: high(count), class: "bar_of_rate", "data-count": count },
       drawn("title", { text: `${count} signals` }),
@@ -206,6 +207,7 @@ export class TimelineView {
       { cx: x, cy: y, r: Math.min(9, 3 + Math.sqrt(calls)), class: "tick", "data-emission": `${entry} ${at}`, role: "button", tabindex: isFirst ? 0 : -1, "aria-label": label },
       drawn("title", { text: label }),
     );
+    made.classList.toggle("chosen", this.chosen === made.dataset.emission);
     made.addEventListener("click", () => this.choose(entry, at, made));
     return made;
   }
@@ -214,6 +216,7 @@ export class TimelineView {
     this.held.checked = true;
     for (const it of this.drawing.querySelectorAll(".chosen")) it.classList.remove("chosen");
     made.classList.add("chosen");
+    this.chosen = made.dataset.emission;
     try {
       const whole = await get("entry", { number: entry });
       const emission = whole?.emissions[at];
