@@ -106,6 +106,7 @@ class Looks:
         self.ask = ask
         self.pace = pace or Pace()
         self.lock = threading.Lock()
+        self.rounds = 0  # looks so far
         self.asked: Dict[str, int] = {}  # the number of commands that were given here, by session
         self.unknown: Set[str] = set()  # words that the server does not know
         self.fruitless: Dict[Tuple[str, Optional[int]], Tuple[int, List[Json]]] = {}
@@ -139,6 +140,7 @@ class Looks:
                 if count and count == len(wanted) and all(it in wanted for it in left):
                     self.fruitless[name, number] = (self.others(world.sessions[name]), left)
                     left = []
+                self.rounds += 1
         return {"asked": count, "left": len(left)}
 
     def ask_one(self, name: str, command: Json) -> bool:

@@ -88,8 +88,9 @@ class Pages:
         return self.replay.place() if self.replay else {}
 
     def moment(self, world: World) -> Tuple[int, ...]:
-        """What answers depend on: what is known, where a record is shown, the second, and how late what is known is."""
-        return (id(world), world.version, world.lines, len(world.under_way), world.clock() // MILLION, world.lag)
+        """What answers depend on: what is known and was asked, the record's world, the second, and how late what is known is."""
+        count = len(world.under_way)
+        return (id(world), world.version, world.lines, count, world.clock() // MILLION, world.lag, self.looks.rounds)
 
     def answer(self, name: str, asked: Asked) -> bytes:
         """What is asked by a name, as the page reads it: made once for all browsers that ask for the same."""

@@ -74,6 +74,13 @@ class Browser:
         os.close(self.output)
         shutil.rmtree(self.profile, ignore_errors=True)
 
+    def begin_again(self):
+        """Makes it like a new one, for another test."""
+        self.open(OPEN)
+        self.ask("Emulation.clearDeviceMetricsOverride")
+        self.ask("Emulation.setEmulatedMedia", features=[])
+        self.events.clear()
+
     def hear(self, until):
         """The next message."""
         while b"\0" not in self.held:

@@ -64,6 +64,8 @@ class Answers(Cases):
 class Crowd(PageCases):
     """Many browsers at a front."""
 
+    shares_browser = True
+
     def test_browsers(self):
         """31 others that follow the news and ask with all their connections get all their answers, while a page shows what
         is new."""

@@ -143,6 +143,8 @@ class Layout(Cases):
 class Shown(PageCases):
     """Graphs in the page."""
 
+    shares_browser = True
+
     def test_large(self):
         """300 objects with 400 connections: no arrow crosses a box, no boxes overlap, and there is one arrow for each signal
         from one object to another; what is around an object is what is linked to it."""
@@ -205,7 +207,7 @@ class Shown(PageCases):
             self.give(two, [CELL, join, command("bind", object=1, property="y", to={"prop": "x"}), setting(1, "objectName", "dial")])
             with self.opened(asker.address + "#session=c2&view=graphs") as browser:
                 browser.wait_for("document.querySelectorAll('#graph .edge').length === 1")
-                self.assertEqual(sorted(browser.value(f"{BOXES}.map((it) => [...it.querySelectorAll('text')].slice(0, 2).map((one) => one.textContent))")), [["#1.x", "Cell dial"], ["#1.y", "Cell dial"]])
+                self.assertEqual(sorted(browser.value(f"{BOXES}.map((it) => [...it.querySelectorAll('text')].slice(0, 2).map((one) => one.textContent))")), [["#1.x", "Cell dial"], ["#1.y", "Cell dial"]])  # noqa: E501
                 for session, arrow in (("c2", "c1 #1"), ("c1", "#1 c2")):
                     browser.click(f"[data-session={session}]")
                     browser.write("#kind", "connections")

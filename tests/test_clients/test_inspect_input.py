@@ -39,6 +39,8 @@ def says(browser, text):
 class InputCases(PageCases):
     """Tests with a page that may write."""
 
+    shares_browser = True
+
     @contextmanager
     def written(self, commands=(NEW,), behind="#session=c1&object=1"):
         """A page that may write, a client, and the plain program after the same commands."""
@@ -183,7 +185,7 @@ class Keyboard(InputCases):
             self.walk(browser, plain, roots[0])
             browser.press("End")
             last = browser.wait_for(f"{SEEN_ROW}?.dataset.object")
-            self.assertTrue(browser.value(f"(() => {{ const it = {SEEN_ROW}.getBoundingClientRect(), all = document.activeElement.getBoundingClientRect(); return it.top >= all.top && it.bottom <= all.bottom + 1; }})()"))
+            self.assertTrue(browser.value(f"(() => {{ const it = {SEEN_ROW}.getBoundingClientRect(), all = document.activeElement.getBoundingClientRect(); return it.top >= all.top && it.bottom <= all.bottom + 1; }})()"))  # noqa: E501
             browser.press("Enter")
             browser.wait_for(f"document.querySelector('#object h2 .code')?.textContent.trim() === '#{last}'")
             self.assertEqual(browser.value("document.activeElement.role"), "tree", "the focus stays")
@@ -275,7 +277,7 @@ class Eyes(InputCases):
     def test_check(self):
         """The check finds what is wrong."""
         with self.written() as (browser, _, _plain):
-            browser.value("document.querySelector('main').insertAdjacentHTML('beforeend', '<p id=faint>too faint</p><button></button><div tabindex=3 id=view>x</div><input>'); document.getElementById('faint').style.color = '#909090'")
+            browser.value("document.querySelector('main').insertAdjacentHTML('beforeend', '<p id=faint>too faint</p><button></button><div tabindex=3 id=view>x</div><input>'); document.getElementById('faint').style.color = '#909090'")  # noqa: E501
             found = "\n".join(accessible.faults_in(browser))
             for words in ("'too faint'", "a button without a name", "a textbox without a name", "two elements are called view", "tabindex 3", "in the order"):
                 self.assertIn(words, found)
@@ -308,7 +310,7 @@ class Eyes(InputCases):
                     browser.value(f"page.choose({CHOSEN[view]})")
                 browser.wait_for(f"document.querySelectorAll('#view {shown}').length > 0")
                 self.assertLessEqual(browser.value("document.documentElement.scrollWidth"), 900, view)
-                outside = "[...document.querySelectorAll('button, input, select')].filter((it) => it.checkVisibility() && !it.closest('.detail, .scroll, .pinned, svg') && it.getBoundingClientRect().right > 900.5).map((it) => it.outerHTML)"
+                outside = "[...document.querySelectorAll('button, input, select')].filter((it) => it.checkVisibility() && !it.closest('.detail, .scroll, .pinned, svg') && it.getBoundingClientRect().right > 900.5).map((it) => it.outerHTML)"  # noqa: E501
                 self.assertEqual(browser.value(outside), [], view)
                 self.assertGreater(browser.value("document.getElementById('view').getBoundingClientRect().height"), 300)
 
@@ -316,11 +318,11 @@ class Eyes(InputCases):
         """Names turn nothing next to them, and long ones are cut, with the whole in the title."""
         lines = (NEW, setting(1, "objectName", LONG), NEW, setting(2, "objectName", TURNED))
         with self.written(lines, "#session=c1&object=1") as (browser, _, _plain):
-            cut = f"[...document.querySelectorAll('[data-object=\"1\"] bdi, #object h2 bdi, #crumbs bdi, [data-property=objectName] .value')].filter((it) => it.textContent === {json.dumps(json.dumps(LONG))}).map((it) => [it.title, it.scrollWidth > it.clientWidth])"
+            cut = f"[...document.querySelectorAll('[data-object=\"1\"] bdi, #object h2 bdi, #crumbs bdi, [data-property=objectName] .value')].filter((it) => it.textContent === {json.dumps(json.dumps(LONG))}).map((it) => [it.title, it.scrollWidth > it.clientWidth])"  # noqa: E501
             self.assertEqual(browser.value(cut), [[json.dumps(LONG), True]] * 4)
             browser.click('[data-object="2"]')
             browser.wait_for("document.querySelector('#object h2 .code')?.textContent.trim() === '#2'")
-            isolated = f"[...document.querySelectorAll('main *')].filter((it) => !it.children.length && it.textContent.includes({json.dumps(TURNED)}) && it.checkVisibility()).map((it) => [it.tagName, getComputedStyle(it).unicodeBidi])"
+            isolated = f"[...document.querySelectorAll('main *')].filter((it) => !it.children.length && it.textContent.includes({json.dumps(TURNED)}) && it.checkVisibility()).map((it) => [it.tagName, getComputedStyle(it).unicodeBidi])"  # noqa: E501
             found = browser.value(isolated)
             self.assertGreaterEqual(len(found), 4)
             self.assertEqual([it for it in found if it != ["BDI", "isolate"]], [])

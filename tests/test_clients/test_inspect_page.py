@@ -44,6 +44,33 @@ class PageCases(InspectCases):
     """Tests of the page, in a browser."""
 
     seconds = 600
+    shares_browser = False  # whether all tests of a class have the same browser
+    kept = None
+
+    @contextmanager
+    def browser(self):
+        """A browser of this test, or that of all tests of its class. After a fault that is not used again."""
+        kind = type(self)
+        if not self.shares_browser:
+            with Browser(self.path) as browser:
+                yield browser
+            return
+        if kind.kept is None:
+            kind.kept = Browser(self.path)
+            kind.addClassCleanup(kind.leave_browser)
+        try:
+            kind.kept.begin_again()
+            yield kind.kept
+        except BaseException:
+            kind.leave_browser()
+            raise
+
+    @classmethod
+    def leave_browser(cls):
+        """Ends the browser of all tests of a class."""
+        if cls.kept is not None:
+            cls.kept, browser = None, cls.kept
+            browser.__exit__()
 
     def setUp(self):
         super().setUp()
@@ -54,7 +81,7 @@ class PageCases(InspectCases):
     @contextmanager
     def opened(self, address):
         """The page in a browser, which at the end has said that nothing is wrong."""
-        with Browser(self.path) as browser:
+        with self.browser() as browser:
             self.begun = time.monotonic()
             browser.open(address)
             browser.wait_for("Boolean(window.page)")

@@ -101,6 +101,8 @@ class Searching(Cases):
 class Places(PageCases):
     """What is chosen, in the page."""
 
+    shares_browser = True
+
     def here(self, browser):
         """The words of the address, and the line of what is chosen."""
         return browser.value("Object.fromEntries(new URLSearchParams(location.hash.slice(1)))"), browser.value(CRUMBS)

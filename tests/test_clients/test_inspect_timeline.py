@@ -76,6 +76,8 @@ class Spans(Cases):
 class Shown(PageCases):
     """The timeline in the page."""
 
+    shares_browser = True
+
     def test_windows(self):
         """The window is from a minute to a millisecond long, its marks are round and of the window, and its ticks are the signals
         of that time; it is moved and zoomed by keys too."""

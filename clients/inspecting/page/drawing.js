@@ -40,22 +40,25 @@ export class Drawing {
     const button = (text, title, does) => el("button", { type: "button", text, title, "aria-label": title, onclick: does });
     this.buttons = el(
       "span", { class: "zoom", role: "group", "aria-label": "Zoom" }, button("−", "zoom out", () => this.by(1 / STEP)),
-      button("+", "zoom in", () => this.by(STEP)), button("1:1", "the size of texts", () => this.to(1)), button("fit", "show all of it", () => this.fit()),
+      button("+", "zoom in", () => this.by(STEP)), button("1:1", "the size of texts", () => this.to(1)),
+      button("fit", "show all of it", () => this.fit()),
     );
   }
 
   show(graph) {
     const focused = this.place.contains(document.activeElement) ? document.activeElement.dataset.node : null;
+    const { scrollLeft, scrollTop } = this.place;
     this.graph = graph;
+    const spoken = `${this.label}: ${graph.nodes.length} boxes, ${graph.edges.length} arrows`;
     this.svg = drawn(
-      "svg", { viewBox: `0 0 ${graph.width} ${graph.height}`, role: "group", "aria-label": `${this.label}: ${graph.nodes.length} boxes, ${graph.edges.length} arrows` },
-      arrow(this.tip),
+      "svg", { viewBox: `0 0 ${graph.width} ${graph.height}`, role: "group", "aria-label": spoken }, arrow(this.tip),
     );
     for (const edge of graph.edges) this.svg.append(this.edge(edge));
     this.boxes = graph.nodes.map((node) => this.node(node));
     this.svg.append(...this.boxes);
     this.place.replaceChildren(this.svg);
     this.to(this.zoom);
+    this.place.scrollTo(scrollLeft, scrollTop);
     const next = this.boxes.find((it) => it.dataset.node === (focused ?? this.at)) ?? this.boxes[0];
     next?.setAttribute("tabindex", 0);
     if (focused) next?.focus({ preventScroll: true });
@@ -83,7 +86,8 @@ export class Drawing {
       "g",
       {
         class: `node ${this.classesOf(node)}`, transform: `translate(${node.x} ${node.y})`, onclick: open, "data-node": node.name,
-        tabindex: -1, role: "button", "aria-label": [node.name, ...texts].filter(Boolean).join(", "), onfocus: (event) => this.focused(event.currentTarget),
+        tabindex: -1, role: "button", "aria-label": [node.name, ...texts].filter(Boolean).join(", "),
+        onfocus: (event) => this.focused(event.currentTarget),
       },
       drawn("title", { text: [node.name, ...texts] }), drawn("rect", { width: node.width, height: node.height, rx: 4 }),
       drawn("text", { x: 8, y: 14, text: short(node.name, LETTERS - 2) }),
@@ -195,8 +199,9 @@ export function legend(drawing, graph, most = 12) {
     for (const it of place.children) it.setAttribute("aria-pressed", String(it.dataset.signal === drawing.signal));
   };
   place.append(...first.map(([signal, count]) => {
+    const light = () => { drawing.lit(drawing.signal === signal ? null : signal); draw(); };
     const made = el(
-      "button", { type: "button", class: "signal code", "data-signal": signal, title: `light its ${count} arrows`, onclick: () => { drawing.lit(drawing.signal === signal ? null : signal); draw(); } },
+      "button", { type: "button", class: "signal code", "data-signal": signal, title: `light its ${count} arrows`, onclick: light },
     );
     write(made, `${short(signal, 30)} ${count}`);
     return made;

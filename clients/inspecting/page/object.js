@@ -22,6 +22,8 @@ export class ObjectView {
     this.page = page;
     this.place = el("div", { class: "detail", id: "object", tabindex: -1, role: "region", "aria-label": "Object" });
     this.star = new Star(page);
+    this.place.addEventListener("compositionstart", () => { this.isComposing = true; }); // what is being composed is not redrawn
+    this.place.addEventListener("compositionend", () => { this.isComposing = false; this.refresh(); });
     this.refresh = oneAtATime(() => this.load());
   }
 
@@ -120,14 +122,13 @@ export class ObjectView {
     const field = new Field(row.type, `new value of ${row.name}`, key, row.value);
     const undo = this.page.undo.of(it.session, it.object, row.name);
     const title = row.bound ? "ends the binding of the property, which undo does not bring back" : null;
-    return el(
-      "td", {},
-      el(
-        "form", { class: "give", onsubmit: (event) => { event.preventDefault(); this.set(it, row, field); } }, field.place,
-        undo ? el("button", { type: "button", text: "undo", title: `set it to ${undo.before} again`, "data-key": `${key} undo`, onclick: () => this.page.undo.undo(undo) }) : null,
-        el("button", { type: "submit", text: "set", title, "data-key": `${key} button` }),
-      ),
-    );
+    const back = undo ? el(
+      "button",
+      { type: "button", text: "undo", title: `set it to ${undo.before} again`, "data-key": `${key} undo`, onclick: () => this.page.undo.undo(undo) },
+    ) : null;
+    const submit = (event) => { event.preventDefault(); this.set(it, row, field); };
+    const button = el("button", { type: "submit", text: "set", title, "data-key": `${key} button` });
+    return el("td", {}, el("form", { class: "give", onsubmit: submit }, field.place, back, button));
   }
 
   async set(it, row, field) {
@@ -136,7 +137,8 @@ export class ObjectView {
     const isKept = row.value !== null && row.sure && !row.bound;
     const command = { do: "set", object: it.object, property: row.name, value: { json } };
     const isDone = await this.give(it.session, command);
-    if (isDone && isKept && shown(row.value) !== json) this.page.undo.keep(it.session, it.object, row.name, shown(row.value), json);
+    const before = shown(row.value);
+    if (isDone && isKept && before !== json) this.page.undo.keep(it.session, it.object, row.name, before, json);
     if (isDone) field.settle();
     this.key = null;
     this.refresh();
@@ -168,17 +170,21 @@ export class ObjectView {
 
   invoker(it, row) {
     const key = `${it.session} ${it.object} invoke ${row.text}`;
-    const fields = parametersOf(row.text).map((type, at) => new Field(type, `argument ${at + 1} of ${row.text}`, `${key} ${at}`, type === "bool" ? false : type === "QString" ? "" : 0));
+    const first = { bool: false, QString: "" };
+    const fields = parametersOf(row.text).map(
+      (type, at) => new Field(type, `argument ${at + 1} of ${row.text}`, `${key} ${at}`, first[type] ?? 0),
+    );
     const invoke = async (event) => {
       event.preventDefault();
       const given = fields.map((field) => field.json());
       if (given.includes(null)) return;
-      if (await this.give(it.session, { do: "invoke", object: it.object, method: row.text, args: { json: `[${given.join(",")}]` } })) fields.forEach((field) => field.settle());
+      const command = { do: "invoke", object: it.object, method: row.text, args: { json: `[${given.join(",")}]` } };
+      if (await this.give(it.session, command)) fields.forEach((field) => field.settle());
     };
-    return el(
-      "td", {},
-      el("form", { class: "give", onsubmit: invoke }, fields.map((field) => field.place), el("button", { type: "submit", text: "invoke", "aria-label": `invoke ${row.text}`, "data-key": `${key} button` })),
+    const button = el(
+      "button", { type: "submit", text: "invoke", "aria-label": `invoke ${row.text}`, "data-key": `${key} button` },
     );
+    return el("td", {}, el("form", { class: "give", onsubmit: invoke }, fields.map((field) => field.place), button));
   }
 
   // ---- connections ----

@@ -25,7 +25,8 @@ export function textOf(time, step, epoch) {
   const all = epoch ? dayTime(epoch + time) : time / SECOND;
   const seconds = epoch ? all % 60 : all, text = seconds.toFixed(digits);
   if (!epoch) return `${text} s`;
-  return `${String(Math.floor(all / 3_600)).padStart(2, "0")}:${String(Math.floor(all / 60) % 60).padStart(2, "0")}:${text.padStart(digits ? 3 + digits : 2, "0")}`;
+  const two = (number) => String(Math.floor(number)).padStart(2, "0");
+  return `${two(all / 3_600)}:${two((all / 60) % 60)}:${text.padStart(digits ? 3 + digits : 2, "0")}`;
 }
 
 /** The seconds of the day here. */

@@ -11,7 +11,11 @@ export class SearchView {
   constructor(page) {
     this.page = page;
     this.sought = el(
-      "input", { type: "search", class: "grow", id: "sought", "aria-label": "Search all sessions", placeholder: "an object's number, a class, a name, a value or a publication" },
+      "input",
+      {
+        type: "search", class: "grow", id: "sought", "aria-label": "Search all sessions",
+        placeholder: "an object's number, a class, a name, a value or a publication",
+      },
     );
     this.by = el(
       "select", { "aria-label": "Search by", id: "by", onchange: () => this.go() },
@@ -22,7 +26,8 @@ export class SearchView {
     const again = el("button", { type: "button", text: "search", onclick: () => { this.key = null; this.go(); } });
     this.place = el(
       "div", { class: "detail_of_graphs", role: "search" },
-      el("div", { class: "bar" }, this.sought, this.by, again, this.said), el("div", { class: "scroll detail", role: "region", "aria-label": "Found" }, this.table),
+      el("div", { class: "bar" }, this.sought, this.by, again, this.said),
+      el("div", { class: "scroll detail", role: "region", "aria-label": "Found" }, this.table),
     );
     this.sought.addEventListener("input", () => { clearTimeout(this.later); this.later = setTimeout(() => this.go(), PAUSE); });
     this.sought.addEventListener("keydown", (event) => { if (event.key === "Enter") { this.key = null; this.go(); } });
@@ -67,7 +72,8 @@ export class SearchView {
       "tr", { "data-found": `${it.session} ${it.object ?? ""} ${it.kind}` },
       el("td", {}, link(it.session, () => this.page.choose({ view: "objects", session: it.session, object: null }))),
       el("td", { class: "code" }, it.object ? link(`#${it.object}`, open) : null), el("td", {}, it.class ? name(it.class, "class") : null),
-      el("td", {}, it.name ? name(JSON.stringify(it.name), "text") : null), el("td", { text: it.kind }), el("td", { class: "code" }, name(it.match)),
+      el("td", {}, it.name ? name(JSON.stringify(it.name), "text") : null), el("td", { text: it.kind }),
+      el("td", { class: "code" }, name(it.match)),
     );
   }
 }

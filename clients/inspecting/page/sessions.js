@@ -81,9 +81,10 @@ export class Sessions {
     const spoken = COLUMNS.map(([key, text, long]) => `${row[key][0]}${row[key][1] ? "" : " or so"} ${long ?? text}`).join(", ");
     const title = `${row.name}: ${row.lines} lines, ${row.commands} commands, ${row.publications[0]} published`;
     const called = el("span", { class: `name ${row.failed ? "failed" : ""}` }, row.failed ? "✕ " : null, name(row.name));
+    const label = `${row.name}${row.failed ? ", failed" : ""}: ${spoken}`;
     return el(
       "div",
-      { title, "data-session": row.name, "aria-label": `${row.name}${row.failed ? ", failed" : ""}: ${spoken}`, onclick: () => this.page.choose({ session: row.name }) },
+      { title, "data-session": row.name, "aria-label": label, onclick: () => this.page.choose({ session: row.name }) },
       called, counts, el("span", { text: row.rate || "" }),
     );
   }

@@ -7,7 +7,10 @@ export class Tabs {
     this.place = place;
     this.tabs = new Map(views.map(([name, text]) => [name, el(
       "button",
-      { type: "button", role: "tab", id: `tab_${name}`, "aria-controls": "view", tabindex: -1, text, "data-view": name, onclick: () => choose(name) },
+      {
+        type: "button", role: "tab", id: `tab_${name}`, "aria-controls": "view", tabindex: -1, text, "data-view": name,
+        onclick: () => choose(name),
+      },
     )]));
     place.append(...this.tabs.values());
     place.addEventListener("keydown", (event) => this.pressed(event));

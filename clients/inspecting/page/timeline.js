@@ -18,7 +18,10 @@ export class TimelineView {
     this.all = el("input", { type: "checkbox", onchange: changed });
     this.object = el("input", { size: 6, placeholder: "object", "aria-label": "Object", oninput: changed });
     this.signal = el("input", { placeholder: "signal", class: "grow", "aria-label": "Signal", oninput: changed });
-    this.property = el("input", { size: 10, placeholder: "property", "aria-label": "Property to plot", title: "plots the values of this property of the object", oninput: changed });
+    const plots = "plots the values of this property of the object";
+    this.property = el(
+      "input", { size: 10, placeholder: "property", "aria-label": "Property to plot", title: plots, oninput: changed },
+    );
     this.held = el("input", { type: "checkbox", onchange: () => this.refresh() });
     this.said = el("span", { class: "faint", id: "timeline_said" });
     this.spans = el(
@@ -39,8 +42,9 @@ export class TimelineView {
     return el(
       "div", { class: "bar" }, el("label", {}, this.all, "all sessions"), this.object, this.signal, this.property, this.spans,
       el(
-        "span", { class: "zoom", role: "group", "aria-label": "Time" }, button("◀", "earlier", () => this.move(-0.5)), button("▶", "later", () => this.move(0.5)),
-        button("−", "longer", () => this.zoom(FACTOR)), button("+", "shorter", () => this.zoom(1 / FACTOR)), button("▶|", "the newest", () => this.toNewest()),
+        "span", { class: "zoom", role: "group", "aria-label": "Time" }, button("◀", "earlier", () => this.move(-0.5)),
+        button("▶", "later", () => this.move(0.5)), button("−", "longer", () => this.zoom(FACTOR)),
+        button("+", "shorter", () => this.zoom(1 / FACTOR)), button("▶|", "the newest", () => this.toNewest()),
       ),
       el("label", {}, this.held, "hold"), this.said,
     );
@@ -127,11 +131,13 @@ export class TimelineView {
       lanes.set(name, [...(lanes.get(name) ?? []), row]);
     }
     const busiest = [...lanes].sort((a, b) => b[1].length - a[1].length);
-    const left = busiest.length > LANES ? `, the ${LANES} busiest shown` : "", newest = found.total > found.rows.length ? `, the newest ${found.rows.length} shown` : "";
+    const left = busiest.length > LANES ? `, the ${LANES} busiest shown` : "";
+    const newest = found.total > found.rows.length ? `, the newest ${found.rows.length} shown` : "";
     const length = this.page.about.record ? "" : ` in ${span(found.to - found.from)}`;
     write(this.said, `${found.total} emissions of ${lanes.size} signals${length}${newest}${left}`);
     const isEmpty = !found.rows.length && !plotted?.length && !this.span;
-    const picture = isEmpty ? el("p", { class: "faint detail", text: "No known signal was sent." }) : this.picture(busiest.slice(0, LANES), found, plotted);
+    const picture = isEmpty ? el("p", { class: "faint detail", text: "No known signal was sent." })
+      : this.picture(busiest.slice(0, LANES), found, plotted);
     const focused = this.drawing.contains(document.activeElement) ? document.activeElement.dataset.emission : null;
     clear(this.drawing, picture);
     if (focused) (this.drawing.querySelector(`[data-emission="${focused}"]`) ?? this.drawing).focus({ preventScroll: true });
@@ -163,7 +169,8 @@ export class TimelineView {
     const begun = isRecord ? 0 : epoch ?? 0; // so that marks are at round times of the day
     return marksOf(from + begun, to + begun, count).map((at) => at - begun).map((time) => drawn(
       "g", { class: "mark_of_time", "data-time": time },
-      drawn("line", { x1: x(time), x2: x(time), y1: 18, y2: height - 4, class: "lane" }), drawn("text", { x: x(time), y: 13, class: "under", "text-anchor": "middle", text: text(time) }),
+      drawn("line", { x1: x(time), x2: x(time), y1: 18, y2: height - 4, class: "lane" }),
+      drawn("text", { x: x(time), y: 13, class: "under", "text-anchor": "middle", text: text(time) }),
     ));
   }
 
@@ -174,7 +181,11 @@ export class TimelineView {
     const lines = Math.max(1, Math.round(each / 1000)), many = lines > 1 ? `${lines} lines` : "a line";
     const label = this.page.about.record ? `at most ${most} in ${many}` : `at most ${round(perSecond(most))} signals/s`;
     const bars = rates.map((count, at) => count && drawn(
-      "rect", { x: x(from + at * each), y: top + PLOT - 14 - high(count), width: Math.max(1, wide - 1), height: high(count), class: "bar_of_rate", "data-count": count },
+      "rect",
+      {
+        x: x(from + at * each), y: top + PLOT - 14 - high(count), width: Math.max(1, wide - 1), height: high(count),
+        class: "bar_of_rate", "data-count": count,
+      },
       drawn("title", { text: `${count} signals` }),
     )).filter(Boolean);
     return [drawn("text", { x: 6, y: top + 14, text: "signals sent" }), drawn("text", { x: 6, y: top + 28, class: "under", text: label }), ...bars];
@@ -187,13 +198,15 @@ export class TimelineView {
     const y = (number) => (areNumbers && most > least ? low - ((number - least) / (most - least)) * (PLOT - 20) : low - 10);
     const place = (it) => [x(Math.max(from, it.time)), y(numberOf(it.value))];
     const steps = points.map((it, at) => `${at ? "H" : "M"}${place(it)[0]}${at ? "V" : " "}${place(it)[1]}`).join("");
-    const label = !points.length ? "no value is known" : areNumbers ? `${shown(points[numbers.indexOf(least)].value)} to ${shown(points[numbers.indexOf(most)].value)}` : `${points.length} values`;
+    const of = (number) => shown(points[numbers.indexOf(number)].value);
+    const label = !points.length ? "no value is known" : areNumbers ? `${of(least)} to ${of(most)}` : `${points.length} values`;
     return [
       drawn("text", { x: 6, y: top + 14, text: short(`#${this.object.value.replace("#", "")}.${this.property.value}`, 30) }),
       drawn("text", { x: 6, y: top + 28, class: "under", text: short(label, 34) }),
       points.length ? drawn("path", { d: `${steps}H${x(to)}`, class: "value_line" }) : null,
       ...points.map((it) => drawn(
-        "circle", { cx: place(it)[0], cy: place(it)[1], r: 2.5, class: "value_point", "data-value": shown(it.value), "data-entry": it.entry },
+        "circle",
+        { cx: place(it)[0], cy: place(it)[1], r: 2.5, class: "value_point", "data-value": shown(it.value), "data-entry": it.entry },
         drawn("title", { text: `${short(shown(it.value), 100)}, line ${it.entry}` }),
       )),
     ].filter(Boolean);
@@ -204,7 +217,10 @@ export class TimelineView {
     const label = `#${object} ${signal}, line ${entry} of ${session}: ${calls} calls`;
     const made = drawn(
       "circle",
-      { cx: x, cy: y, r: Math.min(9, 3 + Math.sqrt(calls)), class: "tick", "data-emission": `${entry} ${at}`, role: "button", tabindex: isFirst ? 0 : -1, "aria-label": label },
+      {
+        cx: x, cy: y, r: Math.min(9, 3 + Math.sqrt(calls)), class: "tick", "data-emission": `${entry} ${at}`, role: "button",
+        tabindex: isFirst ? 0 : -1, "aria-label": label,
+      },
       drawn("title", { text: label }),
     );
     made.classList.toggle("chosen", this.chosen === made.dataset.emission);

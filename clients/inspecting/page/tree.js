@@ -12,7 +12,10 @@ export class TreeView {
     this.closed = new Set();
     this.sought = el(
       "input",
-      { type: "search", placeholder: "number, class or name", class: "grow", "aria-label": "Sought objects of the session", oninput: () => this.list.refresh() },
+      {
+        type: "search", placeholder: "number, class or name", class: "grow", "aria-label": "Sought objects of the session",
+        oninput: () => this.list.refresh(),
+      },
     );
     this.list = new List(
       "tree", (from, count) => this.fetchRows(from, count), (row) => this.drawRow(row), (row) => row.object,
@@ -79,7 +82,8 @@ export class TreeView {
     if (this.shownClass === className) return;
     this.shownClass = className;
     this.ofClass.hidden = !className;
-    this.ofClass.replaceChildren("objects of ", name(className ?? "", "class"), " only ", link("show all", () => this.page.choose({ class: null })));
+    const all = link("show all", () => this.page.choose({ class: null }));
+    this.ofClass.replaceChildren("objects of ", name(className ?? "", "class"), " only ", all);
   }
 
   drawRow(row) {
@@ -87,7 +91,10 @@ export class TreeView {
     const isClosed = this.closed.has(row.object);
     const made = el(
       "div",
-      { "data-object": row.object, "aria-level": Math.max(0, row.level) + 1, "aria-expanded": row.below ? String(!isClosed) : null, onclick: () => page.choose({ object: row.object }) },
+      {
+        "data-object": row.object, "aria-level": Math.max(0, row.level) + 1, "aria-expanded": row.below ? String(!isClosed) : null,
+        onclick: () => page.choose({ object: row.object }),
+      },
     );
     made.style.paddingLeft = `${8 + 14 * Math.max(0, row.level)}px`;
     const twist = (event) => { event.stopPropagation(); this.twist(row.object); };
