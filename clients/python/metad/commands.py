@@ -228,7 +228,7 @@ def properties(object: int) -> Asked[List[PropertyInfo]]:
 
 
 def connections(object: Optional[int] = None, after: Optional[int] = None) -> Asked[List[ConnectionInfo]]:
-    """Lists connections by their numbers, which are above `after`; with an object only its own.
+    """Lists connections by number, or only those above `after`; with an object only its own.
 
     Returns a list of at most 1,000 connections.
     """
@@ -236,7 +236,7 @@ def connections(object: Optional[int] = None, after: Optional[int] = None) -> As
 
 
 def bindings(after: Optional[BindingInfo] = None) -> Asked[List[BindingInfo]]:
-    """Lists bound properties in the order of their objects, those that come after the given one.
+    """Lists bound properties in the order of their objects, or only those after the given one.
 
     Returns a list of at most 1,000 bound properties.
     """
