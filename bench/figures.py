@@ -43,7 +43,7 @@ class Figure:
     """What one of many takes: the difference of two inputs, of which one does it so many times more often.
 
     `lines` gives the input that does it so many times over. Each time has so many `rounds`, and each round has so many
-    of what is counted, beside what the figure `less` counts. To be timed it is done `often` as many times over.
+    of what is counted, in addition to what the figure `less` counts. To be timed it is done `often` as many times over.
     """
 
     name: str
@@ -81,7 +81,7 @@ class Ratio:
 
 
 def grown(name, make, small, large, things):
-    """The figures of something beside few things and beside many, and by how much it grows."""
+    """The figures of something next to few things and next to many, and by how much it grows."""
     few, many = make(small), make(large)
     return [few, many, Ratio(f"{name}: from {small:,} to {large:,} {things}", many, few)]
 
@@ -109,19 +109,19 @@ def in_sessions(count):
 
 
 def set_beside(standing):
-    name = f"set of an int, beside {so_many(standing, 'objects')}"
+    name = f"set of an int, next to {so_many(standing, 'objects')}"
     return line(name, lambda lines: inputs.set_beside(standing, lines))
 
 
 def beside_objects(standing):
-    name = f"new and delete, beside {so_many(standing, 'objects')}"
+    name = f"new and delete, next to {so_many(standing, 'objects')}"
     return line(name, lambda lines: inputs.beside_objects(standing, lines))
 
 
 def beside_connections(session):
-    """Makes the figure of objects that come and go beside so many connections of others."""
+    """Makes the figure of objects that come and go next to so many connections of others."""
     return lambda count: line(
-        f"new and delete, beside {count:,} connections of {OWNERS[session]}",
+        f"new and delete, next to {count:,} connections of {OWNERS[session]}",
         lambda lines: inputs.beside_connections(session, count, lines),
     )
 
@@ -132,15 +132,15 @@ def in_trees(name, **shape):
 
 
 def tied_by_chance(name, **kind):
-    """The figure of connections by chance that come and go beside many of them."""
-    name = f"{name}, beside {SOME_CONNECTIONS:,} of {SOME_OBJECTS:,} objects by chance"
+    """The figure of random connections that come and go next to many of them."""
+    name = f"{name}, next to {SOME_CONNECTIONS:,} of {SOME_OBJECTS:,} random objects"
     return line(name, lambda lines: inputs.ties_by_chance(SOME_OBJECTS, SOME_CONNECTIONS, lines, **kind))
 
 
 def tied(session):
-    """Makes the figure of connections that come and go beside so many of others."""
+    """Makes the figure of connections that come and go next to so many of others."""
     return lambda count: line(
-        f"connect and disconnect, beside {count:,} of {OWNERS[session]}",
+        f"connect and disconnect, next to {count:,} of {OWNERS[session]}",
         lambda lines: inputs.tie_and_untie(session, count, lines),
     )
 
@@ -149,7 +149,7 @@ OWNERS = {"a": "others", "b": "another session"}
 
 
 def many_at_once(name, unit, lines, less, work):
-    """Makes the figure of what a line does so many times, beside what the line itself takes.
+    """Makes the figure of what a line does so many times, next to what the line itself takes.
 
     `lines` gives the input where it does so many, in so many rounds; about so much `work` is done at each time.
     """
@@ -190,20 +190,20 @@ def paired(bindings):
 
 
 UNREAD = line("set of an int that no binding reads", lambda lines: inputs.unread(0, lines))
-UNREAD_BESIDE = line("set of an int that no binding reads, beside one binding", lambda lines: inputs.unread(1, lines))
+UNREAD_BESIDE = line("set of an int that no binding reads, next to one binding", lambda lines: inputs.unread(1, lines))
 GROUPED = line("set of an int that no binding reads, in a group", lambda lines: inputs.grouped(1, lines))
 
 
 def unheard(sessions):
     """The figure of a property that is set, published, and joined by none of so many sessions."""
-    name = f"set of an int that is published, beside {so_many(sessions, 'sessions')}"
+    name = f"set of an int that is published, next to {so_many(sessions, 'sessions')}"
     return line(name, lambda lines: inputs.unheard(sessions, lines))
 
 
 def unheard_under(names):
-    """The figure of a property that is set and published under so many names, beside a session with joins of others."""
+    """The figure of a property that is set and published under so many names, next to a session with joins of others."""
     published = "published" if names == 1 else f"published under {names:,} names"
-    name = f"set of an int that is {published}, beside {JOINS:,} joins of other names"
+    name = f"set of an int that is {published}, next to {JOINS:,} joins of other names"
     return line(name, lambda lines: inputs.unheard_under(names, JOINS, lines), max(RINGS, SOME_LINES // names))
 
 
@@ -257,9 +257,9 @@ HEARD_IN_TURN = Figure(
     lambda times: inputs.heard_in_turn(SENDERS, EARS, times * RINGS),
     EARS,
 )
-HEARD_BESIDE_SESSIONS = heard(f"a call, beside {SESSIONS:,} other sessions", lambda: inputs.other_sessions(SESSIONS))
+HEARD_BESIDE_SESSIONS = heard(f"a call, next to {SESSIONS:,} other sessions", lambda: inputs.other_sessions(SESSIONS))
 HEARD_BESIDE_OTHERS = heard(
-    f"a call, beside {OTHER_CONNECTIONS:,} other connections", lambda: inputs.other_connections(OTHER_CONNECTIONS, EARS)
+    f"a call, next to {OTHER_CONNECTIONS:,} other connections", lambda: inputs.other_connections(OTHER_CONNECTIONS, EARS)
 )
 TOLD = told("a call by NOTIFY, of a slot that does nothing", "Ear", "hear(int)")
 TOLD_SETS = told("a call by NOTIFY, of a slot that sets", "Cell", "setX(int)")

@@ -4,7 +4,7 @@
 Usage: neighbours.py PROGRAM [--seconds N] [--write]. One session asks for a text again and again, in turn alone and right
 behind a line of another session, so that it waits for the whole of that line; so for N seconds with each kind of line. What
 is printed are ratios of round trips within one run: the median, and the 99th of a hundred, to the median alone. With --write
-the table of docs/internals/MEASURES.md is written anew.
+the table of docs/internals/MEASURES.md is written again.
 """
 
 from __future__ import annotations
@@ -235,7 +235,7 @@ def options() -> argparse.Namespace:
     parser = argparse.ArgumentParser(description="Measures what one session feels of another one's worst lines.")
     parser.add_argument("program", help="the built program")
     parser.add_argument("--seconds", type=positive, default=SECONDS, help=f"for each kind of line, {SECONDS} where it is not said")
-    parser.add_argument("--write", action="store_true", help="writes the table of docs/internals/MEASURES.md anew")
+    parser.add_argument("--write", action="store_true", help="writes the table of docs/internals/MEASURES.md")
     given = parser.parse_args()
     if not os.access(given.program, os.X_OK) or os.path.isdir(given.program):
         parser.error(f"{given.program} is no program")

@@ -15,8 +15,8 @@ PATIENCE = 60
 MANY_SESSIONS = 100_000
 
 SESSIONS = {
-    "one session more, without objects": inputs.idle,
-    "one session more, with a named object": inputs.once_each,
+    "another session, without objects": inputs.idle,
+    "another session, with a named object": inputs.once_each,
 }
 
 
@@ -67,8 +67,8 @@ def time_of(program, figure, of_others, room):
 
 
 def bytes_of_session(program, lines, room):
-    """How many bytes one session more takes, by the peaks of one and of many; `lines` gives the input of so many."""
-    figure = Figure("one session more", "session", 1, lines)
+    """How many bytes another session takes, by the peaks of one and of many; `lines` gives the input of so many."""
+    figure = Figure("another session", "session", 1, lines)
     peaks = []
     for sessions in (1, MANY_SESSIONS):
         room.fill(figure, sessions)

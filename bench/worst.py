@@ -6,7 +6,7 @@ The same line takes so much in a session in which there is nothing: its reading 
 much for itself and for each action, call, event, evaluation of a binding, end of an object and post that arrives of all
 that it brings about, and so much for each row that it has to look at by its meaning; what else is there may cost nothing.
 All that is told is compared with what it must be. It ends with 1 where a line takes more than it may. With --only no states
-but those with these words in their names are counted. With --write the table of docs/internals/MEASURES.md is written anew. A line
+but those with these words in their names are counted. With --write the table of docs/internals/MEASURES.md is written again. A line
 that takes too long is not counted.
 """
 
@@ -29,7 +29,7 @@ from lines import command
 from worst_lines import Line, Sizes, State, Worst, states
 
 PAGE = Path(__file__).resolve().parent.parent / "docs" / "internals" / "MEASURES.md"
-HEAD = "| behind | line | lines told | rows | does | instructions | alone | of what it may take |\n" + "|---" * 8 + "|\n"
+HEAD = "| state | line | lines | rows | does | instructions | alone | share |\n" + "|---" * 8 + "|\n"
 ITSELF, ROW = 3_000, 300  # instructions that are allowed
 THERE = [command(session, "status") for session in "abc"]  # the sessions are there then
 COUNTS_LATER = [*CALLGRIND, "--instr-atstart=no"]
@@ -180,7 +180,7 @@ def chosen(rows: list[Row]) -> list[Row]:
 
 
 def write_page(rows: list[Row]) -> None:
-    """Writes the table of the page anew."""
+    """Writes the table of the page again."""
     before, head, behind = PAGE.read_text().partition(HEAD)
     if not head:
         raise Fault(f"{PAGE.name} has no table with this head: {HEAD}")
@@ -193,7 +193,7 @@ def options() -> argparse.Namespace:
     parser.add_argument("program", help="the built program")
     parser.add_argument("--only", default="", help="words in the names of the states that are counted")
     parser.add_argument("--calls", type=int, default=Sizes.calls, help=f"of slots that do much, {Sizes.calls:,} at first")
-    parser.add_argument("--write", action="store_true", help="writes the table of docs/internals/MEASURES.md anew")
+    parser.add_argument("--write", action="store_true", help="writes the table of docs/internals/MEASURES.md")
     given = parser.parse_args()
     if given.only and given.write:
         parser.error("only a whole table is written")

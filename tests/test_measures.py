@@ -31,8 +31,8 @@ PAGE, SCALING = (ROOT / "docs" / name for name in ("internals/MEASURES.md", "SCA
 COUNTED = "set and get, in 1 session"
 FEW = {"objects": 120, "levels": 9, "connections": 410, "events": 400, "bindings": 12, "publications": 6, "joins": 5, "classes": 20}
 SMALL = worst_lines.Sizes(**FEW, calls=10, turns=1_000)
-AT_LIMITS = ["a session with as much as may be of everything", "a signal that brings about 961 calls"]  # the last states
-BYTES = {"one session more": 400.0}
+AT_LIMITS = ["a session at all its limits", "a signal that brings about 961 calls"]  # the last states
+BYTES = {"another session": 400.0}
 
 
 class Marks(Cases):
@@ -133,7 +133,7 @@ class Sessions(Cases):
 
     def test_sum(self) -> None:
         """The memory of a million sessions is summed up from the bytes that `make bench` has written down."""
-        (measured,) = re.findall(r"^\| one session more, with a named object \| bytes \| ([0-9,]+) \|", PAGE.read_text(), re.MULTILINE)
+        (measured,) = re.findall(r"^\| another session, with a named object \| bytes \| ([0-9,]+) \|", PAGE.read_text(), re.MULTILINE)
         (summed,) = re.findall(r"^\| memory of all servers \| `1,000,000 \* ([0-9,]+) / ", SCALING.read_text(), re.MULTILINE)
         number, used = (int(it.replace(",", "")) for it in (measured, summed))
         self.assertLessEqual(abs(number - used), 0.01 * number)
