@@ -117,7 +117,7 @@ class Files(ProgramCases):
     def test_numbers(self):
         """The numbers that the page says are those of both files."""
         text = PAGE.read_text()
-        for words in ("after three checks", "in 5 seconds (`METAD_ANSWER`)", "when two checks have passed"):
+        for words in ("after three failed checks", "in 5 seconds (`METAD_ANSWER`)", "after two successful checks"):
             self.assertIn(words, text)
         for name in ("edge.cfg", "edge_by_address.cfg"):
             lines = (FOLDER / name).read_text()
