@@ -216,8 +216,19 @@ def ahead_rate(session: metad.Session, lamp: int) -> float:
     return 10 * TRIPS / (time.perf_counter() - begun)
 
 
+def batch_rate(session: metad.Session, lamp: int) -> float:
+    """Commands a second of a batch, in one turn."""
+    begun = time.perf_counter()
+    with session.batch() as batch:
+        for _ in range(10 * TRIPS):
+            batch.get(lamp, "objectName")
+    for it in batch:
+        it.result()
+    return 10 * TRIPS / (time.perf_counter() - begun)
+
+
 def shares_of_trips(program: str) -> Tuple[float, Dict[str, float]]:
-    """The round trips a second of the bare loop, and those of each kind and commands sent ahead as shares of them."""
+    """The round trips a second of the bare loop, and those of each kind commands sent ahead and a batch as shares of them."""
     shares: Dict[str, List[float]] = {}
     bare: List[float] = []
     with ExitStack() as stack:
@@ -227,6 +238,7 @@ def shares_of_trips(program: str) -> Tuple[float, Dict[str, float]]:
         for _ in range(TURNS):
             rates = {name: rate(ask) for name, ask in loops.items()}
             rates["client, sent ahead"] = ahead_rate(session, lamp)
+            rates["client, batch"] = batch_rate(session, lamp)
             bare.append(rates.pop("bare"))
             for name, it in rates.items():
                 shares.setdefault(name, []).append(it / bare[-1])

@@ -412,4 +412,4 @@ class Page(ClientCases):
     def test_page(self):
         """The programs of the page print what it says."""
         lay_out(self.room, {"bin/metad": self.program})
-        self.assertEqual(check_page(self, PYTHON / "README.md", self.room), 6, "programs of the page")
+        self.assertEqual(check_page(self, PYTHON / "README.md", self.room), 7, "programs of the page")

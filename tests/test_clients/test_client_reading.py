@@ -37,7 +37,8 @@ class Played:
     def __init__(self):
         self.given, to_server = os.pipe()
         from_server, self.told = os.pipe()
-        self.server = metad.Server(open(from_server, "rb"), open(to_server, "wb"))
+        self.reader = open(from_server, "rb")
+        self.server = metad.Server(self.reader, open(to_server, "wb"))
         self.session = self.server.session("a")
 
     def hear(self, count):
@@ -54,6 +55,7 @@ class Played:
         os.close(self.told)
         os.close(self.given)
         self.server.close()
+        self.reader.close()
 
 
 def threads():
@@ -206,3 +208,4 @@ class Reading(ClientCases):
             self.assertEqual(pending.result(timeout=PATIENCE), 1, "the answer")
         os.close(told)
         os.close(given)
+        reader.close()

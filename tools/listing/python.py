@@ -71,12 +71,12 @@ from .lines import Meta, Spun, Status, Value
 '''
 METHODS = '''\
 # {head}
-"""The commands as methods of sessions: those that wait for the reply, and those of `metad.aio`, which are awaited."""
+"""The commands as methods: of sessions that wait for the reply, of those of `metad.aio`, which are awaited, and of batches."""
 
 from __future__ import annotations
 
 from . import commands
-from .asking import awaiting, waiting
+from .asking import awaiting, batching, waiting
 
 
 class Waiting:
@@ -89,6 +89,12 @@ class Awaiting:
     """The commands, each as a method that gives it and awaits the reply."""
 
 {awaiting}
+
+
+class Batching:
+    """The commands, each as a method that adds it to a batch and returns what will have the reply."""
+
+{batching}
 '''
 
 
@@ -98,9 +104,9 @@ def commands() -> str:
 
 
 def session_commands() -> str:
-    """The methods of both kinds of sessions."""
+    """The methods of both kinds of sessions, and of batches."""
     names = [name_of(it.word) for it in protocol.all_commands()]
-    made = {way: "\n".join(f"    {name} = {way}(commands.{name})" for name in names) for way in ("waiting", "awaiting")}
+    made = {way: "\n".join(f"    {name} = {way}(commands.{name})" for name in names) for way in ("waiting", "awaiting", "batching")}
     return METHODS.format(head=HEAD, **made)
 
 

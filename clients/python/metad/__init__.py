@@ -26,6 +26,7 @@ same sessions and objects for asyncio are in `metad.aio`.
 Needs Python 3.8 or later, and nothing but its standard library.
 """
 
+from .batches import Batch, Promised
 from .client import Pending, Server, Session, connect, start
 from .codes import ADVICE, BINDING_ERRORS, MEANINGS, advice_on, meaning_of
 from .descriptions import (
@@ -75,6 +76,7 @@ __all__ = [
     "ADVICE",
     "Ambiguous",
     "BINDING_ERRORS",
+    "Batch",
     "BindingInfo",
     "Call",
     "Calls",
@@ -110,6 +112,7 @@ __all__ = [
     "OnWarning",
     "OtherSession",
     "Pending",
+    "Promised",
     "Property",
     "PropertyInfo",
     "PublicationInfo",

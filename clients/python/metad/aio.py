@@ -29,6 +29,7 @@ from . import commands
 from .aio_proxies import Connected, Heard, Method, Property, Proxy, SignalSpy, hear_post, wait_for
 from .aio_waiting import Calls, Done, came, tell_on, wait_until
 from .asking import Asked
+from .batches import AioBatch
 from .client import reply_of
 from .connection import Connection
 from .descriptions import BindingInfo, ConnectionInfo
@@ -108,6 +109,11 @@ class Session(Awaiting, Hearing):
     def send(self, do: str, **keys: Value) -> Pending:
         """Sends a command by its word and its keys, and does not wait for the answer."""
         return self._give(Asked(do, **keys))
+
+    def batch(self, timeout: Optional[float] = None) -> AioBatch:
+        """A batch of commands, for `async with`, like `batch` of `metad.Session`: its methods are not awaited, the end of the
+        block is."""
+        return AioBatch(self, timeout)
 
     async def command(self, do: str, **keys: Value) -> Value:
         """Sends a command as `send` does, and waits: for commands that have no method here."""
@@ -205,6 +211,14 @@ class Session(Awaiting, Hearing):
                 asked = steps.send([await it for it in pending])
         except StopIteration as stop:
             return cast(Result, stop.value)
+
+    async def _came(self, answer: Answer, timeout: Optional[float]) -> None:
+        """Waits for an answer, whatever it is, and tells all that came before it."""
+        try:
+            await asyncio.wait_for(came(answer), timeout)
+        except asyncio.TimeoutError:
+            raise NotAnswered(f"not all commands of a batch were answered in {timeout} seconds") from None
+        self.server.connection.tell_before(answer)
 
     def _give(self, asked: Asked[Any]) -> Pending:
         line = command_line(self.name, asked.do, asked.keys)

@@ -1,4 +1,5 @@
-"""What is asked of a server, and the methods that ask it: of sessions that wait for the reply, and of those that await it."""
+"""What is asked of a server, and the methods that ask it: of sessions that wait for the reply, of those that await it, and of
+batches."""
 
 from __future__ import annotations
 
@@ -9,6 +10,8 @@ from .lines import Value
 
 if TYPE_CHECKING:
     from typing_extensions import Concatenate, ParamSpec, Protocol
+
+    from .batches import Promised
 
     Given = ParamSpec("Given")
 
@@ -21,6 +24,11 @@ if TYPE_CHECKING:
         """Whoever gives a command, so that the reply is awaited."""
 
         async def ask(self, asked: Asked[Replied]) -> Replied: ...
+
+    class Gathers(Protocol):
+        """Whoever adds a command to others, so that the reply comes later."""
+
+        def ask(self, asked: Asked[Replied]) -> Promised[Replied]: ...
 
 
 Replied = TypeVar("Replied")
@@ -56,12 +64,22 @@ def awaiting(build: Callable[Given, Asked[Replied]]) -> Callable[Concatenate[Awa
     return method
 
 
-def make_method(method: Callable[..., Any], build: Callable[..., Any]) -> None:
+def batching(build: Callable[Given, Asked[Replied]]) -> Callable[Concatenate[Gathers, Given], Promised[Replied]]:
+    """The method that adds a command to a batch, and returns what will have the reply."""
+
+    def method(self: Gathers, /, *args: Given.args, **keys: Given.kwargs) -> Promised[Replied]:
+        return self.ask(build(*args, **keys))
+
+    make_method(method, build, "Promised[{}]")
+    return method
+
+
+def make_method(method: Callable[..., Any], build: Callable[..., Any], replied: str = "{}") -> None:
     """Gives a method that gives a command the name, the parameters and the text of what builds the command."""
     built = inspect.signature(build)
     own = inspect.Parameter("self", inspect.Parameter.POSITIONAL_OR_KEYWORD)
     parameters = [own, *built.parameters.values()]
-    reply = built.return_annotation[len("Asked[") : -len("]")]
+    reply = replied.format(built.return_annotation[len("Asked[") : -len("]")])
     setattr(method, "__signature__", built.replace(parameters=parameters, return_annotation=reply))
     method.__name__, method.__doc__ = build.__name__, build.__doc__
 

@@ -10,6 +10,7 @@ from typing import IO, Any, Callable, Dict, List, Optional, Sequence, Set, Type,
 
 from . import commands
 from .asking import Asked
+from .batches import Batch
 from .connection import Connection
 from .descriptions import BindingInfo, ConnectionInfo
 from .dumping import Result, Steps, all_bindings, all_connections, commands_of, replaying, snapshot, text_of
@@ -114,6 +115,11 @@ class Session(Waiting, Hearing):
         yet, and what is not asked for yet, is kept in memory.
         """
         return self._give(Asked(do, **keys))
+
+    def batch(self, timeout: Optional[float] = None) -> Batch:
+        """A batch of commands, for `with`: its methods send commands and return at once, and the end of the block waits for all
+        answers, so many seconds at most. Each command is answered for itself; an error of one hides no other."""
+        return Batch(self, timeout)
 
     def command(self, do: str, **keys: Value) -> Value:
         """Sends a command as `send` does, and waits: for commands that have no method here."""

@@ -79,11 +79,11 @@ class Connection(Pairing):
 
     def give(self, answer: Answer, line: bytes) -> None:
         """Has a line written behind those that were given before; its answer will come."""
-        files = self._files
-        if files is None or len(line) <= AT_ONCE:
-            self.give_all((answer,), (line,))
-        else:
-            self.give_all((answer,), parts_of(line))
+        self.give_lines((answer,), line)
+
+    def give_lines(self, answers: Sequence[Answer], text: bytes) -> None:
+        """Has several lines written, which a pipe takes at once, unless it is a single one."""
+        self.give_all(answers, (text,) if len(text) <= AT_ONCE or self._files is None else parts_of(text))
 
     def give_all(self, answers: Sequence[Answer], parts: Sequence[bytes]) -> None:
         """Has the lines of commands written, in parts that a pipe takes at once."""
@@ -121,11 +121,13 @@ class Connection(Pairing):
         """Waits for an answer, and tells all that came before it; the line, or an exception where there is none."""
         if not answer._has_come and not self.wait(answer, timeout):
             raise NotAnswered(f"no answer to {what} in {timeout} seconds")
-        if self._heard:
-            self._tell(answer.mark)
-        if answer.line is None:
-            raise answer.fault()
-        return answer.line
+        return self.settled(answer)
+
+    def await_answer(self, answer: Answer, timeout: Optional[float]) -> None:
+        """Waits for an answer, whatever it is, and tells all that came before it."""
+        if not self.wait(answer, timeout):
+            raise NotAnswered(f"not all commands of a batch were answered in {timeout} seconds")
+        self.tell_before(answer)
 
     def hang_up(self) -> None:
         """Ends the server's input behind all that was given. It does not wait for that."""
@@ -207,10 +209,8 @@ class Connection(Pairing):
             answer = self._under_way[0]
         except (IndexError, OSError, StrangeLine):
             return  # a signal handler has taken it, or it is read again
-        session = answer.asking[0]() if answer.asking else None
-        if session is not None:
-            session.known_as = line["session"]
         answer.line, answer.mark = line, next(self._numbers)
+        answer.name_session(line)
         self._commit(map(self._under_way.remove, (answer,)), files.taking(text), map(setattr, (answer,), COME, TRUE))
         if answer._bells:
             answer.ring_all()

@@ -11,7 +11,7 @@ from __future__ import annotations
 import threading
 from collections import deque
 from contextlib import suppress
-from itertools import chain, count
+from itertools import chain, count, islice, repeat
 from operator import methodcaller
 from sys import maxsize
 from typing import Callable, Deque, Dict, Iterable, List, Optional, Sequence, Tuple
@@ -19,7 +19,7 @@ from weakref import ref
 
 from .errors import ConnectionClosed, MetadError, SessionLost, StrangeLine
 from .hearing import Hearing, Listening
-from .lines import NOBODY, Told, Value, is_answer, is_of_front, line_of, spun_by, told_by
+from .lines import NOBODY, Told, Value, is_answer, is_of_front, line_of, scan, spun_by, told_by
 from .once import Once
 from .streams import SINK
 
@@ -27,6 +27,9 @@ LOST = "F04"  # a line of a front by itself, behind which it closes the connecti
 
 CLEAR = methodcaller("clear")
 COME, TRUE = ("_has_come",), (True,)
+
+FEW, MANY = 3, 256
+"""Of more lines than these few, so many are taken at once."""
 
 Fault = Callable[[], MetadError]
 """Makes the exception for a command that has no answer."""
@@ -46,6 +49,12 @@ class Answer(Once):
     def __init__(self, session: Optional[Hearing] = None) -> None:
         self.asking: Sequence[ref[Hearing]] = () if session is None else session.receivers
         """The session that gave the command, if any."""
+
+    def name_session(self, line: Dict[str, Value]) -> None:
+        """Notes the name that a line has for the session that gave the command."""
+        session = self.asking[0]() if self.asking else None
+        if session is not None and line["session"] != NOBODY:
+            session.known_as = line["session"]
 
     def fail(self, fault: Fault) -> None:
         """Ends the command without an answer."""
@@ -80,6 +89,13 @@ class Event:
         listening, what = self.listening[self.begun], self.what
         self.begun += 1
         listening(what)
+
+
+def is_plain(line: Value) -> bool:
+    """Whether this is a line that answers a command, and says nothing else."""
+    if type(line) is not dict or type(line.get("session")) is not str or "front" in line:
+        return False
+    return "reply" in line or line.get("error", LOST) != LOST
 
 
 class Pairing:
@@ -130,11 +146,15 @@ class Pairing:
 
     def settled(self, answer: Answer) -> Dict[str, Value]:
         """The line of an answer that has come, once all was told that came before it."""
-        if self._heard:
-            self._tell(answer.mark)
+        self.tell_before(answer)
         if answer.line is None:
             raise answer.fault()
         return answer.line
+
+    def tell_before(self, answer: Answer) -> None:
+        """Tells all that came before an answer."""
+        if self._heard:
+            self._tell(answer.mark)
 
     def _tell(self, mark: int) -> None:
         """Tells what was heard up to a number: in its order, and by one thread at a time. What is being told stays first
@@ -155,15 +175,42 @@ class Pairing:
 
     def _take_all(self) -> None:
         """Takes all whole lines that were read."""
+        singly = 0  # so many lines are taken one by one, as there are others than plain replies among them
         while self._came:
             try:
                 came = self._came[0]
-                if came[1].endswith(b"\n"):
+                if not came[1].endswith(b"\n"):
+                    if not self._join_first():
+                        return
+                elif singly or len(self._came) <= FEW or len(self._under_way) <= FEW or self._since:
+                    singly = max(singly - 1, 0)
                     self._take(came)
-                elif not self._join_first():
-                    return
+                elif not self._take_replies():
+                    singly = MANY
             except IndexError:
                 pass  # a signal handler has taken it meanwhile
+
+    def _take_replies(self) -> bool:
+        """Takes several lines at once, in few steps, if they are plain replies to commands under way; whether they are."""
+        lines = tuple(self._came.copy())[: min(len(self._under_way), MANY)]
+        if not lines[-1][1].endswith(b"\n"):
+            lines = lines[:-1]
+        answers = tuple(islice(self._under_way.copy(), len(lines)))
+        try:
+            read = scan((b"[" + b",".join([text for _, text in lines]) + b"]").decode(), 0)[0]
+        except (ValueError, RecursionError, StopIteration, TypeError):
+            return False
+        if len(read) != len(lines) or not all(map(is_plain, read)):
+            return False
+        for answer, line, (number, _) in zip(answers, read, lines):
+            answer.line, answer.mark = line, number
+            answer.name_session(line)
+        taken = map(self._came.remove, lines), map(self._under_way.remove, answers)
+        self._commit(*taken, map(setattr, answers, repeat("_has_come"), repeat(True)))
+        for answer in answers:
+            if answer._bells:
+                answer.ring_all()
+        return True
 
     def _join_first(self) -> bool:
         """Joins the parts of the first line; whether all of it was read. Only the parts that were seen are taken away."""
@@ -200,10 +247,8 @@ class Pairing:
         if not self._under_way and self._came[0] is came:
             raise StrangeLine(came[1])
         answer = self._under_way[0]
-        session = answer.asking[0]() if answer.asking else None
-        if session is not None and line["session"] != NOBODY:
-            session.known_as = line["session"]
         answer.line, answer.mark = line, came[0]
+        answer.name_session(line)
         taken = map(self._came.remove, (came,)), map(self._under_way.remove, (answer,))
         done = map(setattr, (answer,), COME, TRUE)
         if self._since:
