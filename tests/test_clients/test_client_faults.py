@@ -3,6 +3,7 @@ refusals that hold strange texts, and class files that are refused."""
 
 import asyncio
 import io
+import json
 import os
 import shutil
 import socket
@@ -23,6 +24,14 @@ import json, sys
 for line in sys.stdin:
     print(json.dumps({"reply": json.loads(line), "session": "a"}))
 """  # a server whose replies are the commands
+OLDER = """
+import json, sys
+META = {"class": "Lamp", "methodOffset": 0, "methods": ["go()"], "properties": ["level"], "propertyOffset": 0, "super": None}
+for line in sys.stdin:
+    do = json.loads(line).get("do")
+    answer = {"reply": META} if do == "meta" else {"reply": 1} if do == "new" else {"error": "E02"}
+    print(json.dumps({**answer, "session": "a"}))
+"""  # a server that knows no `describe`
 LEAST, MOST = -(2**63), 2**64 - 1  # of whole numbers, by docs/PROTOCOL.md
 LAMP = {"name": "Lamp", "super": "QObject", "properties": [{"name": "enabled", "type": "bool"}, {"name": "delete", "type": "int"}]}
 MISSPELT = {"classes": [{"name": "Lamp", "super": "QObject", "slots": [{"sig": "go()", "bod": []}]}]}
@@ -140,6 +149,28 @@ class Names(ClientCases):
         self.assertEqual(said, "Lamp declares no enabld; did you mean `enabled`?")
         said = str(self.raised("a method", metad.Ambiguous, self.lamp.method, "deletLater()"))
         self.assertEqual(said, "Lamp has no method deletLater(); did you mean `deleteLater`?")
+
+    def test_described(self):
+        """The server says what a class has, once; of a signal that is misspelt, near names are named."""
+        given = []
+        connection = self.server.connection
+        give, connection.give_all = connection.give_all, lambda answers, parts: (given.extend(parts), give(answers, parts))
+        other = self.server.session("b")
+        lamp = other.create("Lamp")
+        self.assertEqual([json.loads(it)["do"] for it in given], ["new"], "what is asked of a class that is known")
+        plain = other.create("QObject")
+        self.assertEqual([json.loads(it)["do"] for it in given[1:]], ["describe", "new"], "what is asked of another one")
+        said = str(self.raised("a signal", AttributeError, lambda: plain.objectNamChanged.connect(lamp.deleteLater)))
+        self.assertEqual(said, "QObject declares no objectNamChanged; did you mean `objectNameChanged` or `objectName`?")
+        said = str(self.raised("a slot", AttributeError, lambda: plain.deletLater()))
+        self.assertEqual(said, "QObject declares no deletLater; did you mean `deleteLater`?")
+
+    def test_older_server(self):
+        """A server that does not know `describe` is asked by `meta`."""
+        with metad.start(sys.executable, "-uc", OLDER) as server:
+            lamp = server.session("a").create("Lamp")
+            self.assertIn("did you mean `level`?", str(self.raised("a property", AttributeError, getattr, lamp, "levl")))
+            self.assertEqual(dir(lamp).count("go"), 1, "a method")
 
     def test_awaited(self):
         """With asyncio an assignment says what is awaited in its place."""

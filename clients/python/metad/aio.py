@@ -26,6 +26,7 @@ from types import TracebackType
 from typing import Any, Callable, Dict, Generator, List, Optional, Sequence, Type, TypeVar, Union, cast, overload
 
 from . import commands
+from .aio_monitors import Monitor, monitor
 from .aio_proxies import Connected, Heard, Method, Property, Proxy, SignalSpy, hear_post, wait_for
 from .aio_waiting import Calls, Done, came, tell_on, wait_until
 from .asking import Asked
@@ -43,7 +44,7 @@ from .pairing import Answer
 from .programs import ProgramConnection, Word
 from .reaching import Making
 from .session_commands import Awaiting
-from .shapes import Shape, with_relay
+from .shapes import NO_COMMAND, Shape, with_relay
 from .tls import Tls
 from .tools import fault_in
 from .waiting import not_in_time
@@ -55,6 +56,7 @@ __all__ = [
     "Connected",
     "Heard",
     "Method",
+    "Monitor",
     "Pending",
     "Property",
     "Proxy",
@@ -62,6 +64,7 @@ __all__ = [
     "Session",
     "SignalSpy",
     "connect",
+    "monitor",
     "start",
     "wait_for",
     "with_relay",
@@ -148,7 +151,12 @@ class Session(Awaiting, Hearing):
         """What there is in a class. The server is asked for it once."""
         shapes = self.server.shapes
         if class_ not in shapes:
-            shapes[class_] = Shape(await self.meta(class_))
+            try:
+                shapes[class_] = Shape.described(await self.describe(class_))
+            except Refused as refused:
+                if refused.code != NO_COMMAND:
+                    raise
+                shapes[class_] = Shape(await self.meta(class_))  # of an older server
         return shapes[class_]
 
     async def object(self, number: int) -> Proxy:

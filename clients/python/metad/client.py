@@ -24,7 +24,7 @@ from .programs import ProgramConnection, Word
 from .proxies import Heard, Method, Proxy, hear_post, wait_for
 from .reaching import SocketConnection
 from .session_commands import Waiting
-from .shapes import Shape
+from .shapes import NO_COMMAND, Shape
 from .sockets import connected
 from .tls import Tls
 from .tools import explained
@@ -158,7 +158,12 @@ class Session(Waiting, Hearing):
         """What there is in a class. The server is asked for it once."""
         shapes = self.server.shapes
         if class_ not in shapes:
-            shapes[class_] = Shape(self.meta(class_))
+            try:
+                shapes[class_] = Shape.described(self.describe(class_))
+            except Refused as refused:
+                if refused.code != NO_COMMAND:
+                    raise
+                shapes[class_] = Shape(self.meta(class_))  # of an older server
         return shapes[class_]
 
     def object(self, number: int) -> Proxy:

@@ -99,8 +99,15 @@ class LinesLost(ConnectionClosed):
     from then on.
     """
 
+    def __init__(self, count: Optional[int] = None) -> None:
+        super().__init__()
+        self.count = count
+        """How many lines were lost; None if the front does not say it."""
+
     def _ended(self) -> str:
-        return "the front has closed this monitor before it had read all: lines were lost"
+        known = self.count is not None
+        count = f"{self.count:,} lines were lost" if known else "lines were lost, and how many is unknown"
+        return f"the front has closed this monitor before it had read all: {count}"
 
 
 class NotStarted(ServerGone):

@@ -18,6 +18,48 @@ LEFT_OUT = "F10"  # the last line of a front to a monitor that has left too much
 OF_FRONT = "F"  # how the codes of a front begin
 
 
+class Arrived:
+    """What has arrived of the lines of a monitor, and was not given."""
+
+    def __init__(self) -> None:
+        self._begun = bytearray()
+        self._searched = 0  # bytes of it in which no line ends
+
+    def add(self, data: bytes) -> None:
+        """Adds what has arrived."""
+        self._begun += data
+
+    def take(self) -> Optional[Dict[str, Value]]:
+        """The next line; None where it has not arrived. `LinesLost` where it says that the others are lost."""
+        end = self._begun.find(b"\n", self._searched) + 1
+        if not end:
+            self._searched = len(self._begun)
+            return None
+        line = line_of(bytes(self._begun[:end]))
+        del self._begun[:end]
+        self._searched = 0
+        if line.get("error") == LEFT_OUT:
+            raise LinesLost(line.get("lost"))
+        return line
+
+    def end(self) -> None:
+        """Raises `LinesLost` where what has arrived ends in the middle of a line."""
+        if self._begun:
+            raise LinesLost
+
+
+def request(session: str) -> bytes:
+    """The line that asks a front for the lines of one session."""
+    return line_with({"front": "monitor", "session": session})
+
+
+def is_chosen(line: Dict[str, Value], session: str) -> bool:
+    """Whether a line says that the lines of one session come from now on; `Refused` where they do not."""
+    if "front" not in line and str(line.get("error", "")).startswith(OF_FRONT):
+        raise Refused("monitor", line["error"], {"session": session})
+    return "front" in line
+
+
 class Monitor:
     """Reads the lines of a front's server, as that writes them: of all sessions, or of one. It is made by `monitor`.
 
@@ -27,11 +69,10 @@ class Monitor:
     """
 
     def __init__(self, path: Word, session: Optional[str] = None) -> None:
-        self._begun = bytearray()  # what has arrived and was not given
-        self._searched = 0  # bytes of it in which no line ends
+        self._arrived = Arrived()
         self._reading = threading.RLock()  # which a signal handler of the thread that reads gets too
         self._is_closed = False
-        self._has_lost = False
+        self._lost: Optional[LinesLost] = None
         self._link = connected(path)
         try:
             if session is not None:
@@ -43,12 +84,10 @@ class Monitor:
     def _choose(self, session: str) -> None:
         """Asks for the lines of one session, and waits until they will come; lines that came before are dropped."""
         with suppress(BrokenPipeError):  # what came before that is still read
-            self._link.sendall(line_with({"front": "monitor", "session": session}))
+            self._link.sendall(request(session))
         for line in iter(self._take, None):
-            if "front" in line:
+            if is_chosen(line, session):
                 return
-            if str(line.get("error", "")).startswith(OF_FRONT):
-                raise Refused("monitor", line["error"], {"session": session})
         raise ConnectionClosed
 
     def __enter__(self) -> Monitor:
@@ -79,31 +118,30 @@ class Monitor:
     def _take(self) -> Optional[Dict[str, Value]]:
         """The next line; None at the end, and `LinesLost` where that is not the end of all lines."""
         with self._reading:
-            text = None if self._is_closed or self._has_lost else self._take_text()
+            if self._lost is not None:
+                raise LinesLost(self._lost.count)
+            try:
+                line = None if self._is_closed else self._take_next()
+            except LinesLost as lost:
+                self._lost = lost
+                line = None
             if self._is_closed:
                 return None
-            line = None if text is None else line_of(text)
-            if line is not None and line.get("error") == LEFT_OUT:
-                self._has_lost = True
-            if self._has_lost:
-                raise LinesLost
+            if self._lost is not None:
+                raise self._lost
             return line
 
-    def _take_text(self) -> Optional[bytes]:
-        """The next line with its end; None when there is none any more."""
+    def _take_next(self) -> Optional[Dict[str, Value]]:
+        """The next line; None when there is none any more."""
         while True:
-            end = self._begun.find(b"\n", self._searched) + 1
-            if end:
-                text = bytes(self._begun[:end])
-                del self._begun[:end]
-                self._searched = 0
-                return text
-            self._searched = len(self._begun)
+            line = self._arrived.take()
+            if line is not None:
+                return line
             data = self._receive()
             if not data:
-                self._has_lost = bool(self._begun) and not self._is_closed
+                self._arrived.end()
                 return None
-            self._begun += data
+            self._arrived.add(data)
 
     def _receive(self) -> bytes:
         """What has arrived, at least one byte; nothing at the end."""

@@ -1,8 +1,8 @@
 """What objects of a server are as objects of Python, whether their commands are waited for or awaited: what there is in a
 class, and which of its methods is meant.
 
-The members of a class are asked for once: by `meta`, or by `describe` for an object that `object` returns. Proxies use the
-names of properties and the signatures of methods alone, which both commands reply. The server refuses what does not fit.
+The members of a class are asked for once, by `describe`, so that no class file is needed: by `meta` of a server that does not
+know `describe`. What a proxy does not have is an `AttributeError`; the server refuses what else does not fit.
 """
 
 from __future__ import annotations
@@ -20,6 +20,12 @@ RELAY = "Relay"
 
 HEAR = "hear"
 """The name of its slots, of which there is one for each list of parameters."""
+
+NO_COMMAND = "E02"
+"""The code of a word that is no command of the server."""
+
+NEAR_MOST, NEAR = 3, 0.75
+"""So many names are named in place of one that is not there, and how alike they have to be, from 0 to 1."""
 
 OF_QOBJECT = ["destroyed()", "objectNameChanged(QString)"]
 
@@ -84,8 +90,8 @@ class Shape:
 
 def meant(name: str, names: Iterable[str]) -> str:
     """Which of some names may be meant by one that is not there, as the end of a sentence; empty where none is like it."""
-    near = get_close_matches(name, list(names), 1)
-    return f"; did you mean `{near[0]}`?" if near else ""
+    near = [f"`{it}`" for it in get_close_matches(name, list(names), NEAR_MOST, NEAR)]
+    return f"; did you mean {' or '.join(near)}?" if near else ""
 
 
 class BaseProxy(Generic[SessionKind]):
