@@ -151,5 +151,8 @@ export class OtherSession extends MetadError {}
 /** A function cannot be called for a signal: the server has no slot that would tell of it, see `withRelay`. */
 export class NoRelay extends MetadError {}
 
+/** Commands of a dump were given to a session that has had objects or connections before. */
+export class NotFresh extends MetadError {}
+
 /** A front that was started without monitors was asked for one. */
 export class NoMonitors extends MetadError {}

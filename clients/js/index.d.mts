@@ -58,6 +58,10 @@ export declare class NotLive extends MetadError {}
 export declare class OtherSession extends MetadError {}
 export declare class NoRelay extends MetadError {}
 export declare class NoMonitors extends MetadError {}
+export declare class NotFresh extends MetadError {}
+
+/** A command of a dump: its word and its keys, without a session. */
+export type DumpedCommand = { do: string } & Record<string, Value>;
 
 /** What a code, or the error of a property, means. */
 export declare function meaningOf(code: string): string;
@@ -161,6 +165,9 @@ export declare class Session {
   command(word: string, keys?: Record<string, unknown>, options?: CommandOptions): Promise<any>;
   allConnections(object?: ObjectLike): Promise<import("./session_commands.mjs").ConnectionInfo[]>;
   allBindings(): Promise<Bindings>;
+  dump(): Promise<string>;
+  dumpCommands(): Promise<DumpedCommand[]>;
+  replay(commands: readonly DumpedCommand[]): Promise<void>;
   on(what: "call", told: (call: Call) => unknown): Listener;
   on(what: "warning", told: (warning: Warning) => unknown): Listener;
   on(what: "spun", told: (spun: Spun) => unknown): Listener;

@@ -4,6 +4,7 @@
  */
 
 import { COMMANDS } from "./commands.mjs";
+import { commandsOf, replay, snapshot, textOf } from "./dumps.mjs";
 import { MetadError, NoValue, NotAnswered, Refused, StrangeLine, shown } from "./errors.mjs";
 import { Calls, Hearing, notInTime, waitUntil } from "./hearing.mjs";
 import { NUMBER, isPlain } from "./json.mjs";
@@ -128,6 +129,27 @@ export class Session {
   /** All bound properties, however many there are. */
   async allBindings() {
     return this.#pages("bindings", (last) => (last ? { after: last } : {}));
+  }
+
+  /**
+   * What the session holds, as a text: trees of objects with the properties that do not have the default of their type,
+   * connections, publications, joins and open groups. Events and the states of functors are left out.
+   */
+  async dump() {
+    return textOf(await snapshot(this));
+  }
+
+  /**
+   * The commands that make in a fresh session what this one holds, with the same numbers: objects with the command's keys,
+   * without a session. `replay` gives them, here and in the Python client.
+   */
+  async dumpCommands() {
+    return commandsOf(await snapshot(this));
+  }
+
+  /** Gives the commands of a `dumpCommands`. Rejects with `NotFresh` if the session has had objects before. */
+  async replay(commands) {
+    return replay(this, commands);
   }
 
   async #pages(word, keysBehind) {

@@ -2,6 +2,7 @@
 
 import contextlib
 import io
+import json
 import os
 import re
 import shutil
@@ -12,11 +13,14 @@ from pathlib import Path
 from tempfile import TemporaryDirectory
 from unittest import mock
 
+import metad
+
 from tools import protocol
 from tests.support.cases import Cases
 from tests.support.documents import version
 from tests.support.program import ROOT, SECONDS
 
+from . import test_client_dumps
 from .fronts import FRONT, ClientCases
 
 TOOL = ROOT / "tools" / "js_commands.py"
@@ -24,6 +28,7 @@ CLIENT = ROOT / "clients" / "js"
 TESTS = ROOT / "tests" / "js"
 EXAMPLES = ROOT / "examples" / "js"
 NODE_LEAST = 18
+MOST = 2**64 - 1  # of whole numbers, by docs/PROTOCOL.md
 AT_ONCE = 2
 STRICT = "--strict --noEmit --target es2022 --module nodenext --moduleResolution nodenext --lib es2022,dom".split()
 
@@ -134,6 +139,67 @@ class JavaScript(ClientCases):
             path.write_text(program)
             ran = self.ran(path)
             self.assertEqual((ran.returncode, ran.stdout, ran.stderr), (0, said, ""), given)
+
+
+class Dumps(JavaScript):
+    """Dumps of sessions by both clients: each replays what the other one has made, and says the same of it."""
+
+    test_tests = test_examples = test_examples_without_a_server = test_page = None
+
+    def replayed(self, dumps, *words):
+        """What the client in JavaScript says of sessions that it makes of dumps."""
+        path = Path(self.room, "dumps.json")
+        path.write_text(json.dumps(dumps))
+        ran = self.ran(TESTS / "dumper.mjs", self.program, path, *words)
+        self.assertEqual((ran.returncode, ran.stderr), (0, ""), "how it ends")
+        return json.loads(ran.stdout)
+
+    def check(self, dumps, texts, *words):
+        """Has JavaScript replay dumps of Python, and Python those of JavaScript. All texts are the same."""
+        said = self.replayed(dumps, *words)
+        self.assertEqual([it["text"] for it in said], texts, "the texts")
+        self.assertEqual([it["commands"] for it in said], dumps, "the commands")
+        self.assertEqual({it["again"] for it in said}, {"NotFresh"}, "a session that has objects")
+        with metad.start(self.program, *words) as server:
+            for at, it in enumerate(said):
+                session = server.session(f"s{at}")
+                session.replay(it["commands"])
+                self.assertEqual(session.dump(), texts[at], "what Python makes of the commands")
+
+    def test_worked(self):
+        """A session with something of each kind, as it is worked out by hand, also with the largest number."""
+        given = [*test_client_dumps.MADE, {"do": "set", "object": 1, "property": "big", "value": MOST}, {"do": "begin"}, {"do": "begin"}]
+        text = replace_each(test_client_dumps.TEXT, (" = 0, in error, EvaluationError", ""), (' = "\u00e4\\n"', ""), ("blocked\n", f"blocked\n        .big = {MOST}, dynamic\n"))
+        with metad.start(self.program) as server:
+            session = server.session("a")
+            for command in given:
+                session.command(**command)
+            dump = session.dump_commands()
+        self.check([dump], [f"{text}groups open: 2\n"])
+
+    def test_random(self):
+        """Random sessions."""
+        for seed in range(1, 4):
+            (run, declared), path = test_client_dumps.Random.run_of(self, seed), Path(self.room, "classes.json")
+            path.write_text(json.dumps({"classes": declared}))
+            words = ("--turns", str(test_client_dumps.TURNS), str(path))
+            with metad.start(self.program, *words) as server:
+                for command in run.commands():
+                    server.session(command["session"]).send(**{key: it for key, it in command.items() if key != "session"})
+                sessions = [server.session(name) for name in run.server.sessions]
+                made = [(it.dump_commands(), it.dump()) for it in sessions]
+            full = [it for it in made if it[0]]
+            self.assertTrue(full, "sessions that hold something")
+            joined = [dump for dump, _ in full]
+            self.check(joined, [text for _, text in full], *words)
+
+
+def replace_each(text, *pairs):
+    """A text with some parts replaced, each of which is there once."""
+    for old, new in pairs:
+        assert text.count(old) == 1, old
+        text = text.replace(old, new)
+    return text
 
 
 class Declarations(Cases):
