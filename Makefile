@@ -142,7 +142,7 @@ OF_JS = $(patsubst clients/%,%,$(wildcard clients/js/*.mjs clients/js/*.mts clie
 OF_QT = $(patsubst clients/%,%,$(wildcard clients/qt/*.cmake clients/qt/CMakeLists.txt clients/qt/metad/*))
 # each is installed as metad-TOOL; what they are made of stands in these folders
 TOOLS = explain check shell slice inspect compact
-PARTS = explaining checking shelling slicing inspecting compacting
+PARTS = common explaining checking shelling slicing inspecting compacting
 # what the inspector shows beside its code: its page, and the classes of a server without a class file
 PAGE = inspecting/page
 OF_PAGE = $(patsubst clients/%,%,$(wildcard clients/$(PAGE)/* clients/inspecting/*.json))

@@ -59,7 +59,7 @@ def wanted_files():
         made |= {name: ROOT / "clients" / tool for name in (f"bin/metad-{tool}", f"share/metad/{tool}")}
         made |= {f"share/metad/{parts}/{path.name}": path for path in (ROOT / "clients" / parts).glob("*.py")}
     clients = ROOT / "clients"
-    made |= {f"share/metad/{path.relative_to(clients)}": path for pattern in (*OF_PAGE, *OF_JS) for path in clients.glob(pattern)}
+    made |= {f"share/metad/{path.relative_to(clients)}": path for pattern in (*OF_PAGE, *OF_JS, "common/*.py") for path in clients.glob(pattern)}
     client = clients / "python"
     made |= {f"{CLIENT}/{path.relative_to(client)}": path for pattern in OF_CLIENT for path in client.glob(pattern)}
     made |= {f"share/metad/{path.relative_to(clients)}": path for pattern in OF_QT for path in (clients / "qt").glob(pattern)}
@@ -119,7 +119,7 @@ class Install(Cases):
             words = f"import({str(top / 'share/metad/js/index.mjs')!r}).then((metad) => console.log(metad.CODES.E12))"
             self.check_run(["node", "-e", words], top, b"", b"a cycle of parents\n")
         left = {str(path.parent.relative_to(top)) for path in top.rglob("__pycache__")}
-        used = ("explaining", "checking", "shelling", "slicing", "python/metad")
+        used = ("common", "explaining", "checking", "shelling", "slicing", "python/metad")
         wanted = {f"share/metad/{it}" for it in used}
         self.assertLessEqual(wanted, left, "where Python has left its folders")
 

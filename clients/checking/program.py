@@ -8,11 +8,13 @@ import sys
 from bisect import bisect_right
 from typing import Callable
 
+from common.ending import Stop, complain, ended
+from common.options import NAME, parser_of
+
 from .files import MOST_BYTES, Checked, checked
 from .findings import Finding, Findings, Mistake
 from .words import counted, plain, shown_json
 
-NAME = os.path.basename(sys.argv[0])
 INPUT = "-"  # the word for standard input
 FINE, FAULTY, UNABLE = 0, 1, 2  # the exit statuses
 COLOURS = {True: "\033[31m", False: "\033[33m"}  # of faults and of warnings
@@ -38,10 +40,6 @@ Exit status: 0 if no file has a fault; 1 if one has (with --strict also for a wa
 the output cannot be written, and after a mistake in the command line."""
 
 
-class Stop(Exception):
-    """The end of a run that cannot go on: what is to be said on standard error."""
-
-
 class Words(argparse.Namespace):
     """The words of the command line."""
 
@@ -54,16 +52,8 @@ class Words(argparse.Namespace):
 
 def parser() -> argparse.ArgumentParser:
     codes = "\n".join(f"  {code}: {meaning}" for code, meaning in (it.value for it in Mistake))
-    made = argparse.ArgumentParser(
-        prog=NAME,
-        description="Says what is wrong in class files of metad, and where.",
-        epilog=HELP.format(mistakes=codes),
-        formatter_class=argparse.RawDescriptionHelpFormatter,
-        allow_abbrev=False,
-        add_help=False,
-    )
+    made = parser_of(NAME, "Says what is wrong in class files of metad, and where.", HELP.format(mistakes=codes))
     made.add_argument("files", metavar="FILE", nargs="*", help="a class file; - is standard input")
-    made.add_argument("-h", "--help", action="store_true", help="show this help and exit")
     made.add_argument("--strict", action="store_true", help="end with status 1 where there are warnings")
     made.add_argument("--declared", action="store_true", help="warn of all properties that no class declares")
     made.add_argument("--format", choices=("text", "json"), default="text", help="how findings are written; text if not said")
@@ -158,13 +148,6 @@ def bytes_of(path: str) -> bytes:
         return file.read(MOST_BYTES + 1)
 
 
-def complain(message: str) -> None:
-    if sys.stderr is not None:
-        text = f"{NAME}: {message}\n"
-        sys.stderr.write(text.encode("utf-8", "backslashreplace").decode())
-        sys.stderr.flush()
-
-
 def is_coloured() -> bool:
     return sys.stdout.isatty() and not os.environ.get("NO_COLOR") and os.environ.get("TERM") != "dumb"
 
@@ -205,7 +188,7 @@ def told(given: Words) -> int:
         try:
             raw = bytes_of(name)
         except (OSError, ValueError) as error:
-            complain(f"{name} cannot be read: {getattr(error, 'strerror', None) or error}")
+            complain(NAME, f"{name} cannot be read: {getattr(error, 'strerror', None) or error}")
             status = UNABLE
         else:
             status = max(status, tell(name, checked(raw, given.declared), given, say))
@@ -213,23 +196,5 @@ def told(given: Words) -> int:
     return status
 
 
-def leave_output() -> None:
-    """Nothing more is written, at the end of Python neither."""
-    if sys.stdout is not None:
-        os.dup2(os.open(os.devnull, os.O_WRONLY), sys.stdout.fileno())
-
-
 def main() -> int:
-    message: str | None = None
-    try:
-        return told(words())
-    except Stop as stop:
-        message = str(stop)
-    except BrokenPipeError:
-        leave_output()
-        return UNABLE
-    except OSError as error:
-        leave_output()
-        message = f"standard output cannot be written: {error.strerror}"
-    complain(message)
-    return UNABLE
+    return ended(NAME, lambda: told(words()), UNABLE, UNABLE)

@@ -3,16 +3,18 @@
 from __future__ import annotations
 
 import argparse
-import os
 import sys
-from typing import BinaryIO, Callable, Iterator
+from typing import Callable
+
+from common.ending import Stop, ended
+from common.files import lines_of, opened, whole, writer
+from common.options import NAME, parser_of
 
 from .commands import commands_in
 from .knowledge import Knowledge
 from .slots import Refused, Slots
-from .telling import Said, Telling
+from .telling import Telling
 
-NAME = os.path.basename(sys.argv[0])
 
 HELP = """\
 Each line is shown, and below it what it means. With --commands, each command is shown before its lines and used to
@@ -33,10 +35,6 @@ Exit status: 0 at the end of the input; 1 if something cannot be read or written
 the input; 2 after a mistake in the command line."""
 
 
-class Stop(Exception):
-    """The end of a run that cannot go on: what is to be said on standard error."""
-
-
 class Words(argparse.Namespace):
     """The words of the command line; `help` is the text of the help where they ask for it."""
 
@@ -48,15 +46,7 @@ class Words(argparse.Namespace):
 
 def words() -> Words:
     """The words of the command line; the text of the help where they ask for it."""
-    parser = argparse.ArgumentParser(
-        prog=NAME,
-        description="Says in plain words what each line means that metad writes, read from standard input.",
-        epilog=HELP,
-        formatter_class=argparse.RawDescriptionHelpFormatter,
-        allow_abbrev=False,
-        add_help=False,
-    )
-    parser.add_argument("-h", "--help", action="store_true", help="show this help and exit")
+    parser = parser_of(NAME, "Says in plain words what each line means that metad writes, read from standard input.", HELP)
     parser.add_argument("--commands", metavar="FILE", help="the input that the lines answer, as it was given to metad")
     drawn = "draw at the end what is known of the objects of each session; needs --commands"
     parser.add_argument("--tree", action="store_true", help=drawn)
@@ -71,39 +61,12 @@ def words() -> Words:
     return given
 
 
-def lines_of(file: BinaryIO, name: str) -> Iterator[bytes]:
-    """The lines of a file, as they come."""
-    try:
-        yield from iter(file.readline, b"")
-    except OSError as error:
-        raise Stop(f"{name} cannot be read: {error.strerror}") from None
-
-
-def opened(path: str) -> BinaryIO:
-    try:
-        return open(path, "rb")
-    except (OSError, ValueError) as error:
-        raise Stop(f"{path} cannot be opened: {getattr(error, 'strerror', None) or error}") from None
-
-
 def slots_of(path: str) -> Slots:
     """The slots of a class file."""
-    with opened(path) as file:
-        raw = b"".join(lines_of(file, path))
     try:
-        return Slots(raw)
+        return Slots(whole(path))
     except Refused as why:
         raise Stop(f"{path} is no class file that metad takes: {why}") from None
-
-
-def writer(stream: BinaryIO) -> Callable[[Said], None]:
-    """What writes a line, of bytes as they are or of words, and holds nothing back."""
-
-    def say(line: Said) -> None:
-        stream.write((line if isinstance(line, bytes) else line.encode("utf-8", "backslashreplace")) + b"\n")
-        stream.flush()
-
-    return say
 
 
 def told(given: Words, advise: Callable[[str], str]) -> int:
@@ -126,24 +89,6 @@ def told(given: Words, advise: Callable[[str], str]) -> int:
     return 1 if telling.misfits else 0
 
 
-def leave_output() -> None:
-    """Nothing more is written, at the end of Python neither."""
-    if sys.stdout is not None:
-        os.dup2(os.open(os.devnull, os.O_WRONLY), sys.stdout.fileno())
-
-
 def main(advise: Callable[[str], str]) -> int:
     """Runs the tool, which says of each refusal what to do about its code; answers the exit status."""
-    try:
-        return told(words(), advise)
-    except Stop as stop:
-        message = str(stop)
-    except BrokenPipeError:
-        leave_output()
-        return 0
-    except OSError as error:
-        leave_output()
-        message = f"standard output cannot be written: {error.strerror}"
-    if sys.stderr is not None:
-        print(f"{NAME}: {message}", file=sys.stderr)
-    return 1
+    return ended(NAME, lambda: told(words(), advise))

@@ -3,7 +3,9 @@
 from __future__ import annotations
 
 from dataclasses import dataclass, field
-from typing import Callable, Iterator, Union
+from typing import Callable, Iterator
+
+from common.files import Said
 
 from .commands import Command
 from .drawing import MARKS
@@ -11,8 +13,6 @@ from .knowledge import Knowledge
 from .lines import NO_SESSION, Error, Line, OfFront, line_of
 from .refusing import further
 from .words import Misfit, counted, plain
-
-Said = Union[bytes, str]  # a line as it is, or what is said of it
 
 
 @dataclass

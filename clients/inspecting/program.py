@@ -11,7 +11,9 @@ import sys
 from contextlib import suppress
 from typing import List
 
-from explaining.program import NAME, Stop, lines_of, opened
+from common.ending import Stop
+from common.files import lines_of, opened
+from common.options import NAME, parser_of
 
 from .classes import classes_of
 from .feed import Asking, Feed, first_line, follow
@@ -36,16 +38,7 @@ Exit status: 0 after an interrupt; 1 if something cannot be read, opened or run;
 
 
 def parser() -> argparse.ArgumentParser:
-    made = argparse.ArgumentParser(
-        prog=NAME,
-        usage=USAGE,
-        description="Shows a record of a metad as a page in the browser.",
-        epilog=HELP,
-        formatter_class=argparse.RawDescriptionHelpFormatter,
-        allow_abbrev=False,
-        add_help=False,
-    )
-    made.add_argument("-h", "--help", action="store_true", help="show this help and exit")
+    made = parser_of(NAME, "Shows a record of a metad as a page in the browser.", HELP, USAGE)
     made.add_argument("--port", metavar="PORT", type=port, default=0, help="the port of this machine; without it any free one")
     made.add_argument("--feed", type=int, help=argparse.SUPPRESS)
     made.add_argument("--door", type=int, help=argparse.SUPPRESS)

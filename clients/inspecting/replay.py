@@ -6,7 +6,7 @@ import subprocess
 import threading
 from typing import Any, Dict, FrozenSet, List, Sequence, Tuple
 
-from explaining.program import Stop
+from common.ending import Stop
 from slicing.record import Entry, entries_of, mark
 
 from .classes import classes_of

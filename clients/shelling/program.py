@@ -9,6 +9,9 @@ import sys
 from typing import IO, Optional
 
 import metad
+from common.ending import Stop
+from common.ending import ended as ended_program
+from common.options import NAME, parser_of
 from explaining.faults import is_name
 
 from .arriving import Arrivals, TypedArrivals
@@ -18,7 +21,6 @@ from .prompting import Prompt
 from .saying import Speaker
 from .shell import Shell
 
-NAME = os.path.basename(sys.argv[0])
 USAGE = f"""{NAME} [--session NAME] [--strict] PROGRAM [ARGS..]
        {NAME} [--session NAME] [--strict] [--no-live] --socket SOCKET"""
 
@@ -34,22 +36,9 @@ reached or is no metad, and with --strict after a refusal; 2 after a mistake in 
 something else, or answers nothing within 10 seconds, is taken for no metad."""
 
 
-class Stop(Exception):
-    """The end of a run that cannot go on: what is to be said on standard error."""
-
-
 def words() -> argparse.Namespace:
     """The words of the command line; the text of the help where they ask for it."""
-    parser = argparse.ArgumentParser(
-        prog=NAME,
-        usage=USAGE,
-        description="A line editor over a metad: short forms of commands, and answers in words.",
-        epilog=HELP,
-        formatter_class=argparse.RawDescriptionHelpFormatter,
-        allow_abbrev=False,
-        add_help=False,
-    )
-    parser.add_argument("-h", "--help", action="store_true", help="show this help and exit")
+    parser = parser_of(NAME, "A line editor over a metad: short forms of commands, and answers in words.", HELP, USAGE)
     parser.add_argument("--session", metavar="NAME", default="a", help="the session that is spoken for, a without it")
     parser.add_argument("--strict", action="store_true", help="end at the first refusal")
     parser.add_argument("--socket", metavar="SOCKET", help="where a front listens")
@@ -160,12 +149,6 @@ def run(given: argparse.Namespace) -> int:
     return 1 if given.strict and shell.was_refused else 0
 
 
-def leave_output() -> None:
-    """Nothing more is written, at the end of Python neither."""
-    if sys.stdout is not None:
-        os.dup2(os.open(os.devnull, os.O_WRONLY), sys.stdout.fileno())
-
-
 def told(given: argparse.Namespace) -> int:
     """Runs the shell, or shows the help."""
     if sys.stdin is None or sys.stdout is None:
@@ -178,18 +161,4 @@ def told(given: argparse.Namespace) -> int:
 
 
 def main() -> int:
-    try:
-        return told(words())
-    except Stop as stop:
-        message = str(stop)
-    except BrokenPipeError:
-        leave_output()
-        return 0
-    except OSError as error:
-        leave_output()
-        message = f"standard output cannot be written: {error.strerror}"
-    except KeyboardInterrupt:
-        return 130
-    if sys.stderr is not None:
-        print(f"{NAME}: {message}", file=sys.stderr)
-    return 1
+    return ended_program(NAME, lambda: told(words()))

@@ -7,7 +7,9 @@ import re
 import sys
 from typing import Sequence
 
-from explaining.program import NAME, Stop, leave_output, lines_of, opened, writer
+from common.ending import Stop, ended
+from common.files import lines_of, whole, writer
+from common.options import NAME, parser_of
 
 from .advising import no_classes, no_session
 from .comparing import difference, told_by_record, told_to
@@ -42,6 +44,8 @@ RECORD has no command of NAME."""
 class NoSession(Stop):
     """A session is asked for that gives no command in the record."""
 
+    status = 2
+
 
 class Words(argparse.Namespace):
     """The words of the command line."""
@@ -63,16 +67,8 @@ def turns(word: str) -> str:
 
 
 def parser() -> argparse.ArgumentParser:
-    made = argparse.ArgumentParser(
-        prog=NAME,
-        usage=USAGE,
-        description="Shows which commands of a record can affect what a session receives, and checks it.",
-        epilog=HELP.format(marks="\n".join(f"  {mark.decode()} {meaning}" for mark, meaning in MARKS.items())),
-        formatter_class=argparse.RawDescriptionHelpFormatter,
-        allow_abbrev=False,
-        add_help=False,
-    )
-    made.add_argument("-h", "--help", action="store_true", help="show this help and exit")
+    marked = HELP.format(marks="\n".join(f"  {mark.decode()} {meaning}" for mark, meaning in MARKS.items()))
+    made = parser_of(NAME, "Shows which commands of a record can affect what a session receives, and checks it.", marked, USAGE)
     made.add_argument("--only", action="store_true", help="write the slice alone, as an input for metad")
     made.add_argument("--metad", metavar="PROGRAM", help="the program; without it that beside this tool, or on the path")
     made.add_argument("--classes", metavar="FILE", help="the class file that metad is given")
@@ -119,8 +115,7 @@ def told(given: Words) -> int:
 def record_of(path: str) -> bytes:
     """The bytes of a record, which may come by standard input."""
     if path != INPUT:
-        with opened(path) as file:
-            return b"".join(lines_of(file, path))
+        return whole(path)
     if sys.stdin is None:
         raise Stop("standard input has to be open")
     return b"".join(lines_of(sys.stdin.buffer, INPUT_NAME))
@@ -159,17 +154,4 @@ def show(program: Program, entries: Sequence[Entry], kept: bytes, given: Words) 
 
 
 def main() -> int:
-    status = 1
-    try:
-        return told(words())
-    except Stop as stop:
-        status, message = 2 if isinstance(stop, NoSession) else 1, str(stop)
-    except BrokenPipeError:
-        leave_output()
-        return 0
-    except OSError as error:
-        leave_output()
-        message = f"standard output cannot be written: {error.strerror}"
-    if sys.stderr is not None:
-        print(f"{NAME}: {message}", file=sys.stderr)
-    return status
+    return ended(NAME, lambda: told(words()))

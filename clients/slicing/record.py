@@ -9,7 +9,7 @@ from typing import Iterator, List, NamedTuple, Optional, Sequence
 
 from explaining.commands import LINE_BYTES
 from explaining.lines import NO_SESSION
-from explaining.program import Stop
+from common.ending import Stop
 
 NO_COMMAND = ("E01", "E02")  # what is told to lines that are no commands
 

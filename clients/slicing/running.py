@@ -7,7 +7,7 @@ from dataclasses import dataclass
 from pathlib import Path
 from typing import List, Optional
 
-from explaining.program import Stop
+from common.ending import Stop
 
 ABOVE = (2, 3)  # how far above this file the folder of `bin` is: in the repository, and where it is installed
 

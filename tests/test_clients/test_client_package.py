@@ -141,7 +141,7 @@ class Package(ClientCases):
             self.skipTest("mypy is not on the path")
         Path(self.room, "program.py").write_text(TYPED)
         own = {**os.environ, "MYPYPATH": os.pathsep.join(map(str, (PYTHON, CLIENTS)))}
-        tools = [word for tool in ("checking", "explaining", "shelling", "slicing") for word in ("-p", tool)]
+        tools = [word for tool in ("checking", "common", "explaining", "shelling", "slicing") for word in ("-p", tool)]
         words = ["mypy", "--strict", "--no-error-summary", "--cache-dir", self.room]
         for what in (["-p", "metad", "-m", "build_package"], ["program.py"], tools):
             ran = subprocess.run([*words, *what], cwd=self.room, env=own, capture_output=True, text=True, timeout=self.seconds)

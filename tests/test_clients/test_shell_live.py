@@ -7,7 +7,7 @@ from unittest import mock
 
 import metad
 
-from . import CLIENTS, test_shell
+from . import CLIENTS, test_shell, test_shell_typed
 from .fronts import PATIENCE, FrontCases
 from .talking import Talker
 from .test_client_live import GREETED, LIVE, NEW
@@ -19,7 +19,7 @@ SEEN = "c.seen(int) called with [{}] by a command or a post"
 class LiveShell(FrontCases, test_shell.ShellCases):
     """A shell that listens to another client."""
 
-    terminal = test_shell.Typed.terminal
+    terminal = test_shell_typed.Typed.terminal
 
     def host_of(self, path):
         """A client that is c1 and publishes a signal as `level`; it has to be closed."""

@@ -194,7 +194,7 @@ class Worked(ProgramCases):
         """Where no program is named, that of the folder `bin` above it is taken, or else that on the path."""
         record, wanted = Path(self.room, "record"), b"%s\n" % new("a")
         record.write_bytes(wanted)
-        tools = {f"clients/{it}": CLIENTS / it for it in ("explaining", "checking")}
+        tools = {f"clients/{it}": CLIENTS / it for it in ("common", "explaining", "checking")}
         for name, path in (("bin/metad", f"{self.room}/nowhere"), ("other/metad", f"{self.room}/path/other")):
             top = Path(self.room, "beside" if "bin" in name else "path")
             copied = top / "clients" / "slicing"

@@ -1,0 +1,1 @@
+"""What the tools share: how their words are read (`options`), their files (`files`), and how they end (`ending`)."""
