@@ -6,8 +6,9 @@ import os
 import re
 import socket
 import subprocess
+import threading
 import time
-from contextlib import contextmanager
+from contextlib import contextmanager, suppress
 from pathlib import Path
 from tempfile import TemporaryDirectory
 
@@ -110,6 +111,31 @@ def parser():
     made.add_argument("program")
     made.add_argument("args", nargs=argparse.REMAINDER)
     return made
+
+
+@contextmanager
+def monitored(room, *texts):
+    """A socket that stands for a front: each one that connects there receives these texts, and then no more."""
+    path = Path(room, "monitors")
+    with socket.socket(socket.AF_UNIX) as listener:
+        listener.bind(str(path))
+        listener.listen()
+
+        def write():
+            with suppress(OSError):  # it listens no more
+                while True:
+                    with listener.accept()[0] as link:
+                        for text in texts:
+                            link.sendall(text.encode())
+
+        thread = threading.Thread(target=write, daemon=True)
+        thread.start()
+        try:
+            yield path
+        finally:
+            listener.shutdown(socket.SHUT_RDWR)
+            thread.join(PATIENCE)
+            path.unlink()
 
 
 def listens(path):

@@ -1,15 +1,12 @@
 """Monitors of `metad.aio`: how they end, and what they tell of lines that were lost."""
 
 import asyncio
-import socket
-import threading
-from contextlib import contextmanager
 from pathlib import Path
 
 import metad
 from metad import aio
 
-from .fronts import PATIENCE, ClientCases
+from .fronts import PATIENCE, ClientCases, monitored
 
 LINE, WHOLE = {"reply": 1, "session": "c1"}, '{"reply":1,"session":"c1"}\n'
 HALF = '{"reply":2,"sess'
@@ -19,30 +16,8 @@ LEFT_OUT, COUNTED = '{"error":"F10","session":"-"}\n', '{"error":"F10","lost":12
 class AioMonitors(ClientCases):
     """Monitors that are awaited, and beside them those that wait."""
 
-    @contextmanager
     def written(self, *texts):
-        """A socket that stands for a front: each one that connects is told these texts, and then no more."""
-        path = Path(self.room, "monitors")
-        with socket.socket(socket.AF_UNIX) as listener:
-            listener.bind(str(path))
-            listener.listen()
-
-            def write():
-                while True:
-                    try:
-                        link = listener.accept()[0]
-                    except OSError:
-                        return
-                    with link:
-                        for text in texts:
-                            link.sendall(text.encode())
-
-            threading.Thread(target=write, daemon=True).start()
-            try:
-                yield path
-            finally:
-                listener.shutdown(socket.SHUT_RDWR)
-                path.unlink()
+        return monitored(self.room, *texts)
 
     def heard(self, path, session=None):
         """The lines of a monitor that is awaited, and of one that waits, which have to be the same, and what they raise at the end."""

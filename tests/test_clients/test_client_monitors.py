@@ -2,19 +2,17 @@
 
 import json
 import os
-import socket
 import stat
 import sys
 import tempfile
 import threading
-from contextlib import contextmanager
 from pathlib import Path
 
 import metad
 
 from tests.support.lines import text_of
 
-from .fronts import PATIENCE, Client, ClientCases, error, reply
+from .fronts import PATIENCE, Client, ClientCases, error, monitored, reply
 
 UNREAD_MOST = 16 * 1024 * 1024
 CALL = {"args": ["x" * 4_000], "call": "f(QString)", "object": 1, "sender": 0}
@@ -50,22 +48,8 @@ class Monitors(ClientCases):
         thread.start()
         return thread
 
-    @contextmanager
     def written(self, *texts):
-        """A socket that stands for a front: whoever connects there is told these texts, and then no more."""
-        path = Path(self.room, "monitors")
-        with socket.socket(socket.AF_UNIX) as listener:
-            listener.bind(str(path))
-            listener.listen()
-
-            def write():
-                with listener.accept()[0] as link:
-                    for text in texts:
-                        link.sendall(text.encode())
-
-            thread = self.in_thread(write)
-            yield path
-            thread.join(PATIENCE)
+        return monitored(self.room, *texts)
 
     def test_closed_by_another_thread(self):
         """A monitor that is closed while another thread waits for its next line ends the iteration there."""
@@ -139,7 +123,6 @@ class Monitors(ClientCases):
         before = '{"error":"E04","session":"c2"}'
         with self.written(f"{before}\n{asked}\n{WHOLE}\n") as path, metad.monitor(path, "c1") as monitor:
             self.assertEqual(list(monitor), [{"reply": 1, "session": "c1"}], "what it is told")
-        os.unlink(path)
         with self.written(f"{before}\n") as path:
             self.raised("no answer", metad.ConnectionClosed, metad.monitor, path, "c1")
 

@@ -31,7 +31,6 @@ from .aio_proxies import Connected, Heard, Method, Property, Proxy, SignalSpy, h
 from .aio_waiting import Calls, Done, came, tell_on, wait_until
 from .asking import Asked
 from .batches import AioBatch
-from .client import reply_of
 from .connection import Connection
 from .descriptions import BindingInfo, ConnectionInfo
 from .dumping import Result, Steps, all_bindings, all_connections, commands_of, replaying, snapshot, text_of
@@ -41,6 +40,7 @@ from .hearing import Hearing, OnCall, OnWarning
 from .holding import START_SECONDS, Holder, class_words
 from .lines import Value, command_line
 from .pairing import Answer
+from .pending import BasePending, reply_of
 from .programs import ProgramConnection, Word
 from .reaching import Making
 from .session_commands import Awaiting
@@ -71,17 +71,8 @@ __all__ = [
 ]
 
 
-class Pending:
+class Pending(BasePending["Session"]):
     """The answer to a command that was sent. It is made by `Session.send`, and can be awaited itself."""
-
-    def __init__(self, session: Session, asked: Asked[Any], answer: Answer) -> None:
-        self._session = session
-        self._asked = asked
-        self._answer = answer
-
-    def done(self) -> bool:
-        """Whether the answer has come, or will not come any more. It does not wait, and tells nothing."""
-        return self._answer.has_come()
 
     async def result(self) -> Value:
         """Waits for the answer; returns the value of the reply, or raises `Refused`.

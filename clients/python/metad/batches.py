@@ -10,9 +10,10 @@ from __future__ import annotations
 from typing import TYPE_CHECKING, Any, Generic, Iterator, List, Optional, TypeVar, cast
 
 from .asking import Asked
-from .errors import MetadError, NotAnswered, Refused
-from .lines import Value, command_line, named
+from .errors import MetadError, NotAnswered
+from .lines import Value, command_line
 from .pairing import Answer
+from .pending import reply_of
 from .session_commands import Batching
 from .streams import AT_ONCE
 
@@ -48,10 +49,7 @@ class Promised(Generic[Replied]):
         """The value of the reply, or raises `Refused`. `NotAnswered` before the block has ended."""
         if not self.done():
             raise NotAnswered(f"no answer to {self._asked.do} yet: a batch has its answers when its block has ended")
-        line = self._batch.session.server.connection.settled(self._answer)
-        if "error" in line:
-            raise Refused(self._asked.do, line["error"], named(self._asked.keys))
-        return cast(Replied, line["reply"])
+        return cast(Replied, reply_of(self._asked, self._batch.session.server.connection.settled(self._answer)))
 
     def error(self) -> Optional[MetadError]:
         """What `result` raises; None where it returns a value."""

@@ -18,8 +18,9 @@ from .errors import NotAnswered, OtherSession, Refused
 from .finding import proxies_of
 from .hearing import Hearing, OnCall, OnWarning
 from .holding import START_SECONDS, Holder, class_words
-from .lines import Value, command_line, named
+from .lines import Value, command_line
 from .pairing import Answer
+from .pending import BasePending, reply_of
 from .programs import ProgramConnection, Word
 from .proxies import Heard, Method, Proxy, hear_post, wait_for
 from .reaching import SocketConnection
@@ -33,19 +34,8 @@ from .waiting import Calls, Done, not_in_time, wait_until
 Replied = TypeVar("Replied")
 
 
-class Pending:
+class Pending(BasePending["Session"]):
     """The answer to a command that was sent. It is made by `Session.send`."""
-
-    def __init__(self, session: Session, asked: Asked[Any], answer: Answer) -> None:
-        self._session = session
-        self._asked = asked
-        self._answer = answer
-
-    def done(self) -> bool:
-        """Whether the answer has come, or will not come any more. It does not wait, and tells nothing."""
-        if not self._answer.has_come():
-            self._session.server.connection.look()
-        return self._answer.has_come()
 
     def result(self, timeout: Optional[float] = None) -> Value:
         """Waits for the answer; returns the value of the reply, or raises `Refused`.
@@ -57,18 +47,6 @@ class Pending:
         connection = self._session.server.connection
         line = connection.settle(self._answer, timeout, self._asked.do)
         return reply_of(self._asked, line)
-
-
-def reply_of(asked: Asked[Any], line: Dict[str, Value]) -> Value:
-    """The value of a reply; `Refused` where the line is an error."""
-    if "error" in line:
-        raise refusal(asked, line)
-    return line["reply"]
-
-
-def refusal(asked: Asked[Any], line: Dict[str, Value]) -> Refused:
-    """The exception for a command that is refused by a line."""
-    return Refused(asked.do, line["error"], named(asked.keys))
 
 
 class Session(Waiting, Hearing):
@@ -132,10 +110,8 @@ class Session(Waiting, Hearing):
             self._spin_on()
             return cast(Replied, pending.result())
         line = command_line(self.name, asked.do, asked.keys)
-        answered: Dict[str, Any] = self.server.connection.ask(Answer(self), line, asked.do)
-        if "error" in answered:
-            raise refusal(asked, answered)
-        return answered["reply"]  # type: ignore[no-any-return]
+        replied: Replied = reply_of(asked, self.server.connection.ask(Answer(self), line, asked.do))
+        return replied
 
     def reset(self) -> bool:
         """Puts the session back to how it is before its first command; nobody listens to single slots any more."""
