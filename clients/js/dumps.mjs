@@ -118,7 +118,7 @@ function connectionText(it) {
   return [`${it.sender}.${it.signal} -> ${called}`, ...ways].join(" ");
 }
 
-/** Whether a property has a value that it does not have by itself. */
+/** Whether a property has another value than its default. */
 function isSet({ type, value }) {
   if (type === null) return true;
   return value !== (type === "bool" ? false : type === "QString" ? "" : 0);
@@ -176,7 +176,7 @@ function* makings(shot, placed) {
   }
 }
 
-/** Moves the other objects to their places: first the roots, each of which becomes the last one, then the objects below them. */
+/** Moves the other objects to their places: first the roots, in their order, then the objects below them. */
 function* moves(shot, placed) {
   for (const object of shot.roots.filter((it) => !placed.has(it))) {
     yield { do: "setParent", object, parent: shot.roots[0] };

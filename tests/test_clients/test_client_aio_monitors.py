@@ -1,4 +1,4 @@
-"""Monitors of `metad.aio`: how they end, and what they tell of lines that were lost."""
+"""Monitors of `metad.aio`: how they end, and what they report of lines that were lost."""
 
 import asyncio
 from pathlib import Path
@@ -14,7 +14,7 @@ LEFT_OUT, COUNTED = '{"error":"F10","session":"-"}\n', '{"error":"F10","lost":12
 
 
 class AioMonitors(ClientCases):
-    """Monitors that are awaited, and beside them those that wait."""
+    """Monitors that are awaited, compared with those that wait."""
 
     def written(self, *texts):
         return monitored(self.room, *texts)
@@ -41,7 +41,7 @@ class AioMonitors(ClientCases):
             self.assertEqual((type(error), str(error)), (type(other), str(other)), "what both raise")
         else:
             self.assertIsNone(error, "what one that is awaited raises")
-        self.assertEqual(told, waited, "what both are told")
+        self.assertEqual(told, waited, "the lines of both")
         return told, error
 
     def test_front(self):
@@ -64,7 +64,7 @@ class AioMonitors(ClientCases):
         self.assertTrue(all(it["session"] in ("c1", "c2") for it in rest), "what came at the end")
 
     def test_lost(self):
-        """Lines that were lost are told of behind all that arrived: how many, or that it is unknown."""
+        """Lines that were lost are reported after all that arrived: how many, or that it is unknown."""
         for last, count, said in (
             (LEFT_OUT, None, "lines were lost, and how many is unknown"),
             (COUNTED, 1234, "1,234 lines were lost"),
@@ -94,7 +94,7 @@ class AioMonitors(ClientCases):
         """A monitor of one session drops what came before the answer; a refusal is raised, and an end without an answer."""
         asked, other = '{"front":"monitor","session":"c1"}\n', '{"error":"E04","session":"c2"}\n'
         with self.written(other, asked, WHOLE) as path:
-            self.assertEqual(self.heard(path, "c1"), ([LINE], None), "what it is told")
+            self.assertEqual(self.heard(path, "c1"), ([LINE], None), "its lines")
         with self.written(other) as path:
             self.assertIsInstance(self.heard(path, "c1")[1], metad.ConnectionClosed, "no answer")
         with self.written('{"error":"F02","session":"-"}\n') as path:
@@ -119,4 +119,4 @@ class AioMonitors(ClientCases):
             return [line async for line in monitor]
 
         with metad.start_front(self.program, monitor=True, timeout=PATIENCE) as front:
-            self.assertEqual(asyncio.run(asyncio.wait_for(read(front), PATIENCE)), [], "what is told after that")
+            self.assertEqual(asyncio.run(asyncio.wait_for(read(front), PATIENCE)), [], "its lines after that")

@@ -25,7 +25,7 @@ sys.stdin.read()
 
 
 def given_to(batch):
-    """Gives a batch commands of which some are refused."""
+    """Gives commands to a batch. Some are refused."""
     made = [batch.new("Cell") for _ in range(3)]
     return [*made, batch.set(2, "x", 5), batch.delete(7), batch.get(2, "x"), batch.command("jump"), batch.status()]
 
@@ -57,9 +57,9 @@ class Batches(ClientCases):
                 promised = given_to(batch)
                 self.assertEqual([it.done() for it in promised], [False] * len(promised), "what is there within the block")
                 self.raised("a result within the block", metad.NotAnswered, promised[0].result)
-            self.assertEqual([it.done() for it in promised], [True] * len(promised), "what is there behind it")
+            self.assertEqual([it.done() for it in promised], [True] * len(promised), "what is there after it")
             self.check(batch, promised)
-            self.raised("a command behind the block", metad.MetadError, batch.status)
+            self.raised("a command after the block", metad.MetadError, batch.status)
             with session.batch():
                 pass
             self.assertEqual(session.known_as, "a", "the name of the session")
@@ -88,12 +88,12 @@ class Batches(ClientCases):
                     batch.get(1, "x")
                     if number % 100 == 0:
                         batch.invoke(1, "seen(int)", [number])
-                self.assertEqual(heard, [], "what is told within the block")
+                self.assertEqual(heard, [], "the calls within the block")
             numbers = [it.result() for it in batch if it.result() is not True]
             self.assertEqual(numbers, list(range(COUNT)), "what is read")
-            self.assertEqual([it.args[0] for it in heard], list(range(0, COUNT, 100)), "what is told")
+            self.assertEqual([it.args[0] for it in heard], list(range(0, COUNT, 100)), "the calls")
             self.assertEqual(session.get(1, "x"), COUNT - 1, "a later command")
-            self.assertLessEqual(threading.active_count(), before + 2, "threads that help where the server is behind")
+            self.assertLessEqual(threading.active_count(), before + 2, "threads that help while the server is slow")
 
     def test_sent_before_the_end(self):
         """Commands are sent while the block runs, many by one write, and each is a line of its own."""

@@ -171,7 +171,7 @@ class Reading(ClientCases):
                 self.assertEqual(came.pop(), 2, "the answer in the handler")
 
     def test_ahead(self):
-        """Commands that nobody waits for are done all the same, also where pipes are full; then no thread is left."""
+        """Commands without a wait are done all the same, also where pipes are full; then no thread is left."""
         with metad.start(self.program) as server:
             session, other = server.session("a"), server.session("b")
             session.new("QObject")

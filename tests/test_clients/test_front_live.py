@@ -36,6 +36,16 @@ def spun(events, session):
     return text_of({"front": "spin", "reply": reply, "session": session})
 
 
+def values_of(guest, count):
+    """The values that so many events tell a client, which come by spins of the front."""
+    values, events = [], 0
+    while events < count:
+        told = json.loads(guest.hear())
+        values += told.get("args", [])
+        events += told["reply"]["events"] if "front" in told else 0
+    return values
+
+
 class Live(FrontCases):
     """Clients that ask for their events in their first line."""
 
@@ -75,12 +85,7 @@ class Live(FrontCases):
             guest.ask(LIVE)
             self.listening(host, guest, ("c1", "c2"))
             host.say(*(set_x(value) for value in range(1, count + 1)))
-            values, events = [], 0
-            while events < count:
-                told = json.loads(guest.hear())
-                values += told.get("args", [])
-                events += told["reply"]["events"] if "front" in told else 0
-            self.assertEqual(values, list(range(1, count + 1)), "what is heard")
+            self.assertEqual(values_of(guest, count), list(range(1, count + 1)), "what is heard")
             self.assertEqual([host.hear() for _ in range(count)], [reply(True, "c1")] * count, "what the host receives")
         given = [json.loads(line) for line in record.read_text().splitlines()]
         spins = sum(it == {"do": "spin", "session": "c2"} for it in given)
@@ -165,11 +170,6 @@ class LiveWorkers(WorkerCases):
                 host.say(*(set_x(value) for value in range(1, count + 1)))
                 for server in servers_of(process):
                     os.kill(server, signal.SIGKILL)
-                values, events = [], 0
-                while events < count:
-                    told = json.loads(guest.hear())
-                    values += told.get("args", [])
-                    events += told["reply"]["events"] if "front" in told else 0
-                self.assertEqual(values, list(range(1, count + 1)), "what is heard")
+                self.assertEqual(values_of(guest, count), list(range(1, count + 1)), "what is heard")
                 self.assertEqual([host.hear() for _ in range(count)], [reply(True, names[0])] * count, "what it receives")
             wait_until(self, lambda: not self.places(), "the group is dropped")

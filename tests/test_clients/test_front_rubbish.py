@@ -3,31 +3,21 @@
 import json
 import random
 import socket
+import sys
 import threading
+
+from tests.support.program import ROOT
 
 from .fronts import NEW, STATUS, Client, FrontCases
 from .grouped import seed_of
 
+sys.path.append(str(ROOT / "bench"))
+import hard_lines  # noqa: E402
+
 LINES = 4_000  # of each of the clients that write rubbish
 CLIENTS = 4
-PIECES = (
-    "{", "}", "[", "]", ",", ":", '"', "\\", " ", "\t", "\r", "-", "1", "1e9", "NaN", "null", "true", '"do"', '"reset"', '"set"',
-    '"session"', '"c1"', '"front"', '"share"', '"hello"', '"live"', '"from"', '"\\u0073ession"', "\ufeff", "\u202e", "\x00", "é",
-)  # fmt: skip
-FORGERIES = tuple(
-    form % {"own": "c1", "get": '"do":"reset"'}
-    for form in (
-        '{%(get)s,"session":"%(own)s"}', '{"session":"%(own)s",%(get)s}', '{%(get)s,"session":"%(own)s","session":"%(own)s"}',
-        '{%(get)s,"\\u0073ession":"%(own)s"}', '{%(get)s,"session":"\\u0063\\u0031"}', '{%(get)s}{%(get)s,"session":"%(own)s"}',
-        '{%(get)s,"x":{"session":"%(own)s"}}', '{%(get)s,"session":"%(own)s"', '%(get)s,"session":"%(own)s"}',
-        '[{%(get)s,"session":"%(own)s"}]', '{%(get)s,"session":"%(own)s"} ', ' {%(get)s,"session":"%(own)s"}\t',
-        '{%(get)s,"session":["%(own)s"]}', '{%(get)s,"session":null,"session":"%(own)s"}', '"{%(get)s,\\"session\\":\\"%(own)s\\"}"',
-        '{"do":"reset","session":"%(own)s"}\r{"do":"reset","session":"%(own)s"}', '{%(get)s,"session":"%(own)s"}//',
-        '{%(get)s,"session":"%(own)s",}', '{,%(get)s,"session":"%(own)s"}', '{"a":"}",%(get)s,"session":"%(own)s"}',
-        '{"a":"\\"",%(get)s,"session":"%(own)s"}', '{"a":"\\\\",%(get)s,"session":"%(own)s"}', '{"front":"share","session":"%(own)s"}',
-        '{"front":"hello","group":"%(own)s"}', '{"front":"monitor","session":"%(own)s"}', '{"front":"spin","session":"%(own)s"}',
-    )
-)  # fmt: skip
+FORMS = 26  # the first ones of forged lines, which are about sessions of clients
+FORGERIES = tuple(form % {"own": "c1", "get": '"do":"reset"'} for form in hard_lines.FORMS[:FORMS])
 
 
 class Rubbish(FrontCases):
@@ -72,7 +62,7 @@ class Rubbish(FrontCases):
             return chance.choice(FORGERIES).encode()
         if chance.random() < 0.1:
             return chance.randbytes(chance.randrange(60)).replace(b"\n", b"")
-        text = "".join(chance.choices(PIECES, k=chance.randrange(12)))
+        text = "".join(chance.choices(hard_lines.PIECES, k=chance.randrange(12)))
         return (f"{{{text}}}" if chance.random() < 0.5 else text).encode()
 
     def write(self, link, given, chance):

@@ -195,7 +195,7 @@ class Dumps(JavaScript):
 
 
 def replace_each(text, *pairs):
-    """A text with some parts replaced, each of which is there once."""
+    """A text with some parts replaced. Each part is there once."""
     for old, new in pairs:
         assert text.count(old) == 1, old
         text = text.replace(old, new)

@@ -23,7 +23,7 @@ from .lines import NOBODY, Told, Value, is_answer, is_of_front, line_of, scan, s
 from .once import Once
 from .streams import SINK
 
-LOST = "F04"  # a line of a front by itself, behind which it closes the connection
+LOST = "F04"  # a line of the front, after which it closes the connection
 
 CLEAR = methodcaller("clear")
 COME, TRUE = ("_has_come",), (True,)
@@ -35,7 +35,7 @@ Fault = Callable[[], MetadError]
 """Makes the exception for a command that has no answer."""
 
 Numbered = Tuple[int, bytes]
-"""A line or a part of one as it was read, with a number that grows."""
+"""A line or a part of one that was read, with a number that grows."""
 
 
 class Answer(Once):
@@ -74,10 +74,10 @@ class Event:
         """The receivers: the session that gave a command, or all of a connection if nobody has asked."""
         self.listening: Optional[Sequence[Listening]] = None
         self.begun = 0
-        """How many of those that listen were told."""
+        """How many listeners were called."""
 
     def is_told(self) -> bool:
-        """Whether all that listen were told, or have begun to be; finds out first who they are."""
+        """Whether all listeners were called, or are being called; finds out first who they are."""
         if self.listening is None:
             sessions = [it() for it in self.sessions]
             self.listening = [told for it in sessions if it is not None for told in it.listening_to(self.what)]
@@ -112,7 +112,7 @@ class Pairing:
         self._numbers = count()
         self._came: Deque[Numbered] = deque()  # what was read and not taken
         self._since: Deque[Event] = deque()  # what came since the last answer
-        self._heard: Deque[Event] = deque()  # what is to be told
+        self._heard: Deque[Event] = deque()  # what is to be delivered
         self._telling = threading.RLock()
         self._fault: Optional[Fault] = None  # why there are no more answers
 
@@ -145,7 +145,7 @@ class Pairing:
             raise self._fault()
 
     def settled(self, answer: Answer) -> Dict[str, Value]:
-        """The line of an answer that has come, once all was told that came before it."""
+        """The line of an answer that has come, once all that came before it was delivered."""
         self.tell_before(answer)
         if answer.line is None:
             raise answer.fault()
@@ -157,8 +157,8 @@ class Pairing:
             self._tell(answer.mark)
 
     def _tell(self, mark: int) -> None:
-        """Tells what was heard up to a number: in its order, and by one thread at a time. What is being told stays first
-        until it was told."""
+        """Tells what was heard up to a number: in its order, and by one thread at a time. What is being
+        delivered stays first until that is done."""
         with self._telling:
             while self._heard and self._heard[0].number < mark:
                 event = self._heard[0]
@@ -213,7 +213,7 @@ class Pairing:
         return True
 
     def _join_first(self) -> bool:
-        """Joins the parts of the first line; whether all of it was read. Only the parts that were seen are taken away."""
+        """Joins the parts of the first line; whether all of it was read. It removes only the parts that it has seen."""
         parts: List[Numbered] = []
         for part in tuple(self._came):
             parts.append(part)
@@ -262,7 +262,7 @@ class Pairing:
         answer.ring_all()
 
     def _take_spun(self, came: Numbered, line: Dict[str, Value]) -> None:
-        """Takes the answer to a `spin` that the front has given by itself, which is that of no command here. The lines before
+        """Takes the answer to a `spin` of the front, which answers no command of this client. The lines before
         it come from that `spin`, or from others who speak for the session."""
         if "error" in line:
             self._commit(map(self._came.remove, (came,)))

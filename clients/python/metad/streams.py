@@ -121,7 +121,7 @@ class Files:
         return bool(poll.poll(0))
 
     def write(self, parts: Deque[bytes]) -> None:
-        """Takes away the first one of some parts of lines, and writes it."""
+        """Removes the first one of some parts of lines, and writes it."""
         SINK.extend(map(*self._write, map(POPLEFT, (parts,))))
 
     def writing(self, part: bytes) -> Iterator[int]:
