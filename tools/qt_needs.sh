@@ -1,8 +1,8 @@
 #!/bin/sh
 # Installs what the tests of the Qt client need, where this may be done; else says what to install. Without it these tests are skipped.
 # Usage: qt_needs.sh
-packages="cmake g++ qt6-base-dev"
-if command -v cmake > /dev/null 2>&1 && ls /usr/lib/*/cmake/Qt6/Qt6Config.cmake > /dev/null 2>&1; then
+packages="cmake g++ qt6-base-dev qt6-declarative-dev qml6-module-qtquick qml6-module-qtqml-workerscript"
+if command -v cmake > /dev/null 2>&1 && ls /usr/lib/*/cmake/Qt6Qml/Qt6QmlConfig.cmake /usr/lib/*/qt6/qml/QtQuick/qmldir /usr/lib/*/qt6/qml/QtQml/WorkerScript/qmldir > /dev/null 2>&1; then
     exit 0
 fi
 if [ "$(id -u)" != 0 ] || ! command -v apt-get > /dev/null 2>&1; then

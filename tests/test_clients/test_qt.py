@@ -26,6 +26,8 @@ EXAMPLES = ROOT / "examples" / "qt"
 BUILD = ROOT / "bin" / "build-qt"
 BUILDING = 1800  # seconds that a build may take on a machine that is busy
 RUNNING = 4 * PATIENCE
+QML_MODULES = ("QtQuick", "QtQml/WorkerScript")
+QML_PACKAGES = "qt6-declarative-dev qml6-module-qtquick qml6-module-qtqml-workerscript"
 OPTIONS = ("-DMETAD_QT_TESTS=ON", "-DMETAD_QT_EXAMPLES=ON", "-DCMAKE_UNITY_BUILD=ON")
 USER = """\
 cmake_minimum_required(VERSION 3.16)
@@ -119,6 +121,13 @@ class QtClient(FrontCases):
 
     def test_sessions(self) -> None:
         self.suite("sessions")
+
+    def test_qml(self) -> None:
+        listed = run("ctest", "--test-dir", BUILD, "-N", "-R", "^qml$").stdout
+        lacking = [it for it in QML_MODULES if not list(Path("/usr/lib").glob(f"*/qt6/qml/{it}/qmldir"))]
+        if "Total Tests: 0" in listed or lacking:
+            self.skipTest(f"Qt's QML is not installed (Debian: apt-get install {QML_PACKAGES})")
+        self.suite("qml")
 
     def test_it_is_found_where_it_is_installed(self) -> None:
         place, user = Path(self.room, "place"), Path(self.room, "user")
