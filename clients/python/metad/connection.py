@@ -115,6 +115,8 @@ class Connection(Pairing):
             self.give_all((answer,), (line,))
             if not answer._has_come:
                 self._as_reader(files, answer, None, True)
+            if answer._has_come and answer.line is not None and not self._heard:
+                return answer.line
         return self.settle(answer, None, what)
 
     def settle(self, answer: Answer, timeout: Optional[float], what: str) -> Dict[str, Value]:
@@ -211,7 +213,11 @@ class Connection(Pairing):
             return  # a signal handler has taken it, or it is read again
         answer.line, answer.mark = line, next(self._numbers)
         answer.name_session(line)
-        self._commit(map(self._under_way.remove, (answer,)), files.taking(text), map(setattr, (answer,), COME, TRUE))
+        changes = map(self._under_way.remove, (answer,)), files.taking(text), map(setattr, (answer,), COME, TRUE)
+        try:
+            SINK.extend(chain(*changes))
+        except ValueError:
+            pass  # a signal handler has taken it meanwhile
         if answer._bells:
             answer.ring_all()
 
