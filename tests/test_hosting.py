@@ -21,6 +21,7 @@ from .support.documents import version
 from .support.program import ROOT, SECONDS
 
 SYSTEMD, KUBERNETES, MACHINES = (ROOT / "examples" / name for name in ("systemd", "kubernetes", "machines"))
+LIMITS = "/etc/metad/limits.toml"
 INSTALLED, PROGRAM = "/usr/local/bin/metad-front", "/usr/local/bin/metad"
 TURNS = ["--turns", "100"]
 NAME = "desk"
@@ -97,7 +98,10 @@ class Units(FrontCases):
     def test_words(self):
         """The front takes the words that it is given, without a file of the environment and with those of the page."""
         health = ["--health", f"/run/metad/{NAME}/health", "--health-mode", "666"]
-        self.assertEqual(self.given({}), [INSTALLED, *health, "-", PROGRAM, *TURNS])
+        limits = ["--limits", LIMITS, "--server-memory", str(768 << 20)]
+        self.assertEqual(self.given({}), [INSTALLED, *health, *limits, "-", PROGRAM, *TURNS])
+        single = sections_of(SYSTEMD / "metad-front.service")["Service"]
+        self.assertEqual(self.given({}, single), [INSTALLED, *limits, "-", PROGRAM, *TURNS])
         self.assertEqual(len(self.examples), 1, "the files of the page")
         taken = parser().parse_args(self.given(self.examples[0])[1:])
         self.assertEqual((taken.socket, taken.program, taken.args), ("-", PROGRAM, [*TURNS, "/etc/metad/classes.json"]))
@@ -243,6 +247,7 @@ class Units(FrontCases):
         path, log = Path(self.room, "socket"), Log(Path(self.room, "log"))
         _, *words = self.given(variables)
         words = [self.program if it == PROGRAM else it.replace(f"/run/metad/{NAME}", self.room) for it in words]
+        words = [str(SYSTEMD / "limits.toml") if it == LIMITS else it for it in words]
         words = [*before, str(FRONT), *words]
         path.unlink(missing_ok=True)
         with log.path.open("wb") as stderr:

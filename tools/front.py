@@ -23,8 +23,9 @@ VERSION = ROOT / "clients" / "python" / "metad" / "__init__.py"
 SYSTEM = Path("/usr/share/cargo/registry")
 PACKAGES = (
     "cargo", "rustc", "librust-asn1-dev", "librust-blake2b-simd-dev", "librust-listenfd-dev", "librust-memchr-dev", "librust-mio-dev",
-    "librust-nix-dev", "librust-rustls-dev", "librust-rustls-pemfile-dev", "librust-sd-notify-dev", "librust-serde-json-dev",
-    "librust-signal-hook-dev", "librust-slab-dev", "librust-socket2-dev", "librust-webpki-dev",
+    "librust-nix-dev", "librust-rustls-dev", "librust-rustls-pemfile-dev", "librust-sd-notify-dev", "librust-serde-derive-dev",
+    "librust-serde-dev", "librust-serde-json-dev", "librust-signal-hook-dev", "librust-slab-dev", "librust-socket2-dev",
+    "librust-toml-dev", "librust-webpki-dev",
 )  # fmt: skip
 ADVICE = f"the front needs cargo and some crates: apt-get install {' '.join(PACKAGES)}"
 CONFIG = f"""\

@@ -6,12 +6,15 @@ use serde_json::{json, Map, Value};
 
 use crate::front::Front;
 use crate::groups::{group_of, is_group, BETWEEN};
+use crate::joining::may_join;
 use crate::lines::{asked_of_front, has_only, is_name, line_of, refusal, RESET};
 use crate::metrics::LEAVINGS;
 use crate::network::Peer;
 use crate::people::{
     Came, Client, ClientKey, Link, Owner, Session, SessionKey, Speaker, SpeakerKey, Speech, UNREAD_OF_ALL, UNREAD_SLOW,
 };
+use crate::quotas::State;
+use crate::rights::Right;
 use crate::tokens::{token, Kind};
 use crate::wire::Wire;
 
@@ -47,9 +50,10 @@ impl Front {
             Some(peer) => (peer.how(), peer.fields(number)),
             None => (String::new(), json!({"client": number})),
         };
-        self.clients.insert(Client { number, link, peer, speech, is_touched: false });
+        self.clients.insert(Client { number, link, peer, speech, is_touched: false, quota: None });
         self.touch(key);
         self.log.note("client_came", fields, &format!("c{number} has come{how}"));
+        self.admit_client(key);
     }
 
     /// Makes the speaker of a new client, which has a session of its own.
@@ -161,7 +165,9 @@ impl Front {
             self.read_client(key);
         }
         let awaits = self.awaits(key);
+        self.say_last(key, awaits);
         self.count_unread(key);
+        self.bound_client(key);
         let client = &mut self.clients[key];
         let is_left = client.link.is_left() && matches!(client.speech, Speech::One(_));
         if is_left || client.link.is_done(awaits) {
@@ -243,17 +249,17 @@ impl Front {
     }
 
     /// Whether a client is read now: not while its lines wait, and not while it has much to read.
-    fn is_read(&self, key: ClientKey) -> bool {
+    pub fn is_read(&self, key: ClientKey) -> bool {
         let client = &self.clients[key];
         let waits = match &client.speech {
             Speech::One(speaker) => !self.speakers[*speaker].waiting.is_empty(),
             Speech::Named(voices) => voices.busy.iter().any(|voice| !self.speakers[*voice].waiting.is_empty()),
         };
-        !(waits || client.link.has_ended || client.link.unread.len() > UNREAD_SLOW)
+        !(waits || client.link.has_ended || client.link.unread.len() > UNREAD_SLOW || self.is_read_later(key))
     }
 
     /// Whether a client still waits for an answer.
-    fn awaits(&self, key: ClientKey) -> bool {
+    pub fn awaits(&self, key: ClientKey) -> bool {
         match &self.clients[key].speech {
             Speech::One(speaker) => self.speakers[*speaker].awaits(),
             Speech::Named(voices) => voices.busy.iter().any(|voice| self.speakers[*voice].awaits()),
@@ -265,6 +271,7 @@ impl Front {
         let client = &mut self.clients[key];
         let came = client.link.read(&mut self.chunk);
         let (has_spoken, link) = (client.link.has_spoken, &mut client.link);
+        let mut has_join = false;
         let queue = match &client.speech {
             Speech::One(speaker) => &mut self.speakers[*speaker].waiting,
             Speech::Named(_) => &mut self.sorted,
@@ -272,13 +279,26 @@ impl Front {
         let (before, bytes) = (queue.count(), if let Came::Bytes(count) = came { count } else { 0 });
         match came {
             Came::Nothing => return,
+            Came::Bytes(count) if client.quota.is_some() => link.cutter.feed(&self.chunk[..count], |line| {
+                has_join |= may_join(line);
+                queue.push(line);
+            }),
             Came::Bytes(count) => link.cutter.feed(&self.chunk[..count], |line| queue.push(line)),
-            Came::End => link.cutter.finish(|line| queue.push(line)),
+            Came::End => link.cutter.finish(|line| {
+                has_join |= may_join(line);
+                queue.push(line);
+            }),
         }
         self.metrics.receive(bytes, queue.count() - before);
-        if queue.is_empty() {
+        let is_empty = queue.is_empty();
+        if let (false, Speech::One(speaker)) = (is_empty, &client.speech) {
+            self.speakers[*speaker].pace.may_join = has_join;
+        }
+        self.count_read(key, came.count());
+        if is_empty {
             return;
         }
+        let client = &mut self.clients[key];
         client.link.has_spoken = true;
         if let Speech::One(speaker) = client.speech {
             self.speakers[speaker].came = self.metrics.now();
@@ -295,11 +315,16 @@ impl Front {
 
     /// Reads the first lines of a client.
     fn hear_first(&mut self, key: ClientKey, speaker: SpeakerKey) {
-        let asked = self.speakers[speaker].waiting.first().and_then(asked_of_front);
-        if let Some(asked) = asked {
+        let mut asked = self.speakers[speaker].waiting.first().and_then(asked_of_front);
+        if asked.is_some() {
             self.speakers[speaker].waiting.pop();
-            self.do_for(key, speaker, &asked);
         }
+        if self.identify(key, &mut asked) {
+            if let Some(asked) = asked {
+                self.do_for(key, speaker, &asked);
+            }
+        }
+        self.has_room(key, self.speakers[speaker].session);
         if !self.clients[key].link.fault.is_empty() {
             self.speakers[speaker].waiting.clear();
             return;
@@ -308,6 +333,7 @@ impl Front {
             let session = self.speakers[speaker].session;
             let name = group_of(&self.sessions[session].name).to_string();
             self.enter_group(session, &name, speaker);
+            self.count_in_group(key, self.sessions[session].group);
         }
         self.spin_first(speaker);
     }
@@ -328,7 +354,8 @@ impl Front {
         if !has_only(&asked, &["front", "session"]) || asked["front"] != "share" {
             return self.refuse(key, NOT_KNOWN, ASKS_NOTHING);
         }
-        match asked["session"].as_str().and_then(|name| self.shared.get(name)) {
+        let name = asked["session"].as_str().filter(|name| self.may_use(key, Right::Share, name));
+        match name.and_then(|name| self.shared.get(name)) {
             Some(&session) => self.share(key, speaker, session, is_live),
             None => self.refuse(key, NOT_SHARED, "it has asked for a session that is not shared"),
         }
@@ -337,7 +364,9 @@ impl Front {
     /// Puts a client's session into the group that the client asks for.
     fn greet(&mut self, key: ClientKey, speaker: SpeakerKey, asked: &Map<String, Value>, is_live: bool) {
         let session = self.speakers[speaker].session;
-        let group = asked.get("group").and_then(Value::as_str).filter(|group| is_group(group));
+        let group = asked.get("group")
+            .and_then(Value::as_str)
+            .filter(|group| is_group(group) && self.may_use(key, Right::Hello, group));
         let name = group.map(|group| format!("{group}{BETWEEN}{}", self.sessions[session].name));
         match name.filter(|name| has_only(asked, &["front", "group"]) && is_name(name)) {
             None => self.refuse(key, NO_GROUP, "its first line names no group"),
@@ -371,7 +400,10 @@ impl Front {
     }
 
     /// Tells a client the name of its session, and makes the session live if the client asks for that.
-    fn answer_for(&mut self, key: ClientKey, session: SessionKey, is_live: bool) {
+    pub fn answer_for(&mut self, key: ClientKey, session: SessionKey, is_live: bool) {
+        if !self.has_room(key, session) {
+            return;
+        }
         if let (true, Speech::One(speaker)) = (is_live, &self.clients[key].speech) {
             self.let_live(*speaker);
         }
@@ -407,6 +439,7 @@ impl Front {
             Some(_) => self.part(client.link.stream),
             None => drop(client.link),
         }
+        self.leave_quotas(client.quota);
         match client.speech {
             Speech::One(speaker) => self.leave_session(key, speaker, is_left),
             Speech::Named(voices) => self.leave_all(key, *voices),
@@ -429,6 +462,7 @@ impl Front {
         speaker.is_slow = false;
         if !is_left {
             speaker.waiting.clear();
+            speaker.pace.state = State::Free;
         }
         let has_lines = !speaker.waiting.is_empty();
         speaker.owes_spin = false;

@@ -17,6 +17,9 @@ const ASKING: &str = "usage: metad-front --control SOCKET (--groups | --move GRO
 /// Stands for sockets that were passed to the front.
 pub const PASSED: &str = "-";
 const WORKERS_MOST: usize = 64;
+/// The least and the most memory that a server may be limited to.
+const MEMORY_LEAST: u64 = 1 << 20;
+const MEMORY_MOST: u64 = 1 << 40;
 
 /// The request that the words make.
 #[derive(Debug)]
@@ -53,6 +56,8 @@ pub struct Options {
     pub is_resumed: bool,
     pub watchdog: Option<u64>,
     pub compact_at: Option<u64>,
+    pub limits: Option<PathBuf>,
+    pub server_memory: Option<u64>,
     pub health: Option<Place>,
     pub health_mode: Option<u32>,
     pub metrics: Option<Place>,
@@ -198,6 +203,8 @@ fn read_option(options: &mut Options, reader: &mut Reader, text: &str) -> Result
         "--compact-at" => options.compact_at = Some(bytes(name, &reader.value(name, own)?)?),
         "--watchdog" => options.watchdog = Some(seconds(name, &reader.value(name, own)?)?),
         "--control" => options.control = Some(path(name, OsStr::new(&reader.value(name, own)?))?),
+        "--limits" => options.limits = Some(path(name, OsStr::new(&reader.value(name, own)?))?),
+        "--server-memory" => options.server_memory = Some(bytes(name, &reader.value(name, own)?)?),
         _ if NetworkOptions::has(name) => options.network.read(name, &reader.value(name, own)?)?,
         _ => return Ok(false),
     }
@@ -336,6 +343,14 @@ fn seconds(name: &str, word: &str) -> Result<u64, String> {
     match word.parse() {
         Ok(seconds @ 1..=86_400) if word.bytes().all(|byte| byte.is_ascii_digit()) => Ok(seconds),
         _ => wrong_value(name, word, "number of seconds, from 1 to 86400"),
+    }
+}
+
+/// Reads a number of bytes.
+fn bytes(name: &str, word: &str) -> Result<u64, String> {
+    match word.parse() {
+        Ok(bytes @ MEMORY_LEAST..=MEMORY_MOST) if word.bytes().all(|byte| byte.is_ascii_digit()) => Ok(bytes),
+        _ => wrong_value(name, word, "number of bytes, from 1048576 to 1099511627776"),
     }
 }
 

@@ -8,6 +8,7 @@ use crate::guests::Errand;
 use crate::lines::{asked_of_front, has_only, line_of, NOBODY};
 use crate::log::Level;
 use crate::people::{ClientKey, GroupKey, Owner};
+use crate::quotas::NO_RIGHT;
 
 /// The reason why a group does not move: a code and a text.
 type Refusal = (&'static str, String);
@@ -15,7 +16,10 @@ type Refusal = (&'static str, String);
 impl Front {
     /// Does what an operator's line asks for.
     pub fn do_for_operator(&mut self, key: usize, line: &[u8]) {
-        let asked = asked_of_front(line).unwrap_or_default();
+        let mut asked = asked_of_front(line).unwrap_or_default();
+        if !self.may_control(key, &mut asked) {
+            return self.answer_operator(key, &json!({"error": NO_RIGHT, "why": "this client has no right to control the front"}));
+        }
         if has_only(&asked, &["front"]) && asked["front"] == "groups" {
             let answer = json!({"reply": self.rows(), "workers": self.workers.len()});
             self.answer_operator(key, &answer);

@@ -24,6 +24,7 @@ use crate::notifying::Notifier;
 use crate::people::{Client, ClientKey, GroupKey, Owner, ReplayKey, Session, SessionKey, Speaker};
 use crate::pool::Pool;
 use crate::queue::Queue;
+use crate::quotas::Quotas;
 use crate::replaying::Replay;
 use crate::tokens::{read, Kind};
 use crate::worker::Worker;
@@ -90,6 +91,12 @@ pub struct Front {
     pub notifier: Notifier,
     /// The exit status of a server that ended before it served anything.
     pub not_served: Option<u8>,
+    /// The limits of clients, if there are any.
+    pub quotas: Option<Box<Quotas>>,
+    /// Commands that had waited for their quotas may be given.
+    pub has_woken: bool,
+    /// The most memory of each server, in bytes.
+    pub server_memory: Option<u64>,
     /// Becomes readable when a hangup has come.
     pub hangups: Option<std::os::unix::net::UnixStream>,
     /// The longest time that a server with a command under way may be silent.
@@ -161,6 +168,9 @@ impl Front {
             live: Live::default(),
             notifier: Notifier::new(),
             not_served: None,
+            quotas: None,
+            has_woken: false,
+            server_memory: None,
             hangups: None,
             patience: None,
             named_by_clients: false,
@@ -231,6 +241,8 @@ impl Front {
             self.look_at_servers(),
             self.look_at_checks(),
             self.log.tick(),
+            self.look_at_quotas(),
+            self.look_at_commands(),
         ];
         for other in others.into_iter().flatten() {
             due = Some(due.map_or(other, |due| due.min(other)));
@@ -298,7 +310,9 @@ impl Front {
     /// Whether that work has caused further work, as when a group was closed or has moved.
     fn is_stirred(&mut self) -> bool {
         let has_released = self.pool.as_mut().map_or(false, |pool| std::mem::take(&mut pool.has_released));
+        let has_woken = std::mem::take(&mut self.has_woken);
         has_released
+            || has_woken
             || self.is_inspector_heard()
             || !self.touched.is_empty()
             || !self.touched_guests.is_empty()

@@ -11,6 +11,7 @@ use crate::lines::{has_only, is_name, is_own_name, may_have, object_of, put_with
 use crate::log::{Level, Log};
 use crate::moving::Move;
 use crate::people::{GroupKey, SessionKey, SpeakerKey};
+use crate::quotas::Account;
 use crate::records::GroupRecord;
 use crate::ring::stranger;
 use crate::turns::Command;
@@ -37,7 +38,7 @@ pub fn is_group(name: &str) -> bool {
 }
 
 /// Whether a line resets its session.
-fn is_reset(line: &[u8]) -> bool {
+pub fn is_reset(line: &[u8]) -> bool {
     let command = may_have(line, "reset").then(|| object_of(line)).flatten();
     command.map_or(false, |it| has_only(&it, &["do", "session"]) && it["do"] == "reset")
 }
@@ -68,6 +69,8 @@ pub struct Group {
     pub moving: Option<Move>,
     /// Groups whose publications this one has joined in vain.
     others: HashSet<String>,
+    /// What its clients have of its quota.
+    pub account: Account,
 }
 
 impl Group {
@@ -88,6 +91,7 @@ impl Group {
             moves_when_idle: false,
             moving: None,
             others: HashSet::new(),
+            account: Account::default(),
         }
     }
 

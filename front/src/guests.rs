@@ -60,6 +60,7 @@ impl Front {
             self.log.note("guest_came", json!({"guest": name}), &format!("{name} has come"));
         }
         self.guests.insert(key, Guest { name, link, errand, is_touched: false });
+        self.admit_guest(key, comers);
         self.touch_guest(key);
     }
 
@@ -163,6 +164,9 @@ impl Front {
             Errand::Operator(_) => lines.each(|line| self.do_for_operator(key, line)),
             Errand::Monitor(chosen) if !guest.link.has_spoken => {
                 guest.link.has_spoken = true;
+                if self.quotas.is_some() {
+                    return self.choose_for(key, first);
+                }
                 match chosen_in(first) {
                     Some(name) => {
                         let answer = format!("{{\"front\":\"monitor\",\"session\":\"{name}\"}}\n");
@@ -213,6 +217,7 @@ impl Front {
                 Errand::Health(check) => (true, check.is_of_metrics),
                 _ => (false, false),
             };
+            self.forget_guest(key);
             self.monitors -= usize::from(matches!(guest.errand, Errand::Monitor(_)));
             self.checks -= usize::from(is_check && !is_scrape);
             self.scrapes -= usize::from(is_scrape);

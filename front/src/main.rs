@@ -11,25 +11,34 @@
 //! opens records again by their names, and `eagerness` decides whether the loop polls before it sleeps. `network` lets
 //! clients in over TCP and TLS, `tls` has the certificates, `subject` reads the name in one, and `wire` is a connection of
 //! any form, in bytes.
-//! `metrics` counts, and `scraping` shows the counts.
-//! `compacting` shortens records.
+//! `metrics` counts, `scraping` shows the counts, and `compacting` shortens records. `limits` reads the file of quotas and rights, `buckets` are rates,
+//! `quotas` what clients have of theirs, `admission` counts clients, `pacing` commands and `holding` memory and time, `joining`
+//! their joins, `rights` the rules and `entry` who comes in by them, and `deadlines` ends commands that take too long.
 
 #![forbid(unsafe_code)]
 
+mod admission;
 mod asked;
 mod asking;
+
+mod buckets;
 mod clients;
 mod command_line;
 mod commands;
 mod compacting;
 mod control;
+mod deadlines;
 mod doors;
 mod eagerness;
+mod entry;
 mod front;
 mod groups;
 mod guests;
 mod health;
+mod holding;
 mod inspector;
+mod joining;
+mod limits;
 mod lines;
 mod live;
 mod log;
@@ -39,13 +48,16 @@ mod naming;
 mod network;
 mod network_options;
 mod notifying;
+mod pacing;
 mod people;
 mod pool;
 mod program;
 mod queue;
+mod quotas;
 mod records;
 mod replaying;
 mod resuming;
+mod rights;
 mod ring;
 mod rotating;
 mod scraping;

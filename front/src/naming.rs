@@ -7,8 +7,11 @@ use serde_json::Value;
 use crate::clients::{ASKS_NOTHING, NOT_KNOWN};
 use crate::front::{Front, NO_SESSION};
 use crate::groups::group_of;
+use crate::health::NOTHING;
+use crate::joining::may_join;
 use crate::lines::{asked_of_front, is_name, object_of, NOBODY};
 use crate::people::{ClientKey, Owner, Session, SessionKey, Speaker, SpeakerKey, Speech, Voices, UNREAD_SLOW};
+use crate::rights::Right;
 
 /// The session that a line names, as the server reads it, or that of no session if it names none.
 pub fn session_in(line: &[u8]) -> String {
@@ -21,9 +24,17 @@ impl Front {
     /// Queues each line that was read from a client with the server of the line's session.
     pub fn sort(&mut self, key: ClientKey, has_spoken: bool) {
         let mut lines = std::mem::take(&mut self.sorted);
-        if !has_spoken && lines.first().map_or(false, |line| asked_of_front(line).is_some()) {
-            self.refuse(key, NOT_KNOWN, ASKS_NOTHING);
-            lines.clear();
+        if !has_spoken {
+            let mut asked = lines.first().and_then(asked_of_front);
+            let is_asked = asked.is_some();
+            if !self.identify(key, &mut asked) {
+                lines.clear();
+            } else if asked.is_some() {
+                self.refuse(key, NOT_KNOWN, ASKS_NOTHING);
+                lines.clear();
+            } else if is_asked {
+                lines.pop();
+            }
         }
         while let Some(line) = lines.first() {
             self.route(key, line);
@@ -34,20 +45,31 @@ impl Front {
 
     /// Queues a line for its turn.
     fn route(&mut self, key: ClientKey, line: &[u8]) {
-        let name = session_in(line);
+        let mut name = session_in(line);
+        let is_barred = name != NOBODY && !self.may_use(key, Right::Hello, &name);
+        let is_beyond = !is_barred && name != NOBODY && self.is_beyond(key, &name);
+        let line = if is_barred { NOTHING } else { line };
+        if is_barred || is_beyond {
+            name = NOBODY.to_string();
+        }
         let voice = match name.as_str() {
             NOBODY => self.voice(key, &format!("{NOBODY}c{}", self.clients[key].number)),
             _ => self.voice(key, group_of(&name)),
         };
-        let session = self.session_named(&name, voice);
+        let session = match &self.quotas {
+            Some(quotas) if is_beyond => quotas.beyond,
+            _ => self.session_named(&name, voice),
+        };
         let speaker = &mut self.speakers[voice];
         let is_busy = speaker.awaits();
         speaker.waiting.push(line);
         speaker.came = self.metrics.now();
+        speaker.pace.may_join = (is_busy && speaker.pace.may_join) || may_join(line);
         let more = speaker.more.get_or_insert_with(Box::default);
         more.named.push_back(session);
-        if more.members.insert(session) {
+        if !is_beyond && more.members.insert(session) {
             self.sessions[session].members.push(key);
+            self.count_named(key, &name);
         }
         match &mut self.clients[key].speech {
             Speech::Named(voices) if !is_busy => voices.busy.push(voice),
@@ -68,6 +90,9 @@ impl Front {
         session.group = Some(group);
         let session = self.sessions.insert(session);
         self.groups[group].sessions.insert(name.to_string(), session);
+        if name != NOBODY {
+            self.count_session(session, self.speakers[voice].pace.who.uid);
+        }
         session
     }
 
@@ -80,6 +105,7 @@ impl Front {
             }
             let voice = self.speakers.insert(Speaker::new(Owner::Client(key), NO_SESSION));
             voices.of_groups.insert(group, voice);
+            self.speakers[voice].pace.who = self.clients[key].quota.as_ref().map_or_else(Default::default, |held| held.who);
             self.speakers[voice].is_slow = self.clients[key].link.unread.len() > UNREAD_SLOW;
             self.enter_speaker(group, voice);
             return voice;
@@ -112,6 +138,7 @@ impl Front {
             speaker.owner = Owner::Gone;
             speaker.is_slow = false;
             speaker.waiting.clear();
+            speaker.pace.stop();
             for session in speaker.more.take().map_or_else(HashSet::new, |more| more.members) {
                 self.sessions[session].members.retain(|member| *member != client);
             }

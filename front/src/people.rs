@@ -10,6 +10,7 @@ use crate::lines::member_of;
 use crate::metrics::Leaving;
 use crate::network::Peer;
 use crate::queue::{Cutter, Pending, Queue};
+use crate::quotas::{Held, Pace};
 use crate::wire::Wire;
 
 pub type ClientKey = usize;
@@ -55,6 +56,8 @@ pub struct Link {
     has_overflown: bool,
     /// Lines were left out for it, as its last line says.
     pub is_cut: bool,
+    /// Bytes that were read from it and queued for it so far.
+    pub traffic: u64,
     /// Why it is closed once it has read what is left for it.
     pub fault: String,
 }
@@ -64,6 +67,16 @@ pub enum Came {
     Nothing,
     Bytes(usize),
     End,
+}
+
+impl Came {
+    /// How many bytes came.
+    pub fn count(&self) -> usize {
+        match self {
+            Came::Bytes(count) => *count,
+            _ => 0,
+        }
+    }
 }
 
 impl Link {
@@ -85,6 +98,7 @@ impl Link {
             is_due: false,
             has_overflown: false,
             is_cut: false,
+            traffic: 0,
             fault: String::new(),
         }
     }
@@ -109,6 +123,7 @@ impl Link {
                 return Came::End;
             }
             Ok(count) => {
+                self.traffic += count as u64;
                 self.is_readable = count == chunk.len() || self.is_hung_up || !self.stream.is_clear();
                 return Came::Bytes(count);
             }
@@ -126,7 +141,8 @@ impl Link {
 
     /// Queues lines for the other side.
     pub fn tell(&mut self, lines: &[u8]) {
-        if !self.is_deaf {
+        if !self.is_deaf && !self.is_cut {
+            self.traffic += lines.len() as u64;
             self.unread.push(lines);
         }
     }
@@ -173,6 +189,16 @@ impl Link {
         self.refuse("lines were left out");
     }
 
+    /// Closes the connection at once, though the other side has not read all.
+    pub fn give_up(&mut self) {
+        self.is_broken = true;
+    }
+
+    /// Whether it is closed at once.
+    pub fn is_given_up(&self) -> bool {
+        self.is_broken
+    }
+
     /// Closes the connection at once, because all together leave too much unread.
     pub fn overflow(&mut self) {
         self.fall_silent();
@@ -199,7 +225,7 @@ impl Link {
     /// Whether the connection is to be closed; the argument says whether an answer is still awaited.
     pub fn is_done(&self, awaits: bool) -> bool {
         let has_read = self.is_deaf || self.unread.is_empty() && !self.stream.wants_to_write();
-        let has_all = self.has_ended && has_read && !awaits;
+        let has_all = self.has_ended && has_read && (!awaits || self.is_cut);
         has_all || self.is_broken || self.has_overflown || self.unread.len() > UNREAD_MOST
     }
 
@@ -297,6 +323,7 @@ pub struct Speaker {
     pub more: Option<Box<Voice>>,
     /// It is counted among disconnected clients' speakers whose commands are still to be done.
     pub is_left: bool,
+    pub pace: Pace,
 }
 
 /// Further state of a speaker if its client names sessions by itself, or if it belongs to the page's process.
@@ -331,12 +358,13 @@ impl Speaker {
             place: 0,
             more: None,
             is_left: false,
+            pace: Pace::default(),
         }
     }
 
     /// Whether its next line may be given to the server.
     pub fn may_give(&self) -> bool {
-        (self.owes_spin || !self.waiting.is_empty()) && !(self.is_slow || self.is_held)
+        (self.owes_spin || !self.waiting.is_empty()) && !(self.is_slow || self.is_held) && self.pace.is_open()
     }
 
     /// Whether an answer is still to come, or a line of it is still to be given.
@@ -370,4 +398,6 @@ pub struct Client {
     pub speech: Speech,
     /// It is on the list of those that are to be looked after.
     pub is_touched: bool,
+    /// Its part in the quotas, if there are any.
+    pub quota: Option<Box<Held>>,
 }

@@ -71,6 +71,7 @@ impl Front {
         let group = Group::new(name, pool.count, pool.ring.number_of(name) - 1, pool.record_of(name));
         let key = self.groups.insert(group);
         pool.groups.insert(name.to_string(), key);
+        self.groups[key].account = self.account_of_group(name);
         key
     }
 
@@ -125,6 +126,7 @@ impl Front {
     fn forget_group(&mut self, key: GroupKey) {
         self.leave_compaction(key);
         let mut group = self.groups.remove(key);
+        self.keep_account(&group.name, std::mem::take(&mut group.account));
         self.changed.remove(&key);
         if let Some(pool) = &mut self.pool {
             pool.groups.remove(&group.name);
@@ -137,6 +139,7 @@ impl Front {
             found.group = None;
             found.is_begun = false;
             if self.named_by_clients {
+                self.forget_namer(session);
                 self.sessions.remove(session);
             }
         }
@@ -196,6 +199,7 @@ impl Front {
         let found = &mut self.speakers[speaker];
         found.waiting.clear();
         found.under_way = 0;
+        found.pace.stop();
         found.group = None;
         found.is_held = false;
         let (owner, session) = (found.owner, found.session);
@@ -270,6 +274,7 @@ impl Front {
         worker.is_first = false;
         worker.starts_in_vain = if worker.has_written { 0 } else { (worker.starts_in_vain + 1).min(20) };
         worker.due = Instant::now() + PAUSE_MOST.min(PAUSE * (2_u32.pow(worker.starts_in_vain) - 1));
+        let commands = self.without_expired(at, commands);
         let blamed_at = commands.first().and_then(|command| self.group_at(command));
         let replays: Vec<ReplayKey> = self.workers[at].replays.drain(..).collect();
         self.keep_lost(&commands);
@@ -411,7 +416,7 @@ impl Front {
             return;
         }
         let (program, args) = &self.server_words;
-        let started = Server::start(program, args, None);
+        let started = Server::start(program, args, None, self.server_memory);
         match started.and_then(|server| self.begin_server(at, server)) {
             Ok(()) => {
                 self.metrics.restarts[at] += 1;

@@ -145,6 +145,10 @@ fn front_of(options: &Options) -> Result<Front, Stop> {
     front.live.are_all = options.is_live;
     front.network = Network::new(options.network.files())?;
     front.patience = options.watchdog.map(Duration::from_secs);
+    front.server_memory = options.server_memory;
+    if let Some(path) = &options.limits {
+        front.limit(path, options.workers.is_some())?;
+    }
     front.named_by_clients = options.by_name == Some(true);
     if let Some(workers) = options.workers {
         let folder = options.record.as_ref().map(|path| folder(path)).transpose()?;
@@ -168,7 +172,7 @@ fn begin_servers(front: &mut Front, options: &Options) -> Result<(), Stop> {
         let record = options.record.as_ref().filter(|_| options.workers.is_none());
         let record = record.map(|path| Record::new(path)).transpose()?;
         let (program, args) = &front.server_words;
-        let server = Server::start(program, args, record)?;
+        let server = Server::start(program, args, record, front.server_memory)?;
         front.begin_server(at, server)?;
         front.greet_server(at);
     }
@@ -221,7 +225,7 @@ fn show(front: &mut Front, options: &Options, port: u16) -> Result<Child, Stop> 
         format!("--feed={}", far.as_raw_fd()).into(),
         format!("--door={}", door.as_raw_fd()).into(),
     ];
-    let child = started("python3".as_ref(), &words, false)?;
+    let child = started("python3".as_ref(), &words, false, None)?;
     let _ = setsockopt(near.as_raw_fd(), SndBuf, &SEND_BYTES);
     let mut link = Link::new(mio::net::UnixStream::from_std(near), token(Kind::Inspector, 0));
     link.watch(front.poll.registry());

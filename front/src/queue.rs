@@ -39,6 +39,15 @@ impl Cutter {
         clear(&mut self.begun);
     }
 
+    /// The bytes of a line that has begun and not ended.
+    pub fn half_line(&self) -> usize {
+        self.begun.len()
+    }
+
+    pub fn capacity(&self) -> usize {
+        self.begun.capacity()
+    }
+
     /// Adds to a line, up to one byte more than a line may have.
     fn grow(&mut self, part: &[u8]) {
         let room = LINE_MOST + 1 - self.begun.len();
@@ -92,6 +101,10 @@ impl Queue {
         }
     }
 
+    pub fn capacity(&self) -> usize {
+        self.bytes.capacity()
+    }
+
     /// Calls `hear` with each of the lines.
     pub fn each(&self, mut hear: impl FnMut(&[u8])) {
         self.all(|line| {
@@ -137,6 +150,10 @@ impl Pending {
 
     pub fn push(&mut self, bytes: &[u8]) {
         self.bytes.extend_from_slice(bytes);
+    }
+
+    pub fn capacity(&self) -> usize {
+        self.bytes.capacity()
     }
 
     /// The buffer, to which more may be appended.

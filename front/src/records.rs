@@ -4,13 +4,14 @@
 //! they were given and written, so an answer may come after the command that was given next.
 
 use std::fs::{self, File, OpenOptions};
-use std::io::{self, BufRead, BufReader, Cursor, Read, Seek, SeekFrom, Write};
+use std::io::{self, BufRead, BufReader, BufWriter, Cursor, Read, Seek, SeekFrom, Write};
 use std::os::unix::fs::{DirBuilderExt, OpenOptionsExt};
 use std::path::{Path, PathBuf};
 
 use nix::unistd::{access, AccessFlags};
 use serde_json::json;
 
+use crate::lines::is_answer;
 use crate::log::{reason, Ended, Level, Log};
 use crate::server::RECORD_FLAGS;
 
@@ -123,6 +124,45 @@ impl GroupRecord {
     /// Its size in bytes.
     pub fn size(&self) -> u64 {
         self.size
+    }
+
+    /// Removes a line that the server was given and has not answered, and what it wrote for it; so many lines were given
+    /// after it. All lines before it are answered.
+    pub fn forget(&mut self, later: usize, log: &mut Log) {
+        if let Err(error) = self.rewrite(later, log) {
+            self.is_whole = false;
+            let words = format!("a record cannot be rewritten: {}; its group cannot be brought back", reason(&error));
+            log.say(Level::Error, "record_not_rewritten", json!({"reason": reason(&error)}), &words);
+        }
+    }
+
+    fn rewrite(&mut self, later: usize, log: &mut Log) -> io::Result<()> {
+        let skipped = self.count.saturating_sub(1 + later);
+        let (mut line, mut told, mut answered) = (Vec::new(), 0, 0);
+        let mut content = self.content(log)?;
+        while content.next(false, &mut line) {
+            told += 1;
+            answered = if is_answer(&line) { told } else { answered };
+        }
+        let content = self.content(log)?;
+        match self.path.as_ref().filter(|_| self.is_there) {
+            Some(path) => {
+                let place = path.with_extension("new");
+                let mut options = OpenOptions::new();
+                options.write(true).create(true).truncate(true).mode(0o600).custom_flags(RECORD_FLAGS.bits());
+                let mut out = BufWriter::new(options.open(&place)?);
+                self.size = content.copy(skipped, answered, &mut out)?;
+                out.flush()?;
+                fs::rename(&place, path)?;
+            }
+            None => {
+                let mut out = Vec::new();
+                self.size = content.copy(skipped, answered, &mut out)?;
+                self.fresh = out;
+            }
+        }
+        self.count -= 1;
+        Ok(())
     }
 
     /// Whether it has a file.
@@ -239,6 +279,29 @@ impl Content {
     }
 }
 
+impl Content {
+    /// Copies all lines, except one of those that were given, and those that were written after so many; returns how many bytes.
+    fn copy(mut self, skipped: usize, told_most: usize, out: &mut impl Write) -> io::Result<u64> {
+        let (mut line, mut given, mut told, mut size) = (Vec::new(), 0, 0, 0);
+        while self.left > 0 {
+            line.clear();
+            let count = self.reader.read_until(b'\n', &mut line)?;
+            if count == 0 {
+                break;
+            }
+            self.left = self.left.saturating_sub(count as u64);
+            let counted = if line.starts_with(GIVEN) { &mut given } else { &mut told };
+            *counted += 1;
+            let is_kept = if line.starts_with(GIVEN) { given != skipped + 1 } else { told <= told_most };
+            if is_kept {
+                out.write_all(&line)?;
+                size += count as u64;
+            }
+        }
+        Ok(size)
+    }
+}
+
 /// The lines of a record that the server was given, one after the other.
 pub struct Given(pub Content);
 
@@ -321,5 +384,20 @@ mod tests {
         assert_eq!((told.take(100), told.take(1)), (b"333\n".to_vec(), Vec::new()));
         record.begin_anew();
         assert_eq!(Given(record.content(&mut log).unwrap()).next(), None);
+    }
+
+    /// A command that was not answered is removed with what it has called; those given after it stay.
+    #[test]
+    fn what_was_not_answered_is_removed() {
+        let mut log = Log::new(true);
+        let mut record = GroupRecord::new(None);
+        record.given(b"one", &mut log);
+        record.told(b"{\"call\":1}\n{\"reply\":1}\n", &mut log);
+        record.given(b"long", &mut log);
+        record.given(b"two", &mut log);
+        record.told(b"{\"call\":2}\n", &mut log);
+        record.forget(1, &mut log);
+        assert_eq!(record.fresh, b"> one\n{\"call\":1}\n{\"reply\":1}\n> two\n");
+        assert_eq!((record.count, record.size), (2, record.fresh.len() as u64));
     }
 }

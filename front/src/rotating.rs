@@ -20,6 +20,7 @@ impl Front {
         }
         if has_come {
             self.read_certificates_again();
+            self.read_limits_again();
             self.open_records_again();
         }
     }

@@ -12,6 +12,7 @@ use std::process::{Child, Command, Stdio};
 use std::time::{Duration, Instant};
 
 use nix::fcntl::{fcntl, FcntlArg, FdFlag};
+use nix::sys::resource::{setrlimit, Resource};
 use nix::sys::signal::{killpg, Signal};
 use nix::unistd::{setsid, write, Pid};
 
@@ -19,6 +20,8 @@ use crate::log::{reason, Ended};
 
 /// The first word of a run that becomes another program.
 pub const BECOME: &str = "--become-another-program";
+/// Stands for a program whose memory is not limited.
+const NO_LIMIT: &str = "-";
 const THIS_PROGRAM: &str = "/proc/self/exe";
 /// Environment variables that are for the front alone.
 const OF_PASSING: [&str; 6] =
@@ -27,18 +30,20 @@ const LOOK: Duration = Duration::from_millis(2);
 /// The time that a program has to end, before it is killed.
 pub const SECONDS_TO_END: Duration = Duration::from_secs(5);
 
-/// Starts a program, with or without pipes to it. Its standard error is that of the front.
-pub fn started(program: &OsStr, args: &[OsString], has_pipes: bool) -> Result<Child, Ended> {
-    start(program, args, has_pipes)
+/// Starts a program, with or without pipes to it, and with a limit of its memory in bytes or without. Its standard error is that
+/// of the front.
+pub fn started(program: &OsStr, args: &[OsString], has_pipes: bool, memory: Option<u64>) -> Result<Child, Ended> {
+    start(program, args, has_pipes, memory)
         .map_err(|error| Ended(format!("{} cannot be started: {}", program.to_string_lossy(), reason(&error))))
 }
 
-fn start(program: &OsStr, args: &[OsString], has_pipes: bool) -> io::Result<Child> {
+fn start(program: &OsStr, args: &[OsString], has_pipes: bool, memory: Option<u64>) -> io::Result<Child> {
     let (mut near, far) = UnixStream::pair()?;
     keep_open(far.as_raw_fd())?;
     let stdio = || if has_pipes { Stdio::piped() } else { Stdio::null() };
     let mut command = Command::new(THIS_PROGRAM);
-    command.arg(BECOME).arg(far.as_raw_fd().to_string()).arg(program).args(args).stdin(stdio()).stdout(stdio());
+    let memory = memory.map_or_else(|| NO_LIMIT.to_string(), |bytes| bytes.to_string());
+    command.arg(BECOME).arg(far.as_raw_fd().to_string()).arg(memory).arg(program).args(args).stdin(stdio()).stdout(stdio());
     for name in OF_PASSING {
         command.env_remove(name);
     }
@@ -56,16 +61,27 @@ fn start(program: &OsStr, args: &[OsString], has_pipes: bool) -> io::Result<Chil
 /// Becomes another program; returns if that fails, and reports the failure to the process that started this run.
 pub fn become_another(words: &[OsString]) -> u8 {
     let number = words.first().and_then(|word| word.to_str()?.parse::<RawFd>().ok());
-    let (number, program) = match (number, words.get(1)) {
-        (Some(number), Some(program)) => (number, program),
+    let (number, memory, program) = match (number, words.get(1), words.get(2)) {
+        (Some(number), Some(memory), Some(program)) => (number, memory, program),
         _ => return 2,
     };
     let _ = fcntl(number, FcntlArg::F_SETFD(FdFlag::FD_CLOEXEC));
     let _ = setsid();
-    let error = Command::new(program).args(&words[2..]).exec();
+    let error = match limit_memory(memory) {
+        Ok(()) => Command::new(program).args(&words[3..]).exec(),
+        Err(error) => error,
+    };
     let said = error.raw_os_error().map_or_else(|| reason(&error), |it| it.to_string());
     let _ = write(number, said.as_bytes());
     1
+}
+
+/// Limits the memory of this process, and so of the program that it becomes.
+fn limit_memory(bytes: &OsStr) -> io::Result<()> {
+    match bytes.to_str().and_then(|bytes| bytes.parse().ok()) {
+        Some(bytes) => Ok(setrlimit(Resource::RLIMIT_AS, bytes, bytes)?),
+        None => Ok(()),
+    }
 }
 
 /// Lets started programs inherit a file of the front.

@@ -55,6 +55,11 @@ impl Hears {
         matches!(self, Hears::Nobody | Hears::Replay(_))
     }
 
+    /// Whether clients receive something.
+    pub fn is_clients(self) -> bool {
+        matches!(self, Hears::Clients | Hears::Rest(_))
+    }
+
     pub fn replay(self) -> Option<ReplayKey> {
         match self {
             Hears::Replay(key) | Hears::Rest(key) => Some(key),
@@ -81,6 +86,8 @@ pub struct Command {
     /// When it came from its client, and when the server was given it, if times are taken.
     pub came: Option<Instant>,
     pub given: Option<Instant>,
+    /// It is a join that is counted.
+    pub is_join: bool,
 }
 
 /// The speakers that wait for their turns, and the commands under way in their order.
@@ -187,6 +194,7 @@ impl Turns {
             may_post: false,
             came: None,
             given: None,
+            is_join: false,
         });
     }
 

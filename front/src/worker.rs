@@ -44,6 +44,12 @@ pub struct Worker {
     pub sweeper: SpeakerKey,
     /// Since when it has written nothing, though a command is under way.
     pub silent_since: Instant,
+    /// Since when it does the first of the commands under way, if commands have a time.
+    pub command_since: Instant,
+    /// That command has taken too long, and the front looks for its answer once more.
+    pub is_overdue: bool,
+    /// The server was ended because that command has taken too long.
+    pub is_expired: bool,
 }
 
 impl Worker {
@@ -62,6 +68,9 @@ impl Worker {
             due: Instant::now(),
             sweeper,
             silent_since: Instant::now(),
+            command_since: Instant::now(),
+            is_overdue: false,
+            is_expired: false,
         }
     }
 }
@@ -256,6 +265,9 @@ impl Front {
             }
         }
         self.workers[at].turns.answer(&mut self.speakers);
+        if self.quotas.is_some() {
+            self.heard_by_quotas(at, &command, line);
+        }
         if !fresh.is_empty() {
             self.show_sifted(at, fresh);
             if self.has_monitors() {
@@ -312,6 +324,7 @@ impl Front {
         self.begin_replays(at);
         while self.workers[at].server.is_some() {
             match self.workers[at].turns.next(&mut self.speakers) {
+                Some(key) if self.quotas.is_some() && !self.admits(key) => {}
                 Some(key) => self.give_line(at, key),
                 None => break,
             }
@@ -326,7 +339,10 @@ impl Front {
         let is_check = matches!(self.speakers[key].owner, Owner::Health(_));
         let is_spin = self.live.is_any() && self.spins_next(key);
         let session = if is_spin { self.speakers[key].session } else { self.session_of_next(key) };
-        let apart = if is_spin { Some(SPIN.to_vec()) } else { self.kept_apart(key) };
+        let apart = match is_spin {
+            true => Some(SPIN.to_vec()),
+            false => self.barred_join(key, session).or_else(|| self.kept_apart(key)),
+        };
         let (worker, speaker) = (&mut self.workers[at], &mut self.speakers[key]);
         let server = match &mut worker.server {
             Some(server) => server,
@@ -351,6 +367,9 @@ impl Front {
         };
         if self.patience.is_some() && worker.turns.under_way.is_empty() {
             worker.silent_since = Instant::now();
+        }
+        if worker.turns.under_way.is_empty() {
+            worker.command_since = self.now;
         }
         worker.turns.give(key, speaker, length, session, hears);
         if hears == Hears::Clients {
@@ -383,6 +402,10 @@ impl Front {
     fn note_given(&mut self, at: usize, key: SpeakerKey, session: usize, length: usize) {
         self.sessions[session].is_begun = true;
         let group = self.sessions[session].group;
+        if self.counts_joins(key) {
+            let line = self.workers[at].server.as_ref().map_or_else(Vec::new, |server| server.last(length).to_vec());
+            self.count_join(at, key, &line);
+        }
         let server = match &self.workers[at].server {
             Some(server) => server,
             None => return,
@@ -411,6 +434,9 @@ impl Front {
     /// Gives a server a command that another process was given and has not answered.
     pub fn put(&mut self, at: usize, command: Command, line: &[u8]) {
         let worker = &mut self.workers[at];
+        if worker.turns.under_way.is_empty() {
+            worker.command_since = Instant::now();
+        }
         worker.turns.put(command);
         worker.has_lines = true;
         if let Some(server) = &mut worker.server {
