@@ -44,7 +44,7 @@ impl Bucket {
 }
 
 /// How long units may be taken that are counted in advance.
-pub const AHEAD: Duration = Duration::from_millis(10);
+pub const AHEAD: Duration = Duration::from_millis(100);
 
 /// How many units may be counted in advance, so that not each of them is looked at: at most so many, and a small part of what
 /// each of the accounts has left.

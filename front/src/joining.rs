@@ -57,7 +57,9 @@ impl Front {
         if is_join {
             let ends = ends_of(&command);
             self.change_joins(key, &ends, true);
-            self.speakers[key].pace.joining.push_back(ends);
+            let pace = &mut self.speakers[key].pace;
+            pace.joining.push_back(ends);
+            pace.has_joined = true;
             if let Some(command) = self.workers[at].turns.under_way.back_mut() {
                 command.is_join = true;
             }
@@ -81,9 +83,9 @@ impl Front {
     }
 
     /// Whether a speaker's next line has to be looked at, since it may begin or end joins that are counted.
-    pub fn counts_joins(&mut self, key: SpeakerKey) -> bool {
-        let is_counted = self.quotas.as_ref().map_or(false, |quotas| quotas.limits.has_joins);
-        is_counted && (self.speakers[key].pace.may_join || self.held_of(key).map_or(false, |held| !held.joins.is_empty()))
+    pub fn counts_joins(&self, key: SpeakerKey) -> bool {
+        let pace = &self.speakers[key].pace;
+        (pace.may_join || pace.has_joined) && self.quotas.as_ref().map_or(false, |quotas| quotas.limits.has_joins)
     }
 
     fn held_of(&mut self, key: SpeakerKey) -> Option<&mut crate::quotas::Held> {

@@ -156,6 +156,8 @@ pub struct Pace {
     pub granted_until: Option<Instant>,
     /// One of its lines may be a `join` or a `leave`.
     pub may_join: bool,
+    /// It has given a `join` that was counted.
+    pub has_joined: bool,
     /// Joins that were given to the server and are not answered.
     pub joining: VecDeque<Vec<u8>>,
 }
