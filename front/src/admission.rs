@@ -202,11 +202,16 @@ impl Front {
             Speech::Named(voices) => voices,
             Speech::One(_) => return None,
         };
-        let voice = group.and_then(|(group, _)| voices.of_groups.get(&group)).and_then(|voice| self.speakers[*voice].more.as_ref());
+        let voice =
+            group.and_then(|(group, _)| voices.of_groups.get(&group)).and_then(|voice| self.speakers[*voice].more.as_ref());
         let is_known = session.map_or(false, |session| voice.map_or(false, |more| more.members.contains(session)));
         let is_new = u64::from(session.is_none());
         let own = scope_over([quotas.limits.client.sessions, None, None], [held.own.sessions; 3], u64::from(!is_known));
-        let has = [0, quotas.account(held.who.uid).map_or(0, |user| user.sessions), group.map_or(0, |(_, it)| it.sessions.len() as u64)];
+        let has = [
+            0,
+            quotas.account(held.who.uid).map_or(0, |user| user.sessions),
+            group.map_or(0, |(_, it)| it.sessions.len() as u64),
+        ];
         let shared = scope_over([None, quotas.limits.uid.sessions, quotas.limits.group.sessions], has, is_new);
         own.filter(|_| !is_known).or_else(|| shared.filter(|_| is_new > 0))
     }

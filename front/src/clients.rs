@@ -364,7 +364,8 @@ impl Front {
     /// Puts a client's session into the group that the client asks for.
     fn greet(&mut self, key: ClientKey, speaker: SpeakerKey, asked: &Map<String, Value>, is_live: bool) {
         let session = self.speakers[speaker].session;
-        let group = asked.get("group")
+        let group = asked
+            .get("group")
             .and_then(Value::as_str)
             .filter(|group| is_group(group) && self.may_use(key, Right::Hello, group));
         let name = group.map(|group| format!("{group}{BETWEEN}{}", self.sessions[session].name));

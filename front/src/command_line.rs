@@ -204,7 +204,7 @@ fn read_option(options: &mut Options, reader: &mut Reader, text: &str) -> Result
         "--watchdog" => options.watchdog = Some(seconds(name, &reader.value(name, own)?)?),
         "--control" => options.control = Some(path(name, OsStr::new(&reader.value(name, own)?))?),
         "--limits" => options.limits = Some(path(name, OsStr::new(&reader.value(name, own)?))?),
-        "--server-memory" => options.server_memory = Some(bytes(name, &reader.value(name, own)?)?),
+        "--server-memory" => options.server_memory = Some(memory(name, &reader.value(name, own)?)?),
         _ if NetworkOptions::has(name) => options.network.read(name, &reader.value(name, own)?)?,
         _ => return Ok(false),
     }
@@ -347,7 +347,7 @@ fn seconds(name: &str, word: &str) -> Result<u64, String> {
 }
 
 /// Reads a number of bytes.
-fn bytes(name: &str, word: &str) -> Result<u64, String> {
+fn memory(name: &str, word: &str) -> Result<u64, String> {
     match word.parse() {
         Ok(bytes @ MEMORY_LEAST..=MEMORY_MOST) if word.bytes().all(|byte| byte.is_ascii_digit()) => Ok(bytes),
         _ => wrong_value(name, word, "number of bytes, from 1048576 to 1099511627776"),

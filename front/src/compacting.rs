@@ -166,7 +166,7 @@ impl Front {
         let mut words = vec![program_beside(NAME)?.into_os_string(), format!("--bytes={size}").into()];
         words.extend([path.as_os_str().to_owned(), into.as_os_str().to_owned(), program.clone()]);
         words.extend(args.iter().cloned());
-        let mut child = started("python3".as_ref(), &words, true)?;
+        let mut child = started("python3".as_ref(), &words, true, None)?;
         drop(child.stdin.take());
         let output = child.stdout.take().ok_or_else(|| Ended("the program has no pipes".to_string()))?;
         let number = output.as_raw_fd();

@@ -18,7 +18,8 @@ impl Front {
     pub fn do_for_operator(&mut self, key: usize, line: &[u8]) {
         let mut asked = asked_of_front(line).unwrap_or_default();
         if !self.may_control(key, &mut asked) {
-            return self.answer_operator(key, &json!({"error": NO_RIGHT, "why": "this client has no right to control the front"}));
+            return self
+                .answer_operator(key, &json!({"error": NO_RIGHT, "why": "this client has no right to control the front"}));
         }
         if has_only(&asked, &["front"]) && asked["front"] == "groups" {
             let answer = json!({"reply": self.rows(), "workers": self.workers.len()});

@@ -50,9 +50,8 @@ impl Front {
         };
         let group = self.sessions[command.session].group;
         if let Some(group) = group {
-            let is_of_group = |command: &&Command| {
-                command.hears.is_clients() && self.sessions[command.session].group == Some(group)
-            };
+            let is_of_group =
+                |command: &&Command| command.hears.is_clients() && self.sessions[command.session].group == Some(group);
             let later = commands.iter().filter(is_of_group).count();
             let found = &mut self.groups[group];
             found.under_way = found.under_way.saturating_sub(1);

@@ -8,8 +8,8 @@ use crate::front::Front;
 use crate::lines::NOBODY;
 use crate::people::{ClientKey, Speech};
 use crate::quotas::{
-    scope_over, Account, Held, Refusal, State, Waiting, CLIENT, GROUP, HALF_LINE, HALF_LINE_TIME, IDLE, LOOK, MEMORY, OF_CONNECTION,
-    UNREAD, USER,
+    scope_over, Account, Held, Refusal, State, Waiting, CLIENT, GROUP, HALF_LINE, HALF_LINE_TIME, IDLE, LOOK, MEMORY,
+    OF_CONNECTION, UNREAD, USER,
 };
 
 /// The most bytes that are counted in advance.
@@ -47,7 +47,11 @@ impl Front {
         if let Some(group) = &mut accounts[GROUP] {
             group.half_line = (group.half_line + half_line).saturating_sub(before);
         }
-        let more = if is_granted { 0 } else { granted(&accounts, of.map(|of| of.input_bytes), |it| &it.bytes, BYTES_AHEAD, self.now) };
+        let more = if is_granted {
+            0
+        } else {
+            granted(&accounts, of.map(|of| of.input_bytes), |it| &it.bytes, BYTES_AHEAD, self.now)
+        };
         let counted = if is_granted { 0 } else { count as u64 + more };
         let mut wait = Duration::ZERO;
         for scope in 0..3 {
@@ -153,7 +157,10 @@ impl Front {
         };
         let all = self.clients.iter().filter(|(_, client)| !client.link.is_cut);
         let all = all.filter_map(|(other, client)| Some((client.quota.as_ref()?.own.unread, other, client.quota.as_ref()?)));
-        all.filter(|(_, other, held)| is_of(*other, held)).map(|(unread, other, _)| (unread, other)).max().map(|(_, other)| other)
+        all.filter(|(_, other, held)| is_of(*other, held))
+            .map(|(unread, other, _)| (unread, other))
+            .max()
+            .map(|(_, other)| other)
     }
 
     /// Bytes of lines of a client that wait for their turns.
@@ -174,7 +181,8 @@ impl Front {
             _ => return,
         };
         let guests: usize = self.guests.values().map(|guest| guest.link.unread.capacity()).sum();
-        let servers: usize = self.workers.iter().filter_map(|worker| worker.server.as_ref()).map(|it| it.given.capacity()).sum();
+        let servers: usize =
+            self.workers.iter().filter_map(|worker| worker.server.as_ref()).map(|it| it.given.capacity()).sum();
         if held + guests + servers <= most {
             return;
         }
@@ -294,7 +302,8 @@ impl Front {
             (held.traffic, held.active) = (traffic, now);
         }
         if !is_read {
-            held.half_line_since = held.half_line_since.map(|since| since.max(now)); // the client may have written the rest
+            held.half_line_since = held.half_line_since.map(|since| since.max(now));
+            // the client may have written the rest
         }
         if held.until.map_or(false, |until| until <= now) {
             if held.is_in || client.link.has_ended {

@@ -238,7 +238,8 @@ mod tests {
 
     #[test]
     fn quotas_are_read() {
-        let text = "over = 'refuse'\ncommand_seconds = 5\n[client]\ncommands = { per_second = 10, burst = 3 }\n[uid]\njoins = 0\n";
+        let text =
+            "over = 'refuse'\ncommand_seconds = 5\n[client]\ncommands = { per_second = 10, burst = 3 }\n[uid]\njoins = 0\n";
         let found = read(text).unwrap();
         assert_eq!(found.over, Over::Refuse);
         assert_eq!(found.command_time, Some(Duration::from_secs(5)));

@@ -141,7 +141,12 @@ pub struct Server {
 
 impl Server {
     /// Starts a server.
-    pub fn start(program: &OsString, args: &[OsString], record: Option<Record>, memory: Option<u64>) -> Result<Server, Ended> {
+    pub fn start(
+        program: &OsString,
+        args: &[OsString],
+        record: Option<Record>,
+        memory: Option<u64>,
+    ) -> Result<Server, Ended> {
         let mut child = started(program, args, true, memory)?;
         let pipes = child.stdin.take().zip(child.stdout.take());
         let (input, output) = pipes.ok_or_else(|| Ended("the server has no pipes".to_string()))?;
