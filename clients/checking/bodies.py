@@ -21,7 +21,7 @@ Check = Callable[["Body", Node], None]
 
 
 class ActionForm(NamedTuple):
-    """An action: what stands at its word, at the keys that it needs, and at those that it may have."""
+    """An action: the values of its word, of the keys that it needs, and of those that it may have."""
 
     holds: Check
     needed: dict[str, Check] = {}
@@ -67,7 +67,7 @@ class Body:
         word, form = words[0], ACTIONS[words[0]]
         self.form.keys(node, f"the action {quoted(word)}", [word, *form.needed], list(form.further))
         if word == "disconnect" and "method" in members and "to" not in members:
-            self.form.fault(members["method"].key, 'a "method" is disconnected only beside the key "to", whose method it is')
+            self.form.fault(members["method"].key, 'a "method" is disconnected only together with the key "to", whose method it is')
         for key, holds in {word: form.holds, **form.needed, **form.further}.items():
             if key in members:
                 holds(self, members[key].value)
@@ -86,7 +86,7 @@ class Body:
         self.form.one_of(node, "the type of a connection", TYPES)
 
     def truth(self, node: Node) -> None:
-        self.form.truth(node, f"what stands at {quoted(str(node.step))}")
+        self.form.truth(node, f"the value of {quoted(str(node.step))}")
 
     def target(self, node: Node) -> None:
         """An object that is meant."""
@@ -109,7 +109,7 @@ class Body:
     # ---- expressions ----
 
     def expressions(self, node: Node) -> None:
-        for it in self.form.items(node, "what stands at \"args\""):
+        for it in self.form.items(node, "the value of \"args\""):
             self.expression(it)
 
     def expression(self, node: Node) -> None:

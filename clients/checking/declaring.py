@@ -1,4 +1,4 @@
-"""What the classes of a file declare, one behind another, and the faults in that."""
+"""What the classes of a file declare, one after another, and the faults in that."""
 
 from __future__ import annotations
 
@@ -100,7 +100,7 @@ class Declaring:
         if form.name is None:
             return
         if form.name in self.classes:
-            whose = "which every file has" if form.name == BASE else "which stands before this one"
+            whose = "which every file has" if form.name == BASE else "which is earlier in the file"
             self.fault(Step.NAME, form.node.get("name"), f"there is a class {quoted(form.name)} already, {whose}")
         else:
             self.classes[form.name] = made
@@ -109,7 +109,7 @@ class Declaring:
         if form.above is None or form.above in self.classes:
             return self.classes.get(form.above or "")
         if form.above in names:
-            where = "is this class itself" if form.above == form.name else "stands behind this class, and has to stand before it"
+            where = "is this class itself" if form.above == form.name else "is declared after this class, and has to be declared before it"
             words = f"the superclass {quoted(form.above)} {where}"
         else:
             words = f"there is no class {quoted(form.above)} before this one{meant(form.above, self.classes)}"
@@ -165,22 +165,22 @@ class Declaring:
                 self.findings.fault(Step.NUMBER, form.node, words)
 
     def notify(self, form: PropertyForm, made: Declared) -> None:
-        """Looks at the signal that tells of a property's changes."""
+        """Looks at the signal that announces a property's changes."""
         node = form.node.get("notify")
         if node is None or node.text() is None:
             return
-        signature = Form(self.findings, Step.NOTIFY).signature(node, "a signal that tells of changes")
+        signature = Form(self.findings, Step.NOTIFY).signature(node, "a signal that announces changes")
         if signature is None:
             return
         word = made.method(signature)
         if word == SLOT:
-            self.fault(Step.NOTIFY, node, f"{signature.text()} is a slot, and changes are told of by a signal")
+            self.fault(Step.NOTIFY, node, f"{signature.text()} is a slot, and only a signal announces changes")
         elif word is None and made.is_whole:
             words = f"neither this class nor a superclass has a signal {signature.text()}"
             self.fault(Step.NOTIFY, node, words + meant(signature.text(), made.signals()))
         elif len(signature.kinds) > 1 or form.kind and signature.kinds not in ((), (form.kind,)):
             asked = f"one of the type {form.kind}" if form.kind else "one of the property's type"
-            words = f"a signal that tells of changes has no parameter, or {asked}, unlike {signature.text()}"
+            words = f"a signal that announces changes has no parameter, or {asked}, unlike {signature.text()}"
             self.fault(Step.NOTIFY, node, words)
 
     def body(self, sig: Node | None, body: Node | None) -> None:

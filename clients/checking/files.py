@@ -27,7 +27,7 @@ def checked(raw: bytes, is_declared_only: bool = False) -> Checked:
     """Checks a class file of these bytes; `is_declared_only` says that no dynamic properties are meant."""
     findings = Findings()
     if len(raw) > MOST_BYTES:
-        words = f"a class file has at most {MOST_BYTES:,} bytes, and this one has more; what is in it is not looked at"
+        words = f"a class file has at most {MOST_BYTES:,} bytes, and this is larger; its content is not checked"
         findings.fault(Step.BYTES, Node(0), words)
         return Checked("", findings)
     try:
@@ -51,7 +51,7 @@ def root_of(text: str, findings: Findings) -> Node | None:
 
 
 def check(root: Node, findings: Findings, is_declared_only: bool) -> None:
-    """Looks for all faults, and where there is none for mistakes."""
+    """Looks for all faults, and if there are no faults, for mistakes."""
     keys_again(root, findings)
     forms = classes_in(root, findings)
     declaring = Declaring(findings)
@@ -63,7 +63,7 @@ def check(root: Node, findings: Findings, is_declared_only: bool) -> None:
 
 
 def keys_again(root: Node, findings: Findings) -> None:
-    """Looks for keys that stand twice."""
+    """Looks for keys that occur twice in an object."""
     left = [root]
     while left:
         node = left.pop()
@@ -72,5 +72,5 @@ def keys_again(root: Node, findings: Findings) -> None:
             left += [member.value for member in node.held.counted.values()]
             for key in node.held.again:
                 name = quoted(key.text() or "")
-                words = f"the key {name} stands here again, and what stood at it before does not count"
+                words = f"the key {name} occurs here again, and its earlier value does not count"
                 findings.mistake(Mistake.KEY, key, words)

@@ -1,4 +1,4 @@
-"""What is said of a class file: its faults, of which metad names the first that it comes to, and what is surely not meant."""
+"""What is said about a class file: its faults (metad names the first that it finds), and what is surely not meant."""
 
 from __future__ import annotations
 
@@ -31,7 +31,7 @@ class Step(Enum):
 class Mistake(Enum):
     """What loads and is surely not meant, each with what it means."""
 
-    KEY = ("W01", "a key stands twice in an object, of which only the last counts")
+    KEY = ("W01", "a key occurs twice in an object, and only the last one counts")
     METHOD = ("W02", "no object that is meant has such a signal or method: E05 whenever the action is done")
     PROPERTY = ("W03", "no class declares the property, so that a dynamic one is meant, which tells nothing")
     VALUE = ("W04", "a value is of another kind or number than is asked for: E22 whenever the action is done")
@@ -41,17 +41,17 @@ class Mistake(Enum):
 
 
 class Place(NamedTuple):
-    """The class, the slot and the action in which something stands, as far as they are known. Numbers count from 1."""
+    """The class, the slot and the action of a finding, as far as they are known. Numbers count from 1."""
 
     number: int = 0  # of the class; 0 is the file as a whole
     class_name: str | None = None
-    slot: int = 0  # 0 where it stands in no slot
+    slot: int = 0  # 0 outside slots
     signature: str | None = None
     action: str | None = None
 
 
 class Finding(NamedTuple):
-    """A fault or a mistake. `order` is where metad comes to a fault; a mistake has none."""
+    """A fault or a mistake. `order` is when metad finds a fault; a mistake has no order."""
 
     node: Node
     code: str
@@ -65,7 +65,7 @@ class Finding(NamedTuple):
 
 
 def place_of(node: Node) -> Place:
-    """Where a value stands, by the arrays and objects that hold it."""
+    """The path of a value through the arrays and objects that hold it."""
     above = node.above()
     steps = [it.step for it in above]
     if len(above) < 3 or steps[1] != "classes" or not isinstance(steps[2], int):
@@ -80,7 +80,7 @@ def place_of(node: Node) -> Place:
 
 
 def normal(text: str | None) -> str | None:
-    """The normal text of a signature, or the text itself where it is none."""
+    """The normal text of a signature, or the text itself if it is not a signature."""
     try:
         return None if text is None else signature_of(text).text()
     except NoSignature:
@@ -88,7 +88,7 @@ def normal(text: str | None) -> str | None:
 
 
 def action_of(above: list[Node]) -> str:
-    """Which action of a body it is: `2`, or `2, then 1` where it stands in a branch."""
+    """Which action of a body it is: `2`, or `2, then 1` in a branch."""
     words = [str(int(above[0].step) + 1)]
     for branch, item in zip(above[1::2], above[2::2]):
         if branch.step not in BRANCHES or not isinstance(item.step, int):

@@ -113,7 +113,7 @@ def classes_in(root: Node, findings: Findings) -> list[ClassForm]:
     """The classes of a file."""
     form = Form(findings, Step.FORM)
     form.keys(root, "a class file", ["classes"])
-    nodes = form.items(root.get("classes"), "what stands at \"classes\"")
+    nodes = form.items(root.get("classes"), "the value of \"classes\"")
     if len(nodes) > MOST_CLASSES:
         words = f"a class file has at most {MOST_CLASSES} classes, and this one has {len(nodes)}"
         findings.fault(Step.CLASSES, root.get("classes") or root, words)
@@ -123,9 +123,9 @@ def classes_in(root: Node, findings: Findings) -> list[ClassForm]:
 def class_in(node: Node, form: Form) -> ClassForm:
     if not form.keys(node, "a class", ["name", "super"], ["signals", "slots", "properties"]):
         return ClassForm(node)
-    signals = form.items(node.get("signals"), "what stands at \"signals\"")
-    slots = form.items(node.get("slots"), "what stands at \"slots\"")
-    properties = form.items(node.get("properties"), "what stands at \"properties\"")
+    signals = form.items(node.get("signals"), "the value of \"signals\"")
+    slots = form.items(node.get("slots"), "the value of \"slots\"")
+    properties = form.items(node.get("properties"), "the value of \"properties\"")
     return ClassForm(
         node,
         form.name(node.get("name"), "what a class is called"),
@@ -147,6 +147,6 @@ def property_in(node: Node, form: Form) -> PropertyForm:
     form.keys(node, "a property", ["name", "type"], ["notify", "bindable"])
     name = form.name(node.get("name"), "what a property is called")
     kind = form.one_of(node.get("type"), "the type of a property", KINDS)
-    form.text(node.get("notify"), "what stands at \"notify\"")
-    form.truth(node.get("bindable"), "what stands at \"bindable\"")
+    form.text(node.get("notify"), "the value of \"notify\"")
+    form.truth(node.get("bindable"), "the value of \"bindable\"")
     return PropertyForm(node, name, kind)

@@ -17,7 +17,7 @@ DIGITS = dict.fromkeys(map(ord, "0123456789"))
 
 
 class Reach:
-    """What objects may have that are of some classes, of which the superclasses are given too."""
+    """What objects of some classes may have; the superclasses are given too."""
 
     def __init__(self, classes: Iterable[Declared]) -> None:
         self.methods: dict[Signature, set[str]] = {}
@@ -84,7 +84,7 @@ def look_for_mistakes(forms: list[ClassForm], classes: dict[str, Declared], find
 
 
 def properties_alike(form: ClassForm, own: Declared, findings: Findings) -> None:
-    """Looks for a property whose name is another one's but for the case of letters."""
+    """Looks for a property whose name differs from another one only by the case of letters."""
     seen = {name for it in own.chain() if it is not own for name in it.properties}
     for it in form.properties:
         name = it.name or ""
@@ -184,10 +184,10 @@ class BodyMistakes:
         if parent.held == moved:
             self.findings.mistake(Mistake.PARENT, parent, "an object cannot be its own parent")
         elif moved == "self" and parent.get("child") is not None:
-            self.findings.mistake(Mistake.PARENT, parent, "a child of self stands below it, and cannot be its parent")
+            self.findings.mistake(Mistake.PARENT, parent, "a child of self is below it, and cannot be its parent")
 
     def method(self, node: Node, key: str, target: str, is_signal: bool) -> Signature | None:
-        """The signature at a key, of which the object of a target may have a method, or a signal; None where it cannot."""
+        """The signature at a key, if the object of a target may have such a method or signal; otherwise None."""
         written, of = node.get(key) or node, node.get(target)
         signature = signature_of(written.text() or "")
         reach = self.known.of(self.own, of)
@@ -197,7 +197,7 @@ class BodyMistakes:
         what = "signal" if is_signal else "signal or slot"
         whose = f"neither {self.own.name} nor a class above or below it" if is_self(of) else "no class of this file"
         missing = f"{whose} has a {what} {signature.text()}{meant(signature.text(), reach.texts(is_signal))}"
-        said = f"{signature.text()} is a slot, and a signal has to stand here" if words else missing
+        said = f"{signature.text()} is a slot, and a signal is needed here" if words else missing
         self.findings.mistake(Mistake.METHOD, written, said)
         return None
 

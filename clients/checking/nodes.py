@@ -1,4 +1,4 @@
-"""The values of a JSON text, each with where it stands."""
+"""The values of a JSON text, each with its path."""
 
 from __future__ import annotations
 
@@ -91,7 +91,7 @@ class Node:
         return found[::-1]
 
     def path(self) -> str:
-        """Where it stands: keys and indices, as `classes[0].slots[2].body[1].to`; empty for the whole text."""
+        """Its path: keys and indices, as `classes[0].slots[2].body[1].to`; empty for the whole text."""
         return "".join(map(spelled, (it.step for it in self.above()[1:]))).lstrip(".")
 
 

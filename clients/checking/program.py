@@ -125,7 +125,7 @@ def severity(it: Finding) -> str:
 
 
 def place_in_words(it: Finding) -> str:
-    """The class, the slot and the action of a finding; empty where it stands in no class."""
+    """The class, the slot and the action of a finding; empty outside classes."""
     place = it.place
     if not place.number:
         return ""

@@ -1,6 +1,6 @@
 """Reading JSON as metad reads it, with the place of each value.
 
-That is the JSON of RFC 8259 in UTF-8 without a byte order mark, at most 127 levels deep, with no surrogate that stands
+That is the JSON of RFC 8259 in UTF-8 without a byte order mark, at most 127 levels deep, with no surrogate that is
 alone and no number beyond all floats of 64 bits. A number is whole where it is written without a point and an exponent, is
 not -0, and has 64 bits.
 """
@@ -53,7 +53,7 @@ class Reader:
         root = Node(0)
         self.value(root, 1)
         if self.next() != "":
-            raise NoJson(self.at, f"the text goes on behind its value, with {self.seen()}")
+            raise NoJson(self.at, f"the text goes on after its value, with {self.seen()}")
         return root
 
     def next(self) -> str:
@@ -63,17 +63,17 @@ class Reader:
         return self.text[self.at : self.at + 1]
 
     def seen(self) -> str:
-        """What stands next, in words."""
+        """What comes next, in words."""
         found = WORD.match(self.text, self.at)
         return quoted(found[0] if found else self.text[self.at : self.at + 1]) if self.at < len(self.text) else "the end"
 
     def value(self, node: Node, level: int) -> None:
-        """Reads the value that comes next into a node; `level` is how deep an array or an object would stand here."""
+        """Reads the value that comes next into a node; `level` is the depth of an array or object here."""
         mark = self.next()
         node.at = self.at
         if mark in ("[", "{"):
             if level > LEVELS:
-                raise NoJson(self.at, f"arrays and objects stand in one another on more than {LEVELS} levels")
+                raise NoJson(self.at, f"arrays and objects are nested more than {LEVELS} levels deep")
             self.array(node, level) if mark == "[" else self.object(node, level)
         elif mark == '"':
             node.held = self.string()
@@ -115,14 +115,14 @@ class Reader:
         return True
 
     def key(self, holder: Node) -> Node:
-        """A key, with the colon behind it."""
+        """A key, with the colon after it."""
         if self.next() != '"':
             raise NoJson(self.at, f"a key is missing, a text in quotes, before {self.seen()}")
         at, name = self.at, self.string()
         key = Node(at, holder, name)
         key.held = name
         if self.next() != ":":
-            raise NoJson(self.at, f"a colon is missing behind the key {quoted(name)}, before {self.seen()}")
+            raise NoJson(self.at, f"a colon is missing after the key {quoted(name)}, before {self.seen()}")
         self.at += 1
         return key
 
@@ -142,7 +142,7 @@ class Reader:
                 self.at += 1
                 return "".join(parts)
             if mark != "\\":
-                raise NoJson(self.at, f"the control character U+{ord(mark):04X} stands in a text; it has to be escaped")
+                raise NoJson(self.at, f"the control character U+{ord(mark):04X} is in a text; it has to be escaped")
             parts.append(self.escape())
 
     def escape(self) -> str:
@@ -157,7 +157,7 @@ class Reader:
         is_pair = high < 0xDC00 and self.text.startswith("\\u", self.at)
         low = self.unit() if is_pair else 0
         if not 0xDC00 <= low < 0xE000:
-            raise NoJson(start, "half of a surrogate pair stands alone, which is no character")
+            raise NoJson(start, "half of a surrogate pair is alone, which is no character")
         return chr(0x10000 + (high - 0xD800) * 1024 + low - 0xDC00)
 
     def unit(self) -> int:

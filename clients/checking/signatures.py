@@ -1,4 +1,4 @@
-"""Names and signatures, and why a text is none."""
+"""Names and signatures, and why a text is not one."""
 
 from __future__ import annotations
 
@@ -17,7 +17,7 @@ KIND = f"({'|'.join(KINDS)})"
 SPACE = f"[{BLANKS}]+"
 PARAMETER = re.compile(rf"{KIND}|const{SPACE}{KIND}(?:[{BLANKS}]*&)?|{KIND}{SPACE}const(?:[{BLANKS}]*&)?", re.ASCII)
 DECLARED = re.compile(rf"[A-Za-z0-9_&{BLANKS}]+", re.ASCII)  # what a parameter in a declaration is made of
-ENDS = re.compile(rf"(?:const|noexcept|override|final|;|{SPACE})*", re.ASCII)  # what a declaration has behind its brackets
+ENDS = re.compile(rf"(?:const|noexcept|override|final|;|{SPACE})*", re.ASCII)  # what a declaration has after its brackets
 HEAD = re.compile(rf"[{BLANKS}]*([A-Za-z0-9_]*)[{BLANKS}]*(\(?)", re.ASCII)
 
 
@@ -60,12 +60,12 @@ def spelled(text: str) -> Signature:
     if why_no_name(name):
         raise NoSignature(why_no_name(name) if name else "a signature begins with a name")
     if not bracket:
-        raise NoSignature("a signature has its types in brackets behind its name, or ()")
-    inside, closing, behind = text[head.end() if head else 0 :].partition(")")
+        raise NoSignature("a signature has its types in brackets after its name, or ()")
+    inside, closing, rest = text[head.end() if head else 0 :].partition(")")
     if not closing:
         raise NoSignature("the bracket is not closed")
-    if behind.strip(BLANKS):
-        raise NoSignature(f"{quoted(behind.strip(BLANKS))} stands behind the closing bracket")
+    if rest.strip(BLANKS):
+        raise NoSignature(f"{quoted(rest.strip(BLANKS))} is after the closing bracket")
     return Signature(name, kinds_of(inside.strip(BLANKS)))
 
 
@@ -91,18 +91,18 @@ def why_no_parameter(part: str) -> str:
     words = [word for word in WORD.findall(part) if word != "const"]
     unknown = [word for word in words if word not in KINDS]
     if not part:
-        return "a parameter is missing beside a comma"
+        return "a parameter is missing next to a comma"
     if unknown == ["void"]:
-        return "void stands alone between the brackets"
+        return "void must be alone between the brackets"
     if unknown:
         return f"{quoted(unknown[0])} is no type, which is {listed(KINDS, 'or')}{meant(unknown[0], KINDS)}"
     if re.fullmatch(rf"{KIND}[{BLANKS}]*&", part):
-        return f"{quoted(part)} is a reference that is not const, and there is none such"
-    return f"{quoted(part)} is no parameter, which is a type, with const before or behind it where wanted, and then &"
+        return f"{quoted(part)} is a reference that is not const, which is not allowed"
+    return f"{quoted(part)} is no parameter, which is a type, optionally with const before or after it, and then &"
 
 
 def why_declared(text: str) -> str:
-    """What to write in place of a declaration as C++ has it, as `int go(int x)`; empty where the text is none, or where its
+    """What to write in place of a declaration as C++ has it, as `int go(int x)`; empty where the text is no declaration, or where its
     signature is not known."""
     before, opening, rest = text.partition("(")
     inside, closing, behind = rest.rpartition(")")
@@ -122,7 +122,7 @@ def why_declared(text: str) -> str:
 
 
 def parameter_of(part: str) -> tuple[str, bool] | None:
-    """The type of a parameter that C++ declares, and whether it has a name; None where its type is none of metad's."""
+    """The type of a parameter that C++ declares, and whether it has a name; None where metad does not have its type."""
     declared = part.partition("=")[0].strip(BLANKS)
     kind, *names = [word for word in WORD.findall(declared) if word != "const"] or [""]
     is_known = kind in KINDS and len(names) < 2 and not any(map(why_no_name, names))

@@ -1,4 +1,4 @@
-"""What sort of value an expression of a body comes to: a truth, a number or a text, where that is known."""
+"""What sort of value an expression of a body has: a truth, a number or a text, where that is known."""
 
 from __future__ import annotations
 

@@ -51,5 +51,5 @@ def alike(word: str, known: Iterable[str]) -> list[str]:
 
 
 def meant(word: str, known: Iterable[str]) -> str:
-    """What may be meant by a word that is not known, behind a sentence; empty where nothing is like it."""
+    """What may be meant by an unknown word, to be added to a sentence; empty where nothing is like it."""
     return "".join(f"; did you mean {quoted(it)}?" for it in alike(word, known))

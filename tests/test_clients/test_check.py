@@ -190,9 +190,9 @@ PLACES = {
         '{"classes":[{"name":"A","super":"QObject","slots":[{"sig":"f()","body":[{"delete":1,"block":true}]}]}]}',
         [(-1, 73, "classes[0].slots[0].body[0]", "C08", 'does one thing, and this has the keys "delete" and "block"')],
     ),
-    "a superclass that stands behind": (
+    "a superclass that is declared later": (
         '{"classes":[{"name":"A","super":"B"},{"name":"B","super":"QObject"}]}',
-        [(-1, 33, "classes[0].super", "C04", "stands behind")],
+        [(-1, 33, "classes[0].super", "C04", "declared after")],
     ),
     "a class above itself": ('{"classes":[{"name":"A","super":"A"}]}', [(-1, 33, "classes[0].super", "C04", "itself")]),
     "a class twice": (
