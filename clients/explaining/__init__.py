@@ -1,9 +1,9 @@
 """What the lines that metad writes mean, in plain words: the parts of `explain`.
 
-`held` says what may stand at a key, `words` how sentences are put together, `replies` what replies mean, `commands`
+`held` says what a key may hold, `words` how sentences are put together, `replies` what replies mean, `commands`
 which commands there are, `faults` what is wrong with a command, `refusing` what else is said of a refusal, `lines`
 which lines the program writes, `objects` and `drawing` what is known of a
 session's objects and how it is drawn, `slots` what the slots of a class file do, `following` what their calls have done,
-`knowledge` what each command makes known, `telling` how a transcript is told, and `program` what the words of the
+`knowledge` what each command makes known, `telling` how a transcript is explained, and `program` what the words of the
 command line ask for.
 """

@@ -108,13 +108,13 @@ NO_MORE_CONNECTIONS = {
 }
 REFUSED: dict[str, dict[str, str]] = {
     "new": {
-        "E14": "the session has as many objects as it may, or the parent stands on the last level",
+        "E14": "the session has as many objects as it may, or the parent is on the last level",
         "E19": "the numbers of the session's objects are used up",
     },
     "deleteLater": {"E14": "the session has as many events as it may"},
     "setParent": {
         "E12": "object {parent} is object {object} or below it, and cannot be its parent",
-        "E14": "something would stand below the last level",
+        "E14": "an object would be below the last level",
         "E19": "the moves of the session are used up",
     },
     "set": {
@@ -150,7 +150,7 @@ REFUSED: dict[str, dict[str, str]] = {
     },
     "join": {
         **NO_SUCH_METHOD,
-        "E06": "the text of the method is no signature, or the types are too many, or one of them is none",
+        "E06": "the text of the method is no signature, there are too many types, or one of them is not a type",
         "E07": "the types of the parameters of {method} are not the first of those that are joined",
         "E14": "the session has as many joins as it may",
     },
@@ -195,7 +195,7 @@ class Command:
         return fitting[0] if fitting else misfit()
 
     def own_objects(self) -> list[int]:
-        """The numbers of the objects that it names, each once, but for those that an expression reads."""
+        """The numbers of the objects that it names, each once, except those that an expression reads."""
         named = (self.asked.get(key, 0) for key in ("object", "parent", "sender", "receiver", "context"))
         return sorted({it for it in named if is_number(it)})
 

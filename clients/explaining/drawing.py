@@ -7,7 +7,7 @@ from typing import Iterator
 from .objects import ROOT, Objects
 from .words import plain, shown
 
-MARKS = {"?": "it may be gone", "...": "there may be more below it"}  # what stands behind an object that is drawn
+MARKS = {"?": "it may be gone", "...": "there may be more below it"}  # what follows an object that is drawn
 
 
 def node(objects: Objects, number: int, may_have_more: bool) -> str:
@@ -29,7 +29,7 @@ def branches(objects: Objects, number: int, may_have_more: bool, front: str = ""
 
 
 def tree(objects: Objects, root: int) -> list[str]:
-    """The lines of a tree, in which further objects may stand where it is not known of others where they do."""
+    """The lines of a tree, which may have further objects where the place of some is not known."""
     may_have_more = any(it != root for it in objects.adrift())
     return [node(objects, root, may_have_more), *branches(objects, root, may_have_more)]
 
@@ -42,4 +42,4 @@ def drawn(objects: Objects) -> list[str]:
         return ["not known, since it had objects before the first of the commands"]
     roots, adrift = objects.below.get(ROOT, []), objects.adrift()
     known, lost = ([line for root in them for line in tree(objects, root)] for them in (roots, adrift))
-    return known + (["where these stand is not known:"] + lost if lost else []) or ["none"]
+    return known + (["the place of these is not known:"] + lost if lost else []) or ["none"]

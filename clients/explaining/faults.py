@@ -90,7 +90,7 @@ def faults_of(asked: Any) -> List[str]:
 
 
 def no_command(do: Any) -> str:
-    """That a word is none, and which was meant."""
+    """That a word is not known, and which was meant."""
     near = difflib.get_close_matches(do, FORMS, 1) if isinstance(do, str) else []
     return "the key do holds no command" + (f"; is {near[0]} meant?" if near else "")
 
@@ -103,7 +103,7 @@ def faults_of_form(do: str, asked: Mapping[str, Any]) -> List[str]:
     faults = [f"{do} has to have the key {key}" for key in sorted(required - keys)]
     faults += [f"{do} has no key {key}" for key in sorted(keys - required - optional)]
     if do == "disconnect" and "method" in keys and "receiver" not in keys:
-        faults.append("disconnect has the key method only beside the key receiver")
+        faults.append("disconnect has the key method only together with the key receiver")
     if "priority" in keys & optional and asked.get("type", "auto") in ("auto", "direct"):
         faults.append(f'{do} has the key priority only with the type "queued"')
     for key in sorted(keys & (required | optional)):
@@ -112,6 +112,6 @@ def faults_of_form(do: str, asked: Mapping[str, Any]) -> List[str]:
 
 
 def fault_at(do: str, key: str, asked: Mapping[str, Any]) -> List[str]:
-    """What is wrong with what stands at a key."""
+    """What is wrong with the value of a key."""
     words, holds = OTHERWISE.get((do, key)) or CHECKS.get(key) or ("any JSON", lambda value: True)
     return [] if holds(asked[key]) else [f"the key {key} has to hold {words}"]

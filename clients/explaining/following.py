@@ -15,9 +15,9 @@ DIRECT = ("set", "invoke", "bind", "unbind", "end")  # commands that delete noth
 def followed(slots: Slots, session: Objects, word: str, calls: Iterable[Call], warned: Collection[int]) -> list[Deed] | None:
     """What the calls of a command did, in order, where it is known.
 
-    A call begins behind its line, and what it calls stands behind that, so it is not said what an action did before a further
-    call and what behind it. It is known where no action was refused of the slots that move or delete, none of them stands
-    in a branch, and each but the last has moved what it moves before it calls others.
+    A call begins after its line, and the calls that it makes follow, so the lines do not say what an action did before a
+    further call and what after it. That is known if no action of the slots that move or delete was refused, none of them is
+    in a branch, and each except the last has moved what it moves before it calls others.
     """
     done: list[list[Deed]] = []
     for call in calls:

@@ -1,4 +1,4 @@
-"""What may stand at a key of a line or of a command."""
+"""What a key of a line or of a command may hold."""
 
 from __future__ import annotations
 
@@ -7,7 +7,7 @@ from typing import Any, Callable
 
 LEVELS = 128  # of arrays and objects in one another, which JSON has at most for metad
 
-Holds = Callable[[Any], bool]  # whether a value is one that may stand somewhere
+Holds = Callable[[Any], bool]  # whether a key may hold a value
 
 
 def is_whole(value: Any) -> bool:

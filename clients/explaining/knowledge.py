@@ -1,4 +1,4 @@
-"""What a transcript tells of the objects of all sessions, command by command."""
+"""What a transcript says about the objects of all sessions, command by command."""
 
 from __future__ import annotations
 
@@ -40,8 +40,8 @@ class Knowledge:
         return followed(self.slots, session, word, self.calls, self.warned) if self.slots else None
 
     def settle(self, session: Objects, word: str) -> list[Deed] | None:
-        """Leaves of what was known what the command's calls leave, but for what they are known to have moved; answers that,
-        or None where they may have changed anything."""
+        """Keeps what is still known after the command's calls; answers what they are known to have moved, or None where they
+        may have changed anything."""
         deeds = self.deeds(session, word)
         if deeds is None:
             session.shake()
@@ -72,7 +72,7 @@ class Knowledge:
             move(session, deeds or [])
 
     def missing(self, name: str, numbers: Collection[int]) -> str:
-        """Which of these objects are not there, of which one at least is not, when a session is told so."""
+        """Which of these objects do not exist, when a session receives that at least one does not."""
         session = self.sessions.get(name, Objects())
         made = session.classes.keys()
         missing = [it for it in numbers if it in session.gone or it not in made and not session.has_earlier]
@@ -125,7 +125,7 @@ def tie(session: Objects, word: str, target: int, reply: Any) -> None:
 
 
 def tell(session: Objects, word: str, asked: Asked, target: int, reply: Any) -> None:
-    """What a command did, or tells, that stands where it stood."""
+    """What a command did or replied that leaves objects in their places."""
     if word == "setParent":
         session.put(target, asked["parent"] or ROOT)
     elif word == "deleteLater":

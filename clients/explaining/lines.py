@@ -139,7 +139,7 @@ class InError(Line):
 
 @dataclass(frozen=True)
 class OfFront(Line):
-    """The result of a `spin` that a front has given by itself, for a live session. It answers no command of the client."""
+    """The result of a `spin` that a front has given for a live session. It answers no command of the client."""
 
     front: str
     reply: Any = None

@@ -12,8 +12,8 @@ ROOT = 0  # stands for the parent of a root; no object has this number
 class Objects:
     """What is known of the objects of a session, between commands.
 
-    A known parent is the parent that the object has if it stands; of an object in `whole` all children
-    that stand are known, in their order.
+    A known parent is the object's parent if the object exists; of an object in `whole` all children that exist are known,
+    in their order.
     """
 
     def __init__(self) -> None:
@@ -52,10 +52,10 @@ class Objects:
     def unbind(self, number: int) -> None:
         self.bound.discard(number)
 
-    # ---- where they stand ----
+    # ---- their places ----
 
     def put(self, number: int, parent: int) -> None:
-        """An object, if it stands, is a child of this one, its newest where it was not before."""
+        """An object, if it exists, is a child of this one, its newest if it was not before."""
         if self.parents.get(number) == parent:
             return
         if number in self.tree_above(parent):
@@ -69,7 +69,7 @@ class Objects:
             self.below[self.parents.pop(number)].remove(number)
 
     def tree_above(self, number: int) -> list[int]:
-        """An object and those that are known to stand above it."""
+        """An object and those that are known to be above it."""
         above = [number]
         while above[-1] in self.parents:
             above.append(self.parents[above[-1]])
@@ -83,7 +83,7 @@ class Objects:
         return found
 
     def child(self, number: int, name: str) -> int | None:
-        """The object of this name that stands below another one for certain, where it is known which that is, or None."""
+        """The object of this name that is certainly below another one, where it is known which that is, or None."""
         level = [number]
         while level and self.whole.issuperset(level):
             level = [it for above in level for it in self.below.get(above, [])]
@@ -95,14 +95,14 @@ class Objects:
         return None
 
     def all(self) -> list[int]:
-        """The objects that may stand, by number."""
+        """The objects that may exist, by number."""
         return sorted(self.classes.keys() - self.gone)
 
     def adrift(self) -> list[int]:
-        """The objects that may stand, it is not known where."""
+        """The objects that may exist at an unknown place."""
         return [it for it in self.all() if it not in self.parents]
 
-    # ---- whether they stand ----
+    # ---- whether they exist ----
 
     def meet(self, numbers: Iterable[int]) -> None:
         """These objects are named, and so were made before."""
@@ -137,11 +137,11 @@ class Objects:
         self.doubt(self.adrift())
 
     def doubt(self, numbers: Iterable[int]) -> None:
-        """It is not known any more that these stand, and what is below them."""
+        """It is no longer known that these exist, and what is below them."""
         for number in numbers:
             self.sure.difference_update(self.tree_below(number))
 
-    # ---- what is told of them ----
+    # ---- what is said about them ----
 
     def shake(self) -> None:
         """Slots may have moved, named and deleted any object, and asked for deletions."""
@@ -176,7 +176,7 @@ class Objects:
         self.posted, self.may_wait = set(), False
 
     def count(self, objects: int, queued: int) -> None:
-        """So many objects stand, and so many events wait."""
+        """So many objects exist, and so many events wait."""
         if queued == 0:
             self.forget_events()
         if objects == len(self.sure):

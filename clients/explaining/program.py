@@ -47,7 +47,7 @@ class Words(argparse.Namespace):
 def words() -> Words:
     """The words of the command line; the text of the help where they ask for it."""
     parser = parser_of(NAME, "Says in plain words what each line means that metad writes, read from standard input.", HELP)
-    parser.add_argument("--commands", metavar="FILE", help="the input that the lines answer, as it was given to metad")
+    parser.add_argument("--commands", metavar="FILE", help="the input that the lines answer, the same that metad was given")
     drawn = "draw at the end what is known of the objects of each session; needs --commands"
     parser.add_argument("--tree", action="store_true", help=drawn)
     slots = "the class file that metad was given, by which the tree is known better; needs --tree"

@@ -1,4 +1,4 @@
-"""What is said of a refusal beside its code: which objects are missing, which keys are at fault, and what to do. `explain` and
+"""What is said about a refusal in addition to its code: which objects are missing, which keys are at fault, and what to do. `explain` and
 the shell say the same."""
 
 from __future__ import annotations
@@ -14,5 +14,5 @@ def missing_said(number: int, was_made: bool, label: str = "") -> str:
 
 
 def further(faults: List[str], to_do: str) -> List[str]:
-    """What stands below a refusal: the faults of its line, where they are known, and what to do about its code."""
+    """What is printed below a refusal: the faults of its line, where they are known, and what to do about its code."""
     return [*faults, *([f"to do: {to_do}"] if to_do else [])]

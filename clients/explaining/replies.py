@@ -128,7 +128,7 @@ def connected_to(called: str, asked: Asked, reply: int) -> str:
 
 def said_of_disconnect(asked: Asked, reply: Any) -> str:
     if "connection" in asked:
-        return f"connection {asked['connection']} {'is broken' if reply else 'does not stand'}"
+        return f"connection {asked['connection']} {'is broken' if reply else 'does not exist'}"
     signal = f"{plain(asked['signal'])} of " if "signal" in asked else ""
     method = f"{plain(asked['method'])} of " if "method" in asked else ""
     end = f" to {method}object {asked['receiver']}" if "receiver" in asked else ""
@@ -165,8 +165,8 @@ def said_of_status(asked: Asked, reply: Any) -> str:
     said = f"the session has {counted(reply['objects'], 'object')} and {counted(reply['connections'], 'connection')}"
     told = {"objects", "connections", "queued", "lost", "mismatched"}
     further = [f"{plain(key)} {shown(value)}" for key, value in reply.items() if key not in told and value != 0]
-    behind = f"; {listed(further)}" if further else ""
-    return f"{said}, and {counted(reply['queued'], 'event')} in its queue; {lost_of(reply)}{behind}"
+    rest = f"; {listed(further)}" if further else ""
+    return f"{said}, and {counted(reply['queued'], 'event')} in its queue; {lost_of(reply)}{rest}"
 
 
 # ---- publications and joins ----

@@ -25,7 +25,7 @@ class Refused(Exception):
 @dataclass(frozen=True)
 class Deed:
     """What an action of a call does: one of `MOVES`, `deleteLater`, `name` where it writes the name of an object, or `call`
-    where it may only call others. It is sure where it does not stand in a branch."""
+    where it may only call others. It is sure outside branches."""
 
     word: str
     call: Call

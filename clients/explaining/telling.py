@@ -1,4 +1,4 @@
-"""How a transcript is told, line by line, beside the commands that it answers."""
+"""How a transcript is explained, line by line, next to the commands that it answers."""
 
 from __future__ import annotations
 
@@ -17,7 +17,7 @@ from .words import Misfit, counted, plain
 
 @dataclass
 class Telling:
-    """A transcript that is told, and the commands that it answers. `advise` says what to do about a code."""
+    """A transcript that is explained, and the commands that it answers. `advise` says what to do about a code."""
 
     say: Callable[[Said], None]
     commands: Iterator[Command] | None = None
@@ -87,8 +87,8 @@ class Telling:
         first = self.command or next(self.commands, None)
         if first:
             further = sum(1 for _ in self.commands)
-            behind = f", and behind it {counted(further, 'line')} without one" if further else ""
-            self.mean(f"line {first.number} of the commands has no answer{behind}")
+            rest = f"; unanswered after it: {counted(further, 'line')}" if further else ""
+            self.mean(f"line {first.number} of the commands has no answer{rest}")
 
     def draw(self) -> None:
         """Says what is known of the objects of each session, and what the marks there mean."""

@@ -25,7 +25,7 @@ CODES = {
     "E17": "no group is open",
     "E18": "the property may not be bound, nor be read by a binding",
     "E19": "the numbers are used up",
-    "E20": "the session has failed for want of memory, and answers nothing else before its reset",
+    "E20": "the session has failed because it ran out of memory, and answers nothing else before its reset",
     "E21": "there was no memory for it; all that the session held is gone",
     "E22": "a value is of a wrong kind or form",
     "E23": "the turns are used up",

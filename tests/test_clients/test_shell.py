@@ -246,7 +246,7 @@ class Words(ShellCases):
             ('{"do":"status"}', "    the key session is missing"),
             (
                 '{"session":"a","do":"disconnect","sender":1,"method":"note()"}',
-                "    disconnect has the key method only beside the key receiver",
+                "    disconnect has the key method only together with the key receiver",
             ),
             ("newt", "not sent: there is no command `newt`; is `new` meant?"),
             ("connect p.ping", "    write: connect OBJECT.SIGNAL -> OBJECT.METHOD"),
