@@ -45,7 +45,7 @@ def lines_in(folder, ending):
 
 
 def long_lines_in(folder):
-    """Where lines of code, definitions and proofs stand that are longer than they may be."""
+    """The places of lines of code, definitions and proofs that are longer than they may be."""
     paths = [*folder.glob("src/**/*.rt"), *folder.glob("specs/**/*.antt"), *folder.glob("proofs/**/*.antt")]
     lines = ((path, number, line) for path in sorted(paths) for number, line in enumerate(path.read_text().splitlines(), 1))
     return [f"{path.relative_to(folder)}:{number}" for path, number, line in lines if len(line) > MOST_IN_LINE]

@@ -1,7 +1,7 @@
 #!/usr/bin/env python3
-"""Proves the crates that a program stands on, side by side where they do not need each other.
+"""Proves the crates that a program builds on, side by side where they do not need each other.
 
-A crate is begun as soon as all that it stands on is built, those at the foot of the longest chains first; of
+A crate is begun as soon as all that it builds on is ready, those at the foot of the longest chains first; of
 those that are under way the one at the foot of the longest chain is proved with as many jobs as there are
 processors. What `rt` says goes to the crate's own `out/build.log`; of a crate that fails it is shown.
 One `rt` keeps others out of every crate that it reads, so each works on links to the sources and libraries.
@@ -64,7 +64,7 @@ def link(folder, copy):
 
 
 def build(repository, name, below, words, jobs):
-    """Builds one crate beside others, and tells whether that went well."""
+    """Builds one crate while others are built, and answers whether that went well."""
     work = repository / "bin" / "build" / name
     shutil.rmtree(work, ignore_errors=True)
     (work / "crates").mkdir(parents=True)
@@ -86,7 +86,7 @@ def build(repository, name, below, words, jobs):
 
 
 def build_all(repository, crates):
-    """Builds the crates, each after what it stands on; answers the first that fails, or None."""
+    """Builds the crates, each after those it builds on; answers the first that fails, or None."""
     heights = heights_of(crates, {name: lines_of(repository / "crates" / name) for name in crates})
     waiting, built, running = set(crates), set(), {}
     start = time.monotonic()
@@ -109,7 +109,7 @@ def build_all(repository, crates):
 
 def options():
     """The words of the command line."""
-    parser = argparse.ArgumentParser(description="Proves and builds a program and the crates that it stands on.")
+    parser = argparse.ArgumentParser(description="Proves and builds a program and the crates that it builds on.")
     parser.add_argument("repository", type=Path, help="the folder that has crates.txt in it")
     parser.add_argument("program", help="the crate of the program")
     given = parser.parse_args()

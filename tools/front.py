@@ -1,8 +1,8 @@
 #!/usr/bin/env python3
 """Builds the front, front/, as bin/metad-front; or what loads it to measure it, as bin/metad-load; or
-runs the tests beside its code; or installs what that needs.
+runs the tests in its code; or installs what that needs.
 
-The crates that it stands on are taken from Debian's packages where these are installed, and otherwise cargo fetches them.
+The crates that it uses are taken from Debian's packages where these are installed, and otherwise cargo fetches them.
 Usage: front.py build|load|test|needs
 """
 

@@ -1,7 +1,7 @@
 #!/usr/bin/env python3
 """Writes every list of commands, codes and limits that is made of the tables of docs/PROTOCOL.md.
 
-A generated file says so in its first line. In a page that people write, a list stands between two comments, `list: NAME` and
+A generated file says so in its first line. In a page that people write, a list is between two comments, `list: NAME` and
 `end of list`. Programs tools/*_commands.py write the lists of further clients, and are run too.
 
 With --check nothing is written, and the status is 1 where a list is not what the tables make of it. With --rename the word of a
@@ -40,7 +40,7 @@ RECORDED = ("*.md", "docs/*.md", "docs/*/*.md", "examples/*/*", "tests/**/*", "c
 
 
 def listed(path: str) -> str:
-    """A page with its lists made anew."""
+    """A page with its lists made again."""
     text = (ROOT / path).read_text()
     for name, writer in PAGES[path].items():
         begin, end = pages.marks(path, name)

@@ -2,7 +2,7 @@
 """Packs bin/metad as it is, with all that `make install` installs: as a tarball for any folder, or for Debian.
 
 The same files make the same bytes, on any day and by anybody: all that a package holds has the time of the newest
-commit, or that of SOURCE_DATE_EPOCH, and belongs to root. SHA256SUMS beside it has the checksums of all packages there.
+commit, or that of SOURCE_DATE_EPOCH, and belongs to root. SHA256SUMS in its folder has the checksums of all packages there.
 Usage: package.py tarball|debian FOLDER
 """
 
@@ -33,9 +33,9 @@ PACKAGES = {**dict.fromkeys(OF_GLIBC, "libc6"), "libgcc_s.so": "libgcc-s1"}
 OLDEST_PYTHON = "3.8"
 
 ABOUT = """\
-metad {version}, for x86-64 Linux with glibc {glibc} or later; the tools need Python {python} or later beside it.
+metad {version}, for x86-64 Linux with glibc {glibc} or later; the tools also need Python {python} or later.
 
-This folder may stand anywhere. With its bin/ on the path there are metad, metad-front, metad-shell, metad-check,
+This folder may be anywhere. With its bin/ on the path there are metad, metad-front, metad-shell, metad-check,
 metad-explain, metad-slice and metad-inspect; with share/metad/python on PYTHONPATH programs in Python find the client.
 Programs in JavaScript import share/metad/js/index.mjs.
 man -l share/man/man1/metad.1 shows the manual page, and share/doc/metad/README.md leads to the documents. sha256sum
@@ -225,7 +225,7 @@ MAKERS: Dict[str, Callable[[Path], Path]] = {"tarball": tarball, "debian": debia
 def main() -> int:
     words = argparse.ArgumentParser(description="Packs bin/metad as it is, with all that `make install` installs.")
     words.add_argument("kind", choices=MAKERS, help="a tarball for any folder, or a package for Debian")
-    words.add_argument("folder", type=Path, help="where it is put, with SHA256SUMS beside it")
+    words.add_argument("folder", type=Path, help="where it is put, with its SHA256SUMS")
     given = words.parse_args()
     try:
         given.folder.mkdir(parents=True, exist_ok=True)

@@ -85,7 +85,7 @@ class Form(NamedTuple):
 
 
 class Command(NamedTuple):
-    """A command with its forms, of which most have one."""
+    """A command with its forms; most commands have one form."""
 
     word: str
     forms: Tuple[Form, ...]

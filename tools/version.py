@@ -1,5 +1,5 @@
 #!/usr/bin/env python3
-"""Raises the version of metad, wherever it stands, and begins its part of CHANGELOG.md.
+"""Raises the version of metad wherever it occurs, and begins its part of CHANGELOG.md.
 
 Usage: version.py REPOSITORY VERSION
 """
@@ -30,7 +30,7 @@ def raised(root, new):
     texts = {path: (root / path).read_text() for path in PLACES}
     missing = [str(path) for path, text in texts.items() if old not in text]
     if missing:
-        raise ValueError(f"{old} does not stand in {', '.join(missing)}")
+        raise ValueError(f"{old} does not occur in {', '.join(missing)}")
     texts = {path: text.replace(old, new) for path, text in texts.items()}
     return {**texts, CHANGES: begun((root / CHANGES).read_text(), old, new)}
 

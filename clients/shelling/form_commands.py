@@ -28,7 +28,7 @@ PLAIN: Dict[str, Tuple[str, str]] = {
     "describe": ("describe CLASS", "class"),
     "functors": ("functors", "nothing"),
     "reset": ("reset", "nothing"),
-}  # how a command is typed, and what stands after its word
+}  # how a command is typed, and what follows its word
 DOES: Dict[str, str] = {
     "new": "makes an object, a root or below a parent",
     "delete": "deletes an object and all below it",

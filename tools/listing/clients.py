@@ -27,7 +27,7 @@ from typing import Dict, Tuple
 
 PLAIN: Dict[str, Tuple[str, str]] = {{
 {plain}
-}}  # how a command is typed, and what stands after its word
+}}  # how a command is typed, and what follows its word
 DOES: Dict[str, str] = {{
 {does}
 }}

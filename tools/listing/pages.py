@@ -6,11 +6,11 @@ from typing import Iterable, Tuple
 
 from tools import protocol
 
-IN_PROSE = ("turns of a command", "sessions")  # limits of which the manual page tells in sentences
+IN_PROSE = ("turns of a command", "sessions")  # limits that the manual page explains in sentences
 
 
 def marks(path: str, name: str) -> Tuple[str, str]:
-    """The two comments between which a list stands."""
+    """The two comments around a list."""
     begin, end = ("<!-- ", " -->\n") if path.endswith(".md") else ('.\\" ', "\n")
     return f"{begin}list: {name}{end}", f"{begin}end of list{end}"
 
@@ -37,7 +37,7 @@ def manual_codes() -> str:
 
 
 def manual_limits() -> str:
-    """The limits, but for those that the page explains in sentences."""
+    """The limits, except those that the page explains in sentences."""
     listed = [(what, most) for what, most in protocol.limits() if not what.startswith(IN_PROSE)]
     return entries((roff(most.partition(":")[0]), roff(what.replace(" above", ""))) for what, most in listed)
 

@@ -138,7 +138,7 @@ def parameters(command: Command) -> Iterable[str]:
 
 
 def required(key: Key) -> str:
-    """The parameter of a key that is required. Arguments of a call may be left out where there are none."""
+    """The parameter of a key that is required. The arguments of a call may be left out if it has no parameters."""
     return f"{safe(key.name)}: {TYPES[key.kind]}{' = ()' if key.kind == 'values' else ''}"
 
 
