@@ -11,9 +11,9 @@ from typing import Iterator, Optional
 from .prompting import Prompt
 from .shell import Shell
 
-SPIN = {"do": "spin"}  # the command that the front gives by itself
+SPIN = {"do": "spin"}  # the command that the front gives on its own
 WAKES = signal.SIGUSR1  # of the main thread, while that waits for a key
-PAUSE = 0.05  # seconds between two such signals, of which one may come just before the wait for a key
+PAUSE = 0.05  # seconds between two such signals; one may come just before the wait for a key
 
 
 class Arrivals:

@@ -31,7 +31,7 @@ class Completer:
         self.found: List[str] = []
 
     def __call__(self, word: str, state: int) -> Optional[str]:
-        """The candidate of this number, or None behind the last."""
+        """The candidate of this number, or None after the last."""
         if state == 0:
             try:
                 self.found = candidates(self.shell, readline.get_line_buffer()[: readline.get_begidx()], word)
@@ -41,7 +41,7 @@ class Completer:
 
 
 def candidates(shell: Shell, before: str, word: str) -> List[str]:
-    """What a word may be that begins so, behind what stands before it."""
+    """What a word may be that begins so, after the words before it."""
     words = before.split()
     if "." in word:
         found = members(shell, word.split(".", 1)[0], is_first=not words)
@@ -90,7 +90,7 @@ def property_names(shell: Shell, number: int) -> List[str]:
 
 
 def members(shell: Shell, label: str, is_first: bool) -> List[str]:
-    """The methods and properties of an object; where values stand behind a method, it ends with a bracket."""
+    """The methods and properties of an object; a method that takes values ends with a bracket."""
     scene = shell.scene()
     number = int(label) if label.isdigit() else scene.known.numbers.get(label)
     if number is None:
@@ -125,7 +125,7 @@ def prepare(shell: Shell) -> None:
         if path is not None:
             readline.read_history_file(path)
     except (OSError, ValueError):
-        pass  # there is none yet, or it cannot be read
+        pass  # it does not exist yet, or cannot be read
 
 
 def keep_history() -> None:
@@ -137,4 +137,4 @@ def keep_history() -> None:
         path.parent.mkdir(mode=0o700, parents=True, exist_ok=True)
         readline.write_history_file(path)
     except (OSError, ValueError):
-        pass  # then there is none
+        pass  # then it is not there

@@ -29,7 +29,7 @@ class Request:
 
 @dataclass(frozen=True)
 class Form:
-    """A short form: how it is written, what it does, and how what stands behind its word is read."""
+    """A short form: how it is written, what it does, and how the words after it are read."""
 
     usage: str
     does: str
@@ -42,7 +42,7 @@ def given(**keys: Any) -> Dict[str, Any]:
 
 
 def read_new(words: Words, scene: Scene) -> Request:
-    """Reads what is to be made, where it is to stand and what it is to be called."""
+    """Reads what is to be made, its parent and its name."""
     keys: Dict[str, Any] = {"class": words.take(NAME, "a class")}
     if words.maybe_word("in") is not None:
         keys["parent"] = scene.object_at(words)
@@ -113,7 +113,7 @@ def read_bind(words: Words, scene: Scene) -> Request:
     """Reads a property and its expression, in JSON or as one writes it."""
     number, name = scene.property_at(words)
     if words.maybe_word("to") is not None:
-        to = words.take_value("an expression in JSON; behind `=` it is one as `x + 1`")
+        to = words.take_value("an expression in JSON; after `=` it is one as `x + 1`")
     else:
         words.take("=", "`=` and an expression, or `to` and one in JSON")
         to = expression_of(words.rest, scene.known.number_of)
@@ -248,7 +248,7 @@ FURTHER = {
     "block": "`unblock` lets them through",
     "connect": "`p.ping` is enough where there is one ping; a functor takes the place of a slot",
     "join": "without TYPES they are those of the method",
-}  # what is said beside what a command does
+}  # what is said in addition to what a command does
 
 
 def all_forms() -> Iterator[Tuple[str, Form]]:
@@ -318,13 +318,13 @@ def called(scene: Scene, number: int, name: str, rest: str) -> Request:
     """A method with its arguments, and the way of its call."""
     found = LAST.fullmatch(rest)
     if found is None or found.group(2) not in ("", *WAYS):
-        raise Mistake(f"wanted is `{name}([VALUE, ..])`, and behind it nothing or {', '.join(WAYS)}; a value is {VALUE}")
+        raise Mistake(f"wanted is `{name}([VALUE, ..])`, and after it nothing or {', '.join(WAYS)}; a value is {VALUE}")
     values = values_in(found.group(1))
     method = scene.method_for(number, name, values)
     return Request("invoke", {"object": number, "method": method, "args": values, **given(type=found.group(2) or None)})
 
 
 def strange(word: str, known: List[str]) -> str:
-    """That a word is none, and which was meant."""
+    """That a word is not known, and which was meant."""
     near = difflib.get_close_matches(word, known, 1)
     return f"there is no command `{word}`" + (f"; is `{near[0]}` meant?" if near else "; `help` lists the commands")

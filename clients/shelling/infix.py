@@ -42,13 +42,13 @@ class Infix:
         return {"if": [test, held, self.expression()]}
 
     def comparison(self) -> Form:
-        """One sum, or two of which one is less, or which are equal."""
+        """One sum, or two that are compared by `<` or `=`."""
         first = self.sum()
         sign = self.words.maybe(r"<|==?")
         return first if sign is None else {FORMS.get(sign, sign): [first, self.sum()]}
 
     def sum(self) -> Form:
-        """Parts that are added, taken away or put together, from left to right."""
+        """Parts that are added, subtracted or put together, from left to right."""
         found = self.part()
         sign = self.words.maybe("[-+&]")
         while sign is not None:
@@ -57,7 +57,7 @@ class Infix:
         return found
 
     def part(self) -> Form:
-        """What stands between signs."""
+        """What is between signs."""
         if self.words.maybe(r"\(") is not None:
             found = self.expression()
             self.words.take(r"\)", "`)`")
@@ -79,12 +79,12 @@ class Infix:
         if word[0].isdigit():
             return {"const": int(word)}
         if word in RESERVED:
-            raise Mistake(f"`{word}` cannot stand here; a property of this name is `{SELF}.{word}`")
+            raise Mistake(f"`{word}` cannot be here; a property of this name is `{SELF}.{word}`")
         return {"prop": word}
 
 
 def text_of(text: str) -> str:
-    """The text that stands in quotes."""
+    """The text in quotes."""
     try:
         return str(json.loads(text))
     except ValueError:

@@ -92,7 +92,7 @@ class Link:
 
     @property
     def is_fronted(self) -> bool:
-        """Whether a front stands between, which gives the session its name."""
+        """Whether there is a front, which gives the session its name."""
         return self.process is None
 
     def ask(self, session: metad.Session, do: str, keys: Dict[str, Any]) -> Any:

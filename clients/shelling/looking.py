@@ -31,7 +31,7 @@ class Looking:
         """What was asked last."""
 
     def ask(self, do: str, **keys: Any) -> Any:
-        """Asks the server a command that `save` leaves out, and remembers what the reply tells of objects."""
+        """Asks the server a command that `save` leaves out, and remembers what the reply says about objects."""
         self.asked = {"do": do, **keys}
         reply = self.shell.link.ask_aside(self.shell.session(self.shell.name), do, keys)
         self.shell.known(self.shell.name).heed(self.asked, reply)

@@ -53,7 +53,7 @@ class Words:
         return self.miss(wanted) if found is None else found
 
     def take_word(self, word: str) -> None:
-        """Passes over a word that has to stand here."""
+        """Passes over a word that has to be here."""
         if self.maybe_word(word) is None:
             self.miss(f"`{word}`")
 
@@ -71,10 +71,10 @@ class Words:
     def end(self) -> None:
         """Says that the line has to end here."""
         if self.rest:
-            raise Mistake(f"nothing may stand behind it, and there is `{shortened(self.rest)}`")
+            raise Mistake(f"nothing may follow it, and there is `{shortened(self.rest)}`")
 
     def miss(self, wanted: str) -> NoReturn:
-        """Says that something else has to stand here."""
+        """Says that something else has to be here."""
         raise Mistake(f"wanted is {wanted}, and " + (f"there is `{shortened(self.rest)}`" if self.rest else "the line ends"))
 
 

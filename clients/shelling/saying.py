@@ -27,7 +27,7 @@ class Speaker:
         self.prompt = prompt
 
     def say(self, kind: str, text: str) -> None:
-        """Says something, of which nothing moves the cursor but the end of its line."""
+        """Says something, in which only the end of its line moves the cursor."""
         seen = "".join(it if it.isprintable() else ascii(it)[1:-1] for it in text)
         said = f"\x1b[{COLOURS[kind]}m{seen}\x1b[0m" if self.is_coloured else seen
         with nullcontext() if self.prompt is None else self.prompt.hidden():

@@ -15,7 +15,7 @@ BOUNDS = {
     "qlonglong": (-(2**63), 2**63 - 1),
     "qulonglong": (0, 2**64 - 1),
 }
-BY_ITSELF = ("int", "qlonglong", "qulonglong")  # the types of which a whole number by itself has the first that holds it
+BY_ITSELF = ("int", "qlonglong", "qulonglong")  # a whole number has the first of these types that holds it
 
 
 class Scene:
@@ -64,7 +64,7 @@ class Scene:
         return text if "(" in text else self.only_method(number, text)
 
     def target_at(self, words: Words) -> Tuple[int, str]:
-        """What stands behind an arrow."""
+        """What follows an arrow."""
         words.take(ARROW, "`->`")
         return self.method_of_object_at(words)
 
@@ -90,7 +90,7 @@ class Scene:
         raise Mistake(f"{label} has no method {name}; it has {', '.join(methods)}")
 
     def method_for(self, number: int, name: str, values: Sequence[Any]) -> str:
-        """The method of this name that takes these values; where there is none, one that would."""
+        """The method of this name that takes these values; otherwise one that would."""
         named = [it for it in self.methods(number) if it.split("(")[0] == name]
         many = [it for it in named if len(types_of(it)) == len(values)]
         fitting = [it for it in many if all(map(takes, types_of(it), values))]
@@ -118,7 +118,7 @@ def takes(type_name: str, value: Any) -> bool:
 
 
 def type_of(value: Any) -> str:
-    """The type that a value has by itself."""
+    """The type that a value has on its own."""
     if isinstance(value, bool):
         return "bool"
     return next((it for it in BY_ITSELF if takes(it, value)), "QString")

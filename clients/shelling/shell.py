@@ -206,7 +206,7 @@ class Shell:
         self.name = name
 
     def list_names(self, rest: str) -> None:
-        """Lists the names, of which it asks whether their objects stand."""
+        """Lists the names, and asks whether their objects exist."""
         none_behind(rest)
         known = self.known(self.name)
         for name, number in known.numbers.items():
@@ -238,7 +238,7 @@ class Shell:
         self.say("note", f"{count} line{'' if count == 1 else 's'} in {path}")
 
     def run(self, rest: str) -> None:
-        """Sends the lines of a file as they are, but for those that the server passes over."""
+        """Sends the lines of a file as they are, except those that the server passes over."""
         path = path_of(rest)
         try:
             lines = path.read_bytes().split(b"\n")
@@ -264,7 +264,7 @@ class Shell:
             self.say("note", f"    {does}")
 
     def leave(self, rest: str) -> None:
-        """Ends the shell behind this line."""
+        """Ends the shell after this line."""
         none_behind(rest)
         self.is_over = True
 
@@ -278,7 +278,7 @@ def text_of(line: bytes) -> str:
 
 
 def json_of(line: bytes) -> Any:
-    """What a line holds as JSON; None where it is none."""
+    """What a line holds as JSON; None where it is not JSON."""
     try:
         return json.loads(line.decode())
     except (ValueError, RecursionError):
@@ -286,7 +286,7 @@ def json_of(line: bytes) -> Any:
 
 
 def only(rest: str, wanted: str) -> str:
-    """The one name that stands in the rest of a line."""
+    """The one name in the rest of a line."""
     words = Words(rest)
     name = words.take(NAME, wanted)
     words.end()
@@ -296,12 +296,12 @@ def only(rest: str, wanted: str) -> str:
 
 
 def none_behind(rest: str) -> None:
-    """Says that nothing may stand in the rest of a line."""
+    """Says that nothing may be in the rest of a line."""
     Words(rest).end()
 
 
 def path_of(rest: str) -> Path:
-    """The path that stands in the rest of a line."""
+    """The path in the rest of a line."""
     if not rest:
         raise Mistake("wanted is a file, and the line ends")
     return Path(re.sub(r"^~(?=/|$)", lambda _: str(Path.home()), rest))
