@@ -1,4 +1,4 @@
-"""What is to be said of a record that cannot be sliced as it was asked for."""
+"""What is to be said about a record that cannot be sliced as requested."""
 
 from __future__ import annotations
 
@@ -33,7 +33,7 @@ def no_classes(entries: Iterable[Entry]) -> Optional[str]:
     if not names:
         return None
     return (
-        f"without a class file metad knows no class {some_of(names, 'or')}, which the record names (E03), so that what is told"
+        f"without a class file metad knows no class {some_of(names, 'or')}, which the record names (E03), so that the output"
         " cannot be compared: give the class file of the recorded run by --classes FILE"
     )
 

@@ -1,4 +1,4 @@
-"""Whether a session is told the same by its slice as by the whole record."""
+"""Whether a session receives the same from its slice as from the whole record."""
 
 from __future__ import annotations
 
@@ -10,19 +10,19 @@ from .record import Entry, Told
 
 
 def told_to(name: str, answers: Iterable[Sequence[Told]]) -> List[bytes]:
-    """The lines that a session is told."""
+    """The lines that a session receives."""
     return [it.raw for answer in answers for it in answer if it.session == name]
 
 
 def told_by_record(name: str, entries: Iterable[Entry]) -> List[bytes]:
-    """The lines that a session is told by the commands of a record. What is told to its lines that are no commands is left
-    out, as these are in no slice."""
+    """The lines that a session receives for the commands of a record. Answers to lines that are no commands are left out,
+    because no slice has these."""
     return told_to(name, (it.told for it in entries if it.is_command))
 
 
 @dataclass(frozen=True)
 class Difference:
-    """The first line, counted from 1, in which what a session is told by its slice differs; None where one has ended."""
+    """The first line, counted from 1, in which a session receives something else from its slice; None where one has ended."""
 
     number: int
     by_record: Optional[bytes]

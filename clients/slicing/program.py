@@ -70,7 +70,7 @@ def parser() -> argparse.ArgumentParser:
     marked = HELP.format(marks="\n".join(f"  {mark.decode()} {meaning}" for mark, meaning in MARKS.items()))
     made = parser_of(NAME, "Shows which commands of a record can affect what a session receives, and checks it.", marked, USAGE)
     made.add_argument("--only", action="store_true", help="write the slice alone, as an input for metad")
-    made.add_argument("--metad", metavar="PROGRAM", help="the program; without it that beside this tool, or on the path")
+    made.add_argument("--metad", metavar="PROGRAM", help="the program; without it the one next to this tool, or on the path")
     made.add_argument("--classes", metavar="FILE", help="the class file that metad is given")
     made.add_argument("--turns", metavar="N", type=turns, help="the turns of a command that metad is given")
     made.add_argument("record", metavar="RECORD", nargs="?", help=argparse.SUPPRESS)
@@ -122,7 +122,7 @@ def record_of(path: str) -> bytes:
 
 
 def check(given: Words, entries: Sequence[Entry], kept: bytes) -> None:
-    """Marks the commands that are kept; `NoSession` where there is none of the session that is asked for."""
+    """Marks the commands that are kept; `NoSession` where the session that is asked for has no command."""
     assert given.record is not None and given.name is not None
     fault = no_session(INPUT_NAME if given.record == INPUT else given.record, given.name, entries)
     if fault is not None:
@@ -139,7 +139,7 @@ def warned(entries: Sequence[Entry]) -> int:
 
 
 def show(program: Program, entries: Sequence[Entry], kept: bytes, given: Words) -> int:
-    """Shows what is kept of a record, and whether the session is told the same by it."""
+    """Shows what is kept of a record, and whether the session receives the same from it."""
     assert given.name is not None
     say = writer(sys.stdout.buffer)
     for line in (*marked(entries), *counts(entries)):

@@ -1,4 +1,4 @@
-"""A record beside what is told to its lines, and which of them a slice keeps."""
+"""A record with the answers to its lines, and which of them a slice keeps."""
 
 from __future__ import annotations
 
@@ -11,7 +11,7 @@ from explaining.commands import LINE_BYTES
 from explaining.lines import NO_SESSION
 from common.ending import Stop
 
-NO_COMMAND = ("E01", "E02")  # what is told to lines that are no commands
+NO_COMMAND = ("E01", "E02")  # answers to lines that are no commands
 
 
 class Told(NamedTuple):
@@ -25,7 +25,7 @@ class Told(NamedTuple):
 
 @dataclass
 class Entry:
-    """A line of the record, without its end, and what is told to it. A blank line is none."""
+    """A line of the record, without its end, and its answers. Blank lines are left out."""
 
     raw: bytes
     told: List[Told]
@@ -60,7 +60,7 @@ def told_of(raw: bytes) -> Told:
 
 
 def answers_in(text: bytes) -> Iterator[List[Told]]:
-    """What is told to each line of an input: calls and warnings, and then a reply or an error."""
+    """The answers to each line of an input: calls and warnings, and then a reply or an error."""
     answer: List[Told] = []
     for raw in lines_in(text):
         answer.append(told_of(raw))

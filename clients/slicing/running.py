@@ -13,7 +13,7 @@ ABOVE = (2, 3)  # how far above this file the folder of `bin` is: in the reposit
 
 
 def program_beside() -> str:
-    """The program that stands beside this tool, or that on the path."""
+    """The program next to this tool, or the one on the path."""
     folders = Path(__file__).resolve().parents
     beside = [folders[above] / "bin" / "metad" for above in ABOVE if above < len(folders)]
     return next((str(it) for it in beside if it.is_file()), "metad")
@@ -36,11 +36,11 @@ class Program:
         return self.run(given)
 
     def slice(self, given: bytes, name: str) -> bytes:
-        """The lines of an input that what a session is told depends on."""
+        """The lines of an input that can affect what a session receives."""
         return self.run(given, f"--slice={name}")
 
     def run(self, given: bytes, *options: str) -> bytes:
-        """What it writes, where it ends well. It says by itself, on standard error, why it does not."""
+        """What it writes, where it ends well. Otherwise it says why on standard error."""
         try:
             ran = subprocess.run([self.path, *options, *self.words()], input=given, stdout=subprocess.PIPE)
         except (OSError, ValueError) as error:

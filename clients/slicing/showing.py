@@ -1,4 +1,4 @@
-"""How a slice is shown: the lines of the record with marks, counts by session, and whether the session is told the same."""
+"""How a slice is shown: the lines of the record with marks, counts by session, and whether the session receives the same."""
 
 from __future__ import annotations
 
@@ -46,10 +46,10 @@ def counts(entries: Sequence[Entry]) -> Iterator[Said]:
 
 
 def compared(name: str, told: Sequence[bytes], found: Optional[Difference]) -> Iterator[Said]:
-    """Whether the session is told the same, or the first line that differs."""
+    """Whether the session receives the same, or the first line that differs."""
     if found is None:
         yield f"the slice tells {name} the same: {counted(len(told), 'line')}"
         return
-    yield f"the slice tells {name} something else, first in line {found.number} of what {name} is told:"
+    yield f"the slice tells {name} something else, first in line {found.number} of what {name} receives:"
     yield b"by the record: " + (ENDED if found.by_record is None else found.by_record)
     yield b"by the slice:  " + (ENDED if found.by_slice is None else found.by_slice)
