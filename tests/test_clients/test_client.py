@@ -21,7 +21,6 @@ import metad
 from tests.support import protocol
 from tools.listing.names import NAMES
 from tests.support.documents import examples_of
-from tests.support.markdown import section
 from tests.support.pages import check_page
 from tests.support.program import SECONDS, lay_out
 
