@@ -384,7 +384,7 @@ class Mistakes(ProgramCases):
         """Nothing is said of the class files of the documents and of the examples."""
         with TemporaryDirectory(prefix="metad-check-") as room:
             paths = {Path(word) for row in all_examples(room) for word in row.words if Path(word).is_file()}
-            paths |= set((ROOT / "examples").glob("*/*.json"))
+            paths |= {path for path in (ROOT / "examples").glob("*/*.json") if path.parent.name != "monitoring"}
             cases = [(path.name, path.read_bytes()) for path in sorted(paths)]
         self.check_each(cases, lambda it: "\n".join(found.words for found in found_in(it).in_order()) or None)
 
