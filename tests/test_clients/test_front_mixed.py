@@ -16,7 +16,7 @@ from .fronts import STATUS, Client, classes_in
 from .grouped import seed_of
 from .networked import ANY_PORT, NetworkCases, NetworkClient, context_of, port_of
 from .test_front import alone
-from .test_front_rubbish import FORGERIES, PIECES
+from .test_front_rubbish import FORGERIES, hard_lines
 
 CLIENTS, AT_ONCE = 200, 200
 LIVES = 40  # that are different
@@ -71,7 +71,7 @@ class Mixed(NetworkCases):
             if kind < 0.5:
                 lines.append(text_of(chance.choice(self.commands)).encode())
             elif kind < 0.8:
-                lines.append("".join(chance.choices(PIECES, k=chance.randint(0, 12))).encode())
+                lines.append("".join(chance.choices(hard_lines.PIECES, k=chance.randint(0, 12))).encode())
             elif kind < 0.99:
                 lines.append(chance.choice(FORGERIES).replace('"reset"', '"status"').encode())
             else:
