@@ -7,7 +7,7 @@ import errno
 import json
 import socket
 import time
-from contextlib import ExitStack, contextmanager
+from contextlib import ExitStack, contextmanager, suppress
 from pathlib import Path
 from typing import Callable, Dict, Iterator, List
 
@@ -176,7 +176,8 @@ def storm(room: Path) -> None:
         link.setblocking(False)
         links.append(link)
         if link.connect_ex(str(room / "socket")) == 0:
-            link.send(b'{"do":"sta')
+            with suppress(ConnectionError, BlockingIOError):  # of a front that has closed it already
+                link.send(b'{"do":"sta')
     for link in links:
         link.close()
     time.sleep(0.05)
