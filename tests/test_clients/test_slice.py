@@ -325,7 +325,7 @@ class Wrong(ProgramCases):
 LAMPS = text_in([new("b"), *(b'{"class":"%s","do":"new","session":"a"}' % it for it in (b"Lamp", b"Cell", b"Lamp", b"Light"))])
 NO_SESSION = "{record} has no command of {name}; its sessions are a and b"
 NO_CLASSES = (
-    "slice: without a class file metad knows no class Lamp or Light, which the record names (E03), so that what is told cannot"
+    "slice: without a class file metad knows no class Lamp or Light, which the record names (E03), so that the output cannot"
     " be compared: give the class file of the recorded run by --classes FILE\n"
 )
 MANY = text_in(new(f"c{number}") for number in range(1, 31))
