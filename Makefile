@@ -3,7 +3,7 @@
 #             commands, CLASSES=FILE the classes for them
 # make run    builds the program, proved, and answers the sample session
 # make front  builds the front, front/, as bin/metad-front; make front-needs installs the Debian packages that this needs, where
-#             it may, and otherwise says which
+#             it may, and otherwise says which; with the library of metad-web, for its tests
 # make qt-needs  installs the Debian packages that the tests of the Qt client need, where it may, and otherwise says which
 # make test   proves everything from nothing, and runs every test
 # make tests  runs every test on bin/metad as it is; make rows, random, program, slice, memory, nests, spared,
@@ -141,8 +141,8 @@ OF_JS = $(patsubst clients/%,%,$(wildcard clients/js/*.mjs clients/js/*.mts clie
 # the sources of the client for Qt, which cmake builds there as here
 OF_QT = $(patsubst clients/%,%,$(wildcard clients/qt/*.cmake clients/qt/CMakeLists.txt clients/qt/metad/*))
 # each is installed as metad-TOOL; what they are made of stands in these folders
-TOOLS = explain check shell slice inspect compact
-PARTS = common explaining checking shelling slicing inspecting compacting
+TOOLS = explain check shell slice inspect compact web
+PARTS = common explaining checking shelling slicing inspecting compacting relaying
 # what the inspector shows beside its code: its page, and the classes of a server without a class file
 PAGE = inspecting/page
 OF_PAGE = $(patsubst clients/%,%,$(wildcard clients/$(PAGE)/* clients/inspecting/*.json))

@@ -18,7 +18,7 @@ SHARED = {"bin", "share", "share/man", "share/man/man1", "share/doc"}  # folders
 DOC = "share/doc/metad"
 TOOLS = {
     "explain": "explaining", "check": "checking", "shell": "shelling", "slice": "slicing", "inspect": "inspecting",
-    "compact": "compacting",
+    "compact": "compacting", "web": "relaying",
 }  # fmt: skip
 LINKS = {f"bin/metad-{tool}": f"share/metad/{tool}" for tool in TOOLS}
 PROGRAMS = {"bin/metad", "bin/metad-front", *LINKS, *LINKS.values()}

@@ -27,6 +27,8 @@ PACKAGES = (
     "librust-serde-dev", "librust-serde-json-dev", "librust-signal-hook-dev", "librust-slab-dev", "librust-socket2-dev",
     "librust-toml-dev", "librust-webpki-dev",
 )  # fmt: skip
+RELAY = "python3-websockets"
+RELAY_ADVICE = f"metad-web and its tests need a library: apt-get install {RELAY}"
 ADVICE = f"the front needs cargo and some crates: apt-get install {' '.join(PACKAGES)}"
 CONFIG = f"""\
 [source.crates-io]
@@ -93,19 +95,31 @@ def build(name: str = "metad-front", *more: str) -> None:
     made.with_suffix(".new").replace(made)
 
 
+def has_relay_library() -> bool:
+    """Whether the system's Python has what metad-web needs."""
+    python = "/usr/bin/python3"
+    words = [python, "-c", "import websockets"]
+    return os.path.exists(python) and subprocess.run(words, stderr=subprocess.DEVNULL).returncode == 0
+
+
 def needs() -> None:
-    """Installs what the front needs, where this may be done; else says what to install."""
-    if cargo() is not None and has_crates():
+    """Installs what the front and metad-web need, where this may be done; else says what to install."""
+    can_build = cargo() is not None and has_crates()
+    of_front = () if can_build else PACKAGES if cargo() is None else PACKAGES[2:]
+    of_relay = () if has_relay_library() else (RELAY,)
+    if not of_front and not of_relay:
         return
     if os.geteuid() != 0 or shutil.which("apt-get") is None:
-        print(ADVICE)
+        print("\n".join([ADVICE] * bool(of_front) + [RELAY_ADVICE] * bool(of_relay)))
         return
-    wanted = PACKAGES if cargo() is None else PACKAGES[2:]
     # a new machine may not have the lists of packages yet; where they cannot be fetched, those that it has may do
-    for words in (("update", "-q"), ("install", "-y", "-q", "--no-install-recommends", *wanted)):
-        done = subprocess.run(["apt-get", *words], stdout=subprocess.DEVNULL)
-    if done.returncode:
-        raise Unable(ADVICE)
+    subprocess.run(["apt-get", "update", "-q"], stdout=subprocess.DEVNULL)
+    for wanted, advice in ((of_front, ADVICE), (of_relay, RELAY_ADVICE)):
+        words = ["apt-get", "install", "-y", "-q", "--no-install-recommends", *wanted]
+        if wanted and subprocess.run(words, stdout=subprocess.DEVNULL).returncode:
+            if wanted is of_front:
+                raise Unable(advice)
+            print(advice)
 
 
 def main() -> int:

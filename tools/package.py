@@ -36,8 +36,8 @@ ABOUT = """\
 metad {version}, for x86-64 Linux with glibc {glibc} or later; the tools also need Python {python} or later.
 
 This folder may be anywhere. With its bin/ on the path there are metad, metad-front, metad-shell, metad-check,
-metad-explain, metad-slice and metad-inspect; with share/metad/python on PYTHONPATH programs in Python find the client.
-Programs in JavaScript import share/metad/js/index.mjs.
+metad-explain, metad-slice, metad-inspect and metad-web, which needs Python's library websockets; with share/metad/python
+on PYTHONPATH programs in Python find the client. Programs in JavaScript import share/metad/js/index.mjs.
 man -l share/man/man1/metad.1 shows the manual page, and share/doc/metad/README.md leads to the documents. sha256sum
 -c SHA256SUMS compares all files.
 """
@@ -51,6 +51,7 @@ Section: devel
 Priority: optional
 Installed-Size: {size}
 Depends: {depends}
+Suggests: python3-websockets
 Description: server of live objects with the meta-object system of Qt 6
  Classes, trees of objects, signals and slots, properties that can be bound to
  others, queued events and publications between sessions, in one server whose
