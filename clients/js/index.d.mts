@@ -99,6 +99,8 @@ export interface Transport {
   onerror?: ((event: any) => any) | null;
   onopen?: ((event: any) => any) | null;
   readonly readyState?: number;
+  /** With `metad`, as for a WebSocket of `metad-web`, each message is one line without its LF. */
+  readonly protocol?: string;
   /** Whether lines still come after `close`. */
   readonly halfCloses?: boolean;
   destroy?(): void;

@@ -6,12 +6,14 @@
  *   once, when nothing more will come; and `onerror`. Where there is a `readyState` of 0, it waits for `onopen`.
  *
  * Optional are `halfCloses`, true where lines still come after `close`, and `destroy()`, which ends everything at once.
+ * If `protocol` is `metad`, as for a WebSocket of `metad-web`, each message is one line without its LF, both ways.
  * @module
  */
 
 import { NoValue, NotAnswered, NotReached, shown } from "./errors.mjs";
 
 const CONNECTING = 0;
+const BY_LINES = "metad"; // the subprotocol of metad-web, by which each message is a line without its end
 const LONGEST = 2 ** 31 - 1; // milliseconds of a timer
 
 /**
@@ -63,15 +65,43 @@ function webSocket(url) {
   if (typeof globalThis.WebSocket !== "function") {
     throw new NotReached("there is no WebSocket here: use a browser or a later Node, or give an object that is one");
   }
-  return new globalThis.WebSocket(url);
+  return new globalThis.WebSocket(url, BY_LINES);
+}
+
+/** The transport over a WebSocket of metad-web. */
+class LineSocket {
+  onmessage = null;
+  onclose = null;
+  onerror = null;
+  #socket;
+
+  constructor(socket) {
+    this.#socket = socket;
+    socket.onmessage = ({ data }) => this.onmessage?.({ data: `${data}\n` });
+    socket.onclose = (event) => this.onclose?.(event);
+    socket.onerror = (event) => this.onerror?.(event);
+  }
+
+  send(text) {
+    for (const line of text.split("\n")) if (line) this.#socket.send(line);
+  }
+
+  close() {
+    this.#socket.close();
+  }
+}
+
+/** What carries lines over a transport that is open: a WebSocket whose messages are lines, or the transport itself. */
+function carrierOf(transport) {
+  return transport.protocol === BY_LINES ? new LineSocket(transport) : transport;
 }
 
 /** A transport once it is open. */
 function opened(transport, timeout, where) {
   if ("binaryType" in transport) transport.binaryType = "arraybuffer";
-  if (transport.readyState !== CONNECTING) return Promise.resolve(transport);
+  if (transport.readyState !== CONNECTING) return Promise.resolve(carrierOf(transport));
   return within(timeout, `${where} is not open`, (resolve, reject) => {
-    transport.onopen = () => resolve(transport);
+    transport.onopen = () => resolve(carrierOf(transport));
     transport.onerror = transport.onclose = () => reject(new NotReached(`${where} cannot be reached`));
   }).catch((error) => {
     transport.onopen = transport.onerror = transport.onclose = null;
