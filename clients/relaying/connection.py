@@ -83,7 +83,10 @@ def fault_of(message: Union[str, bytes]) -> Optional[Tuple[int, str]]:
 
 async def connected(path: str) -> socket.socket:
     """A connection with the front; `Unreached` if that fails. It waits where many others connect at once."""
-    link = socket.socket(socket.AF_UNIX)
+    try:
+        link = socket.socket(socket.AF_UNIX)
+    except OSError as error:
+        raise Unreached(error.strerror) from None
     link.setblocking(False)
     tries = 100 * SECONDS_TO_BEGIN
     while True:
@@ -183,7 +186,7 @@ class Connection(WebSocketServerProtocol):
 
     async def give(self, link: socket.socket) -> None:
         """Gives the front what the browser sends, until the browser ends the connection."""
-        loop = asyncio.get_event_loop()
+        loop = asyncio.get_running_loop()
         takes = True
         while True:
             try:
@@ -203,7 +206,7 @@ class Connection(WebSocketServerProtocol):
     async def tell(self, link: socket.socket) -> None:
         """Passes on what the front writes, until the front ends the connection. Where the browser does not read, nothing more
         is read from the front; once it has left, what comes is dropped."""
-        loop = asyncio.get_event_loop()
+        loop = asyncio.get_running_loop()
         lines = Lines()
         takes = True
         while lines.size <= OUTPUT_MOST:
@@ -225,7 +228,7 @@ class Connection(WebSocketServerProtocol):
 
     async def leave(self, link: socket.socket) -> None:
         """Lets the front do what the browser sent before it left."""
-        loop = asyncio.get_event_loop()
+        loop = asyncio.get_running_loop()
 
         async def until_end() -> None:
             while await loop.sock_recv(link, PIECE):
