@@ -50,15 +50,28 @@ def clients(word: str) -> int:
     return int(word)
 
 
+HELP_OF = {
+    "listen": "where browsers connect, by default 127.0.0.1:7073; port 0 is any free one",
+    "cert": "the certificate for wss://, in PEM form; without it only addresses such as 127.0.0.1 are allowed",
+    "key": "its private key, without a password",
+    "origin": "pages of this origin may connect, and no others; may be repeated; by default those of the host they connect to",
+    "files": "serves the files of this folder",
+    "clients": "the most connections at once, by default 256",
+}
+
+
 def parser() -> argparse.ArgumentParser:
     made = parser_of(NAME, "Lets web pages use a front, over WebSocket.", HELP, USAGE)
-    here = Address("127.0.0.1", 7073)
-    made.add_argument("--listen", metavar="ADDRESS:PORT", type=address, default=here, help="where browsers connect, by default 127.0.0.1:7073; port 0 is any free one")
-    made.add_argument("--cert", metavar="FILE", help="the certificate for wss://, in PEM form; without it only addresses such as 127.0.0.1 are allowed")
-    made.add_argument("--key", metavar="FILE", help="its private key, without a password")
-    made.add_argument("--origin", metavar="ORIGIN", type=origin, action="append", default=[], help="pages of this origin may connect, and no others; may be repeated; by default those that come from the host they connect to")
-    made.add_argument("--files", metavar="FOLDER", type=Path, help="serves the files of this folder")
-    made.add_argument("--clients", metavar="N", type=clients, default=256, help="the most connections at once, by default 256")
+
+    def add(name: str, value: str, **how: Any) -> None:
+        made.add_argument(f"--{name}", metavar=value, help=HELP_OF[name], **how)
+
+    add("listen", "ADDRESS:PORT", type=address, default=Address("127.0.0.1", 7073))
+    add("cert", "FILE")
+    add("key", "FILE")
+    add("origin", "ORIGIN", type=origin, action="append", default=[])
+    add("files", "FOLDER", type=Path)
+    add("clients", "N", type=clients, default=256)
     made.add_argument("socket", metavar="SOCKET", nargs="?", help=argparse.SUPPRESS)
     return made
 
