@@ -389,7 +389,7 @@ mod tests {
     /// A command that was not answered is removed with what it has called; those given after it stay.
     #[test]
     fn what_was_not_answered_is_removed() {
-        let mut log = Log::new(true);
+        let mut log = Log::new(crate::log::Style { is_quiet: true, ..Default::default() });
         let mut record = GroupRecord::new(None);
         record.given(b"one", &mut log);
         record.told(b"{\"call\":1}\n{\"reply\":1}\n", &mut log);
