@@ -62,6 +62,9 @@ class Monitor:
         """Connects, and chooses the session, once."""
         if self._reader is None:
             link = connected(self._path)
+            if self._session is not None:
+                with suppress(OSError):  # the front has gone: what it has written before is still read
+                    link.sendall(request(self._session))
             self._reader, self._writer = await asyncio.open_unix_connection(sock=link)
             try:
                 if self._session is not None:
@@ -72,9 +75,7 @@ class Monitor:
         return self
 
     async def _choose(self, session: str) -> None:
-        """Asks for the lines of one session, and waits until they will come; lines that came before are dropped."""
-        assert self._writer is not None
-        self._writer.write(request(session))
+        """Waits until the lines of the one session come that was asked for; lines that came before are dropped."""
         line = await self._take()
         while line is not None:
             if is_chosen(line, session):
