@@ -114,7 +114,7 @@ def fill_memory(room: Path) -> None:
             link.sendall(b'{"class":"Probe","do":"new"}\n' + b"".join(lines))
             for _ in range(51):
                 line = json.loads(reader.readline() or b'{"error":"closed"}')
-                if line.get("error") in ("E20", "E21", "F04", "F19", "closed"):
+                if line.get("error") in (*NO_MEMORY, "F04", "F19", "closed"):
                     return
                 if "reply" not in line:
                     raise Failed(f"a session that fills memory is answered {line}")
@@ -133,7 +133,7 @@ def long_loop(room: Path) -> None:
             reader.readline()
         link.sendall(b'{"do":"set","object":1,"property":"x","value":1}\n')
         line = json.loads(reader.readline() or b'{"error":"F18"}')
-        if line.get("error") not in ("F18", None, "E20", "E21"):
+        if line.get("error") not in ("F18", None, *NO_MEMORY):
             raise Failed(f"a command that takes too long is answered {line}")
         time.sleep(1)
 
@@ -145,7 +145,9 @@ def guess(room: Path) -> None:
         ask(link, CELL.decode().strip())
         for number in range(1, 9):
             join = {"do": "join", "from": f"c{number}", "name": "level", "types": ["int"], "object": 1, "method": "seen(int)"}
-            answer = ask(link, json.dumps(join)) if f"c{number}" != name else {"reply": True}
+            if join["from"] == name:
+                continue
+            answer = ask(link, json.dumps(join))
             if answer.get("error") in NO_MEMORY:
                 return
             if answer.get("reply") is not True:

@@ -90,7 +90,7 @@ impl KeptIndex {
     }
 }
 
-/// Lets go of the last result of a property, and of the edges to it.
+/// Removes the last result of a property, and the edges to it.
 fn let_go(rows: &mut KeptRows, readers: &mut Readers, at: Property)
     requires { HasReaders (entries rows.old) readers.old }
     ensures standing { standing rows.new ≡ without at (standing rows.old) }
@@ -111,8 +111,8 @@ fn invalidate_all(rows: &mut KeptRows, touched: &[Property])
     }
 }
 
-/// Puts what has read a property behind those that are touched, and makes its results stale. What is stale already is
-/// touched already. The edges are looked for at the position `near` first, which then is the one behind them.
+/// Appends what has read a property to those that are touched, and makes its results stale. What is stale already has
+/// been touched already. The edges are looked for at the position `near` first, which then is the one after them.
 fn touch_readers(
     rows: &mut KeptRows,
     readers: &Readers,
@@ -139,8 +139,7 @@ fn touch_readers(
     Ok(())
 }
 
-/// Makes the results of touched properties stale, and those of all that these reach, and puts what they reach behind
-/// them.
+/// Makes the results of touched properties and of all that these reach stale, and appends what they reach to them.
 fn spread(
     rows: &mut KeptRows,
     readers: &Readers,
@@ -162,8 +161,8 @@ fn spread(
     Ok(())
 }
 
-/// Lets edges lead to a property from those that its result has read. Where its last result has read the same they do
-/// already, and nothing moves.
+/// Makes edges lead to a property from those that its result has read. If its last result has read the same ones, the
+/// edges are there already, and nothing moves.
 fn lead_to(rows: &mut KeptRows, readers: &mut Readers, row: &CacheEntry) -> Result<(), AllocError>
     requires { HasReaders (entries rows.old) readers.old }
     ensures others { (q : Property) → is_property row.now.at q ≡ false → kept_of (standing rows.new) q ≡ kept_of (standing rows.old) q }
