@@ -1,21 +1,24 @@
 # make        builds the program, proved, as bin/metad
+# make library  builds libmetad, the server inside programs in C, proved, as bin/libmetad.a, bin/libmetad.so and bin/metad.pc
 # make try    answers the sample session in about two minutes, by a program that is not proved; SESSION=FILE has other
 #             commands, CLASSES=FILE the classes for them
 # make run    builds the program, proved, and answers the sample session
 # make front  builds the front, front/, as bin/metad-front; make front-needs installs the Debian packages that this needs, where
 #             it may, and otherwise says which; with the library of metad-web, for its tests
 # make qt-needs  installs the Debian packages that the tests of the Qt client need, where it may, and otherwise says which
+# make library-needs  installs the Debian packages that the tests of libmetad need, where it may, and otherwise says which
 # make test   proves everything from nothing, and runs every test
 # make tests  runs every test on bin/metad as it is; make rows, random, program, slice, memory, nests, spared,
-#             classes, clients, documents, surprises, phrases, machines, machines_files, hosting, scaling, measures, tools, test_lists and test_install run those of tests/test_rows and so on
+#             classes, clients, documents, surprises, phrases, machines, machines_files, hosting, scaling, measures, tools, embedded, test_lists and test_install run those of tests/test_rows and so on
+# make soak   runs the modules with random tests once more, with a random seed, which it prints; SEED=NUMBER gives the seed
 # make bench  counts the program's instructions, and fails where a count is over its guard; with LAST=PROGRAM also beside an
 #             earlier program; GUARDS=1 writes down the counts and new guards
 # make lists  writes the lists of commands, codes and limits, wherever they stand, from the tables of docs/PROTOCOL.md
 # make lint   reads the sources in Python by flake8, with the settings of .flake8
 # make tables writes the tables of the documents that are made of sources, and the tables of the clients for JavaScript and Qt
-# make install, make uninstall   bin/metad, its manual page, the documents, the client, the examples and the tools, below PREFIX;
+# make install, make uninstall   bin/metad, libmetad where it is built, the manual page, the documents, the client, the examples and the tools, below PREFIX;
 #             with SITE=FOLDER also a link to the client in a folder where Python looks
-# make dist   a tarball of all that is installed, for any folder; make deb   a package for Debian; each in DIST, with its checksum
+# make dist   a tarball of all that is installed, for any folder; make deb   packages for Debian; each in DIST, with its checksum
 # Each says in one sentence what it needs and does not find.
 
 PROGRAM = meta_main
@@ -24,14 +27,14 @@ CC ?= cc
 PREFIX ?= /usr/local
 
 # each takes bin/metad as it is
-TESTS = rows random program slice memory nests spared classes clients documents surprises phrases machines machines_files hosting scaling measures tools
+TESTS = rows random program slice memory nests spared classes clients documents surprises phrases machines machines_files hosting scaling measures tools embedded
 # the oldest Python for the tools, and for the tests
 PYTHON = 3.8
 PYTHON_OF_TESTS = 3.11
 NEEDS = @CC="$(CC)" sh tools/needs.sh
 TRY = (make try answers a session in about two minutes, not proved)
 
-.PHONY: all try run front front-needs qt-needs test_front test budget needs_of_tests tests $(TESTS) test_lists test_install test_package libraries bench lists tables lint install uninstall dist deb clean
+.PHONY: all library library_of_tests try run front front-needs qt-needs library-needs test_front test budget needs_of_tests tests $(TESTS) soak test_lists test_install test_package libraries bench lists tables lint install uninstall dist deb clean
 
 all: bin/metad
 
@@ -43,6 +46,44 @@ bin/metad: $(SOURCES)
 	python3 tools/build.py . $(PROGRAM)
 	mkdir -p bin
 	cp $(CRATE)/out/$(PROGRAM) $@
+
+# libmetad, the server inside programs in C: one object, whose only symbols for others are those of include/metad.h
+LIBRARY = metad_c
+ARCHIVE = crates/$(LIBRARY)/out/lib$(LIBRARY).a
+VERSION = $(shell sed -n 's/^\#define METAD_VERSION "\(.*\)"$$/\1/p' include/metad.h)
+SONAME = libmetad.so.$(firstword $(subst ., ,$(VERSION)))
+KIT = $(dir $(realpath $(shell command -v rt)))..
+OF_LIBRARY = bin/libmetad.a bin/libmetad.so bin/metad.pc
+
+library: $(OF_LIBRARY)
+
+$(ARCHIVE): $(SOURCES)
+	$(NEEDS) rt python3=$(PYTHON)
+	@echo "Proving and building the library takes about half an hour on four processors"
+	python3 tools/build.py . $(LIBRARY)
+
+bin/libmetad.o: library/metad.c library/symbols include/metad.h $(ARCHIVE)
+	$(NEEDS) rt cc objcopy
+	mkdir -p bin
+	$(CC) -std=c99 -D_DEFAULT_SOURCE -O2 -Wall -Wextra -fPIC -Iinclude -c -o bin/metad_checks.o $<
+	$(CC) -r -nostdlib -o $@ bin/metad_checks.o -Wl,--whole-archive $(ARCHIVE) $(KIT)/c/liblibc_c.a -Wl,--no-whole-archive
+	objcopy --keep-global-symbols=library/symbols $@
+
+bin/libmetad.a: bin/libmetad.o
+	rm -f $@
+	ar rcsD $@ $<
+
+bin/libmetad.so: bin/libmetad.o
+	$(CC) -shared -Wl,-soname,$(SONAME) -Wl,-z,defs -o bin/$(SONAME) $<
+	ln -sf $(SONAME) $@
+
+bin/metad.pc: library/metad.pc.in include/metad.h
+	mkdir -p bin
+	sed 's|@VERSION@|$(VERSION)|' $< > $@
+
+# links the library for the tests where its crate was built, whatever has changed since: the tests say where it is missing
+library_of_tests:
+	$(if $(wildcard $(ARCHIVE)),@test bin/libmetad.o -nt $(ARCHIVE) || rm -f bin/libmetad.o; $(MAKE) -s -o $(ARCHIVE) library)
 
 try:
 	$(NEEDS) rt python3=$(PYTHON)
@@ -69,11 +110,15 @@ front-needs:
 qt-needs:
 	@sh tools/qt_needs.sh
 
+library-needs:
+	@sh tools/library_needs.sh
+
 test:
 	$(NEEDS) rt cc python3=$(PYTHON_OF_TESTS)
 	@echo "Proving everything and running every test takes an hour or more on four processors $(TRY)"
-	$(MAKE) --no-print-directory budget front-needs qt-needs
+	$(MAKE) --no-print-directory budget front-needs qt-needs library-needs
 	rt ci
+	python3 tools/archive.py . $(LIBRARY)
 	mkdir -p bin
 	cp $(CRATE)/out/$(PROGRAM) bin/metad
 	$(MAKE) --no-print-directory tests
@@ -87,16 +132,19 @@ needs_of_tests:
 	$(NEEDS) python3=$(PYTHON_OF_TESTS)
 
 # all tests on bin/metad as it is, each with how many cases it has; the targets below it are those of tests/test_*
-tests: needs_of_tests libraries bin/metad-front test_front
+tests: needs_of_tests libraries library_of_tests bin/metad-front test_front
 	python3 -m unittest -v
 
-$(TESTS): needs_of_tests libraries bin/metad-front
+soak: needs_of_tests libraries library_of_tests bin/metad-front
+	python3 -m tests.support.soak
+
+$(TESTS): needs_of_tests libraries library_of_tests bin/metad-front
 	python3 -m unittest -v tests.test_$@
 
 test_lists: needs_of_tests
 	python3 -m unittest -v tests.$@
 
-test_install test_package: needs_of_tests bin/metad-front
+test_install test_package: needs_of_tests library_of_tests bin/metad-front
 	python3 -m unittest -v tests.$@
 
 libraries: bin/refuse_growth.so bin/early_signal.so
@@ -128,6 +176,8 @@ BIN = $(DESTDIR)$(PREFIX)/bin
 MAN = $(DESTDIR)$(PREFIX)/share/man/man1
 DOC = $(DESTDIR)$(PREFIX)/share/doc/metad
 SHARE = $(DESTDIR)$(PREFIX)/share/metad
+LIB = $(DESTDIR)$(PREFIX)/lib
+INCLUDE = $(DESTDIR)$(PREFIX)/include
 # the documents and what they lead to, which stands below DOC as it stands here
 DOCUMENTS = README.md CHANGELOG.md $(filter-out %/__pycache__,$(wildcard docs/*.md docs/*.json docs/*.png clients/*/*.md examples/*/*))
 FOLDERS = $(filter-out ./,$(sort $(dir $(DOCUMENTS)))) clients examples
@@ -148,7 +198,7 @@ PAGE = inspecting/page
 OF_PAGE = $(patsubst clients/%,%,$(wildcard clients/$(PAGE)/* clients/inspecting/*.json))
 OF_TOOLS = $(TOOLS) $(patsubst clients/%,%,$(wildcard $(PARTS:%=clients/%/*.py))) $(OF_PAGE)
 
-# uses the present bin/metad and bin/metad-front
+# uses the present bin/metad and bin/metad-front, and the library where it is there
 install:
 	@test -f bin/metad || { echo "bin/metad is not there yet: make builds it"; exit 1; }
 	@test -f bin/metad-front || { echo "bin/metad-front is not there yet: make front builds it"; exit 1; }
@@ -170,6 +220,13 @@ install:
 		install clients/$$it "$(SHARE)/$$it" && \
 		ln -sf ../share/metad/$$it "$(BIN)/metad-$$it" || exit; \
 	done
+ifneq ($(wildcard bin/libmetad.so),)
+	install -D -m 644 include/metad.h "$(INCLUDE)/metad.h"
+	install -D -m 644 bin/libmetad.a "$(LIB)/libmetad.a"
+	install -m 644 bin/$(SONAME) "$(LIB)/$(SONAME)"
+	ln -sf $(SONAME) "$(LIB)/libmetad.so"
+	install -D -m 644 bin/metad.pc "$(LIB)/pkgconfig/metad.pc"
+endif
 ifdef SITE
 	install -d "$(DESTDIR)$(SITE)"
 	ln -srfT "$(SHARE)/$(CLIENT)" "$(DESTDIR)$(SITE)/metad"
@@ -178,6 +235,7 @@ endif
 # takes away all that install puts there, what Python has left beside it, and the folders that hold nothing else
 uninstall:
 	rm -f "$(BIN)/metad" "$(BIN)/metad-front" $(TOOLS:%="$(BIN)/metad-%") "$(MAN)/metad.1" $(if $(SITE),"$(DESTDIR)$(SITE)/metad")
+	rm -f "$(INCLUDE)/metad.h" "$(LIB)/libmetad.a" "$(LIB)/$(SONAME)" "$(LIB)/libmetad.so" "$(LIB)/pkgconfig/metad.pc"
 	rm -f $(DOCUMENTS:%="$(DOC)/%") $(OF_CLIENT:%="$(SHARE)/%") $(OF_JS:%="$(SHARE)/%") $(OF_QT:%="$(SHARE)/%") $(OF_TOOLS:%="$(SHARE)/%")
 	rm -rf "$(SHARE)/$(CLIENT)/__pycache__" $(PARTS:%="$(SHARE)/%/__pycache__")
 	for it in $(FOLDERS:%="$(DOC)/%") "$(DOC)" "$(SHARE)/$(CLIENT)" "$(SHARE)/python" "$(SHARE)/js" "$(SHARE)/qt/metad" "$(SHARE)/qt" "$(SHARE)/$(PAGE)" $(PARTS:%="$(SHARE)/%") "$(SHARE)"; do \

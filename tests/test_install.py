@@ -1,4 +1,4 @@
-"""What `make install` puts below a prefix and `make uninstall` takes away, and the manual page among it."""
+"""What `make install` puts below a prefix and `make uninstall` removes, and the manual page among it."""
 
 import os
 import re
@@ -14,7 +14,7 @@ from .support.documents import version
 from .support.markdown import links_in
 from .support.program import ROOT, SECONDS, lay_out, make, run_shell
 
-SHARED = {"bin", "share", "share/man", "share/man/man1", "share/doc"}  # folders that are not the program's own
+SHARED = {"bin", "include", "lib", "lib/pkgconfig", "share", "share/man", "share/man/man1", "share/doc"}  # folders that are not the program's own
 DOC = "share/doc/metad"
 TOOLS = {
     "explain": "explaining", "check": "checking", "shell": "shelling", "slice": "slicing", "inspect": "inspecting",
@@ -29,6 +29,7 @@ OF_DOCUMENTS = ("README.md", "CHANGELOG.md", "docs/*.md", "docs/*.json", "docs/*
 INTERNAL = re.compile(rb"\[([^][]*)\]\((?:[^()]*internals/[^()]*|CONTRIBUTING\.md)\)")  # a link to a page that is not installed
 OF_PAGE = ("inspecting/page/*", "inspecting/*.json")
 OF_CLIENT = ("metad/*.py", "metad/py.typed")
+LIBRARY = ("libmetad.a", "libmetad.so", "libmetad.so.0")
 OF_JS = ("js/*.mjs", "js/*.mts", "js/package.json")
 OF_QT = ("*.cmake", "CMakeLists.txt", "metad/*")
 LINE = b'{"error":"E12","session":"a"}\n'
@@ -37,7 +38,7 @@ CHECKED = b"<standard input>: no fault, no warning; metad takes it\n"
 MADE = b"object 1 is made, of class QObject, a root; it is p\n"
 RECORD = b'{"session":"a","do":"spin"}\n{"session":"b","do":"spin"}\n'
 KEPT = b'{"session":"a","do":"spin"}\n'
-OF_PYTHON = ("PYTHONDONTWRITEBYTECODE", "PYTHONPYCACHEPREFIX")  # with either, Python leaves nothing beside the files
+OF_PYTHON = ("PYTHONDONTWRITEBYTECODE", "PYTHONPYCACHEPREFIX")  # with either, Python leaves nothing next to the files
 
 
 def files_in(top):
@@ -63,6 +64,9 @@ def wanted_files():
     client = clients / "python"
     made |= {f"{CLIENT}/{path.relative_to(client)}": path for pattern in OF_CLIENT for path in client.glob(pattern)}
     made |= {f"share/metad/{path.relative_to(clients)}": path for pattern in OF_QT for path in (clients / "qt").glob(pattern)}
+    if (ROOT / "bin" / "libmetad.so").exists():  # `make library` builds it
+        made |= {f"lib/{name}": ROOT / "bin" / name for name in LIBRARY}
+        made |= {"lib/pkgconfig/metad.pc": ROOT / "bin" / "metad.pc", "include/metad.h": ROOT / "include" / "metad.h"}
     documents = [path for pattern in OF_DOCUMENTS for path in ROOT.glob(pattern) if path.is_file()]
     return made | {f"{DOC}/{path.relative_to(ROOT)}": path for path in documents}
 
@@ -78,7 +82,7 @@ class Install(Cases):
         self.assertEqual((ran.returncode, ran.stderr), (0, ""), f"make {target}: {ran.stdout}")
 
     def check_files(self, top):
-        """What stands below a prefix is what is to be installed, with its modes."""
+        """The files below a prefix are those to be installed, with their modes."""
         found, wanted = files_in(top), wanted_files()
         self.assertEqual(found.keys(), wanted.keys())
         self.assertLessEqual(ALWAYS, found.keys())
@@ -101,7 +105,7 @@ class Install(Cases):
             self.assertTrue(is_there, f"the link to {target} in {document.relative_to(top)} leads to nothing that is installed")
 
     def check_run(self, words, top, given, wanted):
-        """Something installed runs where it stands, where Python may leave its folders."""
+        """Something installed runs where it is, where Python may leave its folders."""
         own = {key: value for key, value in os.environ.items() if key not in OF_PYTHON}
         where = {**own, "PYTHONPATH": str(top / CLIENT)}
         ran = subprocess.run(words, input=given, capture_output=True, env=where, timeout=SECONDS)
@@ -140,7 +144,7 @@ class Install(Cases):
             self.make("uninstall", stage, prefix)
             left = {str(path.relative_to(top)) for path in top.rglob("*")}
             self.assertLessEqual(left, allowed, "what make uninstall leaves")
-            self.assertTrue(kept is None or kept in left, f"make uninstall takes {kept} away")
+            self.assertTrue(kept is None or kept in left, f"make uninstall removes {kept}")
 
     def test_below_usr_local(self):
         """All files are installed with their modes, can be used, and go again."""

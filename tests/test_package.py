@@ -14,7 +14,7 @@ from tempfile import TemporaryDirectory
 from .support.cases import Cases
 from .support.documents import README, version
 from .support.program import ROOT, SECONDS, make
-from .test_install import CHECKED, KEPT, LINE, LINKS, MADE, RECORD, SAID, as_installed, files_in, wanted_files
+from .test_install import CHECKED, KEPT, LINE, MADE, RECORD, SAID, as_installed, files_in, wanted_files
 
 TOOL = ROOT / "tools" / "package.py"
 TIME = 1_700_000_000  # that the files of a package are given
@@ -31,7 +31,7 @@ def sum_of(path):
 
 
 def sums_in(path):
-    """The checksums that a file has, by the names beside them."""
+    """The checksums that a file has, by the names next to them."""
     lines = (line.split("  ", 1) for line in path.read_text().splitlines())
     return {name: checksum for checksum, name in lines}
 
@@ -45,17 +45,21 @@ class Packages(Cases):
             self.skipTest("objdump, which says what a program needs, is not on the path")
 
     def made(self, target, name, umask=0o022):
-        """The package that a target makes in a new folder, where its checksum stands beside it."""
+        """The first package that a target makes in a new folder."""
+        return self.all_made(target, name, umask)[0]
+
+    def all_made(self, target, name, umask=0o022):
+        """The packages that a target makes in a new folder, which has their checksums, too."""
         folder, before = self.room / name, os.umask(umask)
         try:
             ran = make(target, f"DIST={folder}", f"SOURCE_DATE_EPOCH={TIME}")
         finally:
             os.umask(before)
         self.assertEqual((ran.returncode, ran.stderr), (0, ""), ran.stdout)
-        path = Path(ran.stdout.strip())
-        self.assertEqual(sums_in(folder / "SHA256SUMS"), {path.name: sum_of(path)}, "the checksum beside it")
-        self.assertEqual({it.name for it in folder.iterdir()}, {path.name, "SHA256SUMS"}, "what is made")
-        return path
+        paths = list(map(Path, ran.stdout.splitlines()))
+        self.assertEqual(sums_in(folder / "SHA256SUMS"), {it.name: sum_of(it) for it in paths}, "the checksums")
+        self.assertEqual({it.name for it in folder.iterdir()}, {*(it.name for it in paths), "SHA256SUMS"}, "what is made")
+        return paths
 
     def check_same(self, target, path):
         """A package is made once more, by somebody whose files nobody else may read, and is the same."""
@@ -67,7 +71,7 @@ class Packages(Cases):
         self.assertEqual((ran.returncode, ran.stderr, ran.stdout), (0, b"", wanted), words)
 
     def check_use(self, top, site):
-        """The program, the tools and the client run where they stand."""
+        """The program, the tools and the client run where they are."""
         self.check_run([top / "bin/metad"], NEW, FIRST)
         self.check_run([top / "bin/metad-explain"], LINE, LINE + SAID)
         self.check_run([top / "bin/metad-check", "-"], b'{"classes":[]}', CHECKED)
@@ -97,7 +101,7 @@ class Packages(Cases):
         self.assertEqual(found.keys() - own, wanted.keys(), "the files")
         different = [it for it in wanted if found[it].read_bytes() != as_installed(wanted[it])]
         self.assertEqual(different, [], "files that are others than those here")
-        plain = {it for it in found.keys() - LINKS.keys() - {"SHA256SUMS"}}
+        plain = {it for it, path in found.items() if not path.is_symlink() and it != "SHA256SUMS"}
         self.assertEqual(sums_in(top / "SHA256SUMS"), {it: sum_of(top / it) for it in plain}, "the checksums")
         self.check_use(top, top / "share/metad/python")
 
@@ -106,7 +110,7 @@ class Packages(Cases):
         path = self.made("dist", "once")
         with tarfile.open(path) as tar:
             about = tar.extractfile(f"metad-{version()[0]}-x86_64-linux/README").read().decode()
-        words = ["objdump", "-T", *(ROOT / "bin" / it for it in ("metad", "metad-front"))]
+        words = ["objdump", "-T", *(ROOT / "bin" / it for it in ("metad", "metad-front"))]  # the library asks for less
         symbols = subprocess.run(words, capture_output=True, text=True, timeout=SECONDS).stdout
         asked = [tuple(map(int, it.split("."))) for it in re.findall(r"\bGLIBC_([0-9.]+)", symbols)]
         self.assertTrue(asked, "the program asks for nothing of glibc")
@@ -131,8 +135,30 @@ class Packages(Cases):
         self.assertEqual(page, (ROOT / "man" / "metad.1").read_bytes(), "the manual page")
         others = {"share/man/man1/metad.1.gz", "share/doc/metad/copyright"}
         found = {it for it in files_in(top) if not it.startswith("lib/")}
-        self.assertEqual(found - others, wanted_files().keys() - {"share/man/man1/metad.1"}, "the files")
+        wanted = {it for it in wanted_files() if not it.startswith(("lib/", "include/"))}
+        self.assertEqual(found - others, wanted - {"share/man/man1/metad.1"}, "the files")
         self.check_use(top, self.room / "root" / SITE)
+
+    def test_debian_library(self):
+        """The library has two packages: one to run programs, and one to build them, by which the other is needed."""
+        if shutil.which("dpkg-deb") is None:
+            self.skipTest("dpkg-deb is not on the path")
+        if not (ROOT / "bin" / "libmetad.so").exists():
+            self.skipTest("bin/libmetad.so is not there: make library builds it")
+        paths, again, number = self.all_made("deb", "once"), self.all_made("deb", "again", umask=0o077), version()[0]
+        self.assertEqual([it.name for it in paths], [f"{it}_{number}_amd64.deb" for it in ("metad", "libmetad", "libmetad-dev")])
+        self.assertEqual(list(map(sum_of, again)), list(map(sum_of, paths)), "the same packages made again")
+        needs, found = {}, {}
+        for name, path in zip(("libmetad", "libmetad-dev"), paths[1:]):
+            fields = subprocess.run(["dpkg-deb", "--field", path, "Depends"], capture_output=True, text=True, timeout=SECONDS)
+            subprocess.run(["dpkg-deb", "--extract", path, self.room / name], check=True, timeout=SECONDS)
+            needs[name], top = fields.stdout.strip(), self.room / name / "usr"
+            found[name] = {str(it.relative_to(top)) for it in top.rglob("*") if it.is_symlink() or it.is_file()}
+        self.assertRegex(needs["libmetad"], r"\Alibc6 \(>= 2\.\d+(\.\d+)?\)\Z")
+        self.assertEqual(needs["libmetad-dev"], f"libmetad (= {number}), libc6-dev")
+        self.assertEqual(found["libmetad"], {"lib/libmetad.so.0", "share/doc/libmetad/copyright"})
+        wanted = {"include/metad.h", "lib/libmetad.a", "lib/libmetad.so", "lib/pkgconfig/metad.pc", "share/doc/libmetad-dev/copyright"}
+        self.assertEqual(found["libmetad-dev"], wanted)
 
     def test_debian_root(self):
         """dpkg installs it below a root of its own, and takes all of it away again, with what Python has left there."""

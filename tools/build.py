@@ -1,10 +1,10 @@
 #!/usr/bin/env python3
-"""Proves the crates that a program builds on, side by side where they do not need each other.
+"""Proves the crates that a program or a library for C builds on, in parallel where they do not need each other.
 
-A crate is begun as soon as all that it builds on is ready, those at the foot of the longest chains first; of
-those that are under way the one at the foot of the longest chain is proved with as many jobs as there are
-processors. What `rt` says goes to the crate's own `out/build.log`; of a crate that fails it is shown.
-One `rt` keeps others out of every crate that it reads, so each works on links to the sources and libraries.
+A crate starts as soon as all that it builds on is ready. The start of the longest chain goes first, and the crate under way
+with the longest chain above it gets as many jobs as there are processors. The output of `rt` goes to the crate's own
+`out/build.log`, and is shown if the crate fails. An `rt` locks every crate that it reads, so each works on links to the
+sources and libraries.
 Usage: build.py REPOSITORY PROGRAM
 """
 
@@ -12,6 +12,7 @@ from __future__ import annotations
 
 import argparse
 import os
+import re
 import shutil
 import subprocess
 import sys
@@ -69,7 +70,7 @@ def build(repository, name, below, words, jobs):
     shutil.rmtree(work, ignore_errors=True)
     (work / "crates").mkdir(parents=True)
     shutil.copy(repository / "HANDLES", work)
-    named = (line for line in (repository / "crates.txt").read_text().splitlines() if line.partition(":")[0] in {name, *below})
+    named = (line for line in (repository / "crates.txt").read_text().splitlines() if {*line.partition(":")[0].split()[:1]} & {name, *below})
     (work / "crates.txt").write_text("".join(f"{line}\n" for line in named))
     for it in below:
         link(repository / "crates" / it, work / "crates" / it)
@@ -83,6 +84,11 @@ def build(repository, name, below, words, jobs):
     finally:
         os.rename(own / "out", folder / "out")
         shutil.rmtree(work, ignore_errors=True)
+
+
+def is_static(repository, name):
+    """Whether a crate is a library for programs in C rather than a program."""
+    return re.search(rf"^{name} +staticlib\b", (repository / "crates.txt").read_text(), re.MULTILINE) is not None
 
 
 def build_all(repository, crates):
@@ -125,8 +131,9 @@ def main():
         return 1
     repository, program = given.repository.resolve(), given.program
     crates = crates_of(repository)
+    last = "lib" if is_static(repository, program) else "run"
     failed = build_all(repository, needed_by(program, crates))
-    if failed is None and not build(repository, program, needed_by(program, crates), ["run"], JOBS):
+    if failed is None and not build(repository, program, needed_by(program, crates), [last], JOBS):
         failed = program
     if failed is not None:
         print((repository / "crates" / failed / "out" / "build.log").read_text()[-4_000:])

@@ -1,8 +1,10 @@
 #!/usr/bin/env python3
-"""Packs bin/metad as it is, with all that `make install` installs: as a tarball for any folder, or for Debian.
+"""Packs bin/metad and everything that `make install` installs, as a tarball for any folder or as a Debian package.
 
-The same files make the same bytes, on any day and by anybody: all that a package holds has the time of the newest
-commit, or that of SOURCE_DATE_EPOCH, and belongs to root. SHA256SUMS in its folder has the checksums of all packages there.
+Debian has libmetad, if it is built, in packages of its own: `libmetad` to run programs with it, `libmetad-dev` to build them.
+
+Packages are reproducible: their files belong to root and have the time of the newest commit, or of SOURCE_DATE_EPOCH.
+SHA256SUMS in the folder has the checksums of all packages there.
 Usage: package.py tarball|debian FOLDER
 """
 
@@ -16,6 +18,7 @@ import re
 import subprocess
 import sys
 import tarfile
+from dataclasses import dataclass
 from pathlib import Path
 from tempfile import TemporaryDirectory
 from typing import IO, Callable, Dict, List, Sequence, Tuple, cast
@@ -23,6 +26,7 @@ from typing import IO, Callable, Dict, List, Sequence, Tuple, cast
 ROOT = Path(__file__).resolve().parent.parent
 PROGRAM = ROOT / "bin" / "metad"
 FRONT = ROOT / "bin" / "metad-front"
+LIBRARY = ROOT / "bin" / "libmetad.so"
 OF_MAKE = ("MAKEFLAGS", "MAKELEVEL", "MFLAGS")
 ELF = b"\x7fELF\x02\x01"  # how programs begin that are of 64 bits, the lowest byte first
 PROCESSOR, X86_64 = 18, 62  # where they say for which processor they are, and what is said of this one
@@ -31,6 +35,7 @@ SITE = "/usr/lib/python3/dist-packages"  # where Python looks on Debian
 OF_GLIBC = ("libc.so", "libm.so", "libpthread.so", "libdl.so", "ld-linux-x86-64.so")
 PACKAGES = {**dict.fromkeys(OF_GLIBC, "libc6"), "libgcc_s.so": "libgcc-s1"}
 OLDEST_PYTHON = "3.8"
+PACKED = ("metad-*.tar.gz", "metad_*.deb", "libmetad_*.deb", "libmetad-dev_*.deb")
 
 ABOUT = """\
 metad {version}, for x86-64 Linux with glibc {glibc} or later; the tools also need Python {python} or later.
@@ -38,27 +43,42 @@ metad {version}, for x86-64 Linux with glibc {glibc} or later; the tools also ne
 This folder may be anywhere. With its bin/ on the path there are metad, metad-front, metad-shell, metad-check,
 metad-explain, metad-slice, metad-inspect and metad-web, which needs Python's library websockets; with share/metad/python
 on PYTHONPATH programs in Python find the client. Programs in JavaScript import share/metad/js/index.mjs.
-man -l share/man/man1/metad.1 shows the manual page, and share/doc/metad/README.md leads to the documents. sha256sum
+{library}man -l share/man/man1/metad.1 shows the manual page, and share/doc/metad/README.md leads to the documents. sha256sum
 -c SHA256SUMS compares all files.
 """
 
+OF_LIBRARY = "Programs in C find the server inside a program with include/metad.h, lib/ and lib/pkgconfig/metad.pc.\n"
+
 CONTROL = """\
-Package: metad
+Package: {name}
 Version: {version}
 Architecture: amd64
 Maintainer: {maintainer}
-Section: devel
+Section: {section}
 Priority: optional
 Installed-Size: {size}
 Depends: {depends}
-Suggests: python3-websockets
-Description: server of live objects with the meta-object system of Qt 6
+{more}Description: {about}
+"""
+
+OF_PROGRAM = """\
+server of live objects with the meta-object system of Qt 6
  Classes, trees of objects, signals and slots, properties that can be bound to
  others, queued events and publications between sessions, in one server whose
  sessions are isolated. Commands come in as JSON, one a line, and replies, calls
  and warnings go out as JSON lines. With a front for many clients of a socket, a
- line editor, a checker of class files, and clients for Python and JavaScript.
-"""
+ line editor, a checker of class files, and clients for Python and JavaScript."""
+
+OF_SHARED = """\
+server of live objects inside a program, as a shared library
+ The server metad without a process of its own: a program gives lines of JSON
+ and fetches the answers."""
+
+OF_HEADER = """\
+server of live objects inside a program, to build programs with it
+ The header, the static library and the file for pkg-config."""
+
+LDCONFIG = "activate-noawait ldconfig\n"  # the system then makes its list of libraries again
 
 COPYRIGHT = "The owner of metad has not chosen a licence yet.\n"
 
@@ -67,6 +87,18 @@ BEFORE_REMOVAL = """\
 set -e
 for it in {folders}; do rm -rf "$DPKG_ROOT/usr/share/metad/$it/__pycache__"; done
 """
+
+
+@dataclass(frozen=True)
+class Package:
+    """A package for Debian: its control fields, and the installed files that are its own and not those of `metad`."""
+
+    name: str
+    section: str
+    depends: Callable[[], str]
+    about: str
+    more: str = ""
+    files: Tuple[str, ...] = ()
 
 
 class Unable(Exception):
@@ -101,9 +133,9 @@ def needs_of(program: Path) -> Tuple[List[str], str]:
     return re.findall(r"NEEDED\s+(\S+)", told), ".".join(map(str, max(versions, default=FIRST_GLIBC)))
 
 
-def needs_of_all() -> Tuple[List[str], str]:
-    """The libraries that the program and the front need, and the oldest glibc that has all that they ask for."""
-    libraries, versions = zip(*map(needs_of, (PROGRAM, FRONT)))
+def needs_of_all(*made: Path) -> Tuple[List[str], str]:
+    """The libraries that programs and libraries need, and the oldest glibc that has all that they ask for."""
+    libraries, versions = zip(*map(needs_of, made))
     newest = max(versions, key=lambda it: tuple(map(int, it.split("."))))
     return sorted({it for found in libraries for it in found}), newest
 
@@ -148,18 +180,20 @@ def settle(top: Path, time: int) -> None:
         os.utime(it, (time, time), follow_symlinks=False)
 
 
-def tarball(folder: Path) -> Path:
+def tarball(folder: Path) -> List[Path]:
     """Makes the tarball; answers where it is."""
     name = f"metad-{version()}-x86_64-linux"
     path = folder / f"{name}.tar.gz"
     with TemporaryDirectory(prefix="metad-package-") as room:
         top = Path(room, name)
         install(top, "PREFIX=")
-        (top / "README").write_text(ABOUT.format(version=version(), glibc=needs_of_all()[1], python=OLDEST_PYTHON))
+        made, library = ((PROGRAM, FRONT, LIBRARY), OF_LIBRARY) if LIBRARY.exists() else ((PROGRAM, FRONT), "")
+        about = ABOUT.format(version=version(), glibc=needs_of_all(*made)[1], python=OLDEST_PYTHON, library=library)
+        (top / "README").write_text(about)
         (top / "SHA256SUMS").write_text(sums_of(top, "sha256"))
         settle(top, epoch())
         write_tarball(path, top)
-    return path
+    return [path]
 
 
 def write_tarball(path: Path, top: Path) -> None:
@@ -177,61 +211,97 @@ def of_root(member: tarfile.TarInfo) -> tarfile.TarInfo:
     return member
 
 
-def debian(folder: Path) -> Path:
-    """Makes the package for Debian; answers where it is."""
-    path = folder / f"metad_{version()}_amd64.deb"
+def debian(folder: Path) -> List[Path]:
+    """Makes the packages for Debian; answers where they are."""
     with TemporaryDirectory(prefix="metad-package-") as room:
         top = Path(room, "metad")
         install(top, "PREFIX=/usr", f"SITE={SITE}")
         page = top / "usr/share/man/man1/metad.1"
         page.with_suffix(".1.gz").write_bytes(gzip.compress(page.read_bytes(), 9, mtime=0))
         page.unlink()
-        (top / "usr/share/doc/metad/copyright").write_text(COPYRIGHT)
-        describe(top)
-        settle(top, epoch())
-        words = ["dpkg-deb", "--root-owner-group", "--uniform-compression", "-Zxz", "--build", top, path]
-        said_by(words, SOURCE_DATE_EPOCH=str(epoch()))
+        packages = PACKAGES_OF_DEBIAN if LIBRARY.exists() else PACKAGES_OF_DEBIAN[:1]
+        for package in reversed(packages[1:]):  # a link before what it leads to
+            move(top, Path(room, package.name), package.files)
+        return [packed(Path(room, it.name), it, folder) for it in packages]
+
+
+def move(top: Path, to: Path, patterns: Sequence[str]) -> None:
+    """Moves the files that some patterns name, and removes the folders that are empty then."""
+    for path in [it for pattern in patterns for it in sorted(top.glob(pattern))]:
+        new = to / path.relative_to(top)
+        new.parent.mkdir(parents=True, exist_ok=True)
+        path.rename(new)
+        for above in path.relative_to(top).parents:
+            if not any((top / above).iterdir()):
+                (top / above).rmdir()
+
+
+def packed(top: Path, package: Package, folder: Path) -> Path:
+    """Makes a package for Debian of what a folder has; answers where it is."""
+    path = folder / f"{package.name}_{version()}_amd64.deb"
+    copyright = top / "usr/share/doc" / package.name / "copyright"
+    copyright.parent.mkdir(parents=True, exist_ok=True)
+    copyright.write_text(COPYRIGHT)
+    describe(top, package)
+    settle(top, epoch())
+    words = ["dpkg-deb", "--root-owner-group", "--uniform-compression", "-Zxz", "--build", top, path]
+    said_by(words, SOURCE_DATE_EPOCH=str(epoch()))
     return path
 
 
-def describe(top: Path) -> None:
+def describe(top: Path, package: Package) -> None:
     """Puts into a folder what Debian has to know of the package."""
     sums, size = sums_of(top, "md5"), sum(it.stat().st_size for it in files_below(top))
+    told = CONTROL.format(
+        name=package.name, version=version(), maintainer=os.environ.get("MAINTAINER", "metad <metad@localhost>"), section=package.section,
+        size=-(-size // 1024), depends=package.depends(), more=package.more, about=package.about,
+    )  # fmt: skip
     shared = top / "usr/share/metad"
     folders = sorted(str(it.relative_to(shared)) for it in {path.parent for path in shared.rglob("*.py")})
-    maintainer = os.environ.get("MAINTAINER", "metad <metad@localhost>")
-    told = CONTROL.format(version=version(), maintainer=maintainer, size=-(-size // 1024), depends=depends())
     (top / "DEBIAN").mkdir()
     (top / "DEBIAN/control").write_text(told)
     (top / "DEBIAN/md5sums").write_text(sums)
-    (top / "DEBIAN/prerm").write_text(BEFORE_REMOVAL.format(folders=" ".join(folders)))
-    (top / "DEBIAN/prerm").chmod(0o755)
+    if any((top / "usr/lib").glob("*.so.*")):
+        (top / "DEBIAN/triggers").write_text(LDCONFIG)
+    if folders:
+        (top / "DEBIAN/prerm").write_text(BEFORE_REMOVAL.format(folders=" ".join(folders)))
+        (top / "DEBIAN/prerm").chmod(0o755)
 
 
-def depends() -> str:
-    """The packages of Debian that the program and the tools need."""
-    libraries, glibc = needs_of_all()
+def needed(*made: Path) -> str:
+    """The packages of Debian that programs or libraries need."""
+    libraries, glibc = needs_of_all(*made)
     named = [it.partition(".so")[0] + ".so" for it in libraries]
     unknown = [it for it in named if it not in PACKAGES]
     if unknown:
         raise Unable(f"no package of Debian is known here for {', '.join(unknown)}")
-    needed = {PACKAGES[it] for it in named}
     versions = {"libc6": f" (>= {glibc})"}
-    return ", ".join([*(it + versions.get(it, "") for it in sorted(needed)), f"python3 (>= {OLDEST_PYTHON})"])
+    return ", ".join(it + versions.get(it, "") for it in sorted({PACKAGES[it] for it in named}))
 
 
-MAKERS: Dict[str, Callable[[Path], Path]] = {"tarball": tarball, "debian": debian}
+PACKAGES_OF_DEBIAN = (
+    Package(
+        "metad", "devel", lambda: f"{needed(PROGRAM, FRONT)}, python3 (>= {OLDEST_PYTHON})", OF_PROGRAM, "Suggests: libmetad, python3-websockets\n"
+    ),
+    Package("libmetad", "libs", lambda: needed(LIBRARY), OF_SHARED, files=("usr/lib/libmetad.so.*",)),
+    Package(
+        "libmetad-dev", "libdevel", lambda: f"libmetad (= {version()}), libc6-dev", OF_HEADER,
+        files=("usr/include/metad.h", "usr/lib/libmetad.a", "usr/lib/libmetad.so", "usr/lib/pkgconfig/metad.pc"),
+    ),
+)  # fmt: skip
+
+MAKERS: Dict[str, Callable[[Path], List[Path]]] = {"tarball": tarball, "debian": debian}
 
 
 def main() -> int:
     words = argparse.ArgumentParser(description="Packs bin/metad as it is, with all that `make install` installs.")
-    words.add_argument("kind", choices=MAKERS, help="a tarball for any folder, or a package for Debian")
+    words.add_argument("kind", choices=MAKERS, help="a tarball for any folder, or packages for Debian")
     words.add_argument("folder", type=Path, help="where it is put, with its SHA256SUMS")
     given = words.parse_args()
     try:
         given.folder.mkdir(parents=True, exist_ok=True)
-        print(MAKERS[given.kind](given.folder))
-        packages = sorted([*given.folder.glob("metad-*.tar.gz"), *given.folder.glob("metad_*.deb")])
+        print(*MAKERS[given.kind](given.folder), sep="\n")
+        packages = sorted(it for pattern in PACKED for it in given.folder.glob(pattern))
         lines = (f"{hashlib.sha256(it.read_bytes()).hexdigest()}  {it.name}\n" for it in packages)
         (given.folder / "SHA256SUMS").write_text("".join(lines))
     except (Unable, OSError) as error:

@@ -1,5 +1,6 @@
 pub mod Names
 pub mod Server
+pub mod Bare
 pub mod Runs
 pub mod Spared
 pub mod Noting

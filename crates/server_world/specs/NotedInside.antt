@@ -1,10 +1,10 @@
--- How what is noted of commands stands.
+-- How the notes about commands are stored.
 use Rattle.std.specs.Prelude.{◌==◌, ◌≤◌, ℕ, false, List, [], ◌∷◌, All, length, map, slice_index_or}
 use Rattle.isolation.specs.Machine.{Machine}
 use Rattle.isolation.specs.Slice.{Note}
 use Rattle.server_world.specs.declared.notes.Row.{Row}
 
--- places are told apart as numbers; nothing else of this machine is asked
+-- A machine whose names are places. Nothing but the comparison of places is used.
 abbrev pub by_place : Machine ℕ (Unit {0}) (Unit {0}) (Unit {0}) (Unit {0})
 by_place = record {
   same = λ a b. a == b;
@@ -14,7 +14,7 @@ by_place = record {
   accepts = λ place state command name. false;
 }
 
--- the joiners of a number: none where it is 0, else those of the list before it
+-- The joiners with this number: number 0 is the empty list, and number n the list at index n - 1.
 abbrev pub joiners_at : List (List ℕ) → ℕ → List ℕ
 joiners_at lists number = slice_index_or ([] ∷ lists) number []
 
@@ -24,7 +24,7 @@ note_at lists row = record { session = row.session; joiners = joiners_at lists r
 abbrev pub noted : List Row → List (List ℕ) → List (Note ℕ)
 noted rows lists = map (note_at lists) rows
 
--- each number is 0 or that of a list
+-- Each number is 0 or the number of a list.
 pub record AreNumbered (rows : List Row) (lists : List (List ℕ)) (latest : List ℕ) : Type 0 where
   pub noted : All (λ row. row.list ≤ length lists) rows
   pub known : All (λ number. number ≤ length lists) latest

@@ -3,9 +3,9 @@ ghost use Rattle.isolation.specs.Laws.{LeavingOut, FinalStates, InfluencedStates
 ghost use Rattle.session_model.specs.Machine.{machine};
 ghost use Rattle.session_model.specs.Thread.{Settings};
 
-/// Leaving out commands of sessions that no kept session joins is not seen by a kept session: it is
-/// told the same, and has the same state at the end. So it is with the sessions that influence one
-/// session, also from other states of the sessions that do not.
+/// Leaving out commands of sessions that no kept session joins changes nothing for a kept session: it receives the
+/// same lines, and ends in the same state. This also holds when only the sessions that influence one session are
+/// kept, even if the others begin in other states.
 ///
 /// There is nothing to run: the clauses are the theorems.
 pub fn leaving_out_keeps_sessions()
@@ -14,8 +14,8 @@ pub fn leaving_out_keeps_sessions()
     ensures influence { (settings : Settings) → InfluencedStates (machine settings) }
 {}
 
-/// A session is told the same, and has the same state at the end, where only the commands of its
-/// slice are done; these are of sessions that influence it.
+/// A session receives the same lines, and ends in the same state, where only the commands of its slice are done.
+/// These are commands of sessions that influence it.
 ///
 /// There is nothing to run: the clauses are the theorems.
 pub fn slicing_keeps_a_session()

@@ -9,13 +9,13 @@ use plain_types::Items;
 use std::alloc::{AllocError, Global};
 use std::marker::Model;
 
-/// The sessions of commands, in order, and for each of them which sessions had a join that named it
-/// then. All are told by their places. It takes eight bytes a command, and a list of joiners only where
-/// they are others than at the last command of the same session.
+/// The sessions of commands, in order, and for each of them the sessions that had a join naming it at the time.
+/// Sessions are given by their places. A command takes eight bytes. A list of joiners is stored only where it
+/// differs from that of the last command of the same session.
 #[derive(Drop)]
 pub struct Notes {
     rows: Vec<Row>,
-    /// Lists of joiners, numbered from 1 on. Number 0 is that of no joiners.
+    /// Lists of joiners, numbered from 1 on. Number 0 is the empty list.
     lists: Vec<Items<usize>>,
     /// By the place of a session, the number of the list of its joiners at its last command.
     latest: Vec<u32>,
@@ -56,9 +56,8 @@ impl Notes {
         }
     }
 
-    /// Notes a command of the session at a place, and the places of the sessions with a join that names
-    /// it. A number of 32 bits has to tell the place and the list; where none does, it is answered as
-    /// want of memory.
+    /// Notes a command of the session at a place, and the places of the sessions with a join that names it. Fails
+    /// also if the place or the number of the list needs more than 32 bits.
     pub fn add(&mut self, session: usize, joiners: Vec<usize>) -> Result<(), AllocError>
         ensures ok { OnOk result (self.new ≡ self.old ++ record { session = session; joiners = joiners.items } ∷ []) }
         ensures err { OnErr result (self.new ≡ self.old) }
@@ -75,8 +74,8 @@ impl Notes {
         Ok(())
     }
 
-    /// Which commands the slice of a session keeps, where there are so many sessions: their numbers from
-    /// 0 on, rising.
+    /// Which commands the slice of a session keeps, by their numbers from 0 on, rising. `sessions` is the number of
+    /// sessions.
     pub fn kept(&self, session: usize, sessions: usize) -> Result<Vec<usize>, AllocError>
         requires there { session < sessions }
         requires within { All (IsWithin sessions) self.now }
@@ -97,8 +96,7 @@ impl Notes {
     }
 }
 
-/// The number of the joiners of a session. They are put behind the lists where they are others than
-/// before.
+/// The number of the list of a session's joiners. A list is added only if the joiners have changed.
 fn number_of(
     lists: &mut Vec<Items<usize>>,
     latest: &mut Vec<u32>,
@@ -125,7 +123,7 @@ fn number_of(
     Ok(number)
 }
 
-/// Puts joiners behind the lists, unless there are none, and tells their number.
+/// Appends a list of joiners and returns its number. An empty list is not stored: its number is 0.
 fn append(lists: &mut Vec<Items<usize>>, joiners: Vec<usize>) -> Result<u32, AllocError>
     ensures is { IfOk result (λ number. joiners_at lists.new.items number ≡ joiners.items) }
     ensures there { IfOk result (λ number. number ≤ length lists.new.items) }
@@ -142,7 +140,7 @@ fn append(lists: &mut Vec<Items<usize>>, joiners: Vec<usize>) -> Result<u32, All
     Ok(number)
 }
 
-/// The joiners of a number.
+/// The list of joiners with this number.
 fn joiners_of(lists: &[Items<usize>], number: u32) -> &[usize]
     requires { number ≤ length lists.now }
     ensures { result.now ≡ joiners_at lists.now number }

@@ -4,19 +4,18 @@ use session_model::Line;
 /// A run reports one entry for each of its commands.
 #[derive(Drop)]
 pub enum Entry {
-    /// The session of the command is told these lines, in order. A refusal is one line.
+    /// The lines that the session of the command receives, in order. A refusal is one line.
     Lines(Items<Line>),
-    /// Memory was wanted for the command and not found. Its session has failed, or could not be
-    /// entered.
+    /// Memory ran out at the command. Its session has failed, or could not be opened.
     OutOfMemory,
 }
 
 /// A run returns a report.
 #[derive(Drop)]
 pub struct Report {
-    /// One entry for each command, in their order; or none at all, where the room for the list
-    /// itself was not found and no command was done.
+    /// One entry for each command, in their order; or no entry at all, if there was no memory for the list itself
+    /// and no command was done.
     pub lines: Items<Entry>,
-    /// Memory was wanted and not found, in this run or before it.
+    /// Whether memory has run out, in this run or before it.
     pub memory_refused: bool,
 }

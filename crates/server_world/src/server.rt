@@ -48,10 +48,9 @@ impl Drop for Server {
 }
 
 impl Server {
-    /// A server with no session. Its objects may have the classes of the table, its signals may be
-    /// connected to the functors, and each command has so many turns for the calls that it causes. The
-    /// names of sessions are hashed with these keys: whoever does not know them cannot choose names for
-    /// which a look-up takes long.
+    /// A server with no session. Its objects may have the classes of the table, and its signals may be connected to
+    /// the functors. Each command has `turns` turns for the calls that it causes. The names of sessions are hashed
+    /// with the keys of `hashing`: whoever does not know them cannot choose names for which a look-up takes long.
     #[tactic(auto, unfolding(crate::specs::Server::was_refused))]
     pub fn new(
         alloc: Global,
@@ -73,8 +72,8 @@ impl Server {
         })
     }
 
-    /// Does one command. A refusal is told by one line; where memory is wanted and not found, the
-    /// command's session has failed, or is not there if this was its first command.
+    /// Does one command. A refusal is answered with one line. If memory runs out, the command's session has failed,
+    /// or is not opened if this was its first command.
     pub fn step(&mut self, given: &Tagged) -> Result<Items<Line>, AllocError>
         ensures step { IsStep (seen_by_name (seen_as self.old))
             (seen_by_name (seen_as self.new)) given.now.session (asked given.now.command) (result_ok result) }
@@ -86,9 +85,9 @@ impl Server {
         self.engine.told(place, &given.command)
     }
 
-    /// Does commands of any sessions, in their order, and tells for each what its session is told.
+    /// Does commands of any sessions, in their order, and reports for each the lines that its session receives.
     ///
-    /// Room for the whole report is made first; where it is not found, no command is done.
+    /// Room for the whole report is made first; without it no command is done.
     pub fn run(&mut self, list: &[Tagged]) -> Report
         ensures refused { result.memory_refused ≡ was_refused (seen_as self.new) }
         // Whatever was refused before, each command is a step, from where the one before has left all sessions.
@@ -96,7 +95,7 @@ impl Server {
             ⊎ ((result.lines ≡ []) × OnlyRefused (seen_as self.old) (seen_as self.new)) }
         // Where memory was found, the lines and the states are those of all sessions side by side,
         ensures world { IsFalse result.memory_refused → IsWorldRun (seen_as self.old) (seen_as self.new) (tags list.now) result.lines }
-        // so each session is told what it would be told by itself.
+        // so each session receives the lines that it would receive alone.
         ensures isolated { IsFalse result.memory_refused → (s : List ℕ) → IsIsolated (seen_as self.old) (seen_as self.new) (tags list.now) result.lines s }
         // Whatever memory was refused, in this run or before it, so is each session that was spared it, with all that it listens to.
         ensures spared { (s : List ℕ) → SparesItsSession (seen_as self.old) (seen_as self.new) (tags list.now) result.lines s }
@@ -124,8 +123,8 @@ impl Server {
         }
     }
 
-    /// Notes the session of a command that is about to be done, and the sessions with a join that names
-    /// it. Where memory is wanted for that and not found, nothing has changed.
+    /// Notes the session of a command that is about to be done, and the sessions with a join that names it. If
+    /// memory runs out, nothing has changed.
     pub fn note(&self, given: &Tagged, notes: &mut Notes) -> Result<(), AllocError>
         ensures ok { OnOk result ((note : Note ℕ) × IsNoted (seen_as self.now) (tag given.now) note × (notes.new ≡ notes.old ++ note ∷ [])) }
         ensures err { OnErr result (notes.new ≡ notes.old) }
@@ -135,7 +134,7 @@ impl Server {
         notes.add(place, joiners)
     }
 
-    /// The place of a session, or the one that it gets by its first command: behind the others.
+    /// The place of a session, or the place that its first command will open: the one after all others.
     fn place_for(&self, name: &Text) -> usize
         ensures there { result < length (with_name (names (seen_as self.now)) name.now) }
         ensures is { name_at (with_name (names (seen_as self.now)) name.now) result ≡ name.now }
@@ -159,12 +158,11 @@ impl Server {
         }
     }
 
-    /// Does commands as `run`, and answers also which of them the slice of a session keeps: their
-    /// places in the list from 0 on, rising. A run of these alone tells the session the same. Where
-    /// memory was refused, none are answered.
+    /// Does commands as `run`, and returns also which of them the slice of a session keeps: their places in the
+    /// list from 0 on, rising. A run of these alone gives the session the same lines. If memory was refused, no
+    /// places are returned.
     ///
-    /// Where memory is wanted for the report or for what is noted, and not found, the rest of the
-    /// commands is not done.
+    /// If there is no memory for the report or the notes, the remaining commands are not done.
     pub fn run_kept(
         &mut self,
         list: &[Tagged],
@@ -256,7 +254,7 @@ impl Server {
         self.engine.law_sound();
     }
 
-    /// Whether memory was wanted and not found in any call of this server so far, or was noted so.
+    /// Whether memory has run out in any call of this server so far, or this was noted.
     #[tactic(auto, unfolding(crate::specs::Server::was_refused))]
     pub fn memory_refused(&self) -> bool
         ensures { result ≡ was_refused (seen_as self.now) }

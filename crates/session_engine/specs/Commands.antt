@@ -1,4 +1,4 @@
--- What a command makes of the session at a place.
+-- The effect of a command on the session at a place.
 use Rattle.std.specs.Prelude.{◌≡◌, ℕ, Bool, eqb, List, [], ◌∷◌, Option, ◌++◌, ◌||◌, Result, OnOk, IsFalse, IsTrue}
 use Rattle.isolation.specs.Machine.{Effect}
 use Rattle.class_table.specs.declared.class.Class.{Class}
@@ -26,23 +26,23 @@ use Rattle.session_engine.specs.Returning.{Returns, wants_memory}
 use Rattle.session_engine.specs.Sessions.{is_shut, session_after, session_does, session_refusal}
 use Rattle.session_effects.specs.Setup.{settings_of}
 
--- what is told of a reply
+-- The lines of a reply.
 abbrev pub reply_lines : Answer → List Line
 reply_lines answer = Reply answer ∷ []
 
--- the same of a reply behind what was told before it
+-- The lines of a reply, after earlier lines.
 abbrev pub reply_after : List Line → Answer → List Line
 reply_after lines answer = lines ++ Reply answer ∷ []
 
--- why a command is refused that a session gives which has not failed, and else what it does
+-- Why a command of a session that has not failed is refused, and its effect if it is not.
 abbrev pub its_refusal : SessionContext → Asked → Tables → Option Code
 its_refusal caller asked old = refusal (settings_of caller.setup.now) caller.name.now (state_at old caller.place) asked
 
 abbrev pub its_effect : SessionContext → Asked → Tables → Effect State Line Post
 its_effect caller asked old = performs (settings_of caller.setup.now) caller.name.now (state_at old caller.place) asked
 
--- the families of commands, in the order in which they are asked for: 0 for queries, and for objects and their properties;
--- 1 for bindings, calls and events; 2 for connections; 3 for publications and joins
+-- The families of commands, in the order in which they are tried: 0 for queries, objects and properties; 1 for bindings,
+-- calls and events; 2 for connections; 3 for publications and joins.
 abbrev pub family : Command → ℕ
 family (c.Bind target property to) = 1
 family (c.Unbind target property) = 1
@@ -63,35 +63,35 @@ family (c.Leave from name target method) = 3
 family c.Reset = 3
 family _ = 0
 
--- the tables know the properties that each class declares, and those of each object of the caller's session
+-- The tables know the properties that each class declares, and those of each object in the caller's session.
 pub record KnowsProperties (caller : SessionContext) (tables : Tables) : Type 0 where
   pub laid : AreLaid caller.setup.now.classes tables
   pub stored : AreStored (state_at tables caller.place)
 
--- all sessions but the one at a place have heard its posts, and whether one of them has failed by that
+-- The posts of the session at a place have reached all others, and whether one of them has failed by that.
 pub record OthersHear (classes : List Class) (from : List ℕ) (place : ℕ) (posts : List Post) (old new : Tables) (failing : Bool) : Type 0 where
   pub shape : AreShaped old new
   pub hear : (at : ℕ) → IsFalse (eqb at place) → IsPlaced old at → ReceivesPosts classes from posts (session_at old at) (session_at new at)
   pub all : IsFalse failing → (at : ℕ) → IsFalse (eqb at place) → IsPlaced old at → session_at new at ≡ after_posts classes from posts (session_at old at)
   pub one : IsTrue failing → (at : ℕ) × IsFalse (eqb at place) × IsPlaced old at × IsFalse (failed_at old at) × IsTrue (failed_at new at)
 
--- a command of a session that has not failed; `failing` says whether another session has failed by its posts,
--- and `lines` what is told by what the call returns
+-- A command of a session that has not failed. `failing` is whether another session has failed by its posts, and `lines`
+-- gives the lines of what the call returns.
 pub record Performs {T : Type 0} (caller : SessionContext)
     (asked : Asked) (old new : Tables) (failing : Bool) (lines : T → List Line) (result : Result T Fault) : Type 0 where
-  -- it is refused exactly by its refusal, and else tells its lines, unless memory was wanted
+  -- It is refused exactly by its refusal, and otherwise returns its lines, unless memory ran out.
   pub returns : Returns (its_refusal caller asked old) (λ value. (its_effect caller asked old).lines ≡ lines value) result
-  -- its posts; where memory was wanted, the first of them
+  -- Its posts; if memory ran out, a prefix of them.
   pub posts : List Post
   pub front : OnMemory result (IsPrefix posts (does (settings_of caller.setup.now) caller.name.now (state_at old caller.place) asked).posts)
-  -- it has posted what it says, and changed the state of its session as it says
+  -- It has made its posts, and changed the state of its session, as defined.
   pub posted : OnOk result (posts ≡ (its_effect caller asked old).posts)
   pub done : OnOk result (session_at new caller.place ≡ record { state = (its_effect caller asked old).state; failed = failed_at old caller.place })
   pub refused : OnRefused result (new ≡ old)
-  -- and all other sessions have heard the posts
+  -- The posts have reached all other sessions.
   pub others : OthersHear caller.setup.now.classes caller.name.now caller.place posts old new failing
 
--- a command of any session, and whether memory has been wanted in vain before it and after it
+-- A command of any session, and whether memory had run out before it and has after it.
 pub record Obeys (caller : SessionContext) (asked : Asked) (old new : Tables) (was now : Bool) (result : Result (List Line) Fault) : Type 0 where
   pub returns : Returns (session_refusal (settings_of caller.setup.now) caller.name.now (session_at old caller.place) asked)
       (λ lines. lines ≡ (its_effect caller asked old).lines) result
@@ -100,9 +100,9 @@ pub record Obeys (caller : SessionContext) (asked : Asked) (old new : Tables) (w
       × (posts ≡ (session_does (settings_of caller.setup.now) caller.name.now (session_at old caller.place) asked).posts))
   pub front : OnMemory result (IsPrefix posts (session_does (settings_of caller.setup.now) caller.name.now (session_at old caller.place) asked).posts)
   pub refused : OnRefused result (new ≡ old)
-  -- where memory was wanted, its session has failed, and was not shut for the command
+  -- If memory ran out, its session has failed, and had not refused the command as a failed session.
   pub fails : OnMemory result ((session_at new caller.place ≡ failed_session) × IsFalse (is_shut (session_at old caller.place) asked))
-  -- whether another session has failed by its posts
+  -- Whether another session has failed by its posts.
   pub failing : Bool
   pub others : OthersHear caller.setup.now.classes caller.name.now caller.place posts old new failing
   pub mark : now ≡ (wants_memory result || failing || was)

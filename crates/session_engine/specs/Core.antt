@@ -14,16 +14,16 @@ use Rattle.session_engine.specs.Sessions.{IsSoundSession, Sessions}
 use Rattle.session_effects.specs.Setup.{settings_of}
 
 pub record EngineState : Type 0 where
-  -- what is fixed for the whole life of the engine
+  -- The settings of the engine, which never change.
   pub settings : Settings
-  -- the name of each place
+  -- The name of each place.
   pub names : List (List ℕ)
-  -- the session of each place
+  -- The session at each place.
   pub tables : Tables
-  -- has memory ever been wanted and not found in a call of the engine
+  -- Whether memory has ever run out in a call of the engine.
   pub memory_refused : Bool
 
--- made of these
+-- The state of an engine with these parts.
 abbrev pub engine_state : Setup → List (List ℕ) → Tables → Bool → EngineState
 engine_state setup names tables memory_refused = record { settings = settings_of setup; names = names; tables = tables; memory_refused = memory_refused }
 
@@ -33,14 +33,14 @@ settings engine = engine.settings
 abbrev pub was_refused : EngineState → Bool
 was_refused engine = engine.memory_refused
 
--- the names of the sessions, by place
+-- The names of the sessions, by place.
 abbrev pub names : EngineState → List (List ℕ)
 names engine = engine.names
 
 abbrev pub place : EngineState → List ℕ → Option ℕ
 place engine name = position (bytes_eq name) engine.names
 
--- the session of each name, fresh where it has no place
+-- The session with each name; a fresh one if it has no place.
 abbrev pub sessions : EngineState → List ℕ → Session
 sessions engine name = option_map_or (session_at engine.tables) (place engine name) fresh
 
@@ -50,51 +50,51 @@ states engine name = (sessions engine name).state
 abbrev pub failed : EngineState → List ℕ → Bool
 failed engine name = (sessions engine name).failed
 
--- the name of a place
+-- The name of a place.
 abbrev pub name_at : EngineState → ℕ → List ℕ
 name_at engine at = get_or engine.names at []
 
--- the names of these places
+-- The names of these places.
 abbrev pub names_at : EngineState → List ℕ → List (List ℕ)
 names_at engine places = map (name_at engine) places
 
--- these places join the session of this name
+-- These places join the session with this name.
 pub record AreJoinersOf (engine : EngineState) (from : List ℕ) (places : List ℕ) : Type 0 where
-  -- exactly they, by rising number
+  -- Exactly these, in ascending order.
   pub joiners : AreJoiners engine.tables from places
-  -- and their names are exactly those of the sessions that do
+  -- Their names are exactly those of the sessions that join it.
   pub named : (name : List ℕ) → list_any (bytes_eq name) (names_at engine places) ≡ joins_name (states engine name) from
   pub within : All (λ at. at < length engine.names) places
 
--- all that is seen by name
+-- Everything that is seen by names.
 abbrev pub seen_by_name : EngineState → Sessions
 seen_by_name engine = record { settings = settings engine; session = sessions engine; memory_refused = was_refused engine }
 
--- some session has this place
+-- A session has this place.
 abbrev pub IsPlace : EngineState → ℕ → Type 0
 IsPlace engine at = (name : List ℕ) × (place engine name ≡ Some at)
 
--- each name has its place still, and this place has a name
+-- Each name still has its place, and this place has a name.
 pub record KeepsPlaces (old new : EngineState) (at : ℕ) : Type 0 where
   pub names : names new ≡ names old
   pub there : IsPlace new at
 
--- a fact of the session at a place, by its name
+-- A fact about the session at a place, by its name.
 abbrev pub OfSession : EngineState → ℕ → (List ℕ → Type 0) → Type 0
 OfSession engine at P = (name : List ℕ) → place engine name ≡ Some at → P name
 
--- what holds of every session: it has failed only where memory was refused, and it is sound
+-- What holds for every session: it has failed only if memory was refused, and it is sound.
 pub record IsKept (settings : Settings) (memory_refused : Bool) (session : Session) : Type 0 where
   pub well : IsFalse memory_refused → IsFalse session.failed
   pub sound : IsSoundSession settings session
 
--- the classes and functors are sound, each name has its place in every table, the tables know the classes, and
--- every session is as it must be
+-- The classes and functors are sound, each name has its place in every table, the tables know the classes, and what must
+-- hold for every session does.
 pub record IsWhole (engine : EngineState) : Type 0 where
   pub settings : AreSettings engine.settings
   pub even : AreEven engine.tables
   pub paired : length engine.names ≡ length engine.tables.failed.places
-  -- no two places have one name
+  -- No two places have the same name.
   pub named : (at : ℕ) → at < length engine.names → place engine (get_or engine.names at []) ≡ Some at
   pub laid : AreLaid engine.settings.classes engine.tables
   pub kept : (at : ℕ) → IsKept engine.settings engine.memory_refused (session_at engine.tables at)

@@ -1,4 +1,4 @@
--- What contracts see of an engine: all but what answers the calls of its functors, of which the rest knows what it does.
+-- What contracts see of an engine: everything but its functor table, whose effect the other parts define.
 use Rattle.session_engine.specs.declared.engine.Engine.{Engine}
 use Rattle.session_engine.specs.Core.{EngineState}
 

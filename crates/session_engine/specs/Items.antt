@@ -1,4 +1,4 @@
--- What comes to a session, one thing after another, and what becomes of the session and of all others.
+-- The inputs of a session, one after another, and what they do to it and to all other sessions.
 use Rattle.std.specs.Prelude.{◌≡◌, ◌⊎◌, ℕ, false, List, [], ◌∷◌, ◌++◌, Option, Some, None, IfNone, IfSome, OnSome, IsTrue, IsFalse, bytes_eq, option_map}
 use Rattle.isolation.specs.Alone as theory
 use Rattle.isolation.specs.Alone.{alone_after, alone_lines, alone_posts}
@@ -18,28 +18,28 @@ use Rattle.session_engine.specs.Sessions.{AnotherFails, AreSound, IsStep, Others
 abbrev pub Coming : Type 0
 Coming = theory.Item (List ℕ) Asked Post
 
--- what comes, as definitions see it
+-- An input, as definitions see it.
 abbrev pub item_of : Item → Coming
 item_of (code.Own command) = theory.Own (asked command)
 item_of (code.Arrival from post) = theory.Arrival from post
 
--- the lines of all commands, in one list
+-- The lines of all commands, in one list.
 abbrev pub all_lines : List (List Line) → List Line
 all_lines [] = []
 all_lines (lines ∷ rest) = lines ++ all_lines rest
 
--- the post that comes, where one does, is right
+-- If the input is a post, it is right.
 abbrev pub IsRightItem : Item → Type 0
 IsRightItem (code.Own command) = Unit {0}
 IsRightItem (code.Arrival from post) = IsRightPost post
 
--- a post of the session `from` has come to the session of this name, unless memory was wanted for it
+-- A post of the session `from` has reached the session with this name, unless memory ran out for it.
 pub record HasArrived {T : Type 0} (old new : Sessions) (name from : List ℕ) (post : Post) (done : Option T) : Type 0 where
-  -- where memory was never refused it has done what a post does
+  -- If memory was never refused, the post has had its effect.
   pub state : IsFalse new.memory_refused → states_of new name ≡ arrives old.settings.classes (states_of old name) from post
-  -- and always the session has heard it, or has ignored it, having failed before
+  -- In any case the session has received it, or has ignored it because it had failed.
   pub hears : OnSome done (new.session name ≡ after_posts old.settings.classes from (post ∷ []) (old.session name))
-  -- unless memory was wanted for it: then this session alone has failed, which has a join that takes it
+  -- If memory ran out for it, only this session has failed, which has a join that takes the post.
   pub fails : IfNone done (FailsBy from (post ∷ []) (old.session name) (new.session name))
   pub others : OthersStay old new name
   pub settings : new.settings ≡ old.settings
@@ -47,18 +47,18 @@ pub record HasArrived {T : Type 0} (old new : Sessions) (name from : List ℕ) (
   pub memory : IfNone done (IsTrue new.memory_refused)
   pub sound : AreSound new
 
--- one item has come to the session of this name: a command is its step, a post has arrived; and what the
--- session is told of it, unless memory was wanted for it in vain
+-- The session with this name has had one input: the step of a command, or the arrival of a post. The lines are what it
+-- received, unless memory ran out.
 abbrev pub HasCome : Sessions → Sessions → List ℕ → Coming → Option (List Line) → Type 0
 HasCome old new name (theory.Own command) told = IsStep old new name command told
 HasCome old new name (theory.Arrival from post) told = HasArrived old new name from post told × IfSome told (λ lines. lines ≡ [])
 
--- one item has come, and its lines are put behind those that were told before
+-- The session has had one input, whose lines are appended to the earlier ones.
 abbrev pub HasAdded : Sessions → Sessions → List ℕ → Coming → List Line → List Line → Type 0
 HasAdded old new name item before after = (lines : List Line) × HasCome old new name item (Some lines) × (after ≡ before ++ lines)
 
--- items have come in order, each to where the one before has left all sessions, up to the first for which
--- memory was wanted in vain; what is told is the lines of each, in that order, or nothing where memory was wanted
+-- The session has had its inputs in order, each from the sessions that the previous one left, up to the first one for
+-- which memory ran out. The result is the lines of all, in order, or nothing if memory ran out.
 abbrev pub HaveCome : Sessions → Sessions → List ℕ → List Coming → Option (List Line) → Type 0
 HaveCome old new name [] told = (new ≡ old) × (told ≡ Some [])
 HaveCome old new name (item ∷ items) told =
@@ -66,8 +66,9 @@ HaveCome old new name (item ∷ items) told =
     ⊎ ((between : Sessions) × (lines : List Line) × (rest : Option (List Line)) × HasCome old between name item (Some lines)
     × HaveCome between new name items rest × (told ≡ option_map (λ more. lines ++ more) rest))
 
--- what comes of items for a session that had not failed and found memory for each of them, whatever other sessions did
--- not find: it is told what a session alone is told and is left so, and every other session has heard what it posts, or has failed
+-- The inputs of a session that had not failed and found memory for each of them, even if other sessions ran out of
+-- memory. It receives what a session alone receives and ends as that does, and its posts have reached every other
+-- session, unless that has failed.
 pub record SparesItsSession (old new : Sessions) (name : List ℕ) (items : List Coming) (told : List Line) : Type 0 where
   pub lines : told ≡ all_lines (alone_lines (machine old.settings) name (states_of old name) items)
   pub own : new.session name ≡ record { state = alone_after (machine old.settings) name (states_of old name) items; failed = false }
@@ -75,23 +76,23 @@ pub record SparesItsSession (old new : Sessions) (name : List ℕ) (items : List
       → (new.session other ≡ after_posts old.settings.classes name (alone_posts (machine old.settings) name (states_of old name) items) (old.session other))
       ⊎ IsTrue (new.session other).failed
 
--- what comes of items for a session and for all others
+-- What its inputs do to a session and to all others.
 pub record RunsAlone (old new : Sessions) (name : List ℕ) (items : List Coming) (told : Option (List Line)) : Type 0 where
-  -- whatever memory was refused, before them or in them
+  -- Even if memory was refused, before them or during them.
   pub come : HaveCome old new name items told
-  -- where memory was never refused it is told what a session alone is told, and is left so
+  -- If memory was never refused, it receives what a session alone receives, and ends as that does.
   pub lines : IsFalse new.memory_refused → told ≡ Some (all_lines (alone_lines (machine old.settings) name (states_of old name) items))
   pub own : IsFalse new.memory_refused → states_of new name ≡ alone_after (machine old.settings) name (states_of old name) items
-  -- and every other session has heard what it posts
+  -- Its posts have reached every other session.
   pub others : IsFalse new.memory_refused → (other : List ℕ) → IsFalse (bytes_eq other name) → states_of new other
       ≡ all_arrive (machine old.settings) (states_of old other) name (alone_posts (machine old.settings) name (states_of old name) items)
-  -- and so it is, whatever memory was refused before or to others, where the session found memory for each item
+  -- The same holds, even if memory was refused before or to others, if the session found memory for each input.
   pub spared : IsFalse (old.session name).failed → IfSome told (SparesItsSession old new name items)
-  -- memory is refused first only for an item that has found none, or for another session that has failed by a post
+  -- Memory is first refused only for an input, or for another session that has failed by a post.
   pub blame : IsFalse old.memory_refused → IsTrue new.memory_refused → (told ≡ None) ⊎ AnotherFails old new name
   pub sound : AreSound new
 
--- the session of this name is where it was before its first command
+-- The session with this name has the state from before its first command.
 pub record BeginsAnew (old new : Sessions) (name : List ℕ) : Type 0 where
   pub fresh : new.session name ≡ fresh
   pub others : OthersStay old new name

@@ -20,7 +20,7 @@ use std::alloc::Global;
 use term_core::{Expr, Target};
 use term_evaluation::{Read, reads_of};
 
-/// Binds a property of an object to an expression, and tells of what has changed by it.
+/// Binds a property of an object to an expression, and notifies of the changes that this causes.
 pub fn bind<F: FunctorTable>(
     actor: &CallContext<F>,
     tables: &mut Tables,
@@ -95,7 +95,7 @@ pub fn unbind<F: FunctorTable>(
     Ok(Answer::Truth(was_bound))
 }
 
-/// Begins a group, within which changes are not told, and replies how many are open then.
+/// Begins a group, which holds back notifications of changes, and replies how many are open.
 pub fn begin(caller: &SessionContext, tables: &mut Tables) -> Result<Answer, Fault>
     requires { IsPlaced tables.old caller.now.place }
     ensures { Performs caller.now Begin tables.old tables.new false reply_lines result }
@@ -103,8 +103,8 @@ pub fn begin(caller: &SessionContext, tables: &mut Tables) -> Result<Answer, Fau
     Ok(Answer::Number(tables.begin(caller.place)?))
 }
 
-/// Ends the group that was begun last, and replies how many are left. With the outermost one all that has
-/// changed since it began is told.
+/// Ends the group that was begun last, and replies how many are left. Ending the outermost one notifies of all that
+/// has changed since it began.
 pub fn end<F: FunctorTable>(
     actor: &CallContext<F>,
     tables: &mut Tables,

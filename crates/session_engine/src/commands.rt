@@ -23,8 +23,8 @@ use session_queries::answer;
 use session_tables::Tables;
 use std::alloc::{AllocError, Global};
 
-/// Lets a session do a command; one that has failed can only begin anew. Where memory is wanted and not
-/// found, it has failed. That is noted, as it is where another session has failed by what it posts.
+/// Does a command of a session. A session that has failed accepts only `Reset`. If memory runs out, the session
+/// fails. `memory_refused` notes this, and also that another session has failed by a post of the command.
 pub fn obey<F: FunctorTable>(
     caller: &SessionContext,
     answering: &F,
@@ -59,7 +59,7 @@ pub fn obey<F: FunctorTable>(
     }
 }
 
-/// Lets a session fail for want of memory, which is noted.
+/// Makes a session fail because it is out of memory, and notes this in `memory_refused`.
 pub fn give_up(tables: &mut Tables, place: usize, memory_refused: &mut bool) -> Fault
     requires { IsPlaced tables.old place }
     ensures tables { tables.new ≡ with_session tables.old place failed_session }
@@ -200,7 +200,7 @@ fn options(mode: ConnectionType, unique: bool, single: bool) -> Options
     }
 }
 
-/// Does a command for publications and joins, or the one that begins anew.
+/// Does a command for publications and joins, or `Reset`.
 fn perform_sharing(
     caller: &SessionContext,
     tables: &mut Tables,
@@ -247,7 +247,7 @@ pub fn one_line(alloc: Global, line: Line) -> Result<Items<Line>, AllocError>
     Ok(lines)
 }
 
-/// Puts lines behind others.
+/// Appends lines to `told`.
 pub fn append(told: &mut Items<Line>, lines: Items<Line>) -> Result<(), AllocError>
     ensures { OnOk result (told.new ≡ told.old ++ lines) }
 {

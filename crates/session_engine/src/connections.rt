@@ -64,7 +64,7 @@ pub fn connect_functor(
     )
 }
 
-/// Breaks the connection of this number, and replies whether it stood.
+/// Breaks the connection of this number, and replies whether it existed.
 pub fn disconnect_one(
     caller: &SessionContext,
     tables: &mut Tables,
@@ -76,7 +76,7 @@ pub fn disconnect_one(
     Ok(Answer::Truth(tables.disconnect_one(caller.place, connection)))
 }
 
-/// Breaks the connections of a sender that match, and replies how many they were.
+/// Breaks the connections of a sender that match, and replies how many.
 pub fn disconnect(
     caller: &SessionContext,
     tables: &mut Tables,

@@ -17,7 +17,7 @@ use session_model::Answer;
 use session_tables::Tables;
 use std::alloc::AllocError;
 
-/// Takes events until there is none or no turn is left, and replies how many.
+/// Takes events until the queue is empty or no turn is left, and replies how many.
 pub fn spin<F: FunctorTable>(
     actor: &CallContext<F>,
     tables: &mut Tables,

@@ -13,5 +13,5 @@ mod properties;
 mod sharing;
 mod trees;
 
-pub use engine::Engine;
+pub use engine::{Core, Engine};
 pub use item::Item;

@@ -1,4 +1,4 @@
-//! The commands by which sessions hear of each other, and the one that begins anew.
+//! The commands by which sessions publish and join signals, and the one that resets a session.
 ghost use Rattle.std.specs.Prelude.{◌≡◌, false};
 ghost use Rattle.plain_types.specs.Answers.{Answers};
 ghost use Rattle.session_model.specs.Asked as model;

@@ -1,6 +1,0 @@
-use Rattle.std.proofs.Common.{arith}
-use Rattle.std.proofs.lemmas.Grind.{common_steps}
-use Rattle.session_engine.proofs.engine.Engine.find.Goals as goal
-
-pub returns : goal.returns
-returns g c = grind (arith, common_steps)
