@@ -1,4 +1,4 @@
--- What is kept of a place from one settling to the next.
+-- The cache of a place from one settling to the next.
 use Rattle.std.specs.Prelude.{◌≡◌, ℕ, List, [], false, Option, option_map, slice_index_or}
 use Rattle.property_store.specs.declared.property.Property.{Property}
 use Rattle.property_store.specs.Marks.{Marks, all_marks, is_marked}
@@ -12,27 +12,27 @@ use Rattle.binding_graph.specs.declared.shown.Shown.{Shown}
 use Rattle.binding_graph.specs.Graph.{Graph, shown_as, shown_at}
 
 pub record Cache : Type 0 where
-  -- what the last evaluation of each bound property gave
+  -- The last result of each bound property.
   pub kept : List CacheEntry
-  -- what has changed of the bindings since
+  -- The bindings that have changed since.
   pub pending : Marks
-  -- how many evaluations settlings have made
+  -- How many evaluations there have been.
   pub evaluations : ℕ
 
--- where nothing is kept
+-- The empty cache.
 abbrev pub no_cache : Cache
 no_cache = record { kept = []; pending = all_marks; evaluations = 0 }
 
--- the cache of a place
+-- The cache of a place.
 abbrev pub cache_at : List Cache → ℕ → Cache
 cache_at caches place = slice_index_or caches place no_cache
 
--- what a property shows by what is kept
+-- The value that a property shows by the cached results.
 abbrev pub shown_by : Store → List Binding → Keeping → Property → Option Shown
 shown_by store bindings keeping q = option_map (λ cell. shown_as q cell.kind (known (scene_of store bindings) keeping q)) (cell_in store q)
 
--- what is kept of a place is right, but for what a marked property reaches: the values of its bindings, and what
--- its properties showed
+-- The cache of a place is right, except for what a marked property reaches: the values of its bindings, and what its
+-- properties showed.
 pub record IsInStep (store : Store) (marks : Marks) (graph : Graph) (cache : Cache) : Type 0 where
   pub right : IsRightBut (scene_of store graph.bindings) (both marks cache.pending) (kept_of cache.kept)
   pub whole : IsWhole (scene_of store graph.bindings) (both marks cache.pending) (kept_of cache.kept)

@@ -1,4 +1,4 @@
--- The bindings of a place, and what is kept of them.
+-- The bindings of a place, with their cache.
 use Rattle.std.specs.Prelude.{ℕ, List, map}
 use Rattle.shared_rows.specs.Table.{Table}
 use Rattle.property_store.specs.Marks.{Marks, marks_at}
@@ -16,23 +16,23 @@ pub record GraphAndCache : Type 0 where
 abbrev pub no_graph_and_cache : GraphAndCache
 no_graph_and_cache = record { graph = no_graph; cache = no_cache }
 
--- the graphs of all places in one list, and what is kept in another
+-- The graphs of all places in one list, and their caches in another.
 abbrev pub split : Table GraphAndCache → Graphs
 split table = record {
   graphs = record { places = map (λ pair. pair.graph) table.places; room = table.room };
   caches = map (λ pair. pair.cache) table.places;
 }
 
--- it is in step with the store of a place
+-- The graph and its cache are in step with the store of a place.
 abbrev pub IsAt : StoresView → ℕ → GraphAndCache → Type 0
 IsAt stores place pair = IsInStep (store_at stores.shelves place) (marks_at stores.marks place) pair.graph pair.cache
 
--- where more is marked and less is kept, a place stays in step, whatever its store and its graph are
+-- If more is marked and less is cached, a place stays in step, for every store and graph.
 abbrev pub StaysKept : Marks → List CacheEntry → Marks → List CacheEntry → Type 0
 StaysKept pending kept more less = (store : Store) (marks : Marks) (graph : Graph) (evaluations : ℕ)
     → IsInStep store marks graph (record { kept = kept; pending = pending; evaluations = evaluations })
     → IsInStep store marks graph (record { kept = less; pending = more; evaluations = evaluations })
 
--- it stays in step with whatever store it was
+-- It stays in step with every store with which it was.
 abbrev pub StaysAt : GraphAndCache → GraphAndCache → Type 0
 StaysAt old new = (store : Store) (marks : Marks) → IsInStep store marks old.graph old.cache → IsInStep store marks new.graph new.cache

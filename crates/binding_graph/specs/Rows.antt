@@ -1,32 +1,39 @@
--- What properties show, with rows put among others. No public clause cites this module.
+-- Rows of what properties show, inserted among others. No public clause cites this module.
 use Rattle.std.specs.Prelude.{◌≡◌, ◌&&◌, ◌||◌, ◌++◌, if◌then◌else◌, Bool, List, ◌∷◌, None, Some, filter, not}
 use Rattle.std.specs.Option.{is_some, option_map_or}
 use Rattle.property_store.specs.declared.property.Property.{Property}
 use Rattle.property_store.specs.Property.{among, is_property}
+use Rattle.property_store.specs.Store.{Store}
+use Rattle.binding_values.specs.declared.binding.Binding.{Binding}
 use Rattle.binding_values.specs.Sorted.{is_before}
 use Rattle.binding_graph.specs.declared.shown.Shown.{Shown}
-use Rattle.binding_graph.specs.Graph.{shown_at}
+use Rattle.binding_graph.specs.Graph.{shown_at, shown_now}
 
--- with a row among the others, in place of that of the same property
+-- The rows with another one, which replaces that of the same property.
 abbrev pub with_shown : Shown → List Shown → List Shown
 with_shown new rows = filter (λ shown. is_before shown.at new.at) rows ++ new ∷ filter (λ shown. is_before new.at shown.at) rows
 
--- a row stands among the others, in place of that of its property
+-- A row was inserted, and replaces that of its property.
 abbrev pub IsPut : Shown → List Shown → List Shown → Type 0
 IsPut row old new = (q : Property) → shown_at new q ≡ (if is_property q row.at then Some row else shown_at old q)
 
--- rows stand in place of those of their properties, and a touched property that has none shows nothing
+-- Rows replaced those of their properties, and a touched property without a row shows nothing.
 abbrev pub AreMerged : List Property → List Shown → List Shown → List Shown → Type 0
 AreMerged touched rows old new = (q : Property) → shown_at new q ≡ option_map_or Some (shown_at rows q) (if among q touched then None else shown_at old q)
 
--- has a property shown something, and shows nothing now
+-- The touched properties that do not exist were appended.
+abbrev pub AreAbsent : Store → List Binding → List Property → List Property → List Property → Type 0
+AreAbsent store bindings touched old new =
+    (q : Property) → among q new ≡ (among q old || (among q touched && not (is_some (shown_now store bindings q))))
+
+-- Whether a property showed something, and shows nothing now.
 abbrev pub is_gone : List Shown → List Shown → Property → Bool
 is_gone last now q = is_some (shown_at last q) && not (is_some (shown_at now q))
 
--- a property is noted, where it is gone
+-- A property is noted if it is gone.
 abbrev pub IsNoted : List Shown → List Shown → List Shown → Property → List Shown → Type 0
 IsNoted last now old at new = (q : Property) → is_some (shown_at new q) ≡ (is_some (shown_at old q) || (is_property q at && is_gone last now at))
 
--- with the rows of these properties taken out
+-- The rows without those of these properties.
 abbrev pub without_rows : List Shown → List Shown → List Shown
 without_rows gone rows = filter (λ shown. not (is_some (shown_at gone shown.at))) rows

@@ -9,21 +9,21 @@ use Rattle.property_store.specs.Table.{StoresView, fields_of, store_at, with_sto
 use Rattle.binding_graph.specs.Cache.{IsInStep, cache_at}
 use Rattle.binding_graph.specs.Table.{Graphs, OthersKept, graph_at}
 
--- what the bindings keep of the stores' values is right for these stores, but for what a written property reaches
+-- The caches of the bindings are right for these stores, except for what a written property reaches.
 unfoldable pub InStep : StoresView → Graphs → Type 0
 InStep stores bindings = (place : ℕ)
     → IsInStep (store_at stores.shelves place) (marks_at stores.marks place) (graph_at bindings.graphs place) (cache_at bindings.caches place)
 
--- the bindings of a place have changed: they are in step with the stores, and what is kept of other places stays
+-- The bindings of a place have changed. They are in step with the stores, and the caches of other places are unchanged.
 pub record LeavesInStep (place : ℕ) (stores : StoresView) (old new : Graphs) : Type 0 where
   pub step : InStep stores new
   pub others : OthersKept place old new
 
--- so it stays with every change of a store
+-- The bindings stay in step after every change of a store.
 abbrev pub StaysInStep : StoresView → StoresView → Type 0
 StaysInStep old new = (bindings : Graphs) → InStep old bindings → InStep new bindings
 
--- one place has another store
+-- One place has a different store.
 abbrev pub HasStore : ℕ → Store → StoresView → StoresView → Type 0
 HasStore place store old new = new.shelves ≡ with_store old.shelves place store
 
@@ -60,12 +60,12 @@ abbrev pub ClearingStaysInStep : Type 0
 ClearingStaysInStep = (old new : StoresView) (place : ℕ) → IsPlace old.shelves.table place
     → HasStore place [] old new → HasMarks place all_marks old.marks new.marks → StaysInStep old new
 
--- and with one more place
+-- The bindings stay in step after another place is opened.
 abbrev pub OpeningStaysInStep : Type 0
 OpeningStaysInStep = (old new : StoresView) → new.shelves.layouts ≡ old.shelves.layouts
     → new.shelves.table ≡ opened old.shelves.table [] → new.marks ≡ old.marks ++ no_marks ∷ [] → StaysInStep old new
 
--- or with room for one
+-- The bindings stay in step after room for a place is made.
 abbrev pub RoomStaysInStep : Type 0
 RoomStaysInStep = (old new : StoresView) → new.shelves.layouts ≡ old.shelves.layouts
     → new.shelves.table.places ≡ old.shelves.table.places → new.marks ≡ old.marks → StaysInStep old new

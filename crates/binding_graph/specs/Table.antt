@@ -6,17 +6,17 @@ use Rattle.binding_graph.specs.Graph.{Graph, no_graph}
 
 pub record Graphs : Type 0 where
   pub graphs : Table Graph
-  -- what is kept of each place, which no value comes of
+  -- The cache of each place, on which no value depends.
   pub caches : List Cache
 
--- the graph of a place
+-- The graph of a place.
 abbrev pub graph_at : Table Graph → ℕ → Graph
 graph_at graphs place = slice_index_or graphs.places place no_graph
 
--- with another graph at a place, and all else as before
+-- The table with a different graph at a place.
 abbrev pub with_graph : Table Graph → ℕ → Graph → Table Graph
 with_graph graphs place graph = with_place graphs place graph
 
--- what is kept of every other place stays
+-- The caches of all other places are unchanged.
 abbrev pub OthersKept : ℕ → Graphs → Graphs → Type 0
 OthersKept place old new = (other : ℕ) → other ≢ place → cache_at new.caches other ≡ cache_at old.caches other

@@ -30,9 +30,8 @@ use std::marker::Model;
 use term_core::Expr;
 use variant_value::Value;
 
-/// For each place the bindings of its properties, and its groups. A place is opened by `ready` and then
-/// `open`, and is never closed. What properties are and store, stands in a table of its own, which most
-/// calls are given.
+/// The bindings and the groups of each place. A place is opened by `ready` and then `open`, and is never
+/// closed. The properties and their stored values are in a separate table, which most calls take.
 #[derive(Drop)]
 pub struct Bindings {
     graphs: Places<LazyGraph>,
@@ -84,8 +83,8 @@ impl Bindings {
         self.graphs.open(LazyGraph::new())
     }
 
-    /// Forgets all bindings and groups of a place, and what its properties showed. Nothing is kept of it then, and
-    /// `evaluations` begins anew.
+    /// Forgets all bindings, groups and cached results of a place, and what its properties showed. `evaluations`
+    /// starts from 0 again.
     pub fn clear(&mut self, place: usize)
         requires { IsPlace self.old.graphs place }
         ensures cleared { self.new.graphs ≡ with_graph self.old.graphs place no_graph }
@@ -96,7 +95,7 @@ impl Bindings {
         *self.graphs.get_mut(place) = LazyGraph::new();
     }
 
-    /// How many properties are bound; what is true of every graph is told with it.
+    /// How many properties are bound. It also ensures that the graph is sound.
     pub fn count(&self, place: usize) -> usize
         requires { IsPlace self.now.graphs place }
         ensures count { result ≡ length (graph_at self.now.graphs place).bindings }
@@ -164,8 +163,8 @@ impl Bindings {
         self.graphs.get_mut(place).bind(self.alloc, at, expr)
     }
 
-    /// Stores the value that a bound property has, takes its binding away, and returns whether it was bound.
-    /// In error it is the default of its kind; in a group it is what the property shows there.
+    /// Stores the value of a bound property, removes its binding, and returns whether it was bound. The value is
+    /// the default of its kind if the property is in error; in a group it is what the property shows there.
     pub fn take(
         &mut self,
         place: usize,
@@ -190,8 +189,8 @@ impl Bindings {
         Ok(true)
     }
 
-    /// The value of a property, and the error for which it is the default of its kind; `Invalid` where it is
-    /// not there.
+    /// The value of a property, and its error if it has one: then the value is the default of its kind. It is
+    /// `Invalid` if the property does not exist.
     pub fn value(
         &self,
         place: usize,
@@ -208,11 +207,11 @@ impl Bindings {
         graph.value(self.alloc, stores, place, at)
     }
 
-    /// Tells what has changed since the last such call, at first since nothing was there: the properties with
-    /// an error that is new or another one, then those with another value. In a group it tells nothing; the
-    /// first call after the outermost one starts from what was shown when that began. A place with neither
-    /// bindings nor a group need not be settled. Then it is cleared, and before a property is bound again it
-    /// is settled once, and what that tells is dropped. Only bindings that a change reaches are evaluated.
+    /// Returns the changes since the last call; the first call compares with an empty place. Properties with a
+    /// new or different error come first, then those with a different value. While a group is open it returns
+    /// no changes; the first call after the outermost group compares with what was shown when that began. Only
+    /// bindings that a change reaches are evaluated. A place with neither bindings nor a group need not be
+    /// settled: clear it instead, and before a property is bound again settle it once and ignore the result.
     pub fn settle(
         &mut self,
         place: usize,
@@ -248,8 +247,8 @@ impl Bindings {
         self.graphs.get_mut(place).begin(self.alloc, stores, place)
     }
 
-    /// Ends the group that was opened last, and returns how many are left; where none is open it is
-    /// `NoGroup`. It tells nothing, and takes no memory.
+    /// Ends the group that was opened last, and returns how many are left; `NoGroup` if no group is open.
+    /// Returns no changes, and allocates nothing.
     pub fn end(&mut self, place: usize, stores: &Stores) -> Result<u32, Code>
         requires place { IsPlace self.old.graphs place }
         requires step { InStep stores.now self.old }
@@ -262,8 +261,8 @@ impl Bindings {
         self.graphs.get_mut(place).end()
     }
 
-    /// Takes an object out of the stores with its bindings, and tells what has changed by it, as `settle` does. Only
-    /// bindings that its properties reach are evaluated again, within a group when that ends.
+    /// Removes an object from the stores, with its bindings, and returns the changes, like `settle`. Only bindings
+    /// that its properties reach are evaluated again; while a group is open, that waits until it ends.
     pub fn remove(
         &mut self,
         place: usize,

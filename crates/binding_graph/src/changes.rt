@@ -38,7 +38,7 @@ fn is_value_before(last: &Showing, shown: &Shown) -> bool
     }
 }
 
-/// The warning of a property whose error is new or another one.
+/// The warning of a property whose error is new or different.
 fn warning(last: &Showing, shown: &Shown) -> Option<Change>
     ensures { result ≡ warning last.now shown.now }
 {
@@ -54,7 +54,7 @@ fn warning(last: &Showing, shown: &Shown) -> Option<Change>
     })
 }
 
-/// The notification of a property whose value is another one.
+/// The notification of a property whose value is different.
 fn notice(alloc: Global, last: &Showing, shown: &Shown) -> Result<Option<Change>, AllocError>
     ensures { IfOk result (λ change. change ≡ notice last.now shown.now) }
 {
@@ -67,7 +67,7 @@ fn notice(alloc: Global, last: &Showing, shown: &Shown) -> Result<Option<Change>
     }))
 }
 
-/// Whether it is the turn of a property: of the written one first, of the others then.
+/// Whether it is a property's turn: the first turn is that of the written property, the other that of the rest.
 fn has_turn(written: Option<Property>, first: bool, shown: &Shown) -> bool
     ensures { result ≡ has_turn written first shown.now }
 {
@@ -77,7 +77,7 @@ fn has_turn(written: Option<Property>, first: bool, shown: &Shown) -> bool
     }
 }
 
-/// Puts the warnings of those whose turn it is behind what is told already.
+/// Appends the warnings of the properties whose turn it is.
 fn warn(
     last: &Showing,
     now: &Showing,
@@ -97,7 +97,7 @@ fn warn(
     Ok(())
 }
 
-/// Puts their notifications behind it.
+/// Appends the notifications of the properties whose turn it is.
 fn notify(
     alloc: Global,
     last: &Showing,

@@ -3,6 +3,7 @@ ghost use Rattle.std.specs.Prelude.{◌≡◌, IfOk, IsTrue, None, OnErr, OnOk, 
 ghost use Rattle.std.specs.Option.{option_map_or};
 ghost use Rattle.std.specs.Result.{result_err};
 ghost use Rattle.shared_rows.specs.Table.{IsPlace};
+ghost use Rattle.plain_types.specs.Answers.{RefusedBy};
 ghost use Rattle.term_core.specs.Forms.{is_within_limits};
 ghost use Rattle.property_store.specs.Table.{store_at};
 ghost use Rattle.binding_graph.specs.Graph.{IsSound, bind_refusal, bound, end_refusal, ended, fresh, is_bound, is_open};
@@ -14,7 +15,7 @@ use crate::show::{show, show_kept, shown_as};
 use crate::showing::Showing;
 use crate::shown::Shown;
 use binding_values::{Binding, BindingError, Bound, KeptValues, cell_at};
-use plain_types::Code;
+use plain_types::{Code, Fault};
 use property_store::{Property, Stores, default_of};
 use signature_core::Kind;
 use std::alloc::{AllocError, Global};
@@ -73,18 +74,6 @@ impl BindingGraph {
         self.bindings.rows()
     }
 
-    pub(crate) fn depth(&self) -> u32
-        ensures { result ≡ self.now.graph.depth }
-    {
-        self.depth
-    }
-
-    pub(crate) fn evaluations(&self) -> u64
-        ensures { result ≡ self.now.cache.evaluations }
-    {
-        self.evaluations
-    }
-
     pub(crate) fn is_open(&self) -> bool
         ensures { result ≡ is_open self.now.graph }
     {
@@ -92,15 +81,15 @@ impl BindingGraph {
     }
 
     /// Binds a property to an expression, whatever it was bound to.
-    pub(crate) fn bind(&mut self, at: Property, expr: Expr) -> Result<(), AllocError>
-        requires room { bind_refusal self.old.graph at ≡ None }
-        requires limited { IsTrue (is_within_limits expr) }
+    pub(crate) fn bind(&mut self, at: Property, expr: Expr) -> Result<(), Fault>
+        requires { IsTrue (is_within_limits expr) }
+        ensures refused { RefusedBy (bind_refusal self.old.graph at) result }
         ensures ok { OnOk result (self.new.graph ≡ bound self.old.graph at expr) }
         ensures err { OnErr result (self.new.graph ≡ self.old.graph) }
         ensures step { StaysAt self.old self.new }
     {
-        self.pending.mark_once(at);
         self.bindings.put(Binding { at, expr })?;
+        self.pending.mark_once(at);
         self.kept.forget(at);
         Ok(())
     }

@@ -24,9 +24,6 @@ use std::marker::Model;
 use term_core::Expr;
 use variant_value::Value;
 
-/// How many properties of a place are bound at most.
-pub const BINDINGS: usize = 1024;
-
 /// How many groups of a place are open at most.
 pub const GROUPS: u32 = 1000;
 
@@ -79,7 +76,7 @@ impl LazyGraph {
         ensures { result ≡ self.now.graph.depth }
     {
         match &self.made {
-            Some(inner) => inner.depth(),
+            Some(inner) => inner.depth,
             None => 0,
         }
     }
@@ -88,18 +85,9 @@ impl LazyGraph {
         ensures { result ≡ self.now.cache.evaluations }
     {
         match &self.made {
-            Some(inner) => inner.evaluations(),
+            Some(inner) => inner.evaluations,
             None => 0,
         }
-    }
-
-    fn may_bind(&self, at: Property) -> Result<(), Code>
-        ensures { result_err result ≡ bind_refusal self.now.graph at }
-    {
-        if self.expr_at(at).is_none() && self.rows().len() >= BINDINGS {
-            return Err(Code::Limit);
-        }
-        Ok(())
     }
 
     pub(crate) fn bind(&mut self, alloc: Global, at: Property, expr: Expr) -> Result<(), Fault>
@@ -109,13 +97,11 @@ impl LazyGraph {
         ensures err { OnErr result (self.new.graph ≡ self.old.graph) }
         ensures step { StaysAt self.old self.new }
     {
-        self.may_bind(at)?;
         make(&mut self.made, alloc)?;
         let Some(inner) = &mut self.made else {
             unreachable!()
         };
-        inner.bind(at, expr)?;
-        Ok(())
+        inner.bind(at, expr)
     }
 
     /// Binds a property no longer.
@@ -129,7 +115,7 @@ impl LazyGraph {
         inner.unbind(at);
     }
 
-    /// Takes an object out of the store with its bindings, and tells what has changed by it.
+    /// Removes an object from the store, with its bindings, and returns the changes.
     pub(crate) fn remove(
         &mut self,
         alloc: Global,
@@ -230,10 +216,11 @@ impl LazyGraph {
     }
 }
 
-/// Makes a graph where there is none.
+/// Allocates the graph, unless that has been done.
 fn make(made: &mut Option<Box<BindingGraph>>, alloc: Global) -> Result<(), AllocError>
     ensures same { pair_of made.new ≡ pair_of made.old }
     ensures made { OnOk result (IsSome made.new) }
+    ensures err { OnErr result (pair_of made.old ≡ no_graph_and_cache) }
 {
     if made.is_none() {
         *made = Some(Box::new(alloc, BindingGraph::new(alloc))?);

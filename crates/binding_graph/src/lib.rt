@@ -16,7 +16,8 @@ mod show;
 mod showing;
 mod shown;
 
+pub use binding_values::BINDINGS;
 pub use bindings::Bindings;
 pub use change::{Change, ChangeKind};
 pub use laws::{law_fitting, law_openings, law_steps};
-pub use lazy_graph::{BINDINGS, GROUPS};
+pub use lazy_graph::GROUPS;

@@ -55,7 +55,7 @@ impl Pending {
         !self.all && self.each.is_empty()
     }
 
-    /// Marks all. This takes no memory.
+    /// Marks all properties. Allocates nothing.
     pub(crate) fn mark_all(&mut self)
         ensures { self.new ≡ all_marks }
     {
@@ -63,7 +63,7 @@ impl Pending {
         self.each.clear();
     }
 
-    /// Marks a property; where there is no memory for that, all are marked.
+    /// Marks a property, or all of them if there are too many marks or memory runs out.
     pub(crate) fn mark(&mut self, at: Property)
         ensures kept { AreMore self.old self.new }
         ensures marked { is_marked self.new at ≡ true }
@@ -86,7 +86,7 @@ impl Pending {
         }
     }
 
-    /// The properties that are marked; then none is.
+    /// Returns the properties in `each`, and clears all marks.
     pub(crate) fn take(&mut self, alloc: Global) -> Vec<Property>
         ensures taken { result.items ≡ self.old.each }
         ensures none { self.new ≡ no_marks }
@@ -95,7 +95,8 @@ impl Pending {
         mem::replace(&mut self.each, Vec::new(alloc))
     }
 
-    /// Takes a list that is done with, so that the next marks need no memory. One that is long is let go of.
+    /// Takes back a list for reuse, so that the next marks allocate nothing. If its capacity exceeds 16, the
+    /// list is dropped.
     pub(crate) fn give_back(&mut self, done: Vec<Property>)
         requires { self.old ≡ no_marks }
         ensures { self.new ≡ no_marks }

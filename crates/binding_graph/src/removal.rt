@@ -1,4 +1,4 @@
-//! Objects that go, with their bindings.
+//! Removal of objects with their bindings.
 ghost use Rattle.std.specs.Prelude.{◌≡◌, ◌≤◌, ℕ, IfOk, None, OnOk, length, true};
 ghost use Rattle.shared_rows.specs.Table.{IsPlace};
 ghost use Rattle.property_store.specs.Marks.{is_marked};
@@ -18,7 +18,7 @@ use plain_types::Items;
 use property_store::{Property, Stores};
 use std::alloc::{AllocError, Global};
 
-/// Marks a property, and lets go of what is kept of it.
+/// Marks a property, and drops its cached result.
 fn forget(pending: &mut Pending, kept: &mut KeptValues, at: Property)
     ensures marked { is_marked pending.new at ≡ true }
     ensures more { AreMore pending.old pending.new }
@@ -47,7 +47,7 @@ fn forget_object(pending: &mut Pending, kept: &mut KeptValues, object: u32, coun
     }
 }
 
-/// How many properties an object declares; none where it is not there.
+/// How many properties an object declares, or 0 if it does not exist.
 fn declared(stores: &Stores, place: usize, object: u32) -> usize
     requires { IsPlace stores.now.shelves.table place }
     ensures { result ≡ length (fields_at (store_at stores.now.shelves place) object) }
@@ -59,8 +59,9 @@ fn declared(stores: &Stores, place: usize, object: u32) -> usize
 }
 
 impl BindingGraph {
-    /// Takes an object out of the store with its bindings, and tells what has changed by it. Its properties are marked:
-    /// what has read them is evaluated again, and what they showed goes, within a group when that ends.
+    /// Removes an object from the store, with its bindings, and returns the changes. Its properties are marked:
+    /// what has read them is evaluated again, and what they showed is forgotten. While a group is open, both wait
+    /// until it ends.
     pub(crate) fn remove(
         &mut self,
         alloc: Global,

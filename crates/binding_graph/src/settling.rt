@@ -66,10 +66,18 @@ impl BindingGraph {
         let made = self
             .kept
             .settle(alloc, stores, place, &self.bindings, &mut touched)?;
-        let sorted = touched.as_mut_slice();
-        let now = show_touched(alloc, stores, place, &self.bindings, &self.kept, sorted)?;
+        let mut absent = Vec::new(alloc);
+        let now = show_touched(
+            alloc,
+            stores,
+            place,
+            &self.bindings,
+            &self.kept,
+            touched.as_mut_slice(),
+            &mut absent,
+        )?;
         let told = changes(alloc, tells, &self.last, &now, written)?;
-        self.last.merge(alloc, now, sorted)?;
+        self.last.merge(alloc, now, absent.as_slice())?;
         self.pending.give_back(touched);
         self.evaluations = self.evaluations.saturating_add(made);
         Ok(told)

@@ -7,6 +7,7 @@ ghost use Rattle.property_store.specs.Property.{among, is_property};
 ghost use Rattle.property_store.specs.Store.{Properties};
 ghost use Rattle.property_store.specs.Table.{store_at};
 ghost use Rattle.binding_graph.specs.Graph.{AreShown, all_shown, shown_as, shown_at, shown_now};
+ghost use Rattle.binding_graph.specs.Rows.{AreAbsent};
 ghost use Rattle.binding_values.specs.EvalResult.{IsClosed, IsRight, kept_of};
 ghost use Rattle.binding_values.specs.Stored.{properties_of_object, scene_of};
 ghost use Rattle.binding_values.specs.Right.{IsComplete};
@@ -97,7 +98,7 @@ pub(crate) fn show_kept(
     Ok(Some(shown_as(at, kind, outcome)))
 }
 
-/// Puts what a property shows behind the others, where it is there.
+/// Appends what a property shows, if the property exists.
 fn put_shown(
     alloc: Global,
     stores: &Stores,
@@ -117,7 +118,7 @@ fn put_shown(
     Ok(())
 }
 
-/// Puts what the declared properties of an object show behind the others.
+/// Appends what the declared properties of an object show.
 fn show_object(
     alloc: Global,
     stores: &Stores,
@@ -163,7 +164,7 @@ pub(crate) fn show_all(
     Ok(Showing::from_rows(rows))
 }
 
-/// Returns the values of those of the properties that are there.
+/// Returns the values of those of the properties that are there, and appends the others to `absent`.
 fn show_each(
     alloc: Global,
     stores: &Stores,
@@ -171,31 +172,35 @@ fn show_each(
     bindings: &Bound,
     kept: &KeptValues,
     touched: &[Property],
+    absent: &mut Vec<Property>,
 ) -> Result<Showing, AllocError>
     requires ready { IsPlace stores.now.shelves.table place }
     requires complete { IsComplete (scene_of (store_at stores.now.shelves place) bindings.now) (kept_of kept.now) }
-    ensures { IfOk result (λ showing. (q : Property)
+    ensures shown { IfOk result (λ showing. (q : Property)
         → shown_at showing q ≡ (if among q touched.now then shown_now (store_at stores.now.shelves place) bindings.now q else None)) }
+    ensures absent { OnOk result (AreAbsent (store_at stores.now.shelves place) bindings.now touched.now absent.old.items absent.new.items) }
 {
     let mut now = Showing::new(alloc);
     let _ = (bindings.len(), stores.count(place));
     for at in touched {
         if let Some(shown) = show_kept(alloc, stores, place, bindings, kept, *at)? {
             now.put(shown)?;
+        } else {
+            absent.push(*at)?;
         }
     }
     Ok(now)
 }
 
-/// Puts properties in order, by rising object and number.
+/// Sorts properties by object, then by number.
 fn put_in_order(properties: &mut [Property])
     ensures { (q : Property) → among q properties.new ≡ among q properties.old }
 {
     properties.sort_unstable_by_key(|at| (at.object, at.number));
 }
 
-/// Returns the values of those touched properties that are there. They are put in order first, so that the
-/// value of each stands after the values of those before it.
+/// Returns the values of those touched properties that exist, and appends the others to `absent`. It sorts
+/// `touched` first, so that each value is added after all earlier ones.
 pub(crate) fn show_touched(
     alloc: Global,
     stores: &Stores,
@@ -203,13 +208,14 @@ pub(crate) fn show_touched(
     bindings: &Bound,
     kept: &KeptValues,
     touched: &mut [Property],
+    absent: &mut Vec<Property>,
 ) -> Result<Showing, AllocError>
     requires ready { IsPlace stores.now.shelves.table place }
     requires complete { IsComplete (scene_of (store_at stores.now.shelves place) bindings.now) (kept_of kept.now) }
     ensures shown { IfOk result (λ showing. (q : Property)
         → shown_at showing q ≡ (if among q touched.old then shown_now (store_at stores.now.shelves place) bindings.now q else None)) }
-    ensures same { (q : Property) → among q touched.new ≡ among q touched.old }
+    ensures absent { OnOk result (AreAbsent (store_at stores.now.shelves place) bindings.now touched.old absent.old.items absent.new.items) }
 {
     put_in_order(touched);
-    show_each(alloc, stores, place, bindings, kept, touched)
+    show_each(alloc, stores, place, bindings, kept, touched, absent)
 }

@@ -45,7 +45,7 @@ impl Showing {
         Showing::from_rows(Vec::new(alloc))
     }
 
-    /// Rows that stand in order.
+    /// Rows that are in order.
     pub(crate) fn from_rows(rows: Vec<Shown>) -> Showing
         requires { AreShown rows.items }
         ensures { result ≡ rows.items }
@@ -67,7 +67,7 @@ impl Showing {
         row_at(self.rows.as_slice(), at)
     }
 
-    /// Puts what a property shows among the others.
+    /// Inserts what a property shows, or replaces what it showed.
     pub(crate) fn put(&mut self, row: Shown) -> Result<(), AllocError>
         requires { IsOfKind row.kind row.value }
         ensures { OnOk result (IsPut row self.old self.new) }
@@ -77,7 +77,7 @@ impl Showing {
         Ok(())
     }
 
-    /// Lets go of what the properties of an object show.
+    /// Drops what the properties of an object show.
     pub(crate) fn remove_object(&mut self, object: u32)
         ensures { self.new ≡ filter (λ shown. not (shown.at.object == object)) self.old }
     {
@@ -95,18 +95,18 @@ impl Showing {
         Ok(gone)
     }
 
-    /// Puts what touched properties show in place of what they showed.
+    /// Replaces what properties showed by what they show now, and drops what absent ones showed.
     pub(crate) fn merge(
         &mut self,
         alloc: Global,
         now: Showing,
-        touched: &[Property],
+        absent: &[Property],
     ) -> Result<(), AllocError>
-        ensures merged { OnOk result (AreMerged touched.now now self.old self.new) }
+        ensures merged { OnOk result (AreMerged absent.now now self.old self.new) }
         ensures sound { OnOk result (AreShown self.new) }
         ensures err { OnErr result (self.new ≡ self.old) }
     {
-        let gone = self.gone(alloc, &now, touched)?;
+        let gone = self.gone(alloc, &now, absent)?;
         let Showing { rows: rest } = now;
         self.rows.reserve(rest.len())?;
         remove_all(&mut self.rows, &gone);
@@ -138,7 +138,7 @@ fn remove_all(rows: &mut Vec<Shown>, gone: &Showing)
     }
 }
 
-/// Puts a row where it belongs, in place of that of its property; there is room.
+/// Inserts a row in order, or replaces that of its property. The caller has reserved room.
 fn put_reserved(rows: &mut Vec<Shown>, row: Shown)
     requires sound { AreShown rows.old.items }
     requires fits { IsOfKind row.kind row.value }
@@ -158,8 +158,8 @@ fn put_reserved(rows: &mut Vec<Shown>, row: Shown)
     }
 }
 
-/// Puts all rows where they belong, the first ones first, so that those behind all others come to the end; there is
-/// room.
+/// Inserts all rows in order, or replaces those of their properties, the first row first, so that rows after all
+/// others are appended. The caller has reserved room.
 fn put_all(rows: &mut Vec<Shown>, rest: Vec<Shown>)
     requires sound { AreShown rows.old.items }
     requires fit { AreShown rest.items }

@@ -1,4 +1,4 @@
--- How the logic stores bindings, and what is kept of evaluations.
+-- How the logic stores bindings, and the results of evaluations.
 use Rattle.std.specs.Prelude.{List}
 use Rattle.std.specs.Coded.{Coded, coded_list}
 use Rattle.binding_values.specs.declared.binding.Binding.{Binding}

@@ -1,4 +1,4 @@
--- What is kept of evaluations.
+-- The cached results of evaluations.
 use Rattle.std.specs.Prelude.{◌≡◌, ◌⊎◌, true, List, [], All, Option, Some, None, Err, find, option_map}
 use Rattle.std.specs.Option.{option_map_or}
 use Rattle.term_core.specs.Term.{Term}
@@ -10,24 +10,24 @@ use Rattle.term_evaluation.specs.Met.{met_by}
 use Rattle.binding_values.specs.Scene.{Outcome, Scene, Cell, evaluated, met, plain, reader, stored, term_at}
 use Rattle.property_store.specs.Property.{among, is_property}
 
--- what is kept of each property, where anything is
+-- The cached result of each property, if there is one.
 abbrev pub Keeping : Type 0
 Keeping = Property → Option EvalResult
 
--- what rows keep
+-- The results in these rows.
 abbrev pub kept_of : List CacheEntry → Keeping
 kept_of rows q = option_map (λ row. row.kept) (find (λ row. is_property q row.at) rows)
 
--- the value of a property of which nothing is kept: a bound one counts as a loop
+-- The value of a property without a cached result. A bound one counts as a loop.
 abbrev pub at_hand : Scene → Property → Outcome
 at_hand scene q = option_map_or (λ term. Err BindingLoop) (term_at scene.bindings q) (stored scene q)
 
--- the value of a property by what is kept
+-- The value of a property by the cached results.
 abbrev pub known : Scene → Keeping → Property → Outcome
 known scene keeping q = option_map_or (λ kept. kept.outcome) (keeping q) (at_hand scene q)
 
--- what is kept of a property is what its evaluation over all that is kept ends with and reads, and it is the
--- value of the property
+-- The cached result of a property is the outcome of its evaluation with all cached results, with the properties that
+-- this reads, and it is the value of the property.
 pub record IsRightAt (scene : Scene) (keeping : Keeping) (q : Property) (kept : EvalResult) : Type 0 where
   pub cell : Cell
   pub term : Term
@@ -40,37 +40,37 @@ pub record IsRightAt (scene : Scene) (keeping : Keeping) (q : Property) (kept : 
 abbrev pub IsRight : Scene → Keeping → Type 0
 IsRight scene keeping = (q : Property) (kept : EvalResult) → keeping q ≡ Some kept → IsRightAt scene keeping q kept
 
--- a property of which something is kept
+-- The property has a cached result.
 abbrev pub IsKept : Keeping → Property → Type 0
 IsKept keeping q = (kept : EvalResult) × keeping q ≡ Some kept
 
 abbrev pub IsUnbound : Scene → Property → Type 0
 IsUnbound scene q = term_at scene.bindings q ≡ None
 
--- all that was read is unbound, or is kept too
+-- Everything that was read is unbound or has a cached result.
 abbrev pub IsClosed : Scene → Keeping → Type 0
 IsClosed scene keeping = (q : Property) (kept : EvalResult) → keeping q ≡ Some kept → All (λ r. IsKept keeping r ⊎ IsUnbound scene r) kept.reads
 
--- no property that was seen is kept or unbound
+-- No property that was seen is unbound or has a cached result.
 pub record Apart (scene : Scene) (keeping : Keeping) (seen : List Property) : Type 0 where
   pub absent : (q : Property) → among q seen ≡ true → keeping q ≡ None
   pub bound : (q : Property) → among q seen ≡ true → IsUnbound scene q → ⊥
 
--- what is kept is the value, whatever was seen apart from it
+-- The cached results are the values, for all seen properties without one.
 abbrev pub Knows : Scene → Keeping → Type 0
 Knows scene keeping =
     (q : Property) (kept : EvalResult) → keeping q ≡ Some kept → (seen : List Property) → Apart scene keeping seen → plain scene seen q ≡ kept.outcome
 
--- less is kept, and nothing else
+-- Some of the cached results, unchanged.
 abbrev pub IsWithin : Keeping → Keeping → Type 0
 IsWithin less keeping = (q : Property) (kept : EvalResult) → less q ≡ Some kept → keeping q ≡ Some kept
 
--- a property that was read is kept, or is unbound in both scenes and has one value in them
+-- A property that was read has a cached result, or it is unbound in both scenes, with the same value.
 abbrev pub IsSteady : Scene → Scene → Keeping → Property → Type 0
 IsSteady a b keeping r = IsKept keeping r ⊎ (IsUnbound a r × IsUnbound b r × (stored a r ≡ stored b r))
 
--- nothing that is kept has to do with what another scene has otherwise: the binding and the kind of the
--- property stay, and so do the properties that the names that it read stand for, and what was read
+-- Nothing in which two scenes differ concerns a cached result: its property has the same binding and kind in both, the
+-- names that it read are of the same properties, and these are steady.
 pub record AgreesAt (a b : Scene) (keeping : Keeping) (q : Property) (kept : EvalResult) : Type 0 where
   pub kind : option_map (λ cell. cell.kind) (a.cell_at q) ≡ option_map (λ cell. cell.kind) (b.cell_at q)
   pub term : term_at a.bindings q ≡ term_at b.bindings q

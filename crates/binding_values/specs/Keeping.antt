@@ -1,4 +1,4 @@
--- What is kept from one change to the next.
+-- The results that are kept from one change to the next.
 use Rattle.std.specs.Prelude.{◌≡◌, List, Option, None, Some, filter_map, if◌then◌else◌, option_map}
 use Rattle.binding_values.specs.declared.eval_result.CacheEntry.{CacheEntry}
 use Rattle.binding_values.specs.declared.eval_result.EvalResult.{EvalResult}
@@ -7,32 +7,32 @@ use Rattle.binding_values.specs.EvalResult.{kept_of}
 use Rattle.property_store.specs.declared.property.Property.{Property}
 use Rattle.property_store.specs.Property.{is_property}
 
--- a property's result, as an entry
+-- A property's result, as an entry.
 abbrev pub entry_of : Property → Option EvalResult → Option CacheEntry
 entry_of at found = option_map (λ kept. record { at = at; kept = kept }) found
 
--- the entries that rows have by what each of them holds
+-- The entries of rows, by the result that is taken from each.
 abbrev pub held_by : (KeptRow → Option EvalResult) → List KeptRow → List CacheEntry
 held_by held rows = filter_map (λ row. entry_of row.at (held row)) rows
 
--- the result of a row that is not stale
+-- The result of a row that is not stale.
 abbrev pub fresh : KeptRow → Option EvalResult
 fresh row = if row.is_stale then None else row.kept
 
--- what is kept
+-- The results that are not stale.
 abbrev pub standing : List KeptRow → List CacheEntry
 standing rows = held_by fresh rows
 
--- the last results, stale or not
+-- The last results, stale or not.
 abbrev pub entries : List KeptRow → List CacheEntry
 entries rows = held_by (λ row. row.kept) rows
 
--- the last result of a property has read these
+-- The last result of a property has read these properties.
 pub record HasRead (rows : List KeptRow) (at : Property) (reads : List Property) : Type 0 where
   pub last : EvalResult
   pub found : kept_of (entries rows) at ≡ Some last
   pub same : last.reads ≡ reads
 
--- this is kept of its property, and of the others what was kept of them
+-- The result is added for its property; the others are unchanged.
 abbrev pub IsPut : CacheEntry → List CacheEntry → List CacheEntry → Type 0
 IsPut row old new = (q : Property) → kept_of new q ≡ (if is_property q row.at then Some row.kept else kept_of old q)

@@ -1,4 +1,4 @@
--- What holds of what is kept.
+-- The laws of cached results.
 use Rattle.std.specs.Prelude.{◌≡◌, ℕ, true, List, filter, not, None, []}
 use Rattle.variant_value.specs.declared.value.Value.{Value}
 use Rattle.property_store.specs.declared.field.Field.{Field}
@@ -13,15 +13,15 @@ use Rattle.binding_values.specs.Scene.{Scene, plain}
 use Rattle.binding_values.specs.Stored.{scene_of}
 use Rattle.binding_values.specs.Right.{AreMore, DiffersAt, IsComplete, IsRightBut, IsSpread, IsWhole, unmarked}
 
--- in a scene that agrees on all that is kept and read, what is kept stays right
+-- In a scene that agrees about everything that is cached and read, the cached results stay right.
 abbrev pub KeptStaysRight : Type 0
 KeptStaysRight = (a b : Scene) (keeping : Keeping) → IsRight a keeping → IsClosed a keeping → Agrees a b keeping → IsRight b keeping
 
--- where all that is bound is kept and right, what is kept or stored is the value
+-- If every bound property has a right cached result, the cached or stored values are the values.
 abbrev pub CompleteIsKnown : Type 0
 CompleteIsKnown = (scene : Scene) (keeping : Keeping) → IsComplete scene keeping → (q : Property) → known scene keeping q ≡ plain scene [] q
 
--- all that is bound is kept and right where nothing is marked, and the other way round
+-- Every bound property has a right cached result exactly if nothing is marked.
 abbrev pub UnmarkedIsComplete : Type 0
 UnmarkedIsComplete = (scene : Scene) (marks : Marks) (keeping : Keeping)
     → AreMore marks no_marks → IsRightBut scene marks keeping → IsWhole scene marks keeping → IsComplete scene keeping
@@ -29,7 +29,7 @@ UnmarkedIsComplete = (scene : Scene) (marks : Marks) (keeping : Keeping)
 abbrev pub CompleteIsRight : Type 0
 CompleteIsRight = (scene : Scene) (marks : Marks) (keeping : Keeping) → IsComplete scene keeping → IsRightBut scene marks keeping
 
--- where a scene comes to another one that differs at marked properties alone, what is kept is as right as before
+-- In a scene that differs only in marked properties, the cached results are as right as before.
 abbrev pub StaysRight : Type 0
 StaysRight = (a b : Scene) (marks more : Marks) (keeping : Keeping)
     → IsRightBut a marks keeping → AreMore marks more → DiffersAt more a b → IsRightBut b more keeping
@@ -37,26 +37,27 @@ StaysRight = (a b : Scene) (marks more : Marks) (keeping : Keeping)
 abbrev pub StaysWhole : Type 0
 StaysWhole = (a b : Scene) (marks more : Marks) (keeping : Keeping) → IsWhole a marks keeping → AreMore marks more → DiffersAt more a b → IsWhole b more keeping
 
--- where what reads a marked property is marked, the rest is right, and has read none but its own
+-- If everything that reads a marked property is marked, the other results are right, and have read only each other and
+-- unbound properties.
 abbrev pub RestIsRight : Type 0
 RestIsRight = (scene : Scene) (marks : Marks) (keeping : Keeping) → IsRightBut scene marks keeping
     → IsSpread scene marks keeping → IsRight scene (unmarked marks keeping) × IsClosed scene (unmarked marks keeping)
 
--- what a change of a store or of a binding changes is marked
+-- Everything that a change of a store or a binding changes is marked.
 
--- a write changes the property that it writes
+-- A write changes only the property that it writes.
 abbrev pub WriteIsMarked : Type 0
 WriteIsMarked = (store : Store) (bindings : List Binding) (marks : Marks) (object number : ℕ) (value : Value)
     → ((q : Property) → is_written store object number value q ≡ true → is_marked marks q ≡ true)
     → DiffersAt marks (scene_of store bindings) (scene_of (written store object number value) bindings)
 
--- a new object changes its own properties
+-- A new object changes only its own properties.
 abbrev pub AdditionIsMarked : Type 0
 AdditionIsMarked = (store : Store) (bindings : List Binding) (marks : Marks) (object : ℕ) (fields : List Field) → properties_of store object ≡ None
     → ((q : Property) → is_new object fields q ≡ true → is_marked marks q ≡ true)
     → DiffersAt marks (scene_of store bindings) (scene_of (added store object fields) bindings)
 
--- dynamic properties are nothing to bindings
+-- Bindings do not depend on dynamic properties.
 abbrev pub DynamicIsNothing : Type 0
 DynamicIsNothing = (store : Store) (bindings : List Binding) (marks : Marks) (object : ℕ) (name : List ℕ) (value : Value)
     → DiffersAt marks (scene_of store bindings) (scene_of (changed (with_dynamic name value) object store) bindings)
@@ -65,12 +66,12 @@ abbrev pub NoDynamicIsNothing : Type 0
 NoDynamicIsNothing = (store : Store) (bindings : List Binding) (marks : Marks) (object : ℕ) (name : List ℕ)
     → DiffersAt marks (scene_of store bindings) (scene_of (changed (without_dynamic name) object store) bindings)
 
--- where all is marked, anything may change
+-- If everything is marked, anything may change.
 abbrev pub AllMayChange : Type 0
 AllMayChange = (one other : Store) (bindings after : List Binding) (marks : Marks)
     → marks.all ≡ true → DiffersAt marks (scene_of one bindings) (scene_of other after)
 
--- a binding that is made, replaced or taken away changes its own property
+-- A binding that is made, replaced or removed changes only its own property.
 abbrev pub BindingIsMarked : Type 0
 BindingIsMarked = (store : Store) (bindings : List Binding) (marks : Marks) (new : Binding)
     → is_marked marks new.at ≡ true → DiffersAt marks (scene_of store bindings) (scene_of store (with_binding new bindings))

@@ -6,14 +6,14 @@ use Rattle.property_store.specs.declared.property.Property.{Property}
 use Rattle.property_store.specs.Property.{is_property}
 use Rattle.binding_values.specs.Sorted.{IsCountBefore}
 
--- it was put in where it belongs
+-- The entry was inserted in order.
 pub record IsEntered (old new : List Entry) (at : Property) (row : ℕ) : Type 0 where
   pub position : ℕ
   pub count : IsCountBefore (λ entry. entry.at) old at position
   pub absent : (default : Entry) → position < length old → is_property at (slice_index_or old position default).at ≡ false
   pub entered : new ≡ insert old position (record { at = at; row = row })
 
--- or there was one
+-- There was an entry already.
 pub record HasStood (old new : List Entry) (at : Property) : Type 0 where
   pub entry : Entry
   pub found : find (λ entry. is_property at entry.at) old ≡ Some entry

@@ -1,4 +1,4 @@
--- What an evaluation knows.
+-- The outcome of an evaluation.
 use Rattle.std.specs.Prelude.{Result, Ok, Err}
 use Rattle.shared_rows.specs.Table.{IsPlace}
 use Rattle.property_store.specs.Table.{store_at}
@@ -20,7 +20,7 @@ scene_in knows = scene_of (store_at knows.stores.now.shelves knows.place) knows.
 abbrev pub values_in : Known → Property → Outcome
 values_in knows = known (scene_in knows) (kept_of knows.done.now)
 
--- where memory was not wanted
+-- A fact if memory did not run out.
 abbrev pub IfEnds : {O : Type 0} → Result Value (Halt O) → Type 0 → Type 0
 IfEnds (Ok value) P = P
 IfEnds (Err (Refused code)) P = P

@@ -1,4 +1,4 @@
--- How what is kept is found.
+-- How cached results are found.
 use Rattle.std.specs.Prelude.{◌≡◌, ◌<◌, List, All, find, length, option_and_then, slice_get}
 use Rattle.binding_values.specs.declared.eval_result.CacheEntry.{CacheEntry}
 use Rattle.binding_values.specs.declared.eval_cache.Entry.{Entry}
@@ -6,7 +6,7 @@ use Rattle.property_store.specs.declared.property.Property.{Property}
 use Rattle.property_store.specs.Property.{is_property}
 use Rattle.binding_values.specs.Sorted.{IsRising}
 
--- each property's entry names its first row
+-- Each property's entry names its first row.
 pub record IsOrdered (rows : List CacheEntry) (order : List Entry) : Type 0 where
   pub rising : IsRising (λ entry. entry.at) order
   pub within : All (λ entry. entry.row < length rows) order

@@ -1,4 +1,4 @@
--- When what is kept of the bindings of a place is right.
+-- When the cached results of a place are right.
 use Rattle.std.specs.Prelude.{◌≡◌, ◌⊎◌, ◌||◌, ◌++◌, ℕ, true, false, List, All, Some, None, if◌then◌else◌}
 use Rattle.term_core.specs.declared.target.Target.{Target}
 use Rattle.property_store.specs.declared.property.Property.{Property}
@@ -7,19 +7,19 @@ use Rattle.binding_values.specs.Scene.{Scene, term_at}
 use Rattle.binding_values.specs.declared.eval_result.EvalResult.{EvalResult}
 use Rattle.binding_values.specs.EvalResult.{IsClosed, IsKept, IsRight, IsUnbound, IsWithin, Keeping}
 
--- these are marked, and nothing else
+-- Marks for exactly these properties.
 abbrev pub only : List Property → Marks
 only marks = record { all = false; each = marks }
 
--- what one or the other marks
+-- The marks of both.
 abbrev pub both : Marks → Marks → Marks
 both a b = record { all = a.all || b.all; each = a.each ++ b.each }
 
--- what is marked stays so
+-- Everything that is marked stays marked.
 abbrev pub AreMore : Marks → Marks → Type 0
 AreMore marks more = (q : Property) → is_marked marks q ≡ true → is_marked more q ≡ true
 
--- no property that is kept is marked, and none that it has read
+-- Neither the property of a result nor any that it has read is marked.
 pub record IsClearAt (marks : Marks) (q : Property) (kept : EvalResult) : Type 0 where
   pub own : is_marked marks q ≡ false
   pub reads : All (λ r. is_marked marks r ≡ false) kept.reads
@@ -27,37 +27,37 @@ pub record IsClearAt (marks : Marks) (q : Property) (kept : EvalResult) : Type 0
 abbrev pub IsClear : Marks → Keeping → Type 0
 IsClear marks keeping = (q : Property) (kept : EvalResult) → keeping q ≡ Some kept → IsClearAt marks q kept
 
--- what is kept is right, but at properties that a marked one reaches: every part of it is right that has read
--- none but unbound properties and its own, and none that is marked
+-- The cached results are right, except at properties that a marked one reaches: each part of them is right if it has
+-- read only itself and unbound properties, and no marked ones.
 abbrev pub IsRightBut : Scene → Marks → Keeping → Type 0
 IsRightBut scene marks keeping = (part : Keeping) → IsWithin part keeping → IsClosed scene part → IsClear marks part → IsRight scene part
 
--- what is bound is kept or marked
+-- Every bound property has a cached result or is marked.
 abbrev pub IsWhole : Scene → Marks → Keeping → Type 0
 IsWhole scene marks keeping = (q : Property) → is_marked marks q ≡ false → IsKept keeping q ⊎ IsUnbound scene q
 
--- all that is bound is kept, and right
+-- Every bound property has a cached result, and all are right.
 pub record IsComplete (scene : Scene) (keeping : Keeping) : Type 0 where
   pub right : IsRight scene keeping
   pub closed : IsClosed scene keeping
   pub whole : (q : Property) → IsKept keeping q ⊎ IsUnbound scene q
 
--- two scenes differ at marked properties alone
+-- Two scenes differ only in marked properties.
 pub record DiffersAt (marks : Marks) (a b : Scene) : Type 0 where
   pub cells : (q : Property) → is_marked marks q ≡ false → a.cell_at q ≡ b.cell_at q
   pub terms : (q : Property) → is_marked marks q ≡ false → term_at a.bindings q ≡ term_at b.bindings q
-  -- a name stands for what it stood for, unless that is marked
+  -- A name is of the same property, unless that is marked.
   pub names : (object : ℕ) (target : Target) (name : List ℕ) (q : Property)
       → a.named object target name ≡ Some q → is_marked marks q ≡ false → b.named object target name ≡ Some q
   pub nameless : (object : ℕ) (target : Target) (name : List ℕ) → a.named object target name ≡ None → b.named object target name ≡ None
-  -- and unless all is marked no property goes
+  -- Unless everything is marked, no property is removed.
   pub there : marks.all ≡ false → (q : Property) → b.cell_at q ≡ None → a.cell_at q ≡ None
 
--- what reads a marked property is marked, and so is what is bound and not kept
+-- Everything that reads a marked property is marked, and so is everything bound without a cached result.
 pub record IsSpread (scene : Scene) (marks : Marks) (keeping : Keeping) : Type 0 where
   pub read : (q : Property) (kept : EvalResult) → keeping q ≡ Some kept → is_marked marks q ≡ false → All (λ r. is_marked marks r ≡ false) kept.reads
   pub bound : (q : Property) → is_marked marks q ≡ false → IsKept keeping q ⊎ IsUnbound scene q
 
--- what is kept of properties that are not marked
+-- The cached results of properties that are not marked.
 abbrev pub unmarked : Marks → Keeping → Keeping
 unmarked marks keeping q = if is_marked marks q then None else keeping q

@@ -1,4 +1,4 @@
--- How values are found over a stack.
+-- How values are computed with a stack.
 use Rattle.std.specs.Prelude.{◌≡◌, ◌⊎◌, ◌<◌, ◌+◌, ◌*◌, ℕ, false, List, [], ◌∷◌, ◌++◌, All, length, map, reverse, Option, Some, None}
 use Rattle.term_core.specs.Term.{Term}
 use Rattle.binding_values.specs.declared.eval_result.CacheEntry.{CacheEntry}
@@ -9,11 +9,11 @@ use Rattle.property_store.specs.Property.{among}
 use Rattle.binding_values.specs.EvalResult.{IsClosed, IsKept, IsRight, IsUnbound, IsWithin, Keeping, kept_of, known}
 use Rattle.binding_values.specs.Laws.{ReallyReads}
 
--- a property whose value is known: it is kept, or unbound
+-- The value of a property is known: it has a cached result, or is unbound.
 abbrev pub IsSettled : Scene → Keeping → Property → Type 0
 IsSettled scene keeping q = IsKept keeping q ⊎ IsUnbound scene q
 
--- what an evaluation over what is kept gave
+-- The result of an evaluation with the cached results.
 pub record IsTried (scene : Scene) (keeping : Keeping) (q : Property) (kept : EvalResult) : Type 0 where
   pub cell : Cell
   pub term : Term
@@ -23,7 +23,7 @@ pub record IsTried (scene : Scene) (keeping : Keeping) (q : Property) (kept : Ev
   pub outcome : evaluated scene (known scene keeping) q.object cell.kind term ≡ kept.outcome
   pub reads : met scene (known scene keeping) q.object term ≡ kept.reads
 
--- it ended at a property whose value is not known yet
+-- An evaluation ended at a property whose value is not known yet.
 pub record WaitsFor (scene : Scene) (keeping : Keeping) (reads : List Property) (next : Property) : Type 0 where
   pub front : List Property
   pub last : reads ≡ front ++ next ∷ []
@@ -35,19 +35,19 @@ pub record WaitsFor (scene : Scene) (keeping : Keeping) (reads : List Property) 
 abbrev pub ats : List CacheEntry → List Property
 ats rows = map (λ row. row.at) rows
 
--- a row of the stack, whose evaluation waits for the property above it
+-- A row of the stack, whose evaluation waits for the property above it.
 pub record IsStackedOn (scene : Scene) (keeping : Keeping) (row : CacheEntry) (before : List Property) (next : Property) : Type 0 where
   pub tried : IsTried scene keeping row.at row.kept
   pub waits : WaitsFor scene keeping row.kept.reads next
   pub reads : ReallyReads scene before row.at next
   pub fresh : among row.at before ≡ false
 
--- the rows of the stack, the latest first
+-- The rows of the stack, the latest first.
 abbrev pub Stacked : Scene → Keeping → List CacheEntry → Property → Type 0
 Stacked scene keeping [] top = Unit {0}
 Stacked scene keeping (row ∷ rest) top = IsStackedOn scene keeping row (ats rest) top × Stacked scene keeping rest row.at
 
--- what is kept is right, and the value of the property on top is looked for, for those that are stacked
+-- The cached results are right, and the value of the property on top is needed for those on the stack.
 pub record IsRunning (scene : Scene) (done below : List CacheEntry) (top : Property) : Type 0 where
   pub right : IsRight scene (kept_of done)
   pub closed : IsClosed scene (kept_of done)
@@ -57,16 +57,16 @@ pub record IsRunning (scene : Scene) (done below : List CacheEntry) (top : Prope
   pub fresh : among top (ats (reverse below)) ≡ false
   pub stacked : Stacked scene (kept_of done) (reverse below) top
 
--- the property for which all others are looked for
+-- The property for which all others are needed.
 abbrev pub bottom : List CacheEntry → Property → Property
 bottom [] top = top
 bottom (row ∷ rest) top = row.at
 
--- how much is left to do at most
+-- A bound on the work that is left.
 abbrev pub work : Scene → List CacheEntry → List CacheEntry → Property → ℕ
 work scene done below top = 2 * unmet (ats done ++ top ∷ ats (reverse below)) scene.bindings + length below
 
--- a step: all that was looked for is kept, or there is another property on top, and less to do
+-- A step: everything needed has a result, or there is another property on top and less work left.
 abbrev pub Stepped : Scene → List CacheEntry → List CacheEntry → Property → List CacheEntry → List CacheEntry → Option Property → Type 0
 Stepped scene done below top done' below' None =
     IsRight scene (kept_of done') × IsClosed scene (kept_of done') × IsWithin (kept_of done) (kept_of done') × IsKept (kept_of done') (bottom below top)

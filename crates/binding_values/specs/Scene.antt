@@ -16,33 +16,33 @@ use Rattle.binding_values.specs.declared.property.BindingError.{BindingError}
 use Rattle.binding_values.specs.declared.property.BindingError.TheVariants.{BindingLoop, EvaluationError}
 use Rattle.term_evaluation.specs.Met.{met_by}
 
--- a value, or why there is none
+-- A value, or why there is none.
 abbrev pub Outcome : Type 0
 Outcome = Result Value BindingError
 
--- a declared property's kind, and the value that is stored
+-- A declared property's kind, and the value that is stored.
 pub record Cell : Type 0 where
   pub kind : Kind
   pub value : Value
 
--- all that the value of a property comes of
+-- Everything on which the value of a property depends.
 pub record Scene : Type 0 where
   pub bindings : List Binding
-  -- the cell of a property that is there
+  -- The cell of a property, if it exists.
   pub cell_at : Property → Option Cell
-  -- the property that a name stands for in the binding of an object's property. Where there is none, it is one
-  -- that is not there
+  -- The property with a name, as a binding of an object's property reads it. If there is none, it is a property that
+  -- does not exist.
   pub named : ℕ → Target → List ℕ → Option Property
 
--- the expression that a property is bound to
+-- The expression to which a property is bound.
 abbrev pub term_at : List Binding → Property → Option Term
 term_at bindings q = option_map (λ binding. binding.expr) (find (λ binding. is_property q binding.at) bindings)
 
--- what is stored; a property that is not there has no value
+-- The stored value. A property that does not exist has no value.
 abbrev pub stored : Scene → Property → Outcome
 stored scene q = option_map_or (λ cell. Ok cell.value) (scene.cell_at q) (Err EvaluationError)
 
--- a value or an error of a property, as what reading it in another's binding answers
+-- The answer for a property with this value or error that the binding of another one reads.
 abbrev pub passed_on : Outcome → Answer BindingError
 passed_on (Ok value) = Ok value
 passed_on (Err error) = Err (own error)
@@ -51,33 +51,33 @@ abbrev pub reading : (Property → Outcome) → Option Property → Answer Bindi
 reading value None = Err (refused NoSuchProperty)
 reading value (Some q) = passed_on (value q)
 
--- what an expression's properties answer, by their values
+-- The answers for an expression's properties, by their values.
 abbrev pub reader : Scene → (Property → Outcome) → ℕ → Target → List ℕ → Answer BindingError
 reader scene value object target name = reading value (scene.named object target name)
 
--- what an evaluation ends with, as one of a kind: a property in error hands that error on, each other fault
--- is an evaluation error
+-- The outcome of an evaluation, converted to a kind. The error of a property that was read is passed on, and any other
+-- fault is an evaluation error.
 abbrev pub settled : Kind → Answer BindingError → Outcome
 settled kind (Ok value) = ok_or (converted kind value) EvaluationError
 settled kind (Err (own error)) = Err error
 settled kind (Err (refused code)) = Err EvaluationError
 
--- the value of a binding's expression, by the values of properties
+-- The value of a binding's expression, by the values of properties.
 abbrev pub evaluated : Scene → (Property → Outcome) → ℕ → Kind → Term → Outcome
 evaluated scene value object kind term = settled kind (eval_by [] (reader scene value object) term)
 
--- the properties that this evaluation really reads, in order
+-- The properties that this evaluation really reads, in order.
 abbrev pub met : Scene → (Property → Outcome) → ℕ → Term → List Property
 met scene value object term = filter_map (λ read. scene.named object read.target read.name) (met_by [] (reader scene value object) term)
 
--- a loop where the property was seen before; what is stored where it is unbound; else its expression's value
+-- A loop if the property was seen before; the stored value if it is unbound; otherwise the value of its expression.
 abbrev pub choose : Bool → Option Cell → Option Term → (Cell → Term → Outcome) → Outcome
 choose true cell term evaluate = Err BindingLoop
 choose false None term evaluate = Err EvaluationError
 choose false (Some cell) None evaluate = Ok cell.value
 choose false (Some cell) (Some term) evaluate = evaluate cell term
 
--- the value of a property, by the values that others have with this one seen too
+-- The value of a property, by the values of the others once this one was seen too.
 abbrev pub by_rule : Scene → (List Property → Property → Outcome) → List Property → Property → Outcome
 by_rule scene value seen q =
     choose (among q seen) (scene.cell_at q) (term_at scene.bindings q) (λ cell term. evaluated scene (value (q ∷ seen)) q.object cell.kind term)
@@ -86,11 +86,11 @@ abbrev pub within : Scene → ℕ → List Property → Property → Outcome
 within scene zero = by_rule scene (λ seen q. Err BindingLoop)
 within scene (suc n) = by_rule scene (within scene n)
 
--- the value of a property, where some were seen before
+-- The value of a property, if some were seen before.
 unfoldable pub plain : Scene → List Property → Property → Outcome
 plain scene = within scene (length scene.bindings)
 
--- how many bindings there are of properties that were not seen
+-- The number of bindings of properties that were not seen.
 unfoldable pub unmet : List Property → List Binding → ℕ
 unmet seen [] = 0
 unmet seen (b ∷ bs) = cond (among b.at seen) (unmet seen bs) (suc (unmet seen bs))

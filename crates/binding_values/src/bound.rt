@@ -1,17 +1,22 @@
 //! The bindings of a place.
-ghost use Rattle.std.specs.Prelude.{◌≡◌, ◌<◌, ◌==◌, ◌⊎◌, [], IsSome, IsTrue, OnErr, OnOk, filter, length, not};
+ghost use Rattle.std.specs.Prelude.{◌≡◌, ◌==◌, [], IsTrue, OnErr, OnOk, filter, length, not};
 ghost use Rattle.std.specs.Option.{option_map};
+ghost use Rattle.plain_types.specs.Answers.{RefusedBy};
 ghost use Rattle.term_core.specs.Forms.{is_within_limits};
-ghost use Rattle.binding_values.specs.Binds.{AreBindings, with_binding};
+ghost use Rattle.binding_values.specs.Binds.{AreBindings, put_refusal, with_binding};
 ghost use Rattle.binding_values.specs.Scene.{term_at};
 ghost use Rattle.property_store.specs.Property.{is_property};
 
 use crate::binding::Binding;
 use crate::sorted::{count_before, is_at, row_at};
+use plain_types::{Code, Fault};
 use property_store::Property;
-use std::alloc::{AllocError, Global};
+use std::alloc::Global;
 use std::marker::Model;
 use term_core::Expr;
+
+/// How many properties of a place are bound at most.
+pub const BINDINGS: usize = 1024;
 
 /// The bindings of a place, by rising object and number.
 #[derive(Drop)]
@@ -66,10 +71,10 @@ impl Bound {
         Some(&row.expr)
     }
 
-    /// Binds a property, whatever it was bound to.
-    pub fn put(&mut self, binding: Binding) -> Result<(), AllocError>
-        requires room { IsSome (term_at self.old binding.at) ⊎ (length self.old < 1024) }
-        requires limited { IsTrue (is_within_limits binding.expr) }
+    /// Binds a property, whatever it was bound to. More than `BINDINGS` are `Limit`.
+    pub fn put(&mut self, binding: Binding) -> Result<(), Fault>
+        requires { IsTrue (is_within_limits binding.expr) }
+        ensures refused { RefusedBy (put_refusal self.old binding.at) result }
         ensures ok { OnOk result (self.new ≡ with_binding binding self.old) }
         ensures err { OnErr result (self.new ≡ self.old) }
     {
@@ -77,6 +82,9 @@ impl Bound {
         if is_at(self.rows.as_slice(), place, binding.at) {
             self.rows[place] = binding;
             return Ok(());
+        }
+        if self.rows.len() >= BINDINGS {
+            return Err(Fault::Refused(Code::Limit));
         }
         self.rows.insert(place, binding)?;
         Ok(())

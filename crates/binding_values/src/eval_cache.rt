@@ -12,7 +12,7 @@ use property_store::Property;
 use std::alloc::{AllocError, Global};
 use std::marker::Model;
 
-/// Where the row of a property stands.
+/// A property, and the position of its first row.
 #[derive(Drop)]
 pub(crate) struct Entry {
     pub(crate) at: Property,
@@ -27,8 +27,8 @@ impl HasProperty for Entry {
     }
 }
 
-/// The cache holds the results of earlier evaluations, those that were added since, in the order in which they
-/// were found, and the row of each of the latter by rising object and number.
+/// The cache holds the results of earlier evaluations, and those that were added since, in the order in which
+/// they were found. The rows of the latter can be looked up by property.
 #[derive(Drop)]
 pub struct EvalCache {
     /// The base holds the results of earlier evaluations.
@@ -60,7 +60,7 @@ impl EvalCache {
         EvalCache::over(alloc, KeptIndex::new(alloc))
     }
 
-    /// Over what was kept before.
+    /// A cache that begins with the results of earlier evaluations.
     pub fn over(alloc: Global, base: KeptIndex) -> EvalCache
         ensures { result ≡ base }
     {
@@ -95,7 +95,7 @@ impl EvalCache {
         Some(&row.kept)
     }
 
-    /// Keeps one row more. What was kept of its property before is what is found.
+    /// Appends a row. If the property has an earlier result, `at` still returns that one.
     pub(crate) fn push(&mut self, row: CacheEntry) -> Result<(), AllocError>
         ensures ok { OnOk result (self.new ≡ self.old ++ row ∷ []) }
         ensures err { OnErr result (self.new ≡ self.old) }
@@ -113,7 +113,7 @@ fn row_in(rows: &[CacheEntry], place: usize) -> Option<&CacheEntry>
     rows.get(place)
 }
 
-/// Puts in an entry for a property that has none.
+/// Adds an entry for a property, unless it has one.
 fn enter(order: &mut Vec<Entry>, at: Property, row: usize) -> Result<(), AllocError>
     requires { IsRising (λ entry. entry.at) order.old.items }
     ensures ok { OnOk result (IsListed order.old.items order.new.items at row) }

@@ -57,7 +57,7 @@ impl KeptIndex {
         self.rows.at(at)
     }
 
-    /// Lets go of a property of which nothing will be kept soon.
+    /// Drops the result of a property, and its row: call it if no result of the property is expected soon.
     pub fn forget(&mut self, at: Property)
         ensures { self.new ≡ filter (λ row. not (is_property at row.at)) self.old }
     {
@@ -65,7 +65,7 @@ impl KeptIndex {
         self.rows.remove(at);
     }
 
-    /// Lets go of all.
+    /// Drops all results.
     pub fn clear(&mut self)
         ensures { self.new ≡ [] }
     {
@@ -73,8 +73,8 @@ impl KeptIndex {
         self.readers.clear();
     }
 
-    /// Lets go of what is kept of touched properties and of all that these reach, and puts what they reach behind
-    /// them.
+    /// Drops the results of touched properties and of all properties that they reach, and appends the latter to
+    /// `touched`.
     pub fn reach(&mut self, touched: &mut Vec<Property>) -> Result<(), AllocError>
         ensures reached { OnOk result (IsReached (kept_of self.old) touched.new.items self.new) }
         ensures longer { OnOk result (IsLonger touched.old.items touched.new.items) }
@@ -82,7 +82,7 @@ impl KeptIndex {
         spread(&mut self.rows, &self.readers, touched)
     }
 
-    /// Keeps what was found of properties of which nothing is kept.
+    /// Keeps the results in `found` of properties that have none.
     pub fn keep_all(&mut self, found: Vec<CacheEntry>) -> Result<(), AllocError>
         ensures { OnOk result (AreKeptToo found.items self.old self.new) }
     {
@@ -111,8 +111,9 @@ fn invalidate_all(rows: &mut KeptRows, touched: &[Property])
     }
 }
 
-/// Appends what has read a property to those that are touched, and makes its results stale. What is stale already has
-/// been touched already. The edges are looked for at the position `near` first, which then is the one after them.
+/// Appends the readers of a property to `touched`, and makes their results stale. Readers without a fresh
+/// result are not appended. The edges are looked for at the position `near` first, which becomes the position
+/// after them.
 fn touch_readers(
     rows: &mut KeptRows,
     readers: &Readers,
@@ -177,7 +178,7 @@ fn lead_to(rows: &mut KeptRows, readers: &mut Readers, row: &CacheEntry) -> Resu
     readers.add_all(reads, row.at)
 }
 
-/// Keeps what was found of a property, unless something is kept of it.
+/// Keeps the result of a property, unless it has one.
 fn keep(rows: &mut KeptRows, readers: &mut Readers, row: CacheEntry) -> Result<(), AllocError>
     requires { HasReaders (entries rows.old) readers.old }
     ensures kept { OnOk result (AreKeptToo (row ∷ []) (standing rows.old) (standing rows.new)) }

@@ -112,7 +112,7 @@ impl KeptRows {
         }
     }
 
-    /// Keeps this of its property, whatever was kept of it. Where something was, this takes no memory.
+    /// Keeps a result in place of any other of its property. Allocates nothing if the property has a row.
     pub fn put(&mut self, row: CacheEntry) -> Result<(), AllocError>
         ensures standing { OnOk result (IsPut row (standing self.old) (standing self.new)) }
         ensures entries { OnOk result (IsPut row (entries self.old) (entries self.new)) }
@@ -160,7 +160,7 @@ impl KeptRows {
         self.rows[place].kept.take()
     }
 
-    /// Removes the row of a property of which nothing will be kept soon.
+    /// Removes the row of a property: call it if no result of the property is expected soon.
     pub fn remove(&mut self, at: Property)
         ensures { self.new ≡ filter (λ row. not (is_property at row.at)) self.old }
     {
@@ -171,7 +171,7 @@ impl KeptRows {
         self.rows.remove(place);
     }
 
-    /// Lets go of all.
+    /// Removes all rows.
     pub fn clear(&mut self)
         ensures { self.new ≡ [] }
     {

@@ -48,22 +48,22 @@ impl KeptValues {
         self.kept.at(at)
     }
 
-    /// Lets go of what is kept of a property that is bound no longer, or to another expression.
+    /// Drops the result of a property that was unbound or bound to another expression.
     pub fn forget(&mut self, at: Property)
         ensures { self.new ≡ filter (λ row. not (is_property at row.at)) self.old }
     {
         self.kept.forget(at);
     }
 
-    /// Lets go of all.
+    /// Drops all results.
     pub fn clear(&mut self)
         ensures { self.new ≡ [] }
     {
         self.kept.clear();
     }
 
-    /// Evaluates what is bound and reached by touched properties, and nothing else; puts what they reach behind
-    /// them, and returns how many evaluations it made. After an `Err` nothing is kept.
+    /// Evaluates the bound properties that touched properties reach, and no others. Appends what they reach to
+    /// `touched`, and returns how many evaluations it made. After an `Err` nothing is kept.
     pub fn settle(
         &mut self,
         alloc: Global,

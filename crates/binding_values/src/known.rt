@@ -28,7 +28,7 @@ pub(crate) struct Known<'a> {
     pub(crate) done: &'a EvalCache,
 }
 
-/// The expression that a property is bound to which is there.
+/// The expression that a property is bound to, if the property exists.
 pub fn expr_at<'a>(
     stores: &Stores,
     place: usize,
@@ -50,9 +50,7 @@ pub fn cell_at<'a>(stores: &'a Stores, place: usize, at: Property) -> Option<(Ki
     requires { IsPlace stores.now.shelves.table place }
     ensures { option_map (λ cell. record { kind = cell.0; value = cell.1.now }) result ≡ cell_in (store_at stores.now.shelves place) at }
 {
-    let field = stores.fields(place, at.object)?.get(at.number)?;
-    let value = stores.value(place, at.object, at.number)?;
-    Some((field.kind, value))
+    stores.typed_value(place, at.object, at.number)
 }
 
 /// Whether a property is there, and may be bound.
@@ -67,7 +65,7 @@ pub fn is_bindable(stores: &Stores, place: usize, at: Property) -> bool
     }
 }
 
-/// The number of the property of a name that may be bound; where there is none, the first that is not there.
+/// The number of the bindable property with a name, or else the first unused number.
 fn bindable_number(fields: &[Field], name: &Text) -> usize
     ensures { result ≡ bindable_number name.now fields.now }
 {
@@ -125,7 +123,7 @@ impl<'a> Known<'a> {
         }
     }
 
-    /// The expression that a property is bound to which is there.
+    /// The expression that a property is bound to, if the property exists.
     pub(crate) fn expr_at(&self, at: Property) -> Option<&Expr>
         requires { IsReady self.now }
         ensures { option_map (λ expr. expr.now) result ≡ term_at (scene_in self.now).bindings at }

@@ -1,6 +1,6 @@
-//! The values of bound properties, each by the rule alone: that of its expression, by the values of the
-//! properties that this reads; and what is kept of them from one change to the next. Only what a change reaches
-//! is evaluated again. What properties are there and what they store, stands in a `property_store`.
+//! The values of bound properties. Each is the value of the property's expression, computed from the values
+//! of the properties that it reads. Results are kept between changes, and only what a change reaches is
+//! evaluated again. The properties and their stored values are in a `property_store`.
 #![tactic(auto)]
 
 mod binding;
@@ -21,7 +21,7 @@ mod settling;
 mod sorted;
 
 pub use binding::Binding;
-pub use bound::Bound;
+pub use bound::{BINDINGS, Bound};
 pub use eval_cache::EvalCache;
 pub use eval_result::{CacheEntry, EvalResult};
 pub use kept_index::KeptIndex;

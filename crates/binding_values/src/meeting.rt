@@ -1,4 +1,4 @@
-//! An evaluation with the properties that it comes to.
+//! Evaluations that note the properties they read.
 ghost use Rattle.std.specs.Prelude.{◌≡◌, ◌∷◌, ◌++◌, [], IfOk, OnOk};
 ghost use Rattle.term_evaluation.specs.Evaluation.{eval_by};
 ghost use Rattle.term_evaluation.specs.Outcomes.{Ends};
@@ -16,8 +16,8 @@ use term_core::{Expr, Node};
 use term_evaluation::{Halt, apply, truth};
 use variant_value::Value;
 
-/// The value of the expression of an object's binding, by what is known. Puts the properties that it really
-/// reads behind those that were noted before, in order.
+/// The value of the expression of an object's binding, by the values that are known. Appends the properties
+/// that it really reads to `noted`, in order.
 pub(crate) fn meet(
     alloc: Global,
     expr: &Expr,

@@ -13,7 +13,7 @@ pub enum BindingError {
     EvaluationError,
 }
 
-/// The first stands before the second.
+/// Whether `a` comes before `b`: properties are ordered by object, then by number.
 pub(crate) fn is_before(a: Property, b: Property) -> bool
     ensures { result ≡ is_before a b }
 {

@@ -29,7 +29,7 @@ fn edge_of(read: Property, reader: Property) -> Edge
     }
 }
 
-/// Whether an edge leads from a property that stands before this one.
+/// Whether an edge leads from a property that comes before `read`.
 fn is_ahead(read: Property, edge: Edge) -> bool
     ensures { result ≡ is_ahead read edge }
 {
@@ -37,7 +37,7 @@ fn is_ahead(read: Property, edge: Edge) -> bool
         || (edge.read_object == read.object && edge.read_number < read.number)
 }
 
-/// Whether a position parts the edges of properties before this one from the others.
+/// Whether the edges before a position lead from properties before `read`, and the others do not.
 fn is_start(edges: &Links<Edge>, read: Property, at: usize) -> bool
     ensures { result ≡ true → IsStart edges.now.links read at }
 {
@@ -52,7 +52,7 @@ fn is_start(edges: &Links<Edge>, read: Property, at: usize) -> bool
     at == len || !is_ahead(read, all.get(at))
 }
 
-/// The edges lead from properties to those that have read them: those of one property stand together.
+/// Edges from properties to those that have read them. The edges from one property are adjacent.
 #[derive(Drop)]
 pub(crate) struct Readers {
     edges: Links<Edge>,
@@ -76,8 +76,8 @@ impl Readers {
         }
     }
 
-    /// The position from which on the edges lead from this property, and then from those behind it. The position `near`
-    /// is tried first.
+    /// The position at which the edges from `read`, and then those from later properties, begin. The position
+    /// `near` is tried first.
     pub(crate) fn start_of(&self, read: Property, near: usize) -> usize
         ensures { IsStart self.now read result }
     {

@@ -23,7 +23,7 @@ use std::alloc::{AllocError, Global};
 use term_core::Expr;
 use variant_value::Value;
 
-/// The expression of a property that is bound and there.
+/// The expression of a property that exists and is bound.
 fn expr_of<'a>(known: &Known<'a>, at: Property) -> &'a Expr
     requires ready { IsReady known.now }
     requires bound { IsSome (term_at (scene_in known.now).bindings at) }
@@ -65,7 +65,7 @@ fn waits_for(known: &Known, reads: &[Property]) -> Option<Property>
     Some(last)
 }
 
-/// The property stands in a row.
+/// Whether a row is that of the property.
 fn stands_in(rows: &[CacheEntry], at: Property) -> bool
     ensures { result ≡ among at (ats rows.now) }
 {
@@ -77,7 +77,7 @@ fn stands_in(rows: &[CacheEntry], at: Property) -> bool
     false
 }
 
-/// Moves the rows of a stack behind others, the latest first.
+/// Moves the rows of a stack to the end of `done`, the latest first.
 fn unstack(done: &mut EvalCache, below: &mut Vec<CacheEntry>) -> Result<(), AllocError>
     ensures done { OnOk result (done.new ≡ done.old ++ reverse below.old.items) }
     ensures below { OnOk result (below.new.items ≡ []) }
@@ -117,9 +117,9 @@ fn look(
     Ok((kept, next))
 }
 
-/// One step: an evaluation of the property on top. Where it has a value it is kept, and the one below it is
-/// on top; where it waits for another one, that one is on top; where it waits for itself, all that is stacked
-/// is a loop.
+/// Evaluates the property on top of the stack, and returns the next top. A result that waits for nothing is
+/// kept, and the property below becomes the top. If it waits for another property, that becomes the top. If
+/// it waits for itself or for one on the stack, this is a loop: all stacked results are kept, and it is done.
 fn step(
     alloc: Global,
     stores: &Stores,
@@ -154,8 +154,8 @@ fn step(
     }
 }
 
-/// Finds the value of a bound property, and of all that it comes of, and keeps them. What was kept before is
-/// not evaluated.
+/// Evaluates a bound property and all bound properties that it depends on, and keeps the results in `done`.
+/// Properties that have a result there are not evaluated again.
 pub fn find(
     alloc: Global,
     stores: &Stores,
@@ -186,8 +186,8 @@ pub fn find(
     }
 }
 
-/// The value of a property that is there, or its error: what is stored where it is unbound, else what its
-/// expression is. What is found is kept.
+/// The value of a property, or its error: the stored value if it is unbound, otherwise the outcome of its
+/// expression. New results are kept in `done`.
 pub fn outcome(
     alloc: Global,
     stores: &Stores,
@@ -211,7 +211,7 @@ pub fn outcome(
     outcome_of(alloc, kept)
 }
 
-/// Returns the stored value; a property that is not there has none.
+/// Returns a copy of the stored value, or `EvaluationError` if the property does not exist.
 fn stored(
     alloc: Global,
     stores: &Stores,
@@ -227,7 +227,7 @@ fn stored(
     }
 }
 
-/// A copy of what an evaluation ended with.
+/// A copy of the outcome of an evaluation.
 fn outcome_of(alloc: Global, kept: &EvalResult) -> Result<Result<Value, BindingError>, AllocError>
     ensures { IfOk result (λ outcome. outcome ≡ kept.now.outcome) }
 {

@@ -86,8 +86,8 @@ fn refresh(
     Ok(evaluations)
 }
 
-/// Evaluates what is bound and reached by touched properties, puts what they reach behind them, and returns how
-/// many evaluations that took. After an `Err` less is kept than there should be.
+/// Evaluates the bound properties that touched properties reach, appends what they reach to `touched`, and
+/// returns how many evaluations that took. After an `Err` results may be missing.
 pub(crate) fn resettle(
     alloc: Global,
     stores: &Stores,

@@ -1,5 +1,5 @@
 //! Rows of properties, by rising object and number.
-ghost use Rattle.std.specs.Prelude.{◌≡◌, false, find, slice_get};
+ghost use Rattle.std.specs.Prelude.{◌≡◌, ◌<◌, ◌≤◌, false, find, slice_get};
 ghost use Rattle.std.specs.Option.{option_map, option_map_or};
 ghost use Rattle.property_store.specs.Property.{is_property};
 ghost use Rattle.binding_values.specs.Sorted.{IsCountBefore, IsRising};
@@ -17,7 +17,7 @@ pub trait HasProperty {
         ensures { result ≡ at self.now };
 }
 
-/// Where a property's row stands, if each object has as many rows as any other.
+/// The place of a property's row, if each object has as many rows as any other.
 fn guess<T: HasProperty>(rows: &[T], at: Property) -> usize {
     let len = rows.len();
     if len < 16 {
@@ -31,7 +31,20 @@ fn guess<T: HasProperty>(rows: &[T], at: Property) -> usize {
     others.wrapping_add(at.number.wrapping_sub(first.number))
 }
 
-/// How many rows stand before those of a property. Where its row does not stand where it may be guessed, it is searched.
+/// Where a search looks next: first near the guessed place of the row, then in the middle.
+fn probe(low: usize, high: usize, near: usize) -> usize
+    requires { low < high }
+    ensures { (low ≤ result) × (result < high) }
+{
+    if low <= near && near < high {
+        near
+    } else {
+        low + (high - low) / 2
+    }
+}
+
+/// How many rows are before those of a property. If its row is not at its guessed place, it is searched from there, or
+/// from the last row, after which most rows are added.
 pub fn count_before<T: HasProperty>(rows: &[T], at: Property) -> usize
     requires { IsRising T.at rows.now }
     ensures { IsCountBefore T.at rows.now at result }
@@ -40,10 +53,11 @@ pub fn count_before<T: HasProperty>(rows: &[T], at: Property) -> usize
     if is_at(rows, guess, at) {
         return guess;
     }
+    let near = guess.min(rows.len().saturating_sub(1));
     let mut low = 0;
     let mut high = rows.len();
     while low < high {
-        let middle = low + (high - low) / 2;
+        let middle = probe(low, high, near);
         if is_before(rows[middle].at(), at) {
             low = middle + 1;
         } else {
@@ -53,7 +67,7 @@ pub fn count_before<T: HasProperty>(rows: &[T], at: Property) -> usize
     low
 }
 
-/// Whether the row of a property stands at a place.
+/// Whether the row at a place is that of a property.
 pub fn is_at<T: HasProperty>(rows: &[T], place: usize, at: Property) -> bool
     ensures { result ≡ option_map_or (λ row. is_property at (T.at row)) (slice_get rows.now place) false }
 {

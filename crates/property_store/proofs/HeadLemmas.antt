@@ -9,7 +9,7 @@ use Rattle.std.proofs.lemmas.List.{set-get_or}
 use Rattle.std.proofs.lemmas.List.Elements.{All-map}
 use Rattle.shared_rows.specs.Paired.{paired}
 use Rattle.shared_rows.specs.Table.{IsPlace, Table, with_place}
-use Rattle.shared_rows.proofs.ForCallers.{paired_set}
+use Rattle.shared_rows.proofs.ForCallers.{paired_set, with_same}
 use Rattle.shared_rows.specs.Rows.{Keyed, key_of, row_under, rows_at, with_row}
 use Rattle.shared_rows.specs.Rows as table
 use Rattle.property_store.specs.declared.field.Field.{Field}
@@ -189,6 +189,31 @@ pub record IsRowChanged (layouts : List (List Field)) (rows : Table (List (Keyed
   pub leaves : row ≡ left
   pub rows_are : rows' ≡ with_place rows place (with_row (rows_at rows place) key left)
   pub heads_are : heads' ≡ with_place heads place first
+
+-- so it is where the row that was found was lent and left so
+pub row_changed : {layouts : List (List Field)} {rows : Table (List (Keyed Row))} {heads : Table Head} {rows' : Table (List (Keyed Row))}
+    {heads' : Table Head} {seen : StoresView} {place key n : ℕ} {old row lent left : Row} {first : Head} → IsKept layouts rows heads
+    → stock_of layouts rows heads ≡ seen → IsPlace seen.shelves.table place → table.IsSound number (rows_at rows place)
+    → Some key ≡ key_of number (rows_at rows place) n → row_under (rows_at rows place) key ≡ Some lent → old ≡ lent → row ≡ left
+    → rows' ≡ with_place rows place (with_row (rows_at rows place) key left) → heads' ≡ with_place heads place first
+    → IsRowChanged layouts rows heads rows' heads' seen place key n old row first
+row_changed {lent = lent} {left = left} kept view_is is_place sound found under lends leaves rows_are heads_are = record {
+  kept = kept;
+  view_is = view_is;
+  is_place = is_place;
+  sound = sound;
+  found = sym found;
+  lent = lent;
+  under = under;
+  lends = lends;
+  left = left;
+  leaves = leaves;
+  rows_are = rows_are;
+  heads_are = heads_are;
+}
+
+pub same_head : (heads : Table Head) (place : ℕ) → heads ≡ with_place heads place (head_at heads place)
+same_head heads place = sym (with_same head.None heads place)
 
 module _ {layouts : List (List Field)} {rows : Table (List (Keyed Row))} {heads : Table Head} {rows' : Table (List (Keyed Row))} {heads' : Table Head}
     {seen : StoresView} {place key n : ℕ} {old row : Row} {first : Head}

@@ -110,6 +110,14 @@ module _ {layouts : List (List Field)} {rows : Table (List (Keyed Row))} {heads 
         (ap (marks_of (with_row (rows_at rows place) key row)) head_same
         ∙ marks_same (rows_at rows place) key n old row is_old numbered_n before (it.kept.chained place) same)
 
+  -- where the dynamic properties alone are others
+  module _ (rest : row ≡ record old { dynamic = row.dynamic }) (head_same : first ≡ before) where
+    pub kept_beside : AreKept layouts rows' → IsKept layouts rows' heads'
+    kept_beside = kept_same (ap (λ (r : Row). r.links) rest) (ap (λ (r : Row). length r.values) rest) (ap (λ (r : Row). r.object) rest) head_same
+
+    pub marks_beside : paired marks_of rows'.places heads'.places ≡ seen.marks
+    marks_beside = marks_as_before (ap (λ (r : Row). r.links) rest) (ap (λ (r : Row). length r.values) rest) (ap (λ (r : Row). r.object) rest) head_same
+
   -- where a value was stored
   module _ {number : ℕ} {value : Value} {result : Result Stored Code} (said : IsStored fields number value before old row result)
       (head_is : first ≡ head_after n number before result) where

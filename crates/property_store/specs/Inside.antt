@@ -1,4 +1,4 @@
--- How stores stand in rows. No public clause cites this module.
+-- How stores are kept in rows. No public clause cites this module.
 use Rattle.std.specs.Prelude.{ℕ, ◌≡◌, ◌==◌, ◌<◌, ◌≤◌, if◌then◌else◌, List, length, All, Option, filter, find, map, min}
 use Rattle.std.specs.Prelude.{nat_lt, option_and_then, option_map, slice_get, slice_index_or, slice_set}
 use Rattle.std.specs.List.{AllWithin, flat_map, range_with_len}
@@ -17,57 +17,57 @@ use Rattle.property_store.specs.Marks.{Marks}
 use Rattle.property_store.specs.Store.{AreSound, Properties, Store, fields_in}
 use Rattle.property_store.specs.Table.{StoreTable, StoresView}
 
--- the row of an object
+-- The row of an object.
 abbrev pub row_of : List (Keyed Row) → ℕ → Option Row
 row_of rows object = option_map (λ keyed. keyed.row) (find (λ keyed. keyed.row.object == object) rows)
 
--- the number of the first object above one
+-- The number of the first object above one.
 abbrev pub next_number : List (Keyed Row) → ℕ → Option ℕ
 next_number rows after = option_map (λ keyed. keyed.row.object) (find (λ keyed. nat_lt after keyed.row.object) rows)
 
--- so many rows, the first ones, have this number or one below it
+-- This many rows, the first ones, have this number or a lower one.
 pub record IsCountUpTo (rows : List (Keyed Row)) (last count : ℕ) : Type 0 where
   pub within : count ≤ length rows
   pub below : AllWithin (λ keyed. keyed.row.object ≤ last) rows 0 count
   pub above : AllWithin (λ keyed. last < keyed.row.object) rows count (length rows)
 
--- the link of a property
+-- The link of a property.
 abbrev pub link_at : List (Keyed Row) → Property → Option Link
 link_at rows q = option_and_then (λ row. slice_get row.links q.number) (row_of rows q.object)
 
--- with the mark of a property taken
+-- The row of an object after the mark of a property is taken.
 abbrev pub unlinked : Property → Row → Row
 unlinked at row = record row { links = slice_set row.links at.number Unmarked }
 
 abbrev pub without_link : Property → List (Keyed Row) → List (Keyed Row)
 without_link at rows = map (λ keyed. if keyed.row.object == at.object then record { key = keyed.key; row = unlinked at keyed.row } else keyed) rows
 
--- the declared properties of an object, and those of all
+-- The declared properties of an object.
 abbrev pub numbers_of : ℕ → ℕ → List Property
 numbers_of object count = map {B = Property} (λ number. record { object = object; number = number }) (range_with_len 0 count)
 
 abbrev pub properties_in : List (Keyed Row) → List Property
 properties_in rows = flat_map (λ keyed. numbers_of keyed.row.object (length keyed.row.links)) rows
 
--- the marks of a place
+-- The marks of a place.
 abbrev pub marks_of : List (Keyed Row) → Head → Marks
 marks_of rows head = record { all = is_all head; each = filter (λ q. is_linked (link_at rows q)) (properties_in rows) }
 
--- the head of a place
+-- The head of a place.
 abbrev pub head_at : Table Head → ℕ → Head
 head_at heads place = slice_index_or heads.places place None
 
--- the head leads over all properties of a place that are linked; there is a link for each value
+-- The chain from the head has all linked properties of a place, and there is a link for each value.
 pub record AreChained (rows : List (Keyed Row)) (head : Head) : Type 0 where
   pub as_many : All (λ keyed. length keyed.row.links ≡ length keyed.row.values) rows
   pub linked : AreLinked (link_at rows) (first_of head)
 
--- only as many places can be opened without memory as there is room for heads
+-- The table, in which at most as many places can be opened without memory as there is room for heads.
 abbrev pub limited : Table (List (Keyed Row)) → ℕ → Table (List (Keyed Row))
 limited rows room = record { places = rows.places; room = min rows.room room }
 
 module _ (layouts : List (List Field)) where
-  -- what a row holds
+  -- The properties in a row.
   abbrev pub shown : Row → Properties
   shown row = record { object = row.object; fields = fields_in layouts row.class; values = row.values; dynamic = row.dynamic.items }
 
@@ -77,11 +77,11 @@ module _ (layouts : List (List Field)) where
   abbrev pub shelves_of : Table (List (Keyed Row)) → StoreTable
   shelves_of rows = record { layouts = layouts; table = record { places = map store_of rows.places; room = rows.room } }
 
-  -- the rows of a place are sound
+  -- The rows of a place are sound.
   abbrev pub AreRows : List (Keyed Row) → Type 0
   AreRows rows = All (λ keyed. AreSound (shown keyed.row)) rows
 
-  -- and those of all places
+  -- The rows of all places are sound.
   abbrev pub AreKept : Table (List (Keyed Row)) → Type 0
   AreKept rows = All AreRows rows.places
 
@@ -90,6 +90,6 @@ module _ (layouts : List (List Field)) where
     pub same : length heads.places ≡ length rows.places
     pub chained : (place : ℕ) → AreChained (rows_at rows place) (head_at heads place)
 
-  -- what contracts see
+  -- What contracts see of all stores.
   abbrev pub stock_of : Table (List (Keyed Row)) → Table Head → StoresView
   stock_of rows heads = record { shelves = shelves_of (limited rows heads.room); marks = paired marks_of rows.places heads.places }

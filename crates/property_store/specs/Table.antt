@@ -6,24 +6,24 @@ use Rattle.property_store.specs.Marks.{Marks}
 use Rattle.property_store.specs.Store.{Store, fields_in}
 
 pub record StoreTable : Type 0 where
-  -- the properties that each class declares
+  -- The properties that each class declares.
   pub layouts : List (List Field)
   pub table : Table Store
 
--- what stands in the stores of all places
+-- The contents of the stores of all places.
 pub record StoresView : Type 0 where
   pub shelves : StoreTable
-  -- what was written at each place
+  -- What was written at each place.
   pub marks : List Marks
 
--- the store of a place
+-- The store of a place.
 abbrev pub store_at : StoreTable → ℕ → Store
 store_at shelves place = slice_index_or shelves.table.places place []
 
--- with another store at a place, and all else as before
+-- The table with a different store at a place.
 abbrev pub with_store : StoreTable → ℕ → Store → StoreTable
 with_store shelves place store = record shelves { table = with_place shelves.table place store }
 
--- the properties that a class declares
+-- The properties that a class declares.
 abbrev pub fields_of : StoreTable → ℕ → List Field
 fields_of shelves class = fields_in shelves.layouts class

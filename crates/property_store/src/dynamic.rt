@@ -18,7 +18,7 @@ pub(crate) struct Named {
     pub(crate) value: Value,
 }
 
-/// Where the property of this name stands.
+/// The position of the property with this name.
 pub(crate) fn number_of(dynamic: &[Named], name: &str) -> Option<usize>
     ensures number { result ≡ dynamic_number name.now dynamic.now }
     ensures within { IfSome result (λ number. number < length dynamic.now) }
@@ -26,7 +26,8 @@ pub(crate) fn number_of(dynamic: &[Named], name: &str) -> Option<usize>
     dynamic.iter().position(|named| named.name.as_str() == name)
 }
 
-/// Gives the property of this name a value, and adds it behind the others where there is none.
+/// Sets the property with this name, or appends it if there is no such property. Beyond `DYNAMIC` that is
+/// refused with `Code::Limit`.
 pub(crate) fn set(dynamic: &mut Vec<Named>, name: Text, value: Value) -> Result<(), Fault>
     ensures refused { RefusedBy (refusal_of_name name dynamic.old.items) result }
     ensures ok { OnOk result (dynamic.new.items ≡ with_name name value dynamic.old.items) }

@@ -3,7 +3,7 @@ ghost use Rattle.std.specs.Prelude.{◌≡◌, ◌<◌, IfOk, IfSome, length, ma
 ghost use Rattle.std.specs.Option.{option_map};
 ghost use Rattle.std.specs.Result.{result_err};
 ghost use Rattle.variant_value.specs.Values.{converted};
-ghost use Rattle.property_store.specs.Store.{declared_in, default_of, field_number, fields_in};
+ghost use Rattle.property_store.specs.Store.{declared_in, default_of, field_number, fields_in, typed_in};
 ghost use Rattle.property_store.specs.Storing.{fit_in, is_other, refusal_as, refusal_in, with_fit};
 
 use plain_types::{Code, Items, Text};
@@ -98,8 +98,21 @@ pub(crate) fn value_at(values: &Args, number: usize) -> Option<&Value>
     values.as_slice().get(number)
 }
 
-/// Stores a value as one of the property's kind, and returns whether it is another than the one that
-/// stood. Where there is no such property nothing is stored; a value that does not fit is `BadValue`.
+/// The kind of the property of this number, and its value.
+pub(crate) fn typed_value<'a>(
+    fields: &[Field],
+    values: &'a Args,
+    number: usize,
+) -> Option<(Kind, &'a Value)>
+    ensures { option_map {U = Kind × Value} (λ typed. (typed.0, typed.1.now)) result ≡ typed_in fields.now values.now number }
+{
+    let field = fields.get(number)?;
+    let value = value_at(values, number)?;
+    Some((field.kind, value))
+}
+
+/// Stores a value, converted to the property's kind, and returns whether it differs from the previous
+/// one. If there is no such property, nothing is stored. A value that cannot be converted is `BadValue`.
 #[inline(always)]
 pub(crate) fn store(
     fields: &[Field],

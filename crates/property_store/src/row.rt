@@ -25,24 +25,24 @@ pub(crate) struct Row {
     pub(crate) class: u32,
     /// The values of the declared properties, by their numbers.
     pub(crate) values: Args,
-    /// There are as many links as values; they tell which of the properties were written.
+    /// One link per value. The links record which of the properties were written.
     pub(crate) links: Links,
-    /// The dynamic properties, that first set first.
+    /// The dynamic properties, in the order in which they were first set.
     pub(crate) dynamic: Vec<Named>,
 }
 
-/// A write answers what it has changed.
+/// What a write has changed.
 #[derive(Clone, Copy)]
 pub(crate) struct Stored {
-    /// Whether another value stands now.
+    /// Whether the new value differs from the previous one.
     pub(crate) is_change: bool,
     /// Whether the property is linked now, and was not before.
     pub(crate) is_linked: bool,
 }
 
 impl Row {
-    /// Stores a value as that of the property of a number, as one of its kind, and marks the property
-    /// where it does.
+    /// Stores a value in the property with a number, converted to its kind, and marks the property if that
+    /// succeeds.
     #[inline(always)]
     pub(crate) fn write(
         &mut self,
@@ -65,8 +65,8 @@ impl Row {
         })
     }
 
-    /// Stores a value as that of the property of a name, as one of its kind, and marks the property where it
-    /// does.
+    /// Stores a value in the property with a name, converted to its kind, and marks the property if that
+    /// succeeds.
     #[inline(always)]
     pub(crate) fn write_named(
         &mut self,

@@ -7,7 +7,7 @@ ghost use Rattle.shared_rows.specs.Table.{IsPlace, MakesRoom, Opens, with_place}
 ghost use Rattle.plain_types.specs.Answers.{RefusedBy};
 ghost use Rattle.variant_value.specs.Values.{IsOfKind, IsShort};
 ghost use Rattle.property_store.specs.Store.{AreDistinct, IsSound, Properties, added, changed, declared_in, dynamic_names};
-ghost use Rattle.property_store.specs.Store.{dynamic_refusal, field_at, fields_in, is_change, named_value, next_object, properties_of};
+ghost use Rattle.property_store.specs.Store.{dynamic_refusal, field_at, fields_in, is_change, named_value, next_object, properties_of, typed_value};
 ghost use Rattle.property_store.specs.Store.{value_at, value_named, with_dynamic, without, without_dynamic, write_refusal, written};
 ghost use Rattle.property_store.specs.Named.{answer_named, written_named};
 ghost use Rattle.property_store.specs.Marks.{AreMarked, HasMarks, IsTaken, all_marks, has_marks, is_new, is_written, is_written_named, marks_at, no_marks};
@@ -18,7 +18,7 @@ ghost use Rattle.property_store.specs.declared.link.Head.TheVariants.{First};
 ghost use Rattle.property_store.specs.Table.{fields_of, store_at, with_store};
 
 use crate::dynamic;
-use crate::field::{Field, declared_in, defaults, field_number, fields_in, value_at};
+use crate::field::{Field, declared_in, defaults, field_number, fields_in, typed_value, value_at};
 use crate::link::{Head, Link};
 use crate::links::Links;
 use crate::property::Property;
@@ -146,7 +146,7 @@ impl Stores {
         first_above(&self.rows, place, after)
     }
 
-    /// The object at a position, of which the least number has 0, and its declared properties.
+    /// The object at a position, and its declared properties. Objects are ordered by number, from position 0.
     pub fn object_at(&self, place: usize, position: usize) -> (u32, &[Field])
         requires place { IsPlace self.now.shelves.table place }
         requires stands { position < length (store_at self.now.shelves place) }
@@ -176,8 +176,18 @@ impl Stores {
         value_at(&row.values, number)
     }
 
-    /// Gives the declared property of this number a value, as one of its kind, and returns whether it is
-    /// another than the one that stood. A value that does not fit is `BadValue`. This takes no memory.
+    /// The kind of the declared property of this number, and its value.
+    pub fn typed_value(&self, place: usize, object: u32, number: usize) -> Option<(Kind, &Value)>
+        requires { IsPlace self.now.shelves.table place }
+        ensures { option_map {U = Kind × Value} (λ typed. (typed.0, typed.1.now)) result
+            ≡ option_and_then (typed_value number) (properties_of (store_at self.now.shelves place) object) }
+    {
+        let row = row_of(&self.rows, place, object)?;
+        typed_value(fields_in(&self.layouts, row.class), &row.values, number)
+    }
+
+    /// Sets the declared property with this number to a value, converted to its kind, and returns whether
+    /// that changed it. A value that cannot be converted is `BadValue`. Allocates nothing.
     pub fn write(
         &mut self,
         place: usize,
@@ -214,8 +224,8 @@ impl Stores {
         Ok(stored.is_change)
     }
 
-    /// Gives the declared property of this name a value, as [`write`](Stores::write) does, and returns its
-    /// number and whether the value is another than the one that stood.
+    /// Sets the declared property with this name to a value, like [`write`](Stores::write), and returns its
+    /// number and whether its value has changed.
     pub fn write_named(
         &mut self,
         place: usize,
@@ -248,8 +258,8 @@ impl Stores {
         Ok((number, stored.is_change))
     }
 
-    /// A copy of the value of the property of this name, which is declared or else dynamic, and
-    /// `Invalid` where there is none.
+    /// A copy of the value of the property with this name, declared or dynamic, or `Invalid` if there is no
+    /// such property.
     pub fn read(&self, place: usize, object: u32, name: &str) -> Result<Value, AllocError>
         requires { IsPlace self.now.shelves.table place }
         ensures { IfOk result (λ value. value ≡ value_named (store_at self.now.shelves place) object name.now) }
@@ -260,8 +270,8 @@ impl Stores {
         }
     }
 
-    /// Gives the dynamic property of this name a value, and adds it where the object has none such. More
-    /// than `DYNAMIC` of one object are `Limit`.
+    /// Sets the dynamic property with this name, or adds it if the object has none. More than `DYNAMIC` of
+    /// one object are `Limit`.
     pub fn set_dynamic(
         &mut self,
         place: usize,
@@ -302,7 +312,7 @@ impl Stores {
         self.rows.update(place, key, remove);
     }
 
-    /// Copies of the names of an object's dynamic properties, that first set first.
+    /// Copies of the names of an object's dynamic properties, in the order in which they were first set.
     pub fn dynamic_names(&self, place: usize, object: u32) -> Result<Items<Text>, AllocError>
         requires { IsPlace self.now.shelves.table place }
         ensures { IfOk result (λ names. names ≡ dynamic_names (store_at self.now.shelves place) object) }
@@ -335,7 +345,7 @@ impl Stores {
         'marks: while let Written::One(_) = self.take_written(place) {}
     }
 
-    /// Takes an object out where nothing is marked, and marks all.
+    /// Removes an object from a place without marks, and marks all.
     fn take_out(&mut self, place: usize, object: u32)
         requires place { IsPlace self.old.shelves.table place }
         requires unmarked { marks_at self.old.marks place ≡ no_marks }
@@ -349,7 +359,7 @@ impl Stores {
         }
     }
 
-    /// Takes one mark of what was written at a place, or all of them where an object has gone. This takes no memory.
+    /// Takes one mark of what was written at a place, or all of them if objects were removed. Allocates nothing.
     pub fn take_written(&mut self, place: usize) -> Written
         requires { IsPlace self.old.shelves.table place }
         ensures shelves { self.new.shelves ≡ self.old.shelves }
@@ -370,7 +380,7 @@ impl Stores {
         }
     }
 
-    /// Whether [`take_written`](Stores::take_written) would tell anything.
+    /// Whether [`take_written`](Stores::take_written) would return anything but `Written::None`.
     pub fn has_written(&self, place: usize) -> bool
         requires { IsPlace self.now.shelves.table place }
         ensures { result ≡ has_marks (marks_at self.now.marks place) }
@@ -378,7 +388,7 @@ impl Stores {
         !matches!(*self.heads.get(place), Head::None)
     }
 
-    /// How many objects there are; what is true of every store is told with it.
+    /// How many objects there are. It also ensures that the store is sound.
     pub fn count(&self, place: usize) -> usize
         requires { IsPlace self.now.shelves.table place }
         ensures count { result ≡ length (store_at self.now.shelves place) }

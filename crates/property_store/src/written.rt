@@ -1,13 +1,13 @@
 //! Which properties were written.
 use crate::property::Property;
 
-/// A mark tells of one thing that was written.
+/// What was written, as `Stores::take_written` returns it.
 #[derive(Clone, Copy)]
 pub enum Written {
-    /// Nothing that was not told.
+    /// No mark was left.
     None,
     /// This property.
     One(Property),
-    /// Objects have gone, so that any property may have another value now, or none.
+    /// Objects were removed, so any property may have another value now, or no value.
     All,
 }

@@ -15,7 +15,6 @@ use Rattle.connection_list.specs.Ends.{calls}
 use Rattle.event_queue.specs.declared.event.Event.{Event}
 use Rattle.event_queue.specs.declared.event.Event.TheVariants as event
 use Rattle.event_queue.specs.declared.event.QueuedCall.{QueuedCall}
-use Rattle.event_queue.specs.declared.event.Priority.TheVariants.{Normal}
 use Rattle.property_store.specs.declared.property.Property.{Property}
 use Rattle.object_tree.specs.declared.row.Row.{Row}
 use Rattle.object_tree.specs.Rows.{children, row_of}
@@ -26,12 +25,11 @@ use Rattle.term_evaluation.proofs.ForCallers.{state_counts}
 use Rattle.session_model.specs.declared.call.TheConstants.{DESTROYED, NESTED_SIGNALS}
 use Rattle.session_model.specs.declared.line.Answer.TheVariants as a
 use Rattle.session_model.specs.declared.line.Line.TheVariants as line
-use Rattle.session_model.specs.declared.line.Line.TheVariants.{Warning}
 use Rattle.session_model.specs.Acts.{acts, chosen}
 use Rattle.session_model.specs.Arriving.{posts_of}
 use Rattle.session_model.specs.Agenda.{binding_line, call_items, call_line, callee_called, called, calls_of, connection_of, emitted, event_items}
 use Rattle.session_model.specs.Agenda.{functor_called, functor_line, functor_ran, is_held_back, delete_children, lives, lives_below, method_called}
-use Rattle.session_model.specs.Agenda.{method_items, queued, ran, spun, step, with_turn}
+use Rattle.session_model.specs.Agenda.{method_items, queued, queued_call, ran, spun, step, with_turn}
 use Rattle.session_model.specs.Operations.{operation_done}
 use Rattle.session_model.specs.Execution.{Execution, dying, first_taken, in_state, single_shot_broken, line_told, turn_taken, used_up, posting, severed}
 use Rattle.session_model.specs.Execution.{stepped}
@@ -143,14 +141,7 @@ module _ (settings : Settings) (item : Item) (doing new : Execution) (shrinks : 
       → FallsTo settings item doing (method_called connection index args depth new method)
   method_falls connection index args depth method =
       let given = take (length method.signature.kinds) args in
-      let call : QueuedCall = record {
-        object = connection.receiver;
-        callee = callee.Method index;
-        sender = connection.sender;
-        connection = connection.number;
-        priority = Normal;
-        args = given;
-      } in
+      let call = queued_call connection (callee.Method index) given in
       let later = queued_shrinks new call in
       let few = method_weight (most settings doing) connection.receiver index connection.sender given (depth + 1) depth method in
       cond_both (is_queued connection.mode) (puts [] (queued new call))
@@ -165,14 +156,7 @@ module _ (settings : Settings) (item : Item) (doing new : Execution) (shrinks : 
       → FallsTo settings item doing (functor_called connection index args depth new functor)
   functor_falls connection index args depth functor =
       let given = take (length functor.params) args in
-      let call : QueuedCall = record {
-        object = connection.receiver;
-        callee = callee.Functor index;
-        sender = connection.sender;
-        connection = connection.number;
-        priority = Normal;
-        args = given;
-      } in
+      let call = queued_call connection (callee.Functor index) given in
       let later = queued_shrinks new call in
       let items = RunFunctor connection.receiver index connection.sender connection.number given depth ∷ [] in
       cond_both (is_queued connection.mode) (puts [] (queued new call)) (puts items new) (FallsTo settings item doing)

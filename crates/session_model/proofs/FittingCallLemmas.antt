@@ -18,8 +18,6 @@ use Rattle.connection_list.specs.Rows.{IsRising, has_number}
 use Rattle.connection_list.proofs.ForCallers.{rising_head, rising_tail}
 use Rattle.event_queue.specs.declared.event.Event.{Event}
 use Rattle.event_queue.specs.declared.event.Event.TheVariants as event
-use Rattle.event_queue.specs.declared.event.QueuedCall.{QueuedCall}
-use Rattle.event_queue.specs.declared.event.Priority.TheVariants.{Normal}
 use Rattle.object_tree.specs.declared.row.Row.{Row}
 use Rattle.object_tree.specs.Rows.{is_there, row_of}
 use Rattle.publish_board.specs.Rows.{publishes}
@@ -27,7 +25,7 @@ use Rattle.stored_slots.specs.declared.functor.Functor.{Functor}
 use Rattle.stored_slots.specs.Functors.{AreArguments}
 use Rattle.session_model.specs.declared.call.TheConstants.{NESTED_SIGNALS}
 use Rattle.session_model.specs.Agenda.{call_items, called, callee_called, calls_of, connection_of, emitted, event_items, functor_called, is_held_back}
-use Rattle.session_model.specs.Agenda.{method_called, method_items, queued, spun, with_turn}
+use Rattle.session_model.specs.Agenda.{method_called, method_items, queued, queued_call, spun, with_turn}
 use Rattle.session_model.specs.Arriving.{kinds_of, post_of, posts_of}
 use Rattle.session_model.specs.Execution.{Execution, first_taken, posting, single_shot_broken, turn_taken, used_up}
 use Rattle.session_model.specs.Fitting.{IsCall, IsCalledBy, IsConnected, IsFittingEvent, IsFittingItem, IsRightPost, IsSent, MayBeConnected}
@@ -158,14 +156,7 @@ module _ (settings : Settings) (doing : Execution) (on : Carries settings doing.
           let params : option_map_or (λ (functor : Functor). functor.params) (functor_at settings index) [] ≡ functor.params =
           ap (λ found. option_map_or (λ (functor : Functor). functor.params) found []) is in
           let given = take (length functor.params) args in
-          let call : QueuedCall = record {
-            object = connection.receiver;
-            callee = callee.Functor index;
-            sender = connection.sender;
-            connection = connection.number;
-            priority = Normal;
-            args = given;
-          } in
+          let call = queued_call connection (callee.Functor index) given in
           let its : IsCall settings rows connection.receiver (callee.Functor index) given = record {
             callee = may.callee;
             arguments = subst (λ kinds. AreArguments kinds given) (sym params)
@@ -185,14 +176,7 @@ module _ (settings : Settings) (doing : Execution) (on : Carries settings doing.
           let params : kinds_of settings.classes rows connection.receiver index ≡ method.signature.kinds =
           ap (λ found. option_map_or (λ (method : Method). method.signature.kinds) found []) is in
           let given = take (length method.signature.kinds) args in
-          let call : QueuedCall = record {
-            object = connection.receiver;
-            callee = callee.Method index;
-            sender = connection.sender;
-            connection = connection.number;
-            priority = Normal;
-            args = given;
-          } in
+          let call = queued_call connection (callee.Method index) given in
           let arguments : AreArguments (kinds_of settings.classes rows connection.receiver index) given = subst (λ kinds. AreArguments kinds given) (sym params)
           (fitting_arguments (kinds_of settings.classes rows connection.sender connection.signal) method.signature.kinds args
           (ap (fits (kinds_of settings.classes rows connection.sender connection.signal)) (sym params) ∙ may.fitting) all) in

@@ -17,7 +17,6 @@ use Rattle.connection_list.specs.Rows.{has_number}
 use Rattle.event_queue.specs.declared.event.Event.{Event}
 use Rattle.event_queue.specs.declared.event.Event.TheVariants as event
 use Rattle.event_queue.specs.declared.event.QueuedCall.{QueuedCall}
-use Rattle.event_queue.specs.declared.event.Priority.TheVariants.{Normal}
 use Rattle.property_store.specs.declared.property.Property.{Property}
 use Rattle.object_tree.specs.declared.row.Row.{Row}
 use Rattle.object_tree.specs.Rows.{children, row_of}
@@ -30,7 +29,7 @@ use Rattle.session_model.specs.Acts.{acts, chosen}
 use Rattle.session_model.specs.Arriving.{posts_of}
 use Rattle.session_model.specs.Agenda.{binding_line, call_items, call_line, called, callee_called, calls_of, connection_of, emitted, event_items}
 use Rattle.session_model.specs.Agenda.{functor_called, functor_line, functor_ran, is_held_back, delete_children, lives, lives_below, method_called}
-use Rattle.session_model.specs.Agenda.{method_items, queued, ran, spun, step, with_turn}
+use Rattle.session_model.specs.Agenda.{method_items, queued, queued_call, ran, spun, step, with_turn}
 use Rattle.session_model.specs.Execution.{Execution, dying, first_taken, in_state, posting, single_shot_broken, line_told, turn_taken, used_up, severed}
 use Rattle.session_model.specs.Execution.{stepped}
 use Rattle.session_model.specs.Items.{Act, Call, Detach, Delete, Emit, Remove, Item, DeleteChild, Next, Reply, ReplySpun, Run, RunFunctor, Spin, Warn, WarnOf}
@@ -131,14 +130,7 @@ module _ (settings : Settings) (agenda : List Item) (doing : Execution) (under :
       by None = under
       by (Some functor) =
           let given = take (length functor.params) args in
-          let call : QueuedCall = record {
-            object = connection.receiver;
-            callee = callee.Functor index;
-            sender = connection.sender;
-            connection = connection.number;
-            priority = Normal;
-            args = given;
-          } in
+          let call = queued_call connection (callee.Functor index) given in
           let items = RunFunctor connection.receiver index connection.sender connection.number given depth ∷ [] in
           cond_both (is_queued connection.mode) (puts [] (queued doing call)) (puts items doing) (LeavesUnderWay agenda)
           (λ later. queued_under agenda doing under connection call tied broken refl)
@@ -149,14 +141,7 @@ module _ (settings : Settings) (agenda : List Item) (doing : Execution) (under :
       by None = under
       by (Some method) =
           let given = take (length method.signature.kinds) args in
-          let call : QueuedCall = record {
-            object = connection.receiver;
-            callee = callee.Method index;
-            sender = connection.sender;
-            connection = connection.number;
-            priority = Normal;
-            args = given;
-          } in
+          let call = queued_call connection (callee.Method index) given in
           let items = method_items connection.receiver index connection.sender given (depth + 1) depth method in
           cond_both (is_queued connection.mode) (puts [] (queued doing call)) (puts items doing) (LeavesUnderWay agenda)
           (λ later. queued_under agenda doing under connection call tied broken refl)

@@ -1,7 +1,6 @@
 -- Where properties show what they showed, nothing is told.
 use Rattle.std.proofs.Common.{◌≡◌, ◌∙◌, ◌==◌, ℕ, suc, Bool, true, false, cond, List, [], ◌∷◌, ◌++◌, Option, Some, None, Ok, All, filter, filter_map, get_or}
 use Rattle.std.proofs.Common.{is_some, option_map, slice_get, refl, sym, ap, arith, if◌then◌else◌}
-use Rattle.std.specs.List.{cons_option}
 use Rattle.std.specs.Option.{option_and_then, option_map_or}
 use Rattle.std.proofs.lemmas.List.Elements.{All-append, All-filter}
 use Rattle.variant_value.specs.Values.{is_same}
@@ -34,41 +33,10 @@ none_made h [] none = refl
 none_made h (x ∷ xs) none = let here : h x ≡ None = none 0 x (omega arith) in rw here
     (none_made h xs (λ index default within. none (suc index) default (omega arith)))
 
--- functions that make the same of each element
-made_same : {X Y : Type 0} (f h : X → Option Y) (xs : List X) → All (λ x. f x ≡ h x) xs → filter_map f xs ≡ filter_map h xs
-made_same f h [] same = refl
-made_same f h (x ∷ xs) same =
-    let here : f x ≡ h x = same 0 x (omega arith) in
-    ap (λ made. cons_option made (filter_map f xs)) here ∙ ap (cons_option (h x))
-    (made_same f h xs (λ index default within. same (suc index) default (omega arith)))
-
 -- what holds of all rows holds of them in turn
 pub all_in_turn : (P : Shown → Type 0) (written : Option Property) (now : List Shown) → All P now → All P (in_turn written now)
 all_in_turn P written now all = All-append P (filter (has_turn written true) now) (filter (has_turn written false) now)
     (All-filter (has_turn written true) P now all) (All-filter (has_turn written false) P now all)
-
--- what has changed is told by what each property showed before: two lists that agree there tell the same
-pub changes_by_before : (last other now : List Shown) (written : Option Property) → All (λ (shown : Shown). before last shown ≡ before other shown) now
-    → changes last now written ≡ changes other now written
-changes_by_before last other now written same =
-    ap (λ warned. warned ++ filter_map (notice last) rows)
-    (made_same (warning last) (warning other) rows (λ index default within. warns (get_or rows index default) (turned index default within)))
-    ∙ ap (λ noticed. filter_map (warning other) rows ++ noticed)
-    (made_same (notice last) (notice other) rows
-    (λ index default within. ap (λ (stood : Shown). if is_same stood.value (get_or rows index default).value then None
-    else Some (let change : Change = record { at = (get_or rows index default).at; told = message.Value (get_or rows index default).value } in change))
-    (turned index default within)))
-  where
-    rows : List Shown
-    rows = in_turn written now
-
-    turned : All (λ (shown : Shown). before last shown ≡ before other shown) rows
-    turned = all_in_turn (λ shown. before last shown ≡ before other shown) written now same
-
-    warns : (shown : Shown) → before last shown ≡ before other shown → warning last shown ≡ warning other shown
-    warns shown is = ap (λ (stood : Shown). option_and_then
-        (λ error. if option_map_or (is_same_error error) stood.error false then None
-        else Some (let change : Change = record { at = shown.at; told = message.Error error } in change)) shown.error) is
 
 -- nothing is told where each property shows what it showed
 pub quiet : (last now : List Shown) (written : Option Property) → All (λ (shown : Shown). before last shown ≡ shown) now → changes last now written ≡ []

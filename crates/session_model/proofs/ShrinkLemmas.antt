@@ -1,5 +1,5 @@
 -- What each change leaves of what bounds a run: turns, objects and connections.
-use Rattle.std.proofs.Common.{◌≡◌, ◌≤◌, ◌+◌, ◌==◌, ℕ, Bool, true, false, not, cond, List, [], ◌∷◌, ◌++◌, length, filter, max, None, refl, arith}
+use Rattle.std.proofs.Common.{◌≡◌, ◌≤◌, ◌+◌, ◌-◌, ◌==◌, ℕ, Bool, true, false, not, cond, List, [], ◌∷◌, ◌++◌, length, filter, max, None, refl, arith}
 use Rattle.std.proofs.lemmas.List.{length-append, length-map}
 use Rattle.std.proofs.lemmas.Bool.{cond_both, eqb-false}
 use Rattle.plain_types.specs.declared.code.Code.TheVariants.{TurnsUsedUp}
@@ -36,20 +36,44 @@ use Rattle.session_model.proofs.ConnectionLemmas.{allowed, or_none}
 use Rattle.session_model.proofs.DeskLemmas.{fewer_pass}
 use Rattle.session_model.proofs.LivingLemmas.{all_orphaned-living, changed-as_many, filter-fewer, filter-living, living_rows, marked-one, reparented-as_many}
 
--- nothing that bounds the run has grown
-pub record Shrinks (old new : Execution) : Type 0 where
+-- what bounds a run
+pub record Bounds : Type 0 where
+  pub turns : ℕ
+  pub taken : ℕ
+  pub living : ℕ
+  pub objects : ℕ
+  pub connections : ℕ
+  pub properties : ℕ
+  pub joins : List Join
+
+abbrev pub bounds : Execution → Bounds
+bounds doing = record {
+  turns = doing.turns;
+  taken = doing.taken;
+  living = living_rows doing.state.forest.rows;
+  objects = length doing.state.forest.rows;
+  connections = max CONNECTIONS (length doing.state.connections.rows);
+  properties = length (properties_in doing.state.store);
+  joins = doing.state.desk.joins;
+}
+
+-- no bound has grown
+pub record Fewer (old new : Bounds) : Type 0 where
   pub turns : new.turns ≤ old.turns
   -- every event that is taken takes a turn
   pub taken : new.turns + new.taken ≤ old.turns + old.taken
-  pub living : living_rows new.state.forest.rows ≤ living_rows old.state.forest.rows
-  pub objects : length new.state.forest.rows ≤ length old.state.forest.rows
-  pub connections : max CONNECTIONS (length new.state.connections.rows) ≤ max CONNECTIONS (length old.state.connections.rows)
-  pub properties : length (properties_in new.state.store) ≤ length (properties_in old.state.store)
+  pub living : new.living ≤ old.living
+  pub objects : new.objects ≤ old.objects
+  pub connections : new.connections ≤ old.connections
+  pub properties : new.properties ≤ old.properties
   -- no join is made
-  pub joins : (test : Join → Bool) → list_any test new.state.desk.joins ≡ true → list_any test old.state.desk.joins ≡ true
+  pub joins : (test : Join → Bool) → list_any test new.joins ≡ true → list_any test old.joins ≡ true
 
-pub same : (doing : Execution) → Shrinks doing doing
-same doing = record {
+abbrev pub Shrinks : Execution → Execution → Type 0
+Shrinks old new = Fewer (bounds old) (bounds new)
+
+as_before : (old : Bounds) → Fewer old old
+as_before old = record {
   turns = omega arith;
   taken = omega arith;
   living = omega arith;
@@ -59,8 +83,8 @@ same doing = record {
   joins = λ test held. held;
 }
 
-pub both : (one two three : Execution) → Shrinks one two → Shrinks two three → Shrinks one three
-both one two three first second = record {
+after : (one two three : Bounds) → Fewer one two → Fewer two three → Fewer one three
+after one two three first second = record {
   turns = omega (arith, first.turns, second.turns);
   taken = omega (arith, first.taken, second.taken);
   living = omega (arith, first.living, second.living);
@@ -70,60 +94,83 @@ both one two three first second = record {
   joins = λ test held. first.joins test (second.joins test held);
 }
 
+turns_less : (old : Bounds) (turns taken : ℕ) → turns ≤ old.turns → turns + taken ≤ old.turns + old.taken
+    → Fewer old (record old { turns = turns; taken = taken })
+turns_less old turns taken fewer both = let like = as_before old in
+    record {
+      turns = fewer;
+      taken = both;
+      living = like.living;
+      objects = like.objects;
+      connections = like.connections;
+      properties = like.properties;
+      joins = like.joins;
+    }
+
+objects_less : (old : Bounds) (living objects : ℕ) → living ≤ old.living → objects ≤ old.objects
+    → Fewer old (record old { living = living; objects = objects })
+objects_less old living objects fewer some = let like = as_before old in
+    record {
+      turns = like.turns;
+      taken = like.taken;
+      living = fewer;
+      objects = some;
+      connections = like.connections;
+      properties = like.properties;
+      joins = like.joins;
+    }
+
+connections_less : (old : Bounds) (connections : ℕ) → connections ≤ old.connections → Fewer old (record old { connections = connections })
+connections_less old connections fewer = let like = as_before old in
+    record {
+      turns = like.turns;
+      taken = like.taken;
+      living = like.living;
+      objects = like.objects;
+      connections = fewer;
+      properties = like.properties;
+      joins = like.joins;
+    }
+
+properties_less : (old : Bounds) (properties : ℕ) → properties ≤ old.properties → Fewer old (record old { properties = properties })
+properties_less old properties fewer = let like = as_before old in
+    record {
+      turns = like.turns;
+      taken = like.taken;
+      living = like.living;
+      objects = like.objects;
+      connections = like.connections;
+      properties = fewer;
+      joins = like.joins;
+    }
+
+pub same : (doing : Execution) → Shrinks doing doing
+same doing = as_before (bounds doing)
+
+pub both : (one two three : Execution) → Shrinks one two → Shrinks two three → Shrinks one three
+both one two three first second = after (bounds one) (bounds two) (bounds three) first second
+
 -- fewer rows are no more of them
 kept : (n : ℕ) (test : Connection → Bool) (rows : List Connection) → max n (length (filter test rows)) ≤ max n (length rows)
 kept n test rows = let fewer = filter-fewer test rows in omega (arith, fewer)
 
 pub told_shrinks : (doing : Execution) (said : Line) → Shrinks doing (line_told doing said)
 unfolding line_told
-told_shrinks doing said = record {
-  turns = omega arith;
-  taken = omega arith;
-  living = omega arith;
-  objects = omega arith;
-  connections = omega arith;
-  properties = omega arith;
-  joins = λ test held. held;
-}
+told_shrinks doing said = same doing
 
 pub posting_shrinks : (doing : Execution) (more : List Post) → Shrinks doing (posting doing more)
 unfolding posting
-posting_shrinks doing more = record {
-  turns = omega arith;
-  taken = omega arith;
-  living = omega arith;
-  objects = omega arith;
-  connections = omega arith;
-  properties = omega arith;
-  joins = λ test held. held;
-}
+posting_shrinks doing more = same doing
 
 pub used_up_shrinks : (doing : Execution) → Shrinks doing (used_up doing)
 unfolding used_up
 used_up_shrinks doing =
     cond_both doing.spent doing (record doing { spent = true; lines = doing.lines ++ Warning TurnsUsedUp None ∷ [] }) (Shrinks doing)
-    (λ spent. same doing)
-    (λ fresh. record {
-      turns = omega arith;
-      taken = omega arith;
-      living = omega arith;
-      objects = omega arith;
-      connections = omega arith;
-      properties = omega arith;
-      joins = λ test held. held;
-    })
+    (λ spent. same doing) (λ fresh. same doing)
 
 pub turn_shrinks : (doing : Execution) → Shrinks doing (turn_taken doing)
 unfolding turn_taken
-turn_shrinks doing = record {
-  turns = omega arith;
-  taken = omega arith;
-  living = omega arith;
-  objects = omega arith;
-  connections = omega arith;
-  properties = omega arith;
-  joins = λ test held. held;
-}
+turn_shrinks doing = turns_less (bounds doing) (doing.turns - 1) doing.taken (omega arith) (omega arith)
 
 pub turn_taken-less : (doing : Execution) → (doing.turns == 0) ≡ false → (turn_taken doing).turns + 1 ≤ doing.turns
 unfolding turn_taken
@@ -133,66 +180,34 @@ pub shot_shrinks : (doing : Execution) (row : Connection) → Shrinks doing (sin
 unfolding single_shot_broken
 shot_shrinks doing row =
     cond_both row.single (in_state doing (without_connections doing.state (has_number row.number))) doing (Shrinks doing)
-    (λ single. record {
-      turns = omega arith;
-      taken = omega arith;
-      living = omega arith;
-      objects = omega arith;
-      connections = kept CONNECTIONS (λ other. not (has_number row.number other)) doing.state.connections.rows;
-      properties = omega arith;
-      joins = λ test held. held;
-    })
+    (λ single. connections_less (bounds doing) _ (kept CONNECTIONS (λ other. not (has_number row.number other)) doing.state.connections.rows))
     (λ lasting. same doing)
 
 pub stepped_shrinks : (doing : Execution) (number next : ℕ) → Shrinks doing (stepped doing number next)
 unfolding stepped
 stepped_shrinks doing number next =
     let many = length-map doing.state.connections.rows (stepped_row number next) in
-    record {
-      turns = omega arith;
-      taken = omega arith;
-      living = omega arith;
-      objects = omega arith;
-      connections = omega (arith, many);
-      properties = omega arith;
-      joins = λ test held. held;
-    }
+    connections_less (bounds doing) _ (omega (arith, many))
 
 pub severed_shrinks : (doing : Execution) (target : ℕ) → Shrinks doing (severed doing target)
 unfolding severed
-severed_shrinks doing target = record {
-  turns = omega arith;
-  taken = omega arith;
-  living = omega arith;
-  objects = omega arith;
+severed_shrinks doing target = let like = same doing in record {
+  turns = like.turns;
+  taken = like.taken;
+  living = like.living;
+  objects = like.objects;
   connections = kept CONNECTIONS (λ row. not (touches target row)) doing.state.connections.rows;
-  properties = omega arith;
+  properties = like.properties;
   joins = λ test held. fewer_pass test (λ join. not (join.object == target)) doing.state.desk.joins held;
 }
 
 pub posted_shrinks : (doing : Execution) (event : Event) → Shrinks doing (enqueued doing event)
 unfolding enqueued
-posted_shrinks doing event = record {
-  turns = omega arith;
-  taken = omega arith;
-  living = omega arith;
-  objects = omega arith;
-  connections = omega arith;
-  properties = omega arith;
-  joins = λ test held. held;
-}
+posted_shrinks doing event = same doing
 
 pub lost_shrinks : (doing : Execution) → Shrinks doing (lost doing)
 unfolding lost
-lost_shrinks doing = record {
-  turns = omega arith;
-  taken = omega arith;
-  living = omega arith;
-  objects = omega arith;
-  connections = omega arith;
-  properties = omega arith;
-  joins = λ test held. held;
-}
+lost_shrinks doing = same doing
 
 pub queued_shrinks : (doing : Execution) (call : QueuedCall) → Shrinks doing (queued doing call)
 queued_shrinks doing call =
@@ -205,15 +220,7 @@ pub taken_shrinks : (doing : Execution) → (doing.turns == 0) ≡ false → Shr
 unfolding first_taken turn_taken
 taken_shrinks doing some =
     let more = eqb-false doing.turns 0 some in
-    record {
-      turns = omega arith;
-      taken = omega (arith, more);
-      living = omega arith;
-      objects = omega arith;
-      connections = omega arith;
-      properties = omega arith;
-      joins = λ test held. held;
-    }
+    turns_less (bounds doing) (doing.turns - 1) (doing.taken + 1) (omega arith) (omega (arith, more))
 
 pub first_taken-turns : (doing : Execution) → (first_taken doing).turns ≡ doing.turns
 unfolding first_taken
@@ -223,37 +230,13 @@ first_taken-turns doing = refl
 pub written_shrinks : (doing : Execution) (target : ℕ) (writing : Writing) → Shrinks doing (in_state doing (with_writing doing.state target writing))
 written_shrinks doing target (Declared number value) =
     let many = many_changed (with_value number value) target (λ of. refl) (λ of. refl) doing.state.store in
-    record {
-      turns = omega arith;
-      taken = omega arith;
-      living = omega arith;
-      objects = omega arith;
-      connections = omega arith;
-      properties = omega (arith, many);
-      joins = λ test held. held;
-    }
+    properties_less (bounds doing) _ (omega (arith, many))
 written_shrinks doing target (Dynamic name value) =
     let many = many_changed (with_dynamic name value) target (λ of. refl) (λ of. refl) doing.state.store in
-    record {
-      turns = omega arith;
-      taken = omega arith;
-      living = omega arith;
-      objects = omega arith;
-      connections = omega arith;
-      properties = omega (arith, many);
-      joins = λ test held. held;
-    }
+    properties_less (bounds doing) _ (omega (arith, many))
 written_shrinks doing target (Removed name) =
     let many = many_changed (without_dynamic name) target (λ of. refl) (λ of. refl) doing.state.store in
-    record {
-      turns = omega arith;
-      taken = omega arith;
-      living = omega arith;
-      objects = omega arith;
-      connections = omega arith;
-      properties = omega (arith, many);
-      joins = λ test held. held;
-    }
+    properties_less (bounds doing) _ (omega (arith, many))
 written_shrinks doing target Nothing = same doing
 
 -- an operation leaves as many living objects
@@ -263,55 +246,17 @@ unfolding operation_done with_blocked
 operation_shrinks doing (d.Connect new unique) passed =
     let all = or_none (object_refusal doing.state.forest.rows new.sender) _ passed in
     let its = allowed doing.state.connections new unique (or_none (object_refusal doing.state.forest.rows new.receiver) _ all.1).1 in
-    record {
-      turns = omega arith;
-      taken = omega arith;
-      living = omega arith;
-      objects = omega arith;
-      connections = omega (arith, its.room, length-append doing.state.connections.rows (numbered (doing.state.connections.last_number + 1) new ∷ []));
-      properties = omega arith;
-      joins = λ test held. held;
-    }
-operation_shrinks doing (d.Disconnect pattern) passed = record {
-  turns = omega arith;
-  taken = omega arith;
-  living = omega arith;
-  objects = omega arith;
-  connections = kept CONNECTIONS (λ row. not (matches pattern row)) doing.state.connections.rows;
-  properties = omega arith;
-  joins = λ test held. held;
-}
+    connections_less (bounds doing) _
+    (omega (arith, its.room, length-append doing.state.connections.rows (numbered (doing.state.connections.last_number + 1) new ∷ [])))
+operation_shrinks doing (d.Disconnect pattern) passed =
+    connections_less (bounds doing) _ (kept CONNECTIONS (λ row. not (matches pattern row)) doing.state.connections.rows)
 operation_shrinks doing (d.SetParent target parent) passed =
     let many = reparented-as_many doing.state.forest target parent in
-    record {
-      turns = omega arith;
-      taken = omega arith;
-      living = omega (arith, many.living);
-      objects = omega (arith, many.objects);
-      connections = omega arith;
-      properties = omega arith;
-      joins = λ test held. held;
-    }
-operation_shrinks doing (d.DeleteLater target) passed = record {
-  turns = omega arith;
-  taken = omega arith;
-  living = omega arith;
-  objects = omega arith;
-  connections = omega arith;
-  properties = omega arith;
-  joins = λ test held. held;
-}
+    objects_less (bounds doing) _ _ (omega (arith, many.living)) (omega (arith, many.objects))
+operation_shrinks doing (d.DeleteLater target) passed = same doing
 operation_shrinks doing (d.Block target on) passed =
     let many = changed-as_many (λ (row : Row). record row { blocked = on }) target (λ row. refl) doing.state.forest.rows in
-    record {
-      turns = omega arith;
-      taken = omega arith;
-      living = omega (arith, many.living);
-      objects = omega (arith, many.objects);
-      connections = omega arith;
-      properties = omega arith;
-      joins = λ test held. held;
-    }
+    objects_less (bounds doing) _ _ (omega (arith, many.living)) (omega (arith, many.objects))
 
 pub gone_shrinks : (doing : Execution) (target : ℕ) → Shrinks doing (in_state doing (without_object doing.state target))
 unfolding removed
@@ -320,14 +265,15 @@ gone_shrinks doing target =
     let left = filter (λ row. not (has_object target row)) rows in
     let fewer = filter-fewer (λ row. not (has_object target row)) rows in
     let mapped = length-map left (orphaned target) in
+    let like = same doing in
     record {
-      turns = omega arith;
-      taken = omega arith;
+      turns = like.turns;
+      taken = like.taken;
       living = omega (arith, all_orphaned-living target left, filter-living (λ row. not (has_object target row)) rows);
       objects = omega (arith, fewer, mapped);
-      connections = omega arith;
+      connections = like.connections;
       properties = fewer_without target doing.state.store;
-      joins = λ test held. held;
+      joins = like.joins;
     }
 
 -- marking a living object as dying leaves fewer living ones
@@ -341,12 +287,4 @@ unfolding dying marked
 dying_shrinks doing target lives =
     let less = marked-one target doing.state.forest.rows lives in
     let mapped = length-map doing.state.forest.rows (λ row. cond (has_object target row) (record row { dying = true }) row) in
-    record {
-      turns = omega arith;
-      taken = omega arith;
-      living = omega (arith, less);
-      objects = omega (arith, mapped);
-      connections = omega arith;
-      properties = omega arith;
-      joins = λ test held. held;
-    }
+    objects_less (bounds doing) _ _ (omega (arith, less)) (omega (arith, mapped))

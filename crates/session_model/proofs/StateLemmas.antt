@@ -7,12 +7,15 @@ use Rattle.std.specs.Option.{option_map_or}
 use Rattle.std.proofs.lemmas.Bool.{cond_both, lt-ltb}
 use Rattle.class_table.specs.declared.class.Class.{Class}
 use Rattle.object_tree.specs.declared.row.Row.{Row}
+use Rattle.object_tree.specs.Forest.{Forest}
+use Rattle.object_tree.specs.Forest as tree
 use Rattle.object_tree.specs.Rows.{is_there, numbers}
 use Rattle.object_tree.specs.Refusing.{add_refusal, set_parent_refusal}
 use Rattle.object_tree.specs.Changes.{marked}
 use Rattle.object_tree.proofs.ForCallers.{keeps_numbers, keeps_sound}
 use Rattle.connection_list.specs.declared.connection.Connection.{Connection}
 use Rattle.connection_list.specs.declared.connection.NewConnection.{NewConnection}
+use Rattle.connection_list.specs.Rows as list
 use Rattle.connection_list.specs.Rows.{numbered}
 use Rattle.connection_list.proofs.ForCallers.{all_stepped, sound_stepped, IsSound-without}
 use Rattle.event_queue.specs.declared.event.Event.{Event}
@@ -87,22 +90,28 @@ whole_with_object classes state parent class allowed whole = record {
         (All-weaker (λ (row : Row). row.number ≤ state.forest.last_number) (λ (row : Row). row.number < state.forest.last_number + 1)
         (λ row h. omega arith) state.forest.rows whole.forest.numbers_given)))
 
-pub whole_with_parent : (state : State) (number : ℕ) (parent : Option ℕ) → set_parent_refusal state.forest number parent ≡ None → IsWhole state
-    → IsWhole (with_parent state number parent)
-whole_with_parent state number parent allowed whole = record {
-  forest = keeps_sound.by_reparented state.forest number parent allowed whole.forest;
-  objects = whole.objects ∙ sym (keeps_numbers.by_reparented state.forest number parent);
+-- another forest of the same objects
+whole_with_forest : (state : State) (forest : Forest) → tree.IsSound forest → numbers forest.rows ≡ numbers state.forest.rows → IsWhole state
+    → IsWhole (record state { forest = forest })
+whole_with_forest state forest sound same whole = record {
+  forest = sound;
+  objects = whole.objects ∙ sym same;
   properties = whole.properties;
   graph = whole.graph;
   bound = whole.bound;
   closed = whole.closed;
   connections = whole.connections;
-  ends = tied_same state (with_parent state number parent) (keeps_numbers.by_reparented state.forest number parent) state.connections.rows whole.ends;
+  ends = tied_same state (record state { forest = forest }) same state.connections.rows whole.ends;
   queue = whole.queue;
-  meant = meant_same state (with_parent state number parent) (keeps_numbers.by_reparented state.forest number parent) state.queue.events whole.meant;
+  meant = meant_same state (record state { forest = forest }) same state.queue.events whole.meant;
   desk = whole.desk;
-  named = desk_same state (with_parent state number parent) (keeps_numbers.by_reparented state.forest number parent) state.desk whole.named;
+  named = desk_same state (record state { forest = forest }) same state.desk whole.named;
 }
+
+pub whole_with_parent : (state : State) (number : ℕ) (parent : Option ℕ) → set_parent_refusal state.forest number parent ≡ None → IsWhole state
+    → IsWhole (with_parent state number parent)
+whole_with_parent state number parent allowed whole = whole_with_forest state _ (keeps_sound.by_reparented state.forest number parent allowed whole.forest)
+    (keeps_numbers.by_reparented state.forest number parent) whole
 
 pub whole_with_properties : (state : State) (number : ℕ) (change : Properties → Properties) → ((of : Properties) → (change of).object ≡ of.object)
     → ((of : Properties) → (change of).fields ≡ of.fields)
@@ -205,36 +214,12 @@ whole_with_writing state object (Removed name) fit whole = whole_with_properties
 whole_with_writing state object Nothing fit whole = whole
 
 pub whole_with_dying : (state : State) (number : ℕ) → IsWhole state → IsWhole (record state { forest = marked state.forest number })
-whole_with_dying state number whole = record {
-  forest = keeps_sound.by_marked state.forest number whole.forest;
-  objects = whole.objects ∙ sym (keeps_numbers.by_marked state.forest number);
-  properties = whole.properties;
-  graph = whole.graph;
-  bound = whole.bound;
-  closed = whole.closed;
-  connections = whole.connections;
-  ends = tied_same state (record state { forest = marked state.forest number }) (keeps_numbers.by_marked state.forest number) state.connections.rows whole.ends;
-  queue = whole.queue;
-  meant = meant_same state (record state { forest = marked state.forest number }) (keeps_numbers.by_marked state.forest number) state.queue.events whole.meant;
-  desk = whole.desk;
-  named = desk_same state (record state { forest = marked state.forest number }) (keeps_numbers.by_marked state.forest number) state.desk whole.named;
-}
+whole_with_dying state number whole = whole_with_forest state _ (keeps_sound.by_marked state.forest number whole.forest)
+    (keeps_numbers.by_marked state.forest number) whole
 
 pub whole_with_blocking : (state : State) (number : ℕ) (on : Bool) → IsWhole state → IsWhole (with_blocking state number on)
-whole_with_blocking state number on whole = record {
-  forest = keeps_sound.by_blocked state.forest number on whole.forest;
-  objects = whole.objects ∙ sym (keeps_numbers.by_blocked state.forest number on);
-  properties = whole.properties;
-  graph = whole.graph;
-  bound = whole.bound;
-  closed = whole.closed;
-  connections = whole.connections;
-  ends = tied_same state (with_blocking state number on) (keeps_numbers.by_blocked state.forest number on) state.connections.rows whole.ends;
-  queue = whole.queue;
-  meant = meant_same state (with_blocking state number on) (keeps_numbers.by_blocked state.forest number on) state.queue.events whole.meant;
-  desk = whole.desk;
-  named = desk_same state (with_blocking state number on) (keeps_numbers.by_blocked state.forest number on) state.desk whole.named;
-}
+whole_with_blocking state number on whole = whole_with_forest state _ (keeps_sound.by_blocked state.forest number on whole.forest)
+    (keeps_numbers.by_blocked state.forest number on) whole
 
 -- an object may go that no connection has as an end, no event names, and no publication and no join
 pub whole_without_object : (state : State) (number : ℕ) → Ends (λ end. (end == number) ≡ false) state.connections.rows
@@ -255,78 +240,54 @@ whole_without_object state number loose unnamed bare whole = record {
   named = desk_without state (without_object state number) number (keeps_numbers.by_removed state.forest number) state.desk bare whole.named;
 }
 
+-- other ties between objects: each end of a connection stands, and what an event or the desk names
+whole_with_ties : (state : State) (connections : list.Rows) (queue : Queue) (desk : Desk) → list.IsSound connections → All (IsTied state) connections.rows
+    → IsSound queue → All (IsMeant state) queue.events → board.IsSound desk → OfDesk (λ number. is_there state.forest.rows number ≡ true) desk → IsWhole state
+    → IsWhole (record state { connections = connections; queue = queue; desk = desk })
+whole_with_ties state connections queue desk rising tied few meant sound named whole =
+    let new : State = record state { connections = connections; queue = queue; desk = desk } in
+    record {
+      forest = whole.forest;
+      objects = whole.objects;
+      properties = whole.properties;
+      graph = whole.graph;
+      bound = whole.bound;
+      closed = whole.closed;
+      connections = rising;
+      ends = tied_same state new refl connections.rows tied;
+      queue = few;
+      meant = meant_same state new refl queue.events meant;
+      desk = sound;
+      named = desk_same state new refl desk named;
+    }
+
+whole_with_rows : (state : State) (connections : list.Rows) → list.IsSound connections → All (IsTied state) connections.rows → IsWhole state
+    → IsWhole (record state { connections = connections })
+whole_with_rows state connections rising tied whole = whole_with_ties state connections state.queue state.desk rising tied whole.queue whole.meant whole.desk
+    whole.named whole
+
 pub whole_with_connection : (state : State) (new : NewConnection) → IsAllowed state.connections → is_there state.forest.rows new.sender ≡ true
     → is_there state.forest.rows new.receiver ≡ true → IsWhole state → IsWhole (with_connection state new)
-whole_with_connection state new allowed sender receiver whole = record {
-  forest = whole.forest;
-  objects = whole.objects;
-  properties = whole.properties;
-  graph = whole.graph;
-  bound = whole.bound;
-  closed = whole.closed;
-  connections = sound_connected state.connections new allowed whole.connections;
-  ends = All-push (IsTied (with_connection state new)) state.connections.rows (numbered (state.connections.last_number + 1) new)
-      (tied_same state (with_connection state new) refl state.connections.rows whole.ends) (record { sender = sender; receiver = receiver });
-  queue = whole.queue;
-  meant = meant_same state (with_connection state new) refl state.queue.events whole.meant;
-  desk = whole.desk;
-  named = desk_same state (with_connection state new) refl state.desk whole.named;
-}
+whole_with_connection state new allowed sender receiver whole =
+    whole_with_rows state _ (sound_connected state.connections new allowed whole.connections)
+    (All-push (IsTied state) state.connections.rows (numbered (state.connections.last_number + 1) new) whole.ends
+    (record { sender = sender; receiver = receiver })) whole
 
 pub whole_without_connections : (state : State) (test : Connection → Bool) → IsWhole state → IsWhole (without_connections state test)
-whole_without_connections state test whole = record {
-  forest = whole.forest;
-  objects = whole.objects;
-  properties = whole.properties;
-  graph = whole.graph;
-  bound = whole.bound;
-  closed = whole.closed;
-  connections = IsSound-without test state.connections whole.connections;
-  ends = All-filter (λ row. not (test row)) (IsTied (without_connections state test)) state.connections.rows
-      (tied_same state (without_connections state test) refl state.connections.rows whole.ends);
-  queue = whole.queue;
-  meant = meant_same state (without_connections state test) refl state.queue.events whole.meant;
-  desk = whole.desk;
-  named = desk_same state (without_connections state test) refl state.desk whole.named;
-}
+whole_without_connections state test whole = whole_with_rows state _ (IsSound-without test state.connections whole.connections)
+    (All-filter (λ row. not (test row)) (IsTied state) state.connections.rows whole.ends) whole
 
 pub whole_with_functor_state : (state : State) (number next : ℕ) → IsWhole state → IsWhole (with_functor_state state number next)
-whole_with_functor_state state number next whole = record {
-  forest = whole.forest;
-  objects = whole.objects;
-  properties = whole.properties;
-  graph = whole.graph;
-  bound = whole.bound;
-  closed = whole.closed;
-  connections = sound_stepped number next state.connections whole.connections;
-  ends = all_stepped number next (IsTied (with_functor_state state number next))
-      (λ row tied. record { sender = tied.sender; receiver = tied.receiver }) state.connections.rows
-      (tied_same state (with_functor_state state number next) refl state.connections.rows whole.ends);
-  queue = whole.queue;
-  meant = meant_same state (with_functor_state state number next) refl state.queue.events whole.meant;
-  desk = whole.desk;
-  named = desk_same state (with_functor_state state number next) refl state.desk whole.named;
-}
+whole_with_functor_state state number next whole = whole_with_rows state _ (sound_stepped number next state.connections whole.connections)
+    (all_stepped number next (IsTied state) (λ row tied. record { sender = tied.sender; receiver = tied.receiver }) state.connections.rows whole.ends) whole
 
 -- other events: each names an object that stands
 abbrev with_queue : State → Queue → State
 with_queue state queue = record state { queue = queue }
 
 pub whole_with_queue : (state : State) (queue : Queue) → IsSound queue → All (IsMeant state) queue.events → IsWhole state → IsWhole (with_queue state queue)
-whole_with_queue state queue sound meant whole = record {
-  forest = whole.forest;
-  objects = whole.objects;
-  properties = whole.properties;
-  graph = whole.graph;
-  bound = whole.bound;
-  closed = whole.closed;
-  connections = whole.connections;
-  ends = tied_same state (with_queue state queue) refl state.connections.rows whole.ends;
-  queue = sound;
-  meant = meant_same state (with_queue state queue) refl queue.events meant;
-  desk = whole.desk;
-  named = desk_same state (with_queue state queue) refl state.desk whole.named;
-}
+whole_with_queue state queue sound meant whole = whole_with_ties state state.connections queue state.desk whole.connections whole.ends sound meant whole.desk
+    whole.named whole
 
 pub whole_with_event : (state : State) (event : Event) → IsMeant state event → IsWhole state → IsWhole (with_event state event)
 whole_with_event state event there whole =
@@ -348,20 +309,8 @@ whole_with_lost state whole = whole_with_queue state (events.with_lost state.que
 -- another desk: each object that it names stands
 pub whole_with_desk : (state : State) (desk : Desk) → board.IsSound desk → OfDesk (λ number. is_there state.forest.rows number ≡ true) desk → IsWhole state
     → IsWhole (with_desk state desk)
-whole_with_desk state desk sound named whole = record {
-  forest = whole.forest;
-  objects = whole.objects;
-  properties = whole.properties;
-  graph = whole.graph;
-  bound = whole.bound;
-  closed = whole.closed;
-  connections = whole.connections;
-  ends = tied_same state (with_desk state desk) refl state.connections.rows whole.ends;
-  queue = whole.queue;
-  meant = meant_same state (with_desk state desk) refl state.queue.events whole.meant;
-  desk = sound;
-  named = desk_same state (with_desk state desk) refl desk named;
-}
+whole_with_desk state desk sound named whole = whole_with_ties state state.connections state.queue desk whole.connections whole.ends whole.queue whole.meant
+    sound named whole
 
 pub whole_without_rows_of : (state : State) (number : ℕ) → IsWhole state → IsWhole (without_rows_of state number)
 whole_without_rows_of state number whole =

@@ -1,4 +1,4 @@
--- What an action of a slot's body does, and why it is refused.
+-- The effect of an action in a slot's body, and why it is refused.
 use Rattle.std.specs.Prelude.{ℕ, Bool, true, false, List, [], ◌∷◌, Option, Some, None, Ok, Err}
 use Rattle.std.specs.Option.{option_map, option_map_or, option_or}
 use Rattle.std.specs.Result.{result_err}
@@ -27,19 +27,19 @@ use Rattle.session_model.specs.State.{State}
 use Rattle.session_model.specs.Targets.{all_converted, all_evaluated, evaluated, named_object_of, object_of}
 use Rattle.session_model.specs.Writing.{Writing, acted_writing, written}
 
--- the actions of a body or of a branch, each to be done
+-- The actions of a body or of a branch, as items of an agenda.
 abbrev pub acts : Acts → List Value → ℕ → ℕ → ℕ → List Item
 acts nothing args self sender depth = []
 acts (more action rest) args self sender depth = Act action args self sender depth ∷ acts rest args self sender depth
 
--- the index of a signal of an object, and what it is sent with: values of the kinds of its parameters
+-- The index of an object's signal, and its arguments, converted to the kinds of its parameters.
 abbrev pub emission : Settings → State → ℕ → ℕ → List Value → ℕ → Signature → List Term → Found (ℕ × List Value)
 emission settings state self sender args object signal sent =
     signal_with (methods_of settings state object) signal >>= λ index.
     all_evaluated state self sender args sent >>= λ values.
     all_converted (kinds_at (methods_of settings state object) index) values >>= λ converted. Ok (index, converted)
 
--- the connection of a signal of an object to a method of another
+-- The connection of an object's signal to a method of another object.
 abbrev pub connection : Settings → State → ℕ → Signature → ℕ → Signature → ConnectionType → Bool → Found NewConnection
 connection settings state object signal receiver method mode single =
     new_connection settings state
@@ -47,18 +47,18 @@ connection settings state object signal receiver method mode single =
     receiver (method_with (methods_of settings state receiver) method)
     mode single
 
--- which connections of an object are broken, by signal, receiver and method where they are given
+-- The connections of an object to be broken, by signal, receiver and method if they are given.
 abbrev pub pattern : Settings → State → ℕ → Option Signature → Option ℕ → Option Signature → Found Pattern
 pattern settings state object signal receiver method =
     pattern_with
     object (option_map (signal_with (methods_of settings state object)) signal)
     receiver (λ receiver. option_map (method_with (methods_of settings state receiver)) method)
 
--- what is written to a property of an object: the value that an expression has
+-- The write of an expression's value to a property of an object.
 abbrev pub writing : State → ℕ → ℕ → List Value → ℕ → List ℕ → Term → Found Writing
 writing state self sender args object name value = evaluated state self sender args value >>= acted_writing state object name
 
--- the operation that an action of the slot of `self` is, or why it is none; no other action is an operation
+-- The operation that an action of the slot of `self` stands for, or why it is refused. Other actions are not operations.
 abbrev pub act_operation : Settings → State → ℕ → ℕ → SingleAction → Option (Found Operation)
 act_operation settings state self sender (e.Connect of signal to method mode unique single) = Some (
     behind (object_refusal state.forest.rows (object_of state self sender of)) (
@@ -76,11 +76,11 @@ act_operation settings state self sender (e.SetParent of parent) =
 act_operation settings state self sender _ = None
 
 module _ (settings : Settings) (state : State) (self sender : ℕ) (args : List Value) where
-  -- the number of the object that a target is; 0 where there is none
+  -- The number of the target object; 0 if there is none.
   abbrev object : Target → ℕ
   object target = object_of state self sender target
 
-  -- why an action of the slot of `self` is refused: the first of these
+  -- Why an action of the slot of `self` is refused: the first of these that applies.
   abbrev pub act_refusal : SingleAction → Option Code
   act_refusal (e.Set of property value) =
       option_or (absence state (object of))
@@ -91,17 +91,17 @@ module _ (settings : Settings) (state : State) (self sender : ℕ) (args : List 
   act_refusal (e.Delete target) = object_refusal state.forest.rows (object target)
   act_refusal plain = option_map_or (found_refusal state) (act_operation settings state self sender plain) None
 
--- what comes of something that was looked for; nothing where it was not found
+-- Goes on with what was found. If it was not found, nothing is done.
 abbrev pub with_found : {A : Type 0} → Found A → (A → Next) → Execution → Next
 with_found (Ok found) next doing = next found
 with_found (Err code) next doing = puts [] doing
 
 module _ (settings : Settings) (doing : Execution) (self sender : ℕ) (args : List Value) (depth : ℕ) where
-  -- the number of the object that a target is when the action is done
+  -- The number of the target object when the action is done.
   abbrev acted_object : Target → ℕ
   acted_object target = object_of doing.state self sender target
 
-  -- what an action comes to that is not refused
+  -- The effect of an action that is not refused.
   abbrev pub acted : SingleAction → Next
   acted (e.Set of property value) =
       with_found (writing doing.state self sender args (acted_object of) property value)
@@ -113,17 +113,17 @@ module _ (settings : Settings) (doing : Execution) (self sender : ℕ) (args : L
   acted plain = option_map_or (λ found. with_found found (λ operation. puts [] (operation_done doing operation)) doing)
       (act_operation settings doing.state self sender plain) (puts [] doing)
 
--- a refused action warns of its code for the object whose slot is run, and does nothing
+-- A refused action warns of its code for the object whose slot runs, and does nothing else.
 abbrev pub warns_or : Option Code → ℕ → Execution → Next → Next
 warns_or (Some code) self doing next = puts (Warn code (Some self) ∷ []) doing
 warns_or None self doing next = next
 
--- the branch that is taken, by the truth that the test is
+-- The branch that is taken, by the value of the test.
 abbrev pub branch : Bool → Acts → Acts → Acts
 branch true held failed = held
 branch false held failed = failed
 
--- the branch that is taken is done in place of the choice
+-- The branch that is taken is done in place of the choice.
 abbrev pub chosen : Found Bool → Acts → Acts → List Value → ℕ → ℕ → ℕ → Execution → Next
 chosen (Ok truth) held failed args self sender depth doing = puts (acts (branch truth held failed) args self sender depth) doing
 chosen (Err code) held failed args self sender depth doing = puts (Warn code (Some self) ∷ []) doing

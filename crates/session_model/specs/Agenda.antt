@@ -1,4 +1,4 @@
--- How a session does what it has to do, item by item.
+-- How a session does its agenda, item by item.
 use Rattle.std.specs.Prelude.{◌+◌, ◌==◌, ◌&&◌, ℕ, Bool, false, not, List, [], ◌∷◌, ◌++◌, map, filter}
 use Rattle.std.specs.Prelude.{find, take, length, nat_le, Option, Some, None, if◌then◌else◌}
 use Rattle.std.specs.Option.{option_map_or}
@@ -41,57 +41,57 @@ use Rattle.session_model.specs.Showing.{comes_to, property_at}
 use Rattle.session_model.specs.State.{State, functor_state, without_object}
 use Rattle.session_model.specs.Targets.{truth_evaluated}
 
--- an object that stands is not dying
+-- Whether an existing object is not dying.
 abbrev pub is_living : Row → Bool
 is_living row = not row.dying
 
--- an object of this number stands and is not dying
+-- Whether an object with this number exists and is not dying.
 abbrev pub lives : Execution → ℕ → Bool
 lives doing number = option_map_or is_living (row_of doing.state.forest.rows number) false
 
--- the object stands, is not dying, and has this parent
+-- Whether the object exists, is not dying, and has this parent.
 abbrev pub lives_below : Execution → ℕ → ℕ → Bool
 lives_below doing parent number = option_map_or (λ row. is_living row && is_same row.parent (Some parent)) (row_of doing.state.forest.rows number) false
 
--- the children of an object, each to be deleted
+-- The deletions of an object's children.
 unfoldable pub delete_children : Execution → ℕ → ℕ → List Item
 delete_children doing target depth = map (λ child. DeleteChild target child depth) (children doing.state.forest.rows (Some target))
 
--- the connections of a signal, each to be called, in the order in which they were made
+-- The calls of a signal's connections, in the order in which they were made.
 unfoldable pub calls_of : Execution → ℕ → ℕ → List Value → ℕ → List Item
 calls_of doing target signal args depth = map (λ row. Call row.number args depth) (filter (calls target signal) doing.state.connections.rows)
 
--- is a signal held back, as those of a blocked object are; `destroyed()` never is
+-- Whether a signal is held back because its object's signals are blocked. `destroyed()` never is.
 abbrev pub is_held_back : ℕ → Row → Bool
 is_held_back signal row = row.blocked && not (signal == DESTROYED)
 
--- a signal that is sent is posted under each name that it is published by, and calls what is connected to
--- it; held back it does neither, and nested too deep neither
+-- A signal that is sent is posted under each name under which it is published, and calls what is connected to it. A
+-- signal that is held back, or nested too deep, does neither.
 abbrev pub emitted : Settings → Execution → ℕ → ℕ → List Value → ℕ → Row → Next
 emitted settings doing target signal args depth row =
     if is_held_back signal row then puts [] doing
     else (if nat_le NESTED_SIGNALS depth then puts (Warn Limit (Some target) ∷ []) doing
     else puts (calls_of doing target signal args depth) (posting doing (posts_of settings.classes doing.state target signal args)))
 
--- where a turn is left it is taken, and else none of this is done
+-- Takes a turn and goes on. If no turn is left, nothing is done.
 abbrev pub with_turn : Execution → (Execution → Next) → Next
 with_turn doing next = if doing.turns == 0 then puts [] (used_up doing) else next (turn_taken doing)
 
--- the connection of a number, where it stands
+-- The connection with this number, if it exists.
 abbrev pub connection_of : Execution → ℕ → Option Connection
 connection_of doing number = find (has_number number) doing.state.connections.rows
 
--- a method is called by a signal that is sent on, or by a slot that is run
+-- The call of a method: a signal is sent on, and a slot is run.
 abbrev pub method_items : ℕ → ℕ → ℕ → List Value → ℕ → ℕ → Method → List Item
 method_items target index sender args sent_at run_at method =
     if method.is_signal then Emit target index args sent_at ∷ []
     else Run target index sender args run_at ∷ []
 
--- a call is posted as an event, or lost where there are as many as there may be
+-- A call becomes an event. It is lost if the queue is full.
 abbrev pub queued : Execution → QueuedCall → Execution
 queued doing call = if has_room doing.state.queue then enqueued doing (event.Call call) else lost doing
 
--- the call of what a connection calls, as it is queued
+-- The queued call of a connection's callee.
 abbrev pub queued_call : Connection → Callee → List Value → QueuedCall
 queued_call connection callee args = record {
   object = connection.receiver;
@@ -102,8 +102,8 @@ queued_call connection callee args = record {
   args = args;
 }
 
--- a method is called with as many of the first arguments as it has parameters: later, or at once, where
--- a signal is sent one level deeper
+-- Calls a method, with as many of the first arguments as it has parameters: later, or at once. A signal is then sent one
+-- level deeper.
 abbrev pub method_called : Connection → ℕ → List Value → ℕ → Execution → Method → Next
 method_called connection index args depth doing method =
     let given = take (length method.signature.kinds) args in
@@ -111,7 +111,7 @@ method_called connection index args depth doing method =
     then puts [] (queued doing (queued_call connection (callee.Method index) given))
     else puts (method_items connection.receiver index connection.sender given (depth + 1) depth method) doing
 
--- the same of a functor, whose context object is the receiver
+-- Calls a functor, whose context object is the receiver, with as many of the first arguments as it has parameters.
 abbrev pub functor_called : Connection → ℕ → List Value → ℕ → Execution → Functor → Next
 functor_called connection index args depth doing functor =
     let given = take (length functor.params) args in
@@ -119,18 +119,18 @@ functor_called connection index args depth doing functor =
     then puts [] (queued doing (queued_call connection (callee.Functor index) given))
     else puts (RunFunctor connection.receiver index connection.sender connection.number given depth ∷ []) doing
 
--- what a connection calls
+-- Calls the callee of a connection.
 abbrev pub callee_called : Settings → Connection → List Value → ℕ → Execution → Callee → Next
 callee_called settings connection args depth doing (callee.Method index) =
     option_map_or (method_called connection index args depth doing) (method_at settings doing.state connection.receiver index) (puts [] doing)
 callee_called settings connection args depth doing (callee.Functor index) =
     option_map_or (functor_called connection index args depth doing) (functor_at settings index) (puts [] doing)
 
--- a connection's call; a single-shot connection goes first
+-- The call of a connection. A single-shot connection is broken first.
 abbrev pub called : Settings → Connection → List Value → ℕ → Execution → Next
 called settings connection args depth doing = callee_called settings connection args depth (single_shot_broken doing connection) connection.callee
 
--- what an event comes to: all that it does is done at depth 0
+-- The items of an event. All that it does is done at depth 0.
 abbrev pub call_items : Settings → State → QueuedCall → Callee → List Item
 call_items settings state call (callee.Method index) =
     option_map_or (method_items call.object index call.sender call.args 0 0) (method_at settings state call.object index) []
@@ -140,38 +140,38 @@ abbrev pub event_items : Settings → State → Event → List Item
 event_items settings state (event.Call call) = call_items settings state call call.callee
 event_items settings state (event.Deletion target) = Delete target 0 ∷ []
 
--- the first event is taken, and then the next one, while there are any and a turn is left for each
+-- Takes the first event and then the next ones, as long as there are any and a turn is left for each.
 abbrev pub spun : Settings → Execution → List Event → Next
 spun settings doing [] = puts [] doing
 spun settings doing (event ∷ later) = with_turn doing (λ doing. puts (event_items settings doing.state event ++ Spin ∷ []) (first_taken doing))
 
--- the line of a call
+-- The line that reports a call.
 abbrev pub call_line : Method → ℕ → ℕ → List Value → Line
 call_line method target sender args = line.Call (record { method = method_text method; object = target; sender = sender; args = args })
 
--- the line of a functor's call, by its name
+-- The line that reports the call of a functor, by its name.
 abbrev pub functor_line : Functor → ℕ → ℕ → List Value → Line
 functor_line functor target sender args = line.Call (record { method = functor.name; object = target; sender = sender; args = args })
 
--- a slot is told of, and then does what its body says, one level deeper
+-- The call of a slot is reported, and then its body is done one level deeper.
 abbrev pub ran : Execution → ℕ → ℕ → List Value → ℕ → Method → Next
 ran doing target sender args depth method =
     puts (acts (acts_of method.body.actions) args target sender (depth + 1)) (line_told doing (call_line method target sender args))
 
--- and so does a functor for its context object, over the state that its connection keeps; the state that
--- follows is kept there before that
+-- The call of a functor is reported, and then its body is done for its context object, with the state of its connection.
+-- The next state is stored first.
 abbrev pub functor_ran : Execution → ℕ → ℕ → ℕ → List Value → ℕ → Functor → Next
 functor_ran doing target sender connection args depth functor =
     let state = functor_state doing.state connection in
     puts (acts (acts_of (with_state state functor.body).actions) args target sender (depth + 1))
     (stepped (line_told doing (functor_line functor target sender args)) connection (after functor.next state args))
 
--- the line that warns of the error of a bound property, by its name
+-- The warning of a bound property's error, by the property's name.
 abbrev pub binding_line : Settings → State → Property → BindingError → Line
 binding_line settings state at error =
     line.BindingWarning at.object (option_map_or (λ property. property.name) (property_at settings state at.object at.number) []) error
 
--- what an item comes to
+-- The effect of an item.
 abbrev pub step : Settings → Item → Execution → Next
 step settings (Emit target signal args depth) doing =
     option_map_or (emitted settings doing target signal args depth) (row_of doing.state.forest.rows target) (puts [] doing)

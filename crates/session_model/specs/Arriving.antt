@@ -1,4 +1,4 @@
--- What a session posts to the others where it sends a signal, and what a post does to them.
+-- The posts to other sessions when a session sends a signal, and what a post changes there.
 use Rattle.std.specs.Prelude.{◌&&◌, ℕ, Bool, List, [], ◌∷◌, filter, length, map, take, if◌then◌else◌}
 use Rattle.class_table.specs.declared.class.Class.{Class}
 use Rattle.signature_core.specs.declared.kind.Kind.{Kind}
@@ -17,27 +17,27 @@ use Rattle.session_model.specs.declared.post.Post.{Post}
 use Rattle.session_model.specs.Methods.{kinds_at, methods_by}
 use Rattle.session_model.specs.State.{State}
 
--- the kinds of the parameters of a method of one of these objects
+-- The kinds of the parameters of a method of one of these objects.
 abbrev pub kinds_of : List Class → List Row → ℕ → ℕ → List Kind
 kinds_of classes rows object index = kinds_at (methods_by classes rows object) index
 
--- the post of a published signal that is sent with these arguments, which are of these kinds
+-- The post of a published signal that is sent with these arguments, which have these kinds.
 abbrev pub post_of : List Kind → List Value → Publication → Post
 post_of kinds args row = record { name = row.name; kinds = kinds; arguments = args }
 
--- one post for each publication of the signal, in the order of making
+-- One post for each publication of the signal, in the order in which they were made.
 abbrev pub posts_by : ℕ → ℕ → List Kind → List Value → List Publication → List Post
 posts_by target signal kinds args rows = map (post_of kinds args) (filter (publishes target signal) rows)
 
--- the posts of a signal that a session sends
+-- The posts of a signal that a session sends.
 abbrev pub posts_of : List Class → State → ℕ → ℕ → List Value → List Post
 posts_of classes state target signal args = posts_by target signal (kinds_of classes state.forest.rows target signal) args state.desk.publications
 
--- are these the kinds that a join names: each list is the first of the other
+-- Whether these kinds match those that a join names: one list is a prefix of the other.
 abbrev pub is_matched : List Kind → Join → Bool
 is_matched kinds join = fits kinds join.kinds && fits join.kinds kinds
 
--- the call of a join, which no object has sent: its method gets as many of the first arguments as it has parameters
+-- The call of a join, which has no sender. Its method gets as many of the first arguments as it has parameters.
 abbrev pub joined_call : List Class → List Row → List Value → Join → QueuedCall
 joined_call classes rows args join = record {
   object = join.object;
@@ -48,18 +48,18 @@ joined_call classes rows args join = record {
   args = take (length (kinds_of classes rows join.object join.method)) args;
 }
 
--- a call among all events; where there is no room for it, it is lost
+-- The queue with another call. The call is lost if the queue is full.
 abbrev pub with_call : Queue → QueuedCall → Queue
 with_call queue call = if has_room queue then enqueued queue (Call call) else with_lost queue
 
--- the queue of a session when a post of the session `from` has done what it does by one of its joins; its objects are these
+-- The queue of a session with these objects, after a post of the session `from` has reached one of its joins.
 abbrev pub reached : List Class → List Row → List ℕ → Post → Queue → Join → Queue
 reached classes rows from post queue join =
     if listens from post.name join
     then (if is_matched post.kinds join then with_call queue (joined_call classes rows post.arguments join) else with_mismatched queue)
     else queue
 
--- and by several, one after another
+-- The queue after the post has reached several joins, one after another.
 abbrev pub reached_by : List Class → List Row → List ℕ → Post → Queue → List Join → Queue
 reached_by classes rows from post queue [] = queue
 reached_by classes rows from post queue (join ∷ joins) = reached_by classes rows from post (reached classes rows from post queue join) joins

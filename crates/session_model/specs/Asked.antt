@@ -1,4 +1,4 @@
--- A command as definitions see it: texts as lists of bytes, and JSON as what it says.
+-- A command as definitions see it: texts are lists of bytes, and JSON is its data.
 use Rattle.std.specs.Prelude.{ℕ, Bool, List, Option, map}
 use Rattle.serde_json.specs.Data.{Data}
 use Rattle.serde_json.specs.View.{view}
@@ -12,50 +12,51 @@ use Rattle.session_model.specs.declared.operation.Operation.{Operation}
 use Rattle.session_model.specs.declared.operation.Operation.TheVariants.{Block, DeleteLater, SetParent}
 use Rattle.session_model.specs.declared.query.Query.{Query}
 
--- what is asked of a session
+-- A command to a session.
 pub data Asked : Type 0 where
-  -- make an object of this class below a parent, or as a root
+  -- Makes an object of this class below a parent, or as a root.
   New : (class : List ℕ) (parent : Option ℕ) → Asked
-  -- delete an object and all below it
+  -- Deletes an object and everything below it.
   Delete : (target : ℕ) → Asked
-  -- write a property of this object
+  -- Writes a property of this object.
   Set : (target : ℕ) (property : List ℕ) (value : Data) → Asked
-  -- connect a signal of the sender to a method of the receiver
+  -- Connects a signal of the sender to a method of the receiver.
   Connect : (sender : ℕ) (signal : List ℕ) (receiver : ℕ) (method : List ℕ) (mode : ConnectionType) (unique single : Bool) → Asked
-  -- connect a signal of the sender to the functor of this name, for a context object
+  -- Connects a signal of the sender to the functor with this name, for a context object.
   ConnectFunctor : (sender : ℕ) (signal : List ℕ) (context : ℕ) (functor : List ℕ) (mode : ConnectionType) (unique single : Bool) → Asked
-  -- break the connection of this number
+  -- Breaks the connection with this number.
   DisconnectOne : (connection : ℕ) → Asked
-  -- break the connections of the sender that match where signal, receiver and method are given
+  -- Breaks the connections of the sender that match the signal, receiver and method that are given.
   Disconnect : (sender : ℕ) (signal : Option (List ℕ)) (receiver : Option ℕ) (method : Option (List ℕ)) → Asked
-  -- call a slot of this object, or send a signal of it, at once or later; how soon, where later
+  -- Calls a slot or sends a signal of this object, at once or later, and then with this priority.
   Invoke : (target : ℕ) (method : List ℕ) (args : List Data) (mode : ConnectionType) (priority : Priority) → Asked
-  -- take the events that there are
+  -- Takes the queued events.
   Spin : Asked
-  -- do an operation
+  -- Does an operation.
   Do : (operation : Operation) → Asked
-  -- publish a signal of this object under a name
+  -- Publishes a signal of this object under a name.
   Publish : (target : ℕ) (signal name : List ℕ) → Asked
-  -- publish nothing under this name any more
+  -- Removes the publication with this name.
   Unpublish : (name : List ℕ) → Asked
-  -- let what a session publishes under a name, with parameters of these types, call a method of this object
+  -- Joins a publication: what the session publishes under the name, with parameters of these types, calls a method of
+  -- this object.
   Join : (from name : List ℕ) (types : List (List ℕ)) (target : ℕ) (method : List ℕ) → Asked
-  -- take the joins out that have these four
+  -- Removes the joins that are equal in these four.
   Leave : (from name : List ℕ) (target : ℕ) (method : List ℕ) → Asked
-  -- begin anew
+  -- Removes everything that the session holds.
   Reset : Asked
-  -- bind a property of this object to an expression
+  -- Binds a property of this object to an expression.
   Bind : (target : ℕ) (property : List ℕ) (to : Data) → Asked
-  -- bind it no longer
+  -- Removes the binding of a property.
   Unbind : (target : ℕ) (property : List ℕ) → Asked
-  -- begin a group, in which changes of properties are not told
+  -- Begins a group, in which changes of properties are not announced.
   Begin : Asked
-  -- end a group
+  -- Ends a group.
   End : Asked
-  -- answer a query
+  -- Answers a query.
   Ask : (query : Query) → Asked
 
--- what a command asks
+-- The definition's view of a command.
 abbrev pub asked : Command → Asked
 asked (c.New class parent) = New class parent
 asked (c.Delete target) = Delete target
@@ -80,7 +81,7 @@ asked c.Begin = Begin
 asked c.End = End
 asked (c.Ask query) = Ask query
 
--- a command and the session that gives it
+-- A command, and the session that gives it.
 abbrev pub tagged : List ℕ → Command → theory.Tagged (List ℕ) Asked
 tagged session command = record { session = session; command = asked command }
 

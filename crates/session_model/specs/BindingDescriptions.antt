@@ -9,24 +9,24 @@ use Rattle.session_model.specs.Showing.{property_at}
 use Rattle.session_model.specs.State.{State}
 use Rattle.session_model.specs.Writing.{declared}
 
--- the object whose properties are listed first, and the number of the last of them that is passed over: that of
--- the property that is named, where the object's class declares it
+-- The object whose properties are listed first, and the number of the last of them that is skipped: that of the named
+-- property, if the object's class declares it.
 abbrev pub listed_after : State → Option NamedProperty → ℕ × Option ℕ
 listed_after state None = (0, None)
 listed_after state (Some after) = (after.object, option_map (λ of. of.number) (declared state after.object after.property))
 
--- a property is one of a greater object, or one of this object with a greater number
+-- Whether a property belongs to a later object, or to this object with a greater number.
 abbrev pub follows : ℕ × Option ℕ → At → Bool
 follows passed at = nat_lt passed.0 at.object || (passed.0 == at.object && option_map_or (λ number. nat_lt number at.number) passed.1 true)
 
--- a bound property by its name
+-- A bound property, by its name.
 abbrev pub binding_description : Settings → State → Binding → NamedProperty
 binding_description settings state binding = record {
   object = binding.at.object;
   property = option_map_or (λ property. property.name) (property_at settings state binding.at.object binding.at.number) [];
 }
 
--- the first of the bound properties that follow one
+-- The first of the bound properties that follow one.
 abbrev pub binding_descriptions : Settings → State → Option NamedProperty → List NamedProperty
 binding_descriptions settings state after =
     map (binding_description settings state) (take 1000 (filter (λ binding. follows (listed_after state after) binding.at) state.graph.bindings))

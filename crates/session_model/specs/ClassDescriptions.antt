@@ -11,11 +11,11 @@ use Rattle.session_model.specs.declared.descriptions.DeclaredMethod.{DeclaredMet
 use Rattle.session_model.specs.declared.descriptions.DeclaredProperty.{DeclaredProperty}
 use Rattle.session_model.specs.Classes.{class_name, superclass_of}
 
--- the text of the signal of this number that tells of a property of a class, where there is one
+-- The text of the NOTIFY signal with this number, if there is one.
 abbrev pub notify_text : List Class → ℕ → Option ℕ → Option (List ℕ)
 notify_text classes index notify = option_and_then (λ number. option_map method_text (slice_get (methods classes index) number)) notify
 
--- what the class at an index declares itself
+-- A property as a class at this index has it, with the class that declares it.
 abbrev pub declared_property : List Class → ℕ → List ℕ → Property → DeclaredProperty
 declared_property classes index class property = record {
   bindable = property.bindable;
@@ -31,7 +31,7 @@ own_properties classes index = option_map_or (λ class. map (declared_property c
 abbrev pub declared_method : List ℕ → Method → DeclaredMethod
 declared_method class method = record { class = class; kinds = method.signature.kinds; signature = method_text method }
 
--- is a method a signal, or a slot, as is wanted
+-- Whether a method is of the wanted sort, a signal or a slot.
 abbrev pub is_wanted : Bool → Method → Bool
 is_wanted true method = method.is_signal
 is_wanted false method = not method.is_signal
@@ -40,7 +40,7 @@ abbrev pub own_methods : List Class → Bool → ℕ → List DeclaredMethod
 own_methods classes signals index =
     option_map_or (λ class. map (declared_method class.name) (filter (is_wanted signals) class.methods)) (slice_get classes index) []
 
--- the class at an index, with what it has from its superclasses first
+-- The class at an index. What it has from its superclasses comes first.
 abbrev pub class_description : List Class → ℕ → ClassDescription
 class_description classes index = record {
   class = unwrap_or (class_name classes index) [];

@@ -1,4 +1,4 @@
--- Which connection is to be made, and which are to be broken.
+-- Connections to be made, and connections to be broken.
 use Rattle.std.specs.Prelude.{ℕ, Bool, Option, Some, None, Ok, Err, if◌then◌else◌}
 use Rattle.std.specs.Option.{option_map_or, option_transpose}
 use Rattle.plain_types.specs.declared.code.Code.TheVariants.{DoesNotFit}
@@ -13,16 +13,16 @@ use Rattle.session_model.specs.Methods.{Found, ◌>>=◌, kinds_at, methods_of}
 use Rattle.session_model.specs.Settings.{Settings}
 use Rattle.session_model.specs.State.{State}
 
--- the signal's parameters fit those of the method
+-- Whether the signal's parameters fit those of the method.
 abbrev pub fits_at : Settings → State → ℕ → ℕ → ℕ → ℕ → Bool
 fits_at settings state sender signal receiver method =
     fits (kinds_at (methods_of settings state sender) signal) (kinds_at (methods_of settings state receiver) method)
 
--- and those of the functor
+-- Whether the signal's parameters fit those of the functor.
 abbrev pub fits_functor : Settings → State → ℕ → ℕ → ℕ → Bool
 fits_functor settings state sender signal functor = fits (kinds_at (methods_of settings state sender) signal) (params_at settings functor)
 
--- the connection between a signal and a method that were looked for, where they fit
+-- The connection between a signal and a method, if both were found and fit.
 abbrev pub new_connection : Settings → State → ℕ → Found ℕ → ℕ → Found ℕ → ConnectionType → Bool → Found NewConnection
 new_connection settings state sender signal receiver method mode single =
     signal >>= λ s. method >>= λ m.
@@ -30,8 +30,8 @@ new_connection settings state sender signal receiver method mode single =
     then Ok (record { sender = sender; signal = s; receiver = receiver; callee = Method m; mode = mode; single = single })
     else Err DoesNotFit
 
--- the connection between a signal and a functor that were looked for, where they fit; the receiver is the
--- functor's context object
+-- The connection between a signal and a functor, if both were found and fit. The receiver is the functor's context
+-- object.
 abbrev pub new_functor_connection : Settings → State → ℕ → Found ℕ → ℕ → Found ℕ → ConnectionType → Bool → Found NewConnection
 new_functor_connection settings state sender signal context functor mode single =
     signal >>= λ s. functor >>= λ f.
@@ -39,12 +39,12 @@ new_functor_connection settings state sender signal context functor mode single 
     then Ok (record { sender = sender; signal = s; receiver = context; callee = Functor f; mode = mode; single = single })
     else Err DoesNotFit
 
--- the receiving end of a pattern; a method is looked for only where a receiver is named
+-- The receiving end of a pattern. A method is looked for only if a receiver is named.
 abbrev pub receiver_with : (ℕ → Option (Found ℕ)) → Option ℕ → Found (Option Receiver)
 receiver_with method receiver =
     option_map_or (λ object. option_transpose (method object) >>= λ m. Ok (Some (record { object = object; method = m }))) receiver (Ok None)
 
--- the connections of a sender that match a signal, a receiver and a method that were looked for
+-- The pattern for a sender's connections with this signal, receiver and method, if they were found.
 abbrev pub pattern_with : ℕ → Option (Found ℕ) → Option ℕ → (ℕ → Option (Found ℕ)) → Found Pattern
 pattern_with sender signal receiver method =
     option_transpose signal >>= λ s. receiver_with method receiver >>= λ r.

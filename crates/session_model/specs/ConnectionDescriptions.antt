@@ -13,7 +13,7 @@ use Rattle.session_model.specs.Settings.{Settings}
 use Rattle.session_model.specs.State.{State}
 use Rattle.session_model.specs.SharingDescriptions.{text_at}
 
--- what a connection calls: a method by its text, a functor by its name, with the number that is kept for it
+-- The callee of a connection: a method by its text, a functor by its name and with its state.
 abbrev pub callee_description : Settings → State → ℕ → ℕ → Callee → CalleeDescription
 callee_description settings state receiver kept (Method index) = callee.Method (text_at settings state receiver index)
 callee_description settings state receiver kept (Functor index) = callee.Functor (option_map_or (λ functor. functor.name) (functor_at settings index) []) kept
@@ -29,6 +29,6 @@ connection_description settings state row = record {
   single = row.single;
 }
 
--- the connections of a greater number, where an object is named those that have it at either end
+-- The connections with a greater number. If an object is named, only those that have it at either end.
 abbrev pub connection_descriptions : Settings → State → Option ℕ → Option ℕ → List ConnectionDescription
 connection_descriptions settings state target after = map (connection_description settings state) (listed target (unwrap_or after 0) state.connections.rows)

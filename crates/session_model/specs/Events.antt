@@ -1,4 +1,4 @@
--- What the command that takes events does; and how much there is in a session.
+-- The effect of the command that takes events, and the counts of what a session holds.
 use Rattle.std.specs.Prelude.{[], ◌∷◌, length}
 use Rattle.isolation.specs.Machine.{Effect}
 use Rattle.session_model.specs.declared.line.Line.{Line}
@@ -11,11 +11,11 @@ use Rattle.session_model.specs.Run.{run}
 use Rattle.session_model.specs.Settings.{Settings}
 use Rattle.session_model.specs.State.{State}
 
--- taking events replies at the end what came of it
+-- Takes the events, and replies at the end how many there were.
 abbrev pub spins : Settings → State → Effect State Line Post
 spins settings state = ended (run settings (Spin ∷ ReplySpun ∷ []) (begun settings state))
 
--- how much there is in a session
+-- The counts of what a session holds.
 abbrev pub status : State → Status
 status state = record {
   bindings = length state.graph.bindings;

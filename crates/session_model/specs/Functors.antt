@@ -8,14 +8,14 @@ use Rattle.stored_slots.specs.Functors.{index_of}
 use Rattle.session_model.specs.Methods.{Found}
 use Rattle.session_model.specs.Settings.{Settings}
 
--- the functor with this index
+-- The functor with this index.
 abbrev pub functor_at : Settings → ℕ → Option Functor
 functor_at settings index = slice_get settings.functors index
 
--- the kinds of its parameters
+-- The kinds of the parameters of the functor with this index.
 abbrev pub params_at : Settings → ℕ → List Kind
 params_at settings index = option_map_or (λ functor. functor.params) (functor_at settings index) []
 
--- the index of the functor of this name
+-- The index of the functor with this name.
 abbrev pub functor_named : Settings → List ℕ → Found ℕ
 functor_named settings name = ok_or (index_of name settings.functors) NoSuchFunctor

@@ -1,4 +1,4 @@
--- What commands, posts and items leave of every session.
+-- What commands, posts and items preserve in every session.
 use Rattle.std.specs.Prelude.{◌≡◌, ℕ, List, [], ◌∷◌, ◌++◌, IsFalse}
 use Rattle.std.specs.List.{All, list_any}
 use Rattle.variant_value.specs.declared.value.Value.{Value}
@@ -18,24 +18,24 @@ use Rattle.session_model.specs.State.{IsDeclared, IsSound, State, empty}
 use Rattle.session_model.specs.Thread.{Settings, arrives, does}
 use Rattle.session_model.specs.UnderWay.{IsUnderWay, is_gone}
 
--- a session is sound before its first command, and stays so in each command and with each post of
--- another session
+-- A session is sound before its first command, and stays sound during each command and after each post of another
+-- session.
 pub record KeepsSound : Type 0 where
   pub at_first : IsSound empty
   pub by_command : (settings : Settings) (self : List ℕ) (state : State) (asked : Asked) → IsSound state → IsSound (does settings self state asked).state
   pub by_post : (classes : List Class) (state : State) (from : List ℕ) (post : Post) → IsSound state → IsSound (arrives classes state from post)
 
--- while it does an agenda exactly those objects are dying that it is still to let go, and their
--- connections are broken and their events forgotten before; so at the end no object is dying, no
--- connection has lost an end, and no event names an object that is gone
+-- While a session does an agenda, exactly the objects that the agenda will remove are dying, and their connections are
+-- broken and their events dropped before that. So at the end no object is dying, both ends of each connection exist, and
+-- so does the object of each event.
 pub record KeepsUnderWay : Type 0 where
   pub at_first : (agenda : List Item) (state : State) → IsFalse (list_any is_gone agenda) → IsSound state → IsUnderWay agenda state
   pub by_item : (settings : Settings) (item : Item) (agenda : List Item) (doing : Execution) → IsUnderWay (item ∷ agenda) doing.state
       → IsUnderWay ((step settings item doing).items ++ agenda) (step settings item doing).doing.state
   pub at_end : (state : State) → IsUnderWay [] state → IsSound state
 
--- each object has the properties that its class declares: before the first command, item by item while a
--- command is done, after it, and after each post of another session
+-- Each object has the properties that its class declares: before the first command, after each item of a command, after
+-- the command, and after each post of another session.
 pub record KeepsDeclared : Type 0 where
   pub at_first : (classes : List Class) → IsDeclared classes empty
   pub by_item : (settings : Settings) (item : Item) (doing : Execution)
@@ -45,8 +45,8 @@ pub record KeepsDeclared : Type 0 where
   pub by_post : (classes : List Class) (state : State) (from : List ℕ) (post : Post)
       → IsDeclared classes state → IsDeclared classes (arrives classes state from post)
 
--- what a session holds fits the classes and the functors: before the first command, item by item while a command
--- is done, after it, and after each right post of another session; what a command posts is right
+-- The contents of a session fit the classes and the functors: before the first command, after each item of a command,
+-- after the command, and after each right post of another session. The posts of a command are right.
 pub record KeepsFitting : Type 0 where
   pub at_first : (settings : Settings) → IsFitting settings empty
   pub by_item : (settings : Settings) (item : Item) (agenda : List Item) (doing : Execution)
@@ -58,8 +58,8 @@ pub record KeepsFitting : Type 0 where
   pub by_post : (settings : Settings) (state : State) (from : List ℕ) (post : Post)
       → IsFitting settings state → IsRightPost post → IsFitting settings (arrives settings.classes state from post)
 
--- what a session holds is called by names: before the first command, item by item while a command is done, after
--- one that uses names for what it sets, publishes and joins, and after each post of another session
+-- The contents of a session have valid names: before the first command, after each item of a command, after a command
+-- that uses valid names for what it sets, publishes and joins, and after each post of another session.
 pub record KeepsNamed : Type 0 where
   pub at_first : AreNamed empty
   pub by_item : (settings : Settings) (item : Item) (agenda : List Item) (doing : Execution)
@@ -69,7 +69,7 @@ pub record KeepsNamed : Type 0 where
       → AreSettings settings → IsNamedAsked asked → AreNamed state → AreNamed (does settings self state asked).state
   pub by_post : (classes : List Class) (state : State) (from : List ℕ) (post : Post) → AreNamed state → AreNamed (arrives classes state from post)
 
--- an action over the arguments of its slot does what it does with them put in, over none
+-- An action with the arguments of its slot has the effect of the action in which they are put in.
 abbrev pub ActsInPlace : Type 0
 ActsInPlace = (settings : Settings) (action : Act) (args : List Value) (self sender depth : ℕ) (doing : Execution) →
     run settings (to_do.Act action args self sender depth ∷ []) doing ≡ run settings (to_do.Act (unfolded args action) [] self sender depth ∷ []) doing

@@ -1,4 +1,4 @@
--- What a server allows, in numbers.
+-- The limits of a server, as numerals.
 use Rattle.std.specs.Prelude.{◌≡◌, true, Some, codes, option_map, slice_get}
 use Rattle.plain_types.specs.declared.name.TheConstants.{NAME_BYTES}
 use Rattle.signature_core.specs.declared.signature.TheConstants.{PARAMS}
@@ -14,12 +14,13 @@ use Rattle.publish_board.specs.declared.lazy_desk.TheConstants.{PUBLICATIONS, JO
 use Rattle.object_tree.specs.declared.row.TheConstants.{OBJECTS, DEPTH}
 use Rattle.event_queue.specs.declared.table.TheConstants.{EVENTS}
 use Rattle.property_store.specs.declared.dynamic.TheConstants.{DYNAMIC}
-use Rattle.binding_graph.specs.declared.lazy_graph.TheConstants.{BINDINGS, GROUPS}
+use Rattle.binding_values.specs.declared.bound.TheConstants.{BINDINGS}
+use Rattle.binding_graph.specs.declared.lazy_graph.TheConstants.{GROUPS}
 use Rattle.session_model.specs.declared.call.TheConstants.{NESTED_SIGNALS, DESTROYED, OBJECT_NAME}
 
--- the names that definitions have for limits, each with its number
+-- The names that definitions use for the limits, each with its numeral.
 pub record AreTheLimits : Type 0 where
-  -- what a session has at most
+  -- How much a session holds at most.
   pub objects : OBJECTS ≡ 4096
   pub connections : CONNECTIONS ≡ 16384
   pub events : EVENTS ≡ 16384
@@ -27,26 +28,26 @@ pub record AreTheLimits : Type 0 where
   pub groups : GROUPS ≡ 1000
   pub publications : PUBLICATIONS ≡ 1024
   pub joins : JOINS ≡ 1024
-  -- the levels of its trees, and of signals that are sent within signals
+  -- The levels of its trees, and of signals that are sent within signals.
   pub levels : DEPTH ≡ 64
   pub nested_signals : NESTED_SIGNALS ≡ 64
-  -- what an object, a binding and a text have at most
+  -- The limits of an object, a binding and a text.
   pub dynamic_properties : DYNAMIC ≡ 64
   pub forms_of_an_expression : NODES ≡ 64
   pub bytes_of_a_text : TEXT_BYTES ≡ 4096
-  -- what a class file and its classes have at most
+  -- The limits of a class file and its classes.
   pub bytes_of_a_class_file : FILE_BYTES ≡ 1048576
   pub classes : CLASSES ≡ 1024
   pub methods : METHODS ≡ 256
   pub properties : PROPERTIES ≡ 64
   pub parameters : PARAMS ≡ 10
   pub actions_of_a_body : ACTIONS ≡ 32
-  -- the connections that one reply lists at most
+  -- How many connections one reply lists at most.
   pub listed_connections : LISTED ≡ 1000
-  -- a name, and the functors of a server
+  -- The limits of names, and of the functors of a server.
   pub functors : FUNCTORS ≡ 256
   pub bytes_of_a_name : NAME_BYTES ≡ 64
-  -- of `QObject`, the signal and the property that a server tells of by itself
+  -- The signal and the property of `QObject` that a server itself uses.
   pub destroyed : option_map method_text (slice_get q_object.methods DESTROYED) ≡ Some (codes "destroyed()")
   pub destroyed_is_signal : option_map (λ method. method.is_signal) (slice_get q_object.methods DESTROYED) ≡ Some true
   pub object_name : option_map (λ property. property.name) (slice_get q_object.properties OBJECT_NAME) ≡ Some (codes "objectName")

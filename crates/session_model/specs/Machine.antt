@@ -7,7 +7,7 @@ use Rattle.session_model.specs.declared.post.Post.{Post}
 use Rattle.session_model.specs.Asked.{Asked}
 use Rattle.session_model.specs.Thread.{Settings, does, arrives, joins_name, accepts_join}
 
--- what the sessions of a server with these settings do
+-- The machine of a server with these settings.
 abbrev pub machine : Settings → Machine (List ℕ) State Asked Line Post
 machine settings = record { same = bytes_eq; does = does settings; arrives = arrives settings.classes; names = joins_name; accepts = accepts_join settings }
 

@@ -14,7 +14,7 @@ use Rattle.object_tree.specs.Rows.{row_of}
 use Rattle.session_model.specs.Settings.{Settings}
 use Rattle.session_model.specs.State.{State}
 
--- what is found, or why it is not
+-- The result of a search, or why there is none.
 abbrev pub Found : Type 0 → Type 0
 Found A = Result A Code
 
@@ -23,42 +23,42 @@ abbrev pub ◌>>=◌ : {A B : Type 0} → Found A → (A → Found B) → Found 
 (Ok value) >>= f = f value
 (Err code) >>= f = Err code
 
--- the methods that one of these objects has from its class, by index
+-- The methods of one of these objects, by index.
 abbrev pub methods_by : List Class → List Row → ℕ → List Method
 methods_by classes rows object = option_map_or (λ row. methods classes row.class) (row_of rows object) []
 
--- and those of an object of a session
+-- The methods of an object of a session, by index.
 abbrev pub methods_of : Settings → State → ℕ → List Method
 methods_of settings state object = methods_by settings.classes state.forest.rows object
 
--- the method of an object with this index
+-- The method of an object with this index.
 abbrev pub method_at : Settings → State → ℕ → ℕ → Option Method
 method_at settings state object index = slice_get (methods_of settings state object) index
 
--- the kinds of the parameters of the method with this index
+-- The kinds of the parameters of the method with this index.
 abbrev pub kinds_at : List Method → ℕ → List Kind
 kinds_at methods index = option_map_or (λ method. method.signature.kinds) (slice_get methods index) []
 
--- is the method with this index a signal
+-- Whether the method with this index is a signal.
 abbrev pub is_signal_at : List Method → ℕ → Bool
 is_signal_at methods index = option_map_or (λ method. method.is_signal) (slice_get methods index) false
 
--- the index of the method with this signature
+-- The index of the method with this signature.
 abbrev pub method_with : List Method → Signature → Found ℕ
 method_with methods signature = ok_or (method_number signature methods) NoSuchMethod
 
--- the index of the signal with this signature; a slot is no signal
+-- The index of the signal with this signature. A slot is not a signal.
 abbrev pub signal_with : List Method → Signature → Found ℕ
 signal_with methods signature = method_with methods signature >>= λ index. if is_signal_at methods index then Ok index else Err NoSuchMethod
 
--- the signature that a text spells
+-- The signature that a text spells.
 abbrev pub signature_in : List ℕ → Found Signature
 signature_in text = ok_or (signature_of text) BadSignature
 
--- the index of the method that a text names
+-- The index of the method that a text names.
 abbrev pub method_named : List Method → List ℕ → Found ℕ
 method_named methods text = signature_in text >>= method_with methods
 
--- the index of the signal that a text names
+-- The index of the signal that a text names.
 abbrev pub signal_named : List Method → List ℕ → Found ℕ
 signal_named methods text = signature_in text >>= signal_with methods

@@ -12,7 +12,7 @@ use Rattle.session_model.specs.Methods.{Found}
 use Rattle.session_model.specs.Settings.{Settings}
 use Rattle.session_model.specs.State.{State}
 
--- the row of an object that is there
+-- The row of an object, if it exists.
 abbrev pub asked_row : State → ℕ → Found Row
 asked_row state target = ok_or (row_of state.forest.rows target) NoSuchObject
 

@@ -1,4 +1,4 @@
--- What the command that writes a property does, where it is not refused.
+-- The effect of the command that writes a property, if it is not refused.
 use Rattle.std.specs.Prelude.{ℕ, Bool, true, false, Ok, Err}
 use Rattle.isolation.specs.Machine.{Effect}
 use Rattle.session_model.specs.declared.line.Answer.TheVariants as a
@@ -11,12 +11,12 @@ use Rattle.session_model.specs.Settings.{Settings}
 use Rattle.session_model.specs.State.{State}
 use Rattle.session_model.specs.Writing.{Writing, Declared, written}
 
--- is a declared property written
+-- Whether a declared property is written.
 abbrev pub is_declared : Writing → Bool
 is_declared (Declared number value) = true
 is_declared _ = false
 
--- writing a property replies at the end whether it is declared and was written
+-- Writes a property. The reply at the end is whether it is declared and was written.
 abbrev pub sets : Settings → State → ℕ → Found Writing → Effect State Line Post
 sets settings state target (Ok writing) = does_next settings (written settings (begun settings state) target 0 writing) (a.Truth (is_declared writing))
 sets settings state target (Err code) = refuses state code

@@ -13,7 +13,7 @@ use Rattle.session_model.specs.Showing.{named_value}
 use Rattle.session_model.specs.State.{State, shown}
 use Rattle.session_model.specs.ClassDescriptions.{notify_text}
 
--- a property of this number that an object's class declares
+-- The description of the property with this number that an object's class declares.
 abbrev pub declared_description : Settings → State → Row → ℕ → Property → PropertyDescription
 declared_description settings state row number property = record {
   bindable = property.bindable;
@@ -25,13 +25,13 @@ declared_description settings state row number property = record {
   value = (shown state row.number number).0;
 }
 
--- these properties, of which the first has this number
+-- The descriptions of these properties. The first of them has this number.
 abbrev pub descriptions_from : Settings → State → Row → ℕ → List Property → List PropertyDescription
 descriptions_from settings state row number [] = []
 descriptions_from settings state row number (property ∷ rest) =
     declared_description settings state row number property ∷ descriptions_from settings state row (suc number) rest
 
--- a dynamic property, whose value is what reading it answers
+-- The description of a dynamic property, with the value that `get` answers.
 abbrev pub dynamic_description : State → ℕ → List ℕ → PropertyDescription
 dynamic_description state object name = record {
   bindable = false;
@@ -43,7 +43,7 @@ dynamic_description state object name = record {
   value = unwrap_or (named_value state object name) Invalid;
 }
 
--- the declared properties of an object, and then the dynamic ones
+-- The descriptions of an object's declared properties, and then of its dynamic ones.
 abbrev pub property_descriptions : Settings → State → Row → List PropertyDescription
 property_descriptions settings state row =
     descriptions_from settings state row 0 (properties settings.classes row.class)

@@ -1,4 +1,4 @@
--- What the commands that change nothing are answered, or why they are refused.
+-- The answers to the commands that change nothing, or why they are refused.
 use Rattle.std.specs.Prelude.{List, Ok, map}
 use Rattle.std.specs.Option.{unwrap_or}
 use Rattle.binding_values.specs.Scene.{term_at}
@@ -30,7 +30,7 @@ use Rattle.session_model.specs.PropertyDescriptions.{property_descriptions}
 use Rattle.session_model.specs.SharingDescriptions.{join_description, publication_description}
 use Rattle.session_model.specs.Trees.{all_found_in, found_in}
 
--- the answer to a query in a session of this state, behind what it is refused for first
+-- The answer to a query in a session with this state, or its refusal.
 abbrev pub query_answer : Settings → State → Query → Found Answer
 query_answer settings state (Children target) = behind (named_absence state target) (Ok (a.Numbers (children state.forest.rows target)))
 query_answer settings state (Find target title class) =

@@ -1,4 +1,4 @@
--- Why a command is refused: the first of these, by command.
+-- Why a command is refused: the first reason that applies, for each command.
 use Rattle.binding_graph.specs.Graph.{begin_refusal, end_refusal}
 use Rattle.session_model.specs.Binding.{asked_binding, asked_property, binding_refusal}
 use Rattle.std.specs.Prelude.{ℕ, ◌&&◌, List, Option, None, is_some, if◌then◌else◌}
@@ -23,15 +23,15 @@ use Rattle.session_model.specs.Signals.{asked_connect, asked_connect_functor, as
 use Rattle.session_model.specs.State.{State}
 use Rattle.session_model.specs.Writing.{asked_writing}
 
--- the arguments do not serve the method that is called, where there is one
+-- The refusal if the arguments do not fit the method that is called. There is none if the object has no such method.
 abbrev pub values_refusal : Settings → State → ℕ → List Data → Option ℕ → Option Code
 values_refusal settings state target args index = option_map_or (λ index. result_err (asked_values settings state target index args)) index None
 
--- a call that is asked for later needs room in the queue, where the object has such a method
+-- The refusal of a queued call if the queue has no room for it. There is none if the object has no such method.
 abbrev pub later_refusal : State → ConnectionType → Option ℕ → Option Code
 later_refusal state mode index = if is_queued mode && is_some index then enqueue_refusal state.queue else None
 
--- why a command is refused in a session of this name and state, if it is
+-- Why a command is refused in a session with this name and state, if it is.
 unfoldable pub refusal : Settings → List ℕ → State → Asked → Option Code
 refusal settings self state (New class parent) =
     option_or (parent_refusal state.forest.rows parent) (

@@ -1,4 +1,4 @@
--- The run of an agenda to its end.
+-- An agenda is run to its end.
 use Rattle.std.specs.Prelude.{◌≡◌, ◌+◌, ◌*◌, ℕ, zero, suc, List, [], ◌∷◌, ◌++◌, length, map, filter, max}
 use Rattle.term_core.specs.Act.{acts_of, count, counts}
 use Rattle.class_table.specs.declared.class.Class.{Class}
@@ -11,29 +11,29 @@ use Rattle.session_model.specs.Execution.{Execution}
 use Rattle.session_model.specs.Items.{Act, Call, Detach, Delete, Emit, Remove, Item, DeleteChild, Reply, ReplySpun, Run, RunFunctor, Spin, Warn, WarnOf}
 use Rattle.session_model.specs.Settings.{Settings}
 
--- at most so many items done, each with what it puts in front of the others
+-- The execution after at most this many items. What an item leads to is put in front of the others.
 abbrev pub steps : Settings → ℕ → List Item → Execution → Execution
 steps settings zero agenda doing = doing
 steps settings (suc most) [] doing = doing
 steps settings (suc most) (item ∷ agenda) doing = steps settings most ((step settings item doing).items ++ agenda) (step settings item doing).doing
 
--- how many objects are not dying
+-- How many objects are not dying.
 unfoldable pub living : Execution → ℕ
 living doing = length (filter is_living doing.state.forest.rows)
 
--- how many actions the longest body of these classes has, those in branches among them
+-- The number of actions in the longest body of these classes, those in branches included.
 abbrev pub longest_body : List Class → ℕ
 longest_body classes = greatest (map (λ class. greatest (map (λ method. counts (acts_of method.body.actions)) class.methods)) classes)
 
--- and how many that of these functors
+-- The number of actions in the longest body of these functors, those in branches included.
 abbrev pub longest_functor : List Functor → ℕ
 longest_functor functors = greatest (map (λ functor. counts (acts_of functor.body.actions)) functors)
 
--- how many there are at most while an agenda is done; none of its items makes an object
+-- Bounds for the whole run of an agenda. None of its items makes an object.
 pub record Most : Type 0 where
   pub connections : ℕ
   pub objects : ℕ
-  -- declared properties of all objects
+  -- The declared properties of all objects.
   pub properties : ℕ
   pub actions : ℕ
 
@@ -45,15 +45,15 @@ most settings doing = record {
   actions = max (longest_body settings.classes) (longest_functor settings.functors);
 }
 
--- how many items a change comes to at most: of each property a warning, and a signal that tells of it
+-- The most items of a change: for each property a warning, and its NOTIFY signal.
 abbrev pub change_weight : Most → ℕ
 change_weight most = most.properties * (most.connections + 3)
 
--- how many an action comes to at most: a change, or a signal, or a warning
+-- The most items of an action: a change, a signal, or a warning.
 abbrev pub action_weight : Most → ℕ
 action_weight most = change_weight most + most.connections + 3
 
--- how many items an item comes to at most, where no further call is made and no further object deleted
+-- The most items that an item leads to, if no further call is made and no further object is deleted.
 abbrev pub weight : Most → Item → ℕ
 weight most (Emit target signal args depth) = most.connections + 2
 weight most (Call number args depth) = 1
@@ -74,25 +74,25 @@ abbrev pub weights : Most → List Item → ℕ
 weights most [] = 0
 weights most (item ∷ agenda) = weight most item + weights most agenda
 
--- how many items a call comes to at most
+-- The most items of a call.
 abbrev pub turn_weight : Most → ℕ
 turn_weight most = most.actions * action_weight most + most.connections + 3
 
--- how many items a deletion comes to at most
+-- The most items of a deletion.
 abbrev pub deletion_weight : Most → ℕ
 deletion_weight most = 2 * most.objects + change_weight most + most.connections + 4
 
--- enough steps to come to the end
+-- A number of steps that is enough to reach the end.
 unfoldable pub enough : Settings → List Item → Execution → ℕ
 enough settings agenda doing =
     doing.turns * turn_weight (most settings doing) + living doing * deletion_weight (most settings doing) + weights (most settings doing) agenda
 
--- an agenda done to its end
+-- The execution after an agenda is done to its end.
 unfoldable pub run : Settings → List Item → Execution → Execution
 run settings agenda doing = steps settings (enough settings agenda doing) agenda doing
 
--- the run of an agenda is that of its first item, and then of what that comes to and of the others; two
--- agendas are done one after the other
+-- The run of an agenda does its first item, then what that leads to, and then the others. Two agendas are done one after
+-- the other.
 pub record RunsToItsEnd : Type 0 where
   pub at_end : (settings : Settings) (doing : Execution) → run settings [] doing ≡ doing
   pub at_item : (settings : Settings) (item : Item) (agenda : List Item) (doing : Execution)

@@ -1,4 +1,4 @@
--- What the commands for publications and joins do, where they are not refused.
+-- The effects of the commands for publications and joins that are not refused.
 use Rattle.std.specs.Prelude.{ℕ, List, [], ◌∷◌, true, Option, Some, Ok, Err, length, nat_le, if◌then◌else◌}
 use Rattle.std.specs.List.{list_any}
 use Rattle.std.specs.Option.{ok_or}
@@ -22,38 +22,38 @@ use Rattle.session_model.specs.Methods.{Found, ◌>>=◌, method_named, methods_
 use Rattle.session_model.specs.Settings.{Settings}
 use Rattle.session_model.specs.State.{State, with_desk}
 
--- the kinds that these texts name, each spelled exactly
+-- The kinds that these texts name, each spelled exactly.
 abbrev pub kinds_named : List (List ℕ) → Found (List Kind)
 kinds_named [] = Ok []
 kinds_named (text ∷ texts) = ok_or (kind_named text) BadSignature >>= λ kind. kinds_named texts >>= λ kinds. Ok (kind ∷ kinds)
 
--- and no more of them than a signature may have
+-- The kinds that these texts name, if they are at most as many as a signature may have.
 abbrev pub asked_kinds : List (List ℕ) → Found (List Kind)
 asked_kinds texts = if nat_le (length texts) 10 then kinds_named texts else Err BadSignature
 
--- the publication that is asked for
+-- The publication that a command asks for.
 abbrev pub asked_publication : Settings → State → ℕ → List ℕ → List ℕ → Found Publication
 asked_publication settings state target signal name =
     behind (absence state target)
     (signal_named (methods_of settings state target) signal >>= λ index. Ok (record { name = name; object = target; signal = index }))
 
--- the join that is asked for
+-- The join that a command asks for.
 abbrev pub asked_join : Settings → State → List ℕ → List ℕ → List (List ℕ) → ℕ → List ℕ → Found Join
 asked_join settings state from name types target method =
     behind (absence state target)
     (asked_kinds types >>= λ kinds. method_named (methods_of settings state target) method >>= λ index.
     Ok (record { from = from; name = name; kinds = kinds; object = target; method = index }))
 
--- the method of the joins that are to be taken out
+-- The method of the joins to be removed.
 abbrev pub asked_listener : Settings → State → ℕ → List ℕ → Found ℕ
 asked_listener settings state target method = behind (absence state target) (method_named (methods_of settings state target) method)
 
--- why a publication that was looked for is refused
+-- Why a publication is refused, or why it was not found.
 abbrev pub publication_refusal : State → Found Publication → Option Code
 publication_refusal state (Ok row) = publish_refusal state.desk row.name
 publication_refusal state (Err code) = Some code
 
--- and a join, in the session of this name
+-- Why a join is refused in the session with this name, or why it was not found.
 abbrev pub joining_refusal : Settings → List ℕ → State → Found Join → Option Code
 joining_refusal settings self state (Ok join) = join_refusal self state.desk join (kinds_of settings.classes state.forest.rows join.object join.method)
 joining_refusal settings self state (Err code) = Some code
@@ -62,7 +62,7 @@ abbrev pub publishes_found : State → Found Publication → Effect State Line P
 publishes_found state (Ok row) = replies (with_desk state (published state.desk row)) (Truth true)
 publishes_found state (Err code) = refuses state code
 
--- it replies whether something was published so
+-- Removes a publication. The reply is whether there was one.
 abbrev pub unpublishes : State → List ℕ → Effect State Line Post
 unpublishes state name = replies (with_desk state (unpublished state.desk name)) (Truth (list_any (has_name name) state.desk.publications))
 
@@ -70,7 +70,7 @@ abbrev pub joins_found : State → Found Join → Effect State Line Post
 joins_found state (Ok join) = replies (with_desk state (with_join state.desk join)) (Truth true)
 joins_found state (Err code) = refuses state code
 
--- it replies whether there was one
+-- Removes joins. The reply is whether there was one.
 abbrev pub leaves : State → List ℕ → List ℕ → ℕ → Found ℕ → Effect State Line Post
 leaves state from name target (Ok method) =
     replies (with_desk state (left state.desk from name target method)) (Truth (list_any (is_join from name target method) state.desk.joins))

@@ -10,7 +10,7 @@ use Rattle.session_model.specs.Methods.{method_at}
 use Rattle.session_model.specs.Settings.{Settings}
 use Rattle.session_model.specs.State.{State}
 
--- the text of the method of an object with this index; empty where there is none
+-- The text of an object's method with this index; empty if there is none.
 abbrev pub text_at : Settings → State → ℕ → ℕ → List ℕ
 text_at settings state object index = option_map_or method_text (method_at settings state object index) []
 

@@ -1,4 +1,4 @@
--- What the properties of objects show, and what is told where they change.
+-- The values that properties show, and the announcements of their changes.
 use Rattle.std.specs.Prelude.{ℕ, List, [], ◌∷◌, length, take, slice_get, Option, Some, option_and_then, option_map, if◌then◌else◌}
 use Rattle.std.specs.List.{filter_map}
 use Rattle.std.specs.Option.{option_map_or}
@@ -20,41 +20,40 @@ use Rattle.session_model.specs.Methods.{kinds_at, methods_of}
 use Rattle.session_model.specs.Settings.{Settings}
 use Rattle.session_model.specs.State.{State, shown}
 
--- the value of the property of a name: of one that the class declares what it shows, of a dynamic one what it
--- was set to
+-- The value of the property with this name: the value that a declared property shows, or that a dynamic one was set to.
 abbrev pub named_value : State → ℕ → List ℕ → Option Value
 named_value state object name =
     option_and_then (λ of. option_map_or (λ number. Some (shown state object number).0) (field_number name of.fields) (dynamic_value name of.dynamic))
     (properties_of state.store object)
 
--- what all declared properties show
+-- The values that all declared properties show.
 abbrev pub showing : State → List Shown
 showing state = all_shown state.store state.graph.bindings
 
--- what has changed from one state to another: first the errors that are new or other ones, then the values
--- that are other ones, the written property first. In a group nothing is told
+-- The changes between two states: first the new or different errors, then the different values, in both cases the
+-- written property first. There are none while a group is open.
 abbrev pub changes : State → State → Option At → List Change
 changes before after written = if is_open after.graph then [] else graph.changes (showing before) (showing after) written
 
--- the property of an object, as its class declares it
+-- The property of an object, as its class declares it.
 abbrev pub property_at : Settings → State → ℕ → ℕ → Option Property
 property_at settings state object number = option_and_then (λ row. slice_get (properties settings.classes row.class) number) (row_of state.forest.rows object)
 
--- what a signal that tells of a change is sent with: the new value, where it takes one
+-- The arguments of a NOTIFY signal: the new value, if the signal has a parameter.
 abbrev pub told_value : Settings → State → ℕ → Value → ℕ → List Value
 told_value settings state object value signal = take (length (kinds_at (methods_of settings state object) signal)) (value ∷ [])
 
--- an error is warned of, and a value told by the property's signal for it (NOTIFY), where it has one
+-- The item for a change: a warning of an error, or the property's NOTIFY signal for a value, if it has one.
 abbrev pub told_as : Settings → State → ℕ → At → ChangeKind → Option Item
 told_as settings state depth at (message.Error error) = Some (WarnOf at error)
 told_as settings state depth at (message.Value value) =
     option_map (λ signal. Emit at.object signal (told_value settings state at.object value signal) depth)
     (option_and_then (λ property. property.notify) (property_at settings state at.object at.number))
 
--- what tells of changes, in their order
+-- The items that announce changes, in their order.
 abbrev pub tellings : Settings → State → ℕ → List Change → List Item
 tellings settings state depth changes = filter_map (λ change. told_as settings state depth change.at change.told) changes
 
--- the session comes to another state, and tells of what has changed
+-- The session gets another state, and announces what has changed.
 abbrev pub comes_to : Settings → Execution → ℕ → State → Option At → Next
 comes_to settings doing depth after written = puts (tellings settings after depth (changes doing.state after written)) (in_state doing after)

@@ -1,4 +1,4 @@
--- What the commands for signals and slots do, where they are not refused.
+-- The effects of the commands for signals and slots that are not refused.
 use Rattle.std.specs.Prelude.{ℕ, Bool, true, false, List, [], ◌∷◌, Option, Some, None, Ok, Err, if◌then◌else◌}
 use Rattle.std.specs.List.{list_any}
 use Rattle.std.specs.Option.{option_and_then, option_map}
@@ -38,7 +38,7 @@ use Rattle.session_model.specs.Settings.{Settings}
 use Rattle.session_model.specs.Posting.{is_queued}
 use Rattle.session_model.specs.State.{State, with_event, without_connections}
 
--- the connection that is asked for
+-- The connection that a command asks for.
 abbrev pub asked_connection : Settings → State → ℕ → List ℕ → ℕ → List ℕ → ConnectionType → Bool → Found NewConnection
 asked_connection settings state sender signal receiver method mode single =
     new_connection settings state
@@ -46,7 +46,7 @@ asked_connection settings state sender signal receiver method mode single =
     receiver (method_named (methods_of settings state receiver) method)
     mode single
 
--- and the connection to a functor that is asked for
+-- The connection to a functor that a command asks for.
 abbrev pub asked_functor_connection : Settings → State → ℕ → List ℕ → ℕ → List ℕ → ConnectionType → Bool → Found NewConnection
 asked_functor_connection settings state sender signal context functor mode single =
     new_functor_connection settings state
@@ -54,7 +54,7 @@ asked_functor_connection settings state sender signal context functor mode singl
     context (functor_named settings functor)
     mode single
 
--- the operation that they are, or why there is none; a command finds no object dying
+-- The operation that makes the connection, or why there is none. For a command no object is dying.
 abbrev pub asked_connect : Settings → State → ℕ → List ℕ → ℕ → List ℕ → ConnectionType → Bool → Bool → Found Operation
 asked_connect settings state sender signal receiver method mode unique single =
     behind (object_refusal state.forest.rows sender) (
@@ -68,11 +68,11 @@ asked_connect_functor settings state sender signal context functor mode unique s
     (asked_functor_connection settings state sender signal context functor mode single >>= λ new. if unique then Err UniqueFunctor
     else Ok (d.Connect new false)))
 
--- breaking the connection of a number replies whether it stood
+-- Breaks the connection with this number. The reply is whether it existed.
 abbrev pub disconnects_one : State → ℕ → Effect State Line Post
 disconnects_one state number = replies (without_connections state (has_number number)) (a.Truth (list_any (has_number number) state.connections.rows))
 
--- the connections that are asked to be broken
+-- The pattern of the connections that a command breaks.
 abbrev pub asked_pattern : Settings → State → ℕ → Option (List ℕ) → Option ℕ → Option (List ℕ) → Found Pattern
 asked_pattern settings state sender signal receiver method =
     pattern_with
@@ -85,12 +85,12 @@ asked_disconnect settings state sender signal receiver method =
     behind (named_absence state receiver)
     (asked_pattern settings state sender signal receiver method >>= λ pattern. Ok (d.Disconnect pattern)))
 
--- an operation that was looked for is done, and what it answers is replied
+-- Does an operation that was found, and replies with its answer.
 abbrev pub does_found : State → Found Operation → Effect State Line Post
 does_found state (Ok operation) = replies (with_operation state operation) (operation_answer state operation)
 does_found state (Err code) = refuses state code
 
--- a value and further ones; of two faults a bad value comes before a text that is too long
+-- A value before other values. Of two faults, a bad value is reported before a text that is too long.
 abbrev pub with_value : Found Value → Found (List Value) → Found (List Value)
 with_value (Ok value) (Ok values) = Ok (value ∷ values)
 with_value (Ok value) (Err code) = Err code
@@ -98,27 +98,27 @@ with_value (Err code) (Ok values) = Err code
 with_value (Err Limit) (Err code) = Err code
 with_value (Err other) (Err code) = Err other
 
--- as many values as there are kinds, each the value of its kind that a piece of JSON is
+-- One value for each kind, read from JSON as that kind.
 abbrev pub values_of : List Kind → List Data → Found (List Value)
 values_of [] [] = Ok []
 values_of (kind ∷ kinds) (json ∷ rest) = with_value (value_of kind json) (values_of kinds rest)
 values_of _ _ = Err BadValue
 
--- the index of the method of an object that a text names, where the object has it
+-- The index of the object's method that a text names, if the object has it.
 abbrev pub asked_method : Settings → State → ℕ → List ℕ → Option ℕ
 asked_method settings state target text = option_and_then (λ signature. method_number signature (methods_of settings state target)) (signature_of text)
 
--- the values with which a method of an object is to be called
+-- The arguments for a call of an object's method.
 abbrev pub asked_values : Settings → State → ℕ → ℕ → List Data → Found (List Value)
 asked_values settings state target index args = values_of (kinds_at (methods_of settings state target) index) args
 
--- a signal is sent; a slot takes a turn, and no object has sent what calls it
+-- Sends a signal, or runs a slot, which takes a turn and has no sender.
 abbrev pub invoked : Settings → State → ℕ → ℕ → List Value → Next
 invoked settings state target index values =
     if is_signal_at (methods_of settings state target) index then puts (Emit target index values 0 ∷ []) (begun settings state)
     else with_turn (begun settings state) (puts (Run target index 0 values 0 ∷ []))
 
--- the call of a method that is asked for later, which no object has sent
+-- The queued call of a method. It has no sender.
 abbrev pub invoked_call : ℕ → ℕ → List Value → Priority → QueuedCall
 invoked_call target index values priority = record {
   object = target;
@@ -129,11 +129,11 @@ invoked_call target index values priority = record {
   args = values;
 }
 
--- it is posted as an event
+-- Queues the call of a method as an event.
 abbrev pub invoked_later : State → ℕ → ℕ → List Value → Priority → Effect State Line Post
 invoked_later state target index values priority = replies (with_event state (Call (invoked_call target index values priority))) (a.Truth true)
 
--- invoking a method replies true at the end, and false where the object has no such method
+-- Invokes a method. The reply at the end is true, or false if the object has no such method.
 abbrev pub invokes : Settings → State → ℕ → List Data → ConnectionType → Priority → Option ℕ → Effect State Line Post
 invokes settings state target args mode priority (Some index) =
     let values = result_unwrap_or (asked_values settings state target index args) [] in

@@ -1,4 +1,4 @@
--- What a session holds.
+-- The state of a session.
 use Rattle.std.specs.Prelude.{◌≡◌, ◌+◌, ℕ, Bool, false, List, [], Option, Some, IsFalse, IsTrue, bytes_eq, map, option_map, if◌then◌else◌, unwrap_or}
 use Rattle.std.specs.List.{All}
 use Rattle.binding_values.specs.declared.property.BindingError.{BindingError}
@@ -34,65 +34,65 @@ use Rattle.term_core.specs.Term.{Term}
 use Rattle.session_model.specs.declared.call.TheConstants.{OBJECT_NAME}
 
 pub record State : Type 0 where
-  -- the objects in their trees
+  -- The objects in their trees.
   pub forest : Forest
-  -- the properties of each, with what is stored of them
+  -- The properties of each object, with their stored values.
   pub store : Store
-  -- which of them are bound, and the groups that are open
+  -- The bindings, and the open groups.
   pub graph : Graph
-  -- the connections between them
+  -- The connections between objects.
   pub connections : Rows
-  -- the events that are to be taken
+  -- The queued events.
   pub queue : Queue
-  -- what it publishes and joins
+  -- Its publications and joins.
   pub desk : Desk
 
--- the state of a session that has had no command
+-- The state of a session that has had no command.
 abbrev pub empty : State
 empty = record { forest = empty_forest; store = []; graph = no_graph; connections = no_rows; queue = empty_queue; desk = no_desk }
 
--- a property that a class declares, as an object has it
+-- A property of a class, as an object has it.
 abbrev pub field_of : Property → Field
 field_of property = record { name = property.name; kind = property.kind; bindable = property.bindable }
 
--- the properties that an object of a class has, by number
+-- The properties of an object of a class, by number.
 abbrev pub fields_of : List Class → ℕ → List Field
 fields_of classes class = map field_of (properties classes class)
 
--- the value of a property that an object's class declares, also where it is bound, and the error that it
--- stands for; Invalid where there is none of this number
+-- The value that a declared property shows, bound or not, and its error. Invalid if there is no property with this
+-- number.
 abbrev pub shown : State → ℕ → ℕ → Value × Option BindingError
 shown state object number = value_in state.store state.graph (record { object = object; number = number })
 
--- outside of groups nothing is kept
+-- The graph without the values from before a group, unless a group is open.
 abbrev pub closed : Graph → Graph
 closed graph = if is_open graph then graph else record graph { last = [] }
 
--- the title of an object: its property `objectName`
+-- The title of an object: its property `objectName`.
 abbrev pub title_of : State → ℕ → Value
 title_of state number = (shown state number OBJECT_NAME).0
 
--- is a title this text
+-- Whether a title is this text.
 abbrev pub is_text : List ℕ → Value → Bool
 is_text wanted (v.Text text) = bytes_eq text wanted
 is_text wanted _ = false
 
--- the state with one more object, whose properties have their defaults
+-- The state with a new object, whose properties have their defaults.
 abbrev pub with_object : List Class → State → Option ℕ → ℕ → State
 with_object classes state parent class = record state {
   forest = added state.forest parent class;
   store = stored.added state.store (state.forest.last_number + 1) (fields_of classes class);
 }
 
--- the state with another parent of an object
+-- The state in which an object has another parent.
 abbrev pub with_parent : State → ℕ → Option ℕ → State
 with_parent state number parent = record state { forest = reparented state.forest number parent }
 
--- the state where the properties of an object are changed
+-- The state in which the properties of an object are changed.
 abbrev pub with_properties : State → ℕ → (Properties → Properties) → State
 with_properties state number change = record state { store = changed change number state.store }
 
--- the state without an object: its children have become roots, and its bindings are gone
+-- The state without an object and its bindings. Its children have become roots.
 abbrev pub without_object : State → ℕ → State
 without_object state number = record state {
   forest = removed state.forest number;
@@ -100,126 +100,126 @@ without_object state number = record state {
   graph = graph.without_object number state.graph;
 }
 
--- the state where a property is bound no longer
+-- The state without a property's binding.
 abbrev pub without_binding : State → At → State
 without_binding state at = record state { graph = graph.unbound state.graph at }
 
--- the state where a property is bound to an expression, whatever it was bound to
+-- The state in which a property is bound to an expression, which replaces any other binding of it.
 abbrev pub with_binding : State → At → Term → State
 with_binding state at term = record state { graph = graph.bound state.graph at term }
 
--- the state where the value that a property shows is stored, and it is bound no longer
+-- The state in which the value that a property shows is stored, and its binding is removed.
 abbrev pub with_binding_taken : State → At → State
 with_binding_taken state at = record state { store = graph.taken state.store state.graph at; graph = graph.unbound state.graph at }
 
--- the state with one more group; what properties show when the outermost begins is kept
+-- The state with another open group. What properties show when the outermost one begins is kept.
 abbrev pub with_group : State → State
 with_group state = record state { graph = graph.begun state.store state.graph }
 
--- the state with one group less; with the last one goes what was kept
+-- The state with one open group less. With the last one, what was kept is dropped.
 abbrev pub without_group : State → State
 without_group state = record state { graph = closed (graph.ended state.graph) }
 
--- the state with one more connection, which has the next number
+-- The state with another connection, which has the next number.
 abbrev pub with_connection : State → NewConnection → State
 with_connection state new = record state { connections = connected state.connections new }
 
--- the state of the functor of the connection with this number, or 0 where that has gone
+-- The state of the functor of the connection with this number; 0 if the connection is gone.
 abbrev pub functor_state : State → ℕ → ℕ
 functor_state state number = unwrap_or (list.state_of number state.connections) 0
 
--- the state where the functor of the connection with this number has another state, where that stands
+-- The state in which the functor of the connection with this number has another state, if the connection exists.
 abbrev pub with_functor_state : State → ℕ → ℕ → State
 with_functor_state state number next = record state { connections = list.with_state number next state.connections }
 
--- the state without the connections that pass a test
+-- The state without the connections that pass a test.
 abbrev pub without_connections : State → (Connection → Bool) → State
 without_connections state test = record state { connections = without test state.connections }
 
--- the state with one more event, in its place among the others
+-- The state with another event, in order among the others.
 abbrev pub with_event : State → Event → State
 with_event state event = record state { queue = enqueued state.queue event }
 
--- the state without the events that name an object
+-- The state without the events that name an object.
 abbrev pub without_events : State → ℕ → State
 without_events state number = record state { queue = dropped number state.queue }
 
--- the state without the first event
+-- The state without the first event.
 abbrev pub without_first : State → State
 without_first state = record state { queue = taken state.queue }
 
--- the state where one more call is known to be lost
+-- The state in which another lost call is counted.
 abbrev pub with_lost : State → State
 with_lost state = record state { queue = events.with_lost state.queue }
 
--- the state with one more call among its events; where there is no room for it, it is lost
+-- The state with another call among its events. If the queue is full, the call is lost.
 abbrev pub with_call : State → QueuedCall → State
 with_call state call = if has_room state.queue then with_event state (Call call) else with_lost state
 
--- the state with the signals of an object blocked, or not
+-- The state in which the signals of an object are blocked, or not.
 abbrev pub with_blocking : State → ℕ → Bool → State
 with_blocking state number on = record state { forest = with_blocked state.forest number on }
 
--- the state with another desk
+-- The state with other publications and joins.
 abbrev pub with_desk : State → Desk → State
 with_desk state desk = record state { desk = desk }
 
--- the state without what an object publishes, and without the joins that call it
+-- The state without an object's publications and the joins that call it.
 abbrev pub without_rows_of : State → ℕ → State
 without_rows_of state number = with_desk state (withdrawn number state.desk)
 
--- the state where nothing ties an object to others: without the connections that have it at either end, the
--- events that name it, what it publishes and the joins that call it
+-- The state without what ties an object to others: connections with it at either end, events that name it, its
+-- publications, and joins that call it.
 abbrev pub without_ties : State → ℕ → State
 without_ties state number = without_rows_of (without_events (without_connections state (touches number)) number) number
 
--- something holds of each object that publishes something, and of each that a join calls
+-- A property holds for each object that publishes a signal, and for each that a join calls.
 pub record OfDesk (P : ℕ → Type 0) (desk : Desk) : Type 0 where
   pub publications : All (λ row. P row.object) desk.publications
   pub joins : All (λ join. P join.object) desk.joins
 
--- the object that an event names stands
+-- The object of an event exists.
 abbrev pub IsMeant : State → Event → Type 0
 IsMeant state event = IsTrue (is_there state.forest.rows (object_of event))
 
--- the objects at both ends of a connection stand
+-- The objects at both ends of a connection exist.
 pub record IsTied (state : State) (row : Connection) : Type 0 where
   pub sender : IsTrue (is_there state.forest.rows row.sender)
   pub receiver : IsTrue (is_there state.forest.rows row.receiver)
 
--- what holds of every session, also while it does a command
+-- What holds for every session, also during a command.
 pub record IsWhole (state : State) : Type 0 where
   pub forest : tree.IsSound state.forest
-  -- every object has its properties, and nothing else has any
+  -- Exactly the existing objects have properties.
   pub objects : map (λ of. of.object) state.store ≡ numbers state.forest.rows
-  -- a value is of its property's kind, and no text is too long
+  -- Each value is of its property's kind, and no text is too long.
   pub properties : stored.IsSound state.store
-  -- there are not too many bindings, and groups within groups
+  -- The bindings and the open groups are within their limits.
   pub graph : graph.IsSound state.graph
-  -- what is bound are properties that are there and may be bound
+  -- Each bound property exists and is bindable.
   pub bound : All (λ binding. IsTrue (is_bindable state.store binding.at)) state.graph.bindings
-  -- what properties showed before is kept while a group is open
+  -- Values from before a group are kept only while a group is open.
   pub closed : IsFalse (is_open state.graph) → state.graph.last ≡ []
-  -- the numbers of connections rise, and there are not too many
+  -- The numbers of connections ascend, and there are not too many.
   pub connections : list.IsSound state.connections
-  -- no connection has an end that is gone
+  -- The ends of each connection exist.
   pub ends : All (IsTied state) state.connections.rows
-  -- there are not too many events
+  -- There are not too many events.
   pub queue : events.IsSound state.queue
-  -- no event names an object that is gone
+  -- The object of each event exists.
   pub meant : All (IsMeant state) state.queue.events
-  -- there are not too many publications and joins
+  -- There are not too many publications and joins.
   pub desk : board.IsSound state.desk
-  -- and none of an object that is gone
+  -- The objects of all publications and joins exist.
   pub named : OfDesk (λ number. IsTrue (is_there state.forest.rows number)) state.desk
 
--- each object has the properties that its class declares
+-- Each object has the properties that its class declares.
 abbrev pub IsDeclared : List Class → State → Type 0
 IsDeclared classes state =
     All (λ row. option_map (λ of. of.fields) (properties_of state.store row.number) ≡ Some (fields_of classes row.class)) state.forest.rows
 
--- what holds of every session between commands
+-- What holds for every session between commands.
 pub record IsSound (state : State) : Type 0 where
   pub whole : IsWhole state
-  -- no object is dying
+  -- No object is dying.
   pub living : All (λ row. IsFalse row.dying) state.forest.rows

@@ -16,52 +16,50 @@ use Rattle.session_model.specs.Methods.{Found, ◌>>=◌}
 use Rattle.session_model.specs.Showing.{named_value}
 use Rattle.session_model.specs.State.{State, is_text, title_of}
 
--- the number of the object that a target is for the slot of `self`, as the session stands; 0 where
--- there is none
+-- The number of the object that a target is for the slot of `self`; 0 if there is none.
 abbrev pub object_of : State → ℕ → ℕ → Target → ℕ
 object_of state self sender Itself = self
 object_of state self sender Sender = sender
 object_of state self sender (Child title) = unwrap_or (found_below state.forest.rows self (λ number. is_text title (title_of state number))) 0
 object_of state self sender (Object number) = number
 
--- the number of the object that a target is, where a target is named
+-- The number of the object that a target is, if a target is named.
 abbrev pub named_object_of : State → ℕ → ℕ → Option Target → Option ℕ
 named_object_of state self sender target = option_map (object_of state self sender) target
 
--- the value of a property of an object, whether its class declares it or not
+-- The value of a property of an object, declared or dynamic.
 abbrev pub property_of : State → ℕ → List ℕ → Answer (Unit {0})
 property_of state object name =
     if is_there state.forest.rows object
     then ok_or (named_value state object name) (refused NoSuchProperty)
     else Err (refused NoSuchObject)
 
--- the value of a property that the slot of `self` reads
+-- The value of a property that the slot of `self` reads.
 abbrev pub reads : State → ℕ → ℕ → Target → List ℕ → Answer (Unit {0})
 reads state self sender target name = property_of state (object_of state self sender target) name
 
--- the value that an evaluation ends with, or why there is none; what reads for a slot has no fault of
--- its own
+-- The value with which an evaluation ends, or why there is none. Reading properties for a slot has no faults of its own.
 abbrev pub outcome : Answer (Unit {0}) → Found Value
 outcome (Ok value) = Ok value
 outcome (Err (refused code)) = Err code
 outcome (Err (own fault)) = Err BadValue
 
--- the value of an expression of the slot of `self` over the slot's arguments
+-- The value of an expression of the slot of `self`, with the slot's arguments.
 unfoldable pub evaluated : State → ℕ → ℕ → List Value → Term → Found Value
 evaluated state self sender args term = outcome (eval_by args (reads state self sender) term)
 
--- the values of expressions from left to right; the first fault ends it
+-- The values of expressions from left to right, up to the first fault.
 abbrev pub all_evaluated : State → ℕ → ℕ → List Value → List Term → Found (List Value)
 all_evaluated state self sender args [] = Ok []
 all_evaluated state self sender args (term ∷ rest) =
     evaluated state self sender args term >>= λ value.
     all_evaluated state self sender args rest >>= λ values. Ok (value ∷ values)
 
--- the truth that an expression is
+-- The truth value of an expression.
 abbrev pub truth_evaluated : State → ℕ → ℕ → List Value → Term → Found Bool
 truth_evaluated state self sender args term = evaluated state self sender args term >>= λ value. ok_or (truth_in value) BadValue
 
--- as many values as there are kinds, each as one of its kind
+-- One value for each kind, converted to that kind.
 abbrev pub all_converted : List Kind → List Value → Found (List Value)
 all_converted [] [] = Ok []
 all_converted (kind ∷ kinds) (value ∷ values) =

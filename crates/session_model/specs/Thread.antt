@@ -1,4 +1,4 @@
--- What a session does. The rules are those of Qt's object model in this server's profile; codes and
+-- What each command does to a session. The rules are those of Qt's object model in this server's profile; codes and
 -- limits are its own.
 use Rattle.session_model.specs.Binding.{asked_binding, asked_property, begins, binds_found, ends, unbinds_found}
 use Rattle.std.specs.Prelude.{ℕ, Bool, true, false, ◌&&◌, List, Ok, [], ◌∷◌, bytes_eq, is_none}
@@ -24,7 +24,7 @@ use Rattle.session_model.specs.Trees.{deletes, makes}
 use Rattle.session_model.specs.Writing.{asked_writing}
 pub use Rattle.session_model.specs.Settings.{Settings}
 
--- what a command does that is not refused, in a session of this name and state
+-- The effect of a command that is not refused, in a session with this name and state.
 unfoldable pub performs : Settings → List ℕ → State → Asked → Effect State Line Post
 performs settings self state (New class parent) = makes settings.classes state class parent
 performs settings self state (Delete target) = deletes settings state target
@@ -50,24 +50,24 @@ performs settings self state Begin = begins state
 performs settings self state End = ends settings state
 performs settings self state (Ask query) = answers state (query_answer settings state query)
 
--- what a command does
+-- The effect of a command.
 unfoldable pub does : Settings → List ℕ → State → Asked → Effect State Line Post
 does settings self state asked = unless (refusal settings self state asked) state (performs settings self state asked)
 
--- the state after a post of the named session
+-- The state after a post of this session.
 unfoldable pub arrives : List Class → State → List ℕ → Post → State
 arrives classes state from post = record state { queue = reached_by classes state.forest.rows from post state.queue state.desk.joins }
 
--- the state after posts of the named session, one after another
+-- The state after several posts of this session, in order.
 abbrev pub arrive_all : List Class → State → List ℕ → List Post → State
 arrive_all classes state from [] = state
 arrive_all classes state from (post ∷ posts) = arrive_all classes (arrives classes state from post) from posts
 
--- does a join that stands name this session
+-- Whether a join names this session.
 unfoldable pub joins_name : State → List ℕ → Bool
 joins_name state from = names_session from state.desk
 
--- is a command accepted as a join of this session
+-- Whether a command is accepted as a join that names this session.
 unfoldable pub accepts_join : Settings → List ℕ → State → Asked → List ℕ → Bool
 accepts_join settings self state (Join from name types target method) other =
     is_none (refusal settings self state (Join from name types target method)) && bytes_eq from other

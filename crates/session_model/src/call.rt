@@ -1,4 +1,4 @@
-//! Clients are told of calls.
+//! The calls of slots and functors that clients are notified of.
 use plain_types::Text;
 use variant_value::Args;
 

@@ -20,9 +20,8 @@ pub enum Command {
         object: u32,
         parent: Option<u32>,
     },
-    /// Writes a property of an object, and replies whether its class declares one of this name; another
-    /// name is that of a dynamic property, which null takes away (`QObject::setProperty`). The value is any
-    /// JSON.
+    /// Writes a property of an object, and replies whether its class declares one of this name. Any other name is
+    /// that of a dynamic property, which null removes (`QObject::setProperty`). The value is any JSON.
     Set {
         object: u32,
         property: Text,
@@ -38,7 +37,7 @@ pub enum Command {
         mode: ConnectionType,
         /// Refused where the same is connected already (`Qt::UniqueConnection`).
         unique: bool,
-        /// Taken out before its method is first called (`Qt::SingleShotConnection`).
+        /// Removed before its method is first called (`Qt::SingleShotConnection`).
         single: bool,
     },
     /// Connects a signal of an object to a functor, which runs for a context object, and replies the
@@ -49,17 +48,17 @@ pub enum Command {
         context: u32,
         functor: Text,
         mode: ConnectionType,
-        /// Refused: functors cannot be told apart (`Qt::UniqueConnection`).
+        /// Refused: functors cannot be compared (`Qt::UniqueConnection`).
         unique: bool,
-        /// Taken out before its functor is first called (`Qt::SingleShotConnection`).
+        /// Removed before its functor is first called (`Qt::SingleShotConnection`).
         single: bool,
     },
-    /// Breaks the connection of this number, and replies whether it stood.
+    /// Breaks the connection of this number, and replies whether it existed.
     DisconnectOne {
         connection: u32,
     },
-    /// Breaks all connections of a sender that match, and replies how many: of any signal, to any
-    /// receiver, to any of its methods, where none is named. A method is named only beside a receiver.
+    /// Breaks all connections of a sender that match, and replies how many. A signal, receiver or method that is
+    /// not named matches any. A method is named only together with a receiver.
     Disconnect {
         sender: u32,
         signal: Option<Text>,
@@ -76,8 +75,8 @@ pub enum Command {
         /// How soon the event is taken.
         priority: Priority,
     },
-    /// Takes events until there is none or the turns are used up, and replies how many, how many are left,
-    /// and how many calls were ever lost.
+    /// Takes events until the queue is empty or the turns are used up, and replies how many were taken, how many
+    /// are left, and how many calls were ever lost.
     Spin,
     /// Posts the deletion of an object (`QObject::deleteLater`).
     DeleteLater {
@@ -129,10 +128,10 @@ pub enum Command {
         object: u32,
         property: Text,
     },
-    /// Begins a group, in which changes of properties are not told, and replies how many are open.
+    /// Begins a group, which holds back the notifications of property changes, and replies how many are open.
     Begin,
-    /// Ends a group, and replies how many are left. With the outermost all that has changed since it began
-    /// is told.
+    /// Ends a group, and replies how many are left. Ending the outermost group notifies of all that has changed
+    /// since it began.
     End,
     /// Replies what it asks for. The session stays unchanged.
     Ask(Query),

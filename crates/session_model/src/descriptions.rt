@@ -17,7 +17,7 @@ pub struct ObjectDescription {
     pub connections_to: u32,
     /// How many events in the queue name it.
     pub events: u32,
-    /// A root stands on level 1.
+    /// A root is on level 1.
     pub level: usize,
     pub parent: Option<u32>,
 }
@@ -44,7 +44,7 @@ pub struct DeclaredProperty {
     pub class: Text,
     pub kind: Kind,
     pub name: Text,
-    /// The text of the signal that tells of a change, where there is one.
+    /// The text of its notify signal, where it has one.
     pub notify: Option<Text>,
 }
 
@@ -209,12 +209,12 @@ impl Drop for ConnectionDescription {
 pub struct PropertyDescription {
     pub bindable: bool,
     pub bound: bool,
-    /// The error that it stands for where it is bound.
+    /// The error of its binding, where it is bound and has one.
     pub error: Option<BindingError>,
     /// A dynamic property has no kind.
     pub kind: Option<Kind>,
     pub name: Text,
-    /// The text of the signal that tells of a change, where there is one.
+    /// The text of its notify signal, where it has one.
     pub notify: Option<Text>,
     pub value: Value,
 }

@@ -35,29 +35,28 @@ pub use operation::Operation;
 pub use post::Post;
 pub use query::Query;
 
-/// The machine of metad's sessions keeps the laws under which the theory of isolated sessions holds:
-/// names are told apart, a post that no join names is passed over, and only an accepted join adds a
-/// name to those that a session listens to.
+/// The machine of metad's sessions satisfies the laws that the theory of isolated sessions needs: names can be
+/// compared, a session ignores a post that it has not joined, and only an accepted join adds a name to those that a
+/// session listens to.
 pub fn machine_is_lawful()
     ensures { IsMetadLawful }
 {}
 
-/// The run of an agenda does its items one after another, up to the last, and an agenda behind another
-/// one after it.
+/// An agenda is run in order, up to its last item; what an item leads to is done before the items after it. Two
+/// agendas joined into one are run one after the other.
 pub fn agenda_runs_to_its_end()
     ensures { RunsToItsEnd }
 {}
 
-/// A session stays sound: between commands its objects stand in trees within the limits, none is being
-/// deleted, and both ends of every connection stand. Each has the properties that its class declares, with
-/// values of their kinds, and no more dynamic ones than it may have. What is bound are properties that are
-/// there and may be bound; there are no more bindings, and no more groups open, than there may be, and what
-/// properties showed before is kept while a group is open and no longer. Its events are no more than there
-/// may be, and the object that an event names stands: what is deleted takes its events and bindings with it.
-/// What is called, connected, published and joined is there and fits: a call has as many arguments as its
-/// callee has parameters, each of its kind and no text too long, and so has what is posted to the others.
-/// A join names at most 10 types. Its dynamic properties and publications are called by names, and its joins
-/// name sessions and publications by names, as long as its commands use names there.
+/// A session stays sound: between commands its objects form trees within the limits, no object is being deleted,
+/// and both ends of every connection exist. Each object has the properties that its class declares, with values of
+/// their kinds, and no more dynamic ones than the limit. Only bindable properties that exist are bound. Bindings,
+/// open groups and events stay within their limits, and what properties showed before is kept only while a group is
+/// open. The object that an event names exists: deleting an object deletes its events and bindings. What is called,
+/// connected, published and joined exists and fits: a call has as many arguments as its callee has parameters, each
+/// of its kind and no text too long, and so has each post to other sessions. A join names at most 10 types. The
+/// dynamic properties, publications and joins of a session have valid names, provided that its commands use valid
+/// names there.
 pub fn commands_keep_sessions_sound()
     ensures commands { KeepsSound }
     ensures items { KeepsUnderWay }
@@ -66,8 +65,8 @@ pub fn commands_keep_sessions_sound()
     ensures names { KeepsNamed }
 {}
 
-/// An action does over the arguments of its slot what it does with them put in, over none. So a body is
-/// run where it stands, and no copy of it is needed.
+/// Running an action with the arguments of its slot has the same effect as putting the arguments in first and
+/// running it without any. So the body of a slot is run without a copy of it.
 pub fn actions_run_in_place()
     ensures { ActsInPlace }
 {}

@@ -1,9 +1,8 @@
 //! What a server allows, in numbers.
 ghost use Rattle.session_model.specs.Limits.{AreTheLimits};
 
-/// The number of each limit of sessions, of their classes and of functors. There is nothing to run: other
-/// clauses know limits by their names, and this one says what the names stand for. What a run reads at most
-/// stands with the runs.
+/// The value of each limit of sessions, classes and functors. There is nothing to run: other clauses use limits by
+/// name, and this one gives their numbers. The limits of what a run reads are given where runs are defined.
 pub fn limits_are_these()
     ensures { AreTheLimits }
 {}

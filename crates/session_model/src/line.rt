@@ -1,4 +1,4 @@
-//! Clients are told lines.
+//! The lines that clients receive.
 use crate::boxed::Boxed;
 use crate::call::Call;
 use crate::descriptions::{
@@ -45,15 +45,15 @@ pub enum Answer {
     Binding(Option<Boxed<Expr>>),
 }
 
-/// The answer tells how many events were taken, and how many are left.
+/// The answer to `spin`.
 #[derive(Clone, Copy)]
 pub struct Spin {
     /// How many were taken.
     pub events: u32,
     /// How many are still in the queue.
     pub left: u32,
-    /// How many calls were lost in this session, since the queue was full, and how many posts met a join
-    /// of other types.
+    /// How many calls were lost in this session because the queue was full; `mismatched` is how many posts met a
+    /// join of other types.
     pub lost: u64,
     pub mismatched: u64,
 }
@@ -74,7 +74,7 @@ pub struct Status {
     pub queued: u32,
 }
 
-/// One line of what a session is told.
+/// One line that a session receives.
 pub enum Line {
     Reply(Answer),
     /// The command was refused.

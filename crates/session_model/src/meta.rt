@@ -1,4 +1,4 @@
-//! Clients are told of a class.
+//! The meta-object of a class, as clients receive it.
 use plain_types::{Items, Text};
 
 /// A meta-object describes a class, as Qt's `QMetaObject` does.

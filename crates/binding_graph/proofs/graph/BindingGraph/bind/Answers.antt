@@ -1,12 +1,8 @@
-use Rattle.binding_graph.proofs.GraphAndCacheLemmas.{bound_in_step, pending_in_step}
+use Rattle.binding_graph.proofs.GraphAndCacheLemmas.{bound_in_step}
 use Rattle.binding_graph.proofs.graph.BindingGraph.bind.Goals as goal
 
 pub returns-in_err-put-clause-step : goal.returns-in_err-put-clause-step
-returns-in_err-put-clause-step c =
-    rw (← c.self.view_is, c.in_err-put.ensures.err)
-    (λ store marks step. pending_in_step store marks c.mark_once.new.self
-    (record { bindings = c.self.inside.bindings; last = c.self.inside.last; depth = c.self.inside.depth })
-    (record { kept = c.self.inside.kept; pending = c.self.inside.pending; evaluations = c.self.inside.evaluations }) c.mark_once.ensures.kept step)
+returns-in_err-put-clause-step c = rw (← c.self.view_is, c.in_err-put.ensures.err) (λ store marks step. step)
 
 pub returns-clause-step : goal.returns-clause-step
 returns-clause-step c =

@@ -9,7 +9,7 @@ use Rattle.property_store.specs.declared.link.Head.TheVariants.{First}
 use Rattle.property_store.specs.declared.row.Row.{Row}
 use Rattle.property_store.specs.Chain.{AreNew, is_all}
 use Rattle.property_store.specs.Inside.{head_at, limited, shown}
-use Rattle.property_store.specs.Store.{default_of, fields_in, fresh}
+use Rattle.property_store.specs.Store.{fields_in, fresh}
 use Rattle.property_store.proofs.ComeLemmas.{come_kept, come_marks}
 use Rattle.property_store.proofs.PlaceLemmas.{new_added, new_kept, no_key, shelves_seen}
 use Rattle.property_store.proofs.StoreLemmas.{number}
@@ -25,9 +25,6 @@ row c = record { object = c.args.object; class = c.args.class; values = c.in_ok-
 
 abbrev fields : (c : goal.After-set_first) → List Field
 fields c = fields_in c.self.inside.layouts c.args.class
-
-values_are : (c : goal.After-set_first) → c.in_ok-defaults.field-0 ≡ map (λ (field : Field). default_of field.kind) (fields c)
-values_are c = search rules
 
 is_fresh : (c : goal.After-set_first) → shown c.self.inside.layouts (row c) ≡ fresh c.args.object (fields c)
 is_fresh c = search rules

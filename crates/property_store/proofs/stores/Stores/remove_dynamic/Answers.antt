@@ -1,15 +1,12 @@
-use Rattle.std.proofs.Common.{[], ap, arith, length, refl, sym}
+use Rattle.std.proofs.Common.{[], arith, refl, sym}
 use Rattle.std.proofs.lemmas.Grind.{common_steps}
-use Rattle.shared_rows.proofs.ForCallers.{with_same}
 use Rattle.shared_rows.specs.Rows.{rows_at}
-use Rattle.property_store.specs.declared.link.Head.TheVariants.{None}
-use Rattle.property_store.specs.declared.row.Row.{Row}
 use Rattle.property_store.specs.Inside.{head_at, limited}
 use Rattle.property_store.specs.Store.{without_dynamic}
-use Rattle.property_store.proofs.HeadLemmas.{IsRowChanged, as_changed}
+use Rattle.property_store.proofs.HeadLemmas.{IsRowChanged, as_changed, row_changed, same_head}
 use Rattle.property_store.proofs.PlaceLemmas.{nothing_changed, rows_open, shelves_seen, under_sound}
 use Rattle.property_store.proofs.WriteLemmas.{dynamic_removed, removed_kept}
-use Rattle.property_store.proofs.WrittenLemmas.{kept_same, marks_as_before}
+use Rattle.property_store.proofs.WrittenLemmas.{kept_beside, marks_beside}
 use Rattle.property_store.proofs.stores.Stores.remove_dynamic.Goals as goal
 
 -- the row of the object is changed
@@ -17,20 +14,8 @@ changed : (c : goal.After-update) → IsRowChanged c.self.inside.layouts c.self.
     c.args.self.now c.args.place c.in-Some.key c.args.object c.update.ensures.3.shown.now c.update.ensures.3.left.now (head_at c.self.inside.heads c.args.place)
 changed c =
     let done = c.update.ensures in
-    record {
-      kept = c.self.invariant;
-      view_is = c.self.view_is;
-      is_place = c.requires;
-      sound = c.find.ensures.sound;
-      found = sym c.in-Some.ensures.found;
-      lent = done.0;
-      under = done.2;
-      lends = done.3.shows;
-      left = done.1;
-      leaves = done.3.leaves;
-      rows_are = done.4;
-      heads_are = sym (with_same None c.self.inside.heads c.args.place);
-    }
+    row_changed c.self.invariant c.self.view_is c.requires c.find.ensures.sound c.in-Some.ensures.found done.2 done.3.shows done.3.leaves done.4
+    (same_head c.self.inside.heads c.args.place)
 
 pub returns-in_default-clause-stores : goal.returns-in_default-clause-stores
 returns-in_default-clause-stores c = nothing_changed (limited c.self.inside.rows c.self.inside.heads.room)
@@ -43,18 +28,14 @@ update-requires-clause-callable c = λ lent under.
     (shelves_seen c.self.view_is) c.args.place c.requires)) c.in-Some.key lent.now under).distinct
 
 pub invariant_of-self : goal.invariant_of-self
-invariant_of-self c =
-    let rest = c.update.ensures.3.met.rest in
-    kept_same (changed c) (ap (λ (r : Row). r.links) rest) (ap (λ (r : Row). length r.values) rest) (ap (λ (r : Row). r.object) rest) refl
+invariant_of-self c = kept_beside (changed c) c.update.ensures.3.met.rest refl
     (removed_kept (as_changed (changed c)) {name = c.args.name.now} c.update.ensures.3.met)
 
 pub returns-clause-stores : goal.returns-clause-stores
 returns-clause-stores c = dynamic_removed (as_changed (changed c)) c.update.ensures.3.met
 
 pub returns-clause-marks : goal.returns-clause-marks
-returns-clause-marks c =
-    let rest = c.update.ensures.3.met.rest in
-    marks_as_before (changed c) (ap (λ (r : Row). r.links) rest) (ap (λ (r : Row). length r.values) rest) (ap (λ (r : Row). r.object) rest) refl
+returns-clause-marks c = marks_beside (changed c) c.update.ensures.3.met.rest refl
 
 pub find-requires : goal.find-requires
 find-requires c = grind (arith, common_steps)

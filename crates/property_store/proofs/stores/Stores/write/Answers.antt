@@ -1,37 +1,33 @@
-use Rattle.std.proofs.Common.{Err, Ok, arith, cond, refl, sym, rules}
+use Rattle.std.proofs.Common.{◌≡◌, Err, None, Ok, arith, cond, refl, sym, rules}
 use Rattle.std.proofs.lemmas.Grind.{common_steps}
-use Rattle.shared_rows.proofs.ForCallers.{with_same}
-use Rattle.property_store.specs.declared.link.Head.TheVariants.{First, None}
+use Rattle.property_store.specs.declared.link.Head.TheVariants.{First}
 use Rattle.property_store.specs.Inside.{head_at, limited}
-use Rattle.property_store.specs.Store.{fields_in}
+use Rattle.property_store.specs.Store.{fields_in, properties_of}
 use Rattle.property_store.specs.Storing.{IsStored}
 use Rattle.property_store.specs.Table.{store_at}
-use Rattle.property_store.proofs.HeadLemmas.{IsRowChanged, as_changed, each_many}
+use Rattle.property_store.proofs.HeadLemmas.{IsRowChanged, as_changed, each_many, row_changed, same_head}
 use Rattle.property_store.proofs.PlaceLemmas.{nothing, rows_open, shelves_seen}
 use Rattle.property_store.proofs.WriteLemmas.{nothing_written, row_written}
 use Rattle.property_store.proofs.WrittenLemmas.{nothing_marked, refused_same, stored_kept, stored_marks}
 use Rattle.property_store.proofs.stores.Stores.write.Goals as goal
 
 -- there is no such object
+nothing_there : (c : goal.After-drop-value) → properties_of (store_at c.args.self.now.shelves c.args.place) c.args.object ≡ None
+nothing_there c = nothing (limited c.self.inside.rows c.self.inside.heads.room) (shelves_seen c.self.view_is) c.args.place c.requires.place c.args.object
+    (sym c.in_default.ensures.found)
+
 pub returns-in_default-clause-refused : goal.returns-in_default-clause-refused
-returns-in_default-clause-refused c = (nothing_written c.args.self.now.shelves c.args.place c.args.object c.args.value
-    (nothing (limited c.self.inside.rows c.self.inside.heads.room) (shelves_seen c.self.view_is) c.args.place c.requires.place c.args.object
-    (sym c.in_default.ensures.found)) c.args.number).refused
+returns-in_default-clause-refused c = (nothing_written c.args.self.now.shelves c.args.place c.args.object c.args.value (nothing_there c) c.args.number).refused
 
 pub returns-in_default-clause-answer : goal.returns-in_default-clause-answer
-returns-in_default-clause-answer c = (nothing_written c.args.self.now.shelves c.args.place c.args.object c.args.value
-    (nothing (limited c.self.inside.rows c.self.inside.heads.room) (shelves_seen c.self.view_is) c.args.place c.requires.place c.args.object
-    (sym c.in_default.ensures.found)) c.args.number).answer
+returns-in_default-clause-answer c = (nothing_written c.args.self.now.shelves c.args.place c.args.object c.args.value (nothing_there c) c.args.number).answer
 
 pub returns-in_default-clause-new : goal.returns-in_default-clause-new
-returns-in_default-clause-new c = (nothing_written c.args.self.now.shelves c.args.place c.args.object c.args.value
-    (nothing (limited c.self.inside.rows c.self.inside.heads.room) (shelves_seen c.self.view_is) c.args.place c.requires.place c.args.object
-    (sym c.in_default.ensures.found)) c.args.number).new_is
+returns-in_default-clause-new c = (nothing_written c.args.self.now.shelves c.args.place c.args.object c.args.value (nothing_there c) c.args.number).new_is
 
 pub returns-in_default-clause-marks : goal.returns-in_default-clause-marks
 returns-in_default-clause-marks c = nothing_marked c.args.place c.args.object (store_at c.args.self.now.shelves c.args.place) c.args.self.now.marks
-    (nothing (limited c.self.inside.rows c.self.inside.heads.room) (shelves_seen c.self.view_is) c.args.place c.requires.place c.args.object
-    (sym c.in_default.ensures.found)) c.args.number c.args.value
+    (nothing_there c) c.args.number c.args.value
 
 pub write_under-requires-clause-many : goal.write_under-requires-clause-many
 write_under-requires-clause-many c = each_many c.self.invariant c.args.place
@@ -42,20 +38,8 @@ refused_row : (c : goal.In-Err) → IsRowChanged c.self.inside.layouts c.self.in
     c.args.self.now c.args.place c.in-Some.key c.args.object c.write_under.ensures.row c.write_under.ensures.changed (head_at c.self.inside.heads c.args.place)
 refused_row c =
     let done = c.write_under.ensures in
-    record {
-      kept = c.self.invariant;
-      view_is = c.self.view_is;
-      is_place = c.requires.place;
-      sound = c.find.ensures.sound;
-      found = sym c.in-Some.ensures.found;
-      lent = done.row;
-      under = done.under;
-      lends = refl;
-      left = done.changed;
-      leaves = refl;
-      rows_are = done.new_is;
-      heads_are = sym (with_same None c.self.inside.heads c.args.place);
-    }
+    row_changed c.self.invariant c.self.view_is c.requires.place c.find.ensures.sound c.in-Some.ensures.found done.under refl refl done.new_is
+    (same_head c.self.inside.heads c.args.place)
 
 refused : (c : goal.In-Err) → IsStored (fields_in c.self.inside.layouts c.write_under.ensures.row.class) c.args.number c.args.value
     (head_at c.self.inside.heads c.args.place) c.write_under.ensures.row c.write_under.ensures.changed (Err c.in-Err.code)
@@ -82,20 +66,8 @@ stored_row : (c : goal.After-set_first) → IsRowChanged c.self.inside.layouts c
     (cond c.in-Ok.stored.is_linked (First (record { object = c.args.object; number = c.args.number })) (head_at c.self.inside.heads c.args.place))
 stored_row c =
     let done = c.write_under.ensures in
-    record {
-      kept = c.self.invariant;
-      view_is = c.self.view_is;
-      is_place = c.requires.place;
-      sound = c.find.ensures.sound;
-      found = sym c.in-Some.ensures.found;
-      lent = done.row;
-      under = done.under;
-      lends = refl;
-      left = done.changed;
-      leaves = refl;
-      rows_are = done.new_is;
-      heads_are = c.set_first.ensures;
-    }
+    row_changed c.self.invariant c.self.view_is c.requires.place c.find.ensures.sound c.in-Some.ensures.found done.under refl refl done.new_is
+    c.set_first.ensures
 
 stored : (c : goal.After-set_first) → IsStored (fields_in c.self.inside.layouts c.write_under.ensures.row.class) c.args.number c.args.value
     (head_at c.self.inside.heads c.args.place) c.write_under.ensures.row c.write_under.ensures.changed (Ok c.in-Ok.stored)

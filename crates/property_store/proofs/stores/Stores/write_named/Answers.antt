@@ -1,32 +1,30 @@
-use Rattle.std.proofs.Common.{Err, Ok, arith, cond, refl, sym, rules}
+use Rattle.std.proofs.Common.{◌≡◌, Err, None, Ok, arith, cond, refl, sym, rules}
 use Rattle.std.proofs.lemmas.Grind.{common_steps}
-use Rattle.shared_rows.proofs.ForCallers.{with_same}
-use Rattle.property_store.specs.declared.link.Head.TheVariants.{First, None}
+use Rattle.property_store.specs.declared.link.Head.TheVariants.{First}
 use Rattle.property_store.specs.Inside.{head_at, limited}
-use Rattle.property_store.specs.Store.{fields_in}
+use Rattle.property_store.specs.Store.{fields_in, properties_of}
 use Rattle.property_store.specs.Storing.{IsNamed}
 use Rattle.property_store.specs.Table.{store_at}
-use Rattle.property_store.proofs.HeadLemmas.{IsRowChanged, as_changed, under_many}
+use Rattle.property_store.proofs.HeadLemmas.{IsRowChanged, as_changed, row_changed, same_head, under_many}
 use Rattle.property_store.proofs.PlaceLemmas.{nothing, rows_open, shelves_seen}
 use Rattle.property_store.proofs.WriteLemmas.{name_written, nothing_named}
 use Rattle.property_store.proofs.WrittenLemmas.{named_kept, named_marks, named_same, no_name_marked}
 use Rattle.property_store.proofs.stores.Stores.write_named.Goals as goal
 
 -- there is no such object
+nothing_there : (c : goal.In_default) → properties_of (store_at c.args.self.now.shelves c.args.place) c.args.object ≡ None
+nothing_there c = nothing (limited c.self.inside.rows c.self.inside.heads.room) (shelves_seen c.self.view_is) c.args.place c.requires.place c.args.object
+    (sym c.in_default.ensures.found)
+
 pub returns-in_default-clause-answer : goal.returns-in_default-clause-answer
-returns-in_default-clause-answer c = (nothing_named c.args.self.now.shelves c.args.place c.args.object c.args.value
-    (nothing (limited c.self.inside.rows c.self.inside.heads.room) (shelves_seen c.self.view_is) c.args.place c.requires.place c.args.object
-    (sym c.in_default.ensures.found)) c.args.name.now).answer
+returns-in_default-clause-answer c = (nothing_named c.args.self.now.shelves c.args.place c.args.object c.args.value (nothing_there c) c.args.name.now).answer
 
 pub returns-in_default-clause-new : goal.returns-in_default-clause-new
-returns-in_default-clause-new c = (nothing_named c.args.self.now.shelves c.args.place c.args.object c.args.value
-    (nothing (limited c.self.inside.rows c.self.inside.heads.room) (shelves_seen c.self.view_is) c.args.place c.requires.place c.args.object
-    (sym c.in_default.ensures.found)) c.args.name.now).new_is
+returns-in_default-clause-new c = (nothing_named c.args.self.now.shelves c.args.place c.args.object c.args.value (nothing_there c) c.args.name.now).new_is
 
 pub returns-in_default-clause-marks : goal.returns-in_default-clause-marks
 returns-in_default-clause-marks c = no_name_marked c.args.place c.args.object (store_at c.args.self.now.shelves c.args.place) c.args.self.now.marks
-    (nothing (limited c.self.inside.rows c.self.inside.heads.room) (shelves_seen c.self.view_is) c.args.place c.requires.place c.args.object
-    (sym c.in_default.ensures.found)) c.args.name.now c.args.value
+    (nothing_there c) c.args.name.now c.args.value
 
 pub update-requires-clause-callable : goal.update-requires-clause-callable
 update-requires-clause-callable c = λ lent under. under_many c.self.invariant c.args.place
@@ -37,20 +35,8 @@ refused_row : (c : goal.In-Err) → IsRowChanged c.self.inside.layouts c.self.in
     c.args.self.now c.args.place c.in-Some.key c.args.object c.update.ensures.3.shown.now c.update.ensures.3.left.now (head_at c.self.inside.heads c.args.place)
 refused_row c =
     let done = c.update.ensures in
-    record {
-      kept = c.self.invariant;
-      view_is = c.self.view_is;
-      is_place = c.requires.place;
-      sound = c.find.ensures.sound;
-      found = sym c.in-Some.ensures.found;
-      lent = done.0;
-      under = done.2;
-      lends = done.3.shows;
-      left = done.1;
-      leaves = done.3.leaves;
-      rows_are = done.4;
-      heads_are = sym (with_same None c.self.inside.heads c.args.place);
-    }
+    row_changed c.self.invariant c.self.view_is c.requires.place c.find.ensures.sound c.in-Some.ensures.found done.2 done.3.shows done.3.leaves done.4
+    (same_head c.self.inside.heads c.args.place)
 
 refused : (c : goal.In-Err) → IsNamed (fields_in c.self.inside.layouts c.update.ensures.3.shown.now.class) c.args.name.now c.args.value
     (head_at c.self.inside.heads c.args.place) c.update.ensures.3.shown.now c.update.ensures.3.left.now (Err c.in-Err.unwritten)
@@ -80,20 +66,8 @@ stored_row : (c : goal.After-set_first) → IsRowChanged c.self.inside.layouts c
     (cond c.in-Ok.stored.1.is_linked (First (record { object = c.args.object; number = c.in-Ok.stored.0 })) (head_at c.self.inside.heads c.args.place))
 stored_row c =
     let done = c.update.ensures in
-    record {
-      kept = c.self.invariant;
-      view_is = c.self.view_is;
-      is_place = c.requires.place;
-      sound = c.find.ensures.sound;
-      found = sym c.in-Some.ensures.found;
-      lent = done.0;
-      under = done.2;
-      lends = done.3.shows;
-      left = done.1;
-      leaves = done.3.leaves;
-      rows_are = done.4;
-      heads_are = c.set_first.ensures;
-    }
+    row_changed c.self.invariant c.self.view_is c.requires.place c.find.ensures.sound c.in-Some.ensures.found done.2 done.3.shows done.3.leaves done.4
+    c.set_first.ensures
 
 stored : (c : goal.After-set_first) → IsNamed (fields_in c.self.inside.layouts c.update.ensures.3.shown.now.class) c.args.name.now c.args.value
     (head_at c.self.inside.heads c.args.place) c.update.ensures.3.shown.now c.update.ensures.3.left.now (Ok c.in-Ok.stored)
