@@ -1,4 +1,4 @@
--- The table that a class file gives.
+-- The table of a class file.
 use Rattle.std.specs.Prelude.{◌+◌, ℕ, List, [], ◌∷◌, ◌++◌, Option, None, Result, Ok, codes, length, nat_le, if◌then◌else◌}
 use Rattle.std.specs.Option.{ok_or}
 use Rattle.std.specs.Str.{is_utf8}
@@ -14,14 +14,14 @@ use Rattle.class_table.specs.Steps.{Read, ◌>>=◌, provided, numbered}
 use Rattle.class_table.specs.Written.{at_key, array_in}
 use Rattle.class_table.specs.Declaring.{class_of, q_object}
 
--- the JSON that a file is
+-- The JSON in a file.
 abbrev pub json_of : List ℕ → Option Data
 json_of bytes = if is_utf8 bytes then read bytes else None
 
 unfoldable pub json_in : List ℕ → Read Data
 json_in bytes = provided (nat_le (length bytes) FILE_BYTES) Limit (ok_or (json_of bytes) NotJson)
 
--- the classes that are written in a file
+-- The classes in a file.
 unfoldable pub classes_in : Data → Read (List Data)
 classes_in json =
     at_key (codes "classes") json >>= λ found.
@@ -29,12 +29,12 @@ classes_in json =
     provided (has_only (codes "classes" ∷ []) json) BadForm (
     provided (nat_le (length written) CLASSES) Limit (Ok written))
 
--- classes declared one behind another, the first of them by this number
+-- Classes that are declared one after another. The first of them has this number.
 unfoldable pub declared : ℕ → List Class → List Data → Result (List Class) ClassFault
 declared number classes [] = Ok classes
 declared number classes (json ∷ rest) = numbered number (class_of classes json) >>= λ class. declared (number + 1) (classes ++ class ∷ []) rest
 
--- the classes of a file behind `QObject`, or the first fault; the file as a whole has the number 0
+-- The classes of a file after `QObject`, or the first fault. The file as a whole has the number 0.
 unfoldable pub table_of : List ℕ → Result (List Class) ClassFault
 table_of bytes =
     numbered 0 (json_in bytes) >>= λ json.

@@ -1,4 +1,4 @@
--- What a written class declares, behind the classes that are there.
+-- The declaration of a class after the classes that exist.
 use Rattle.std.specs.Prelude.{◌&&◌, ◌+◌, ℕ, Bool, true, false, List, [], ◌∷◌, ◌++◌, Option, Some, None, Result}
 use Rattle.std.specs.Prelude.{Ok, Err, codes, length, map, position, slice_get, nat_le, is_none}
 use Rattle.std.specs.Option.{ok_or, option_map_or}
@@ -25,7 +25,7 @@ use Rattle.class_table.specs.Lookup.{is_same, methods, properties, index_of, sig
 use Rattle.class_table.specs.Steps.{Read, ◌>>=◌, provided, each}
 use Rattle.class_table.specs.Written.{WrittenMethod, WrittenProperty, WrittenClass, class_in}
 
--- a method with its signature, and with its body as it is written; a signal has none
+-- A method with its signature, and with its body in JSON. A signal has no body.
 pub record SignedMethod : Type 0 where
   pub signature : Signature
   pub body : Option Data
@@ -41,24 +41,25 @@ new_signatures = map (λ method. method.signature)
 abbrev pub new_names : List WrittenProperty → List (List ℕ)
 new_names = map (λ property. property.name)
 
--- the number that a signature has, where the new methods stand behind those of the superclass
+-- The number of the method with a signature. New methods follow those of the superclass.
 abbrev pub number_of : List Method → List SignedMethod → Signature → Option ℕ
 number_of base new wanted = position (λ there. is_same there wanted) (signatures base ++ new_signatures new)
 
--- is the method of this number a signal
+-- For each method, whether it is a signal.
 abbrev pub are_signals : List Method → List SignedMethod → List Bool
 are_signals base new = map (λ method. method.is_signal) base ++ map (λ method. is_none method.body) new
 
 abbrev pub is_signal_at : List Method → List SignedMethod → ℕ → Bool
 is_signal_at base new number = option_map_or (λ signal. signal) (slice_get (are_signals base new) number) false
 
--- a signal may tell a value of this kind, or nothing
+-- Whether a signal with these parameters may be the NOTIFY signal of a property of this kind: one parameter of the kind,
+-- or none.
 abbrev pub tells : Kind → List Kind → Bool
 tells kind [] = true
 tells kind (first ∷ []) = is_same_kind first kind
 tells kind (first ∷ second ∷ rest) = false
 
--- the number of the signal that a property is to send
+-- The number of a property's NOTIFY signal.
 unfoldable pub signal_named : List Method → List SignedMethod → Kind → List ℕ → Read ℕ
 signal_named base new kind text = do
   wanted ← ok_or (signature_of text) BadNotify
@@ -73,15 +74,15 @@ property_of base new written = do
   notify ← notify_of base new written
   Ok (record { name = written.name; kind = written.kind; notify = notify; bindable = written.bindable })
 
--- a signal with so many parameters does nothing of itself
+-- The body of a signal with this many parameters, which does nothing.
 abbrev pub empty_body : ℕ → Body
 empty_body params = record { params = params; actions = [] }
 
--- the body `[{"deleteLater":"self"}]`
+-- The body `[{"deleteLater":"self"}]`.
 abbrev pub delete_later_body : Body
 delete_later_body = record { params = 0; actions = single_action (DeleteLater Itself) ∷ [] }
 
--- the fault of a class whose slot has a body with this fault
+-- The fault of a class with a slot whose body has this fault.
 abbrev pub body_fault : Code → ClassFaultKind
 body_fault code.Limit = Limit
 body_fault _ = BadBody
@@ -90,11 +91,11 @@ abbrev pub body_in : Result Body Code → Read Body
 body_in (Ok body) = Ok body
 body_in (Err fault) = Err (body_fault fault)
 
--- the signal of this signature, which does nothing of itself
+-- The signal with this signature.
 abbrev pub signal_of : Signature → Method
 signal_of signature = record { signature = signature; text = text_of signature; is_signal = true; body = empty_body (length signature.kinds) }
 
--- the slot of this signature, which does this
+-- The slot with this signature and body.
 abbrev pub slot_of : Signature → Body → Method
 slot_of signature body = record { signature = signature; text = text_of signature; is_signal = false; body = body }
 
@@ -104,23 +105,23 @@ method_of new = option_map_or
     new.body
     (Ok (signal_of new.signature))
 
--- is nothing declared twice, superclasses included
+-- Whether nothing is declared twice, superclasses included.
 unfoldable pub is_declared_once : List Method → List SignedMethod → List Property → List WrittenProperty → Bool
 is_declared_once base new held written =
     are_distinct_methods (signatures base ++ new_signatures new) && are_distinct_properties (names held ++ new_names written)
 
--- are there no more methods and properties than a class may have
+-- Whether there are at most as many methods and properties as a class may have.
 abbrev pub is_within_limits : List Method → List SignedMethod → List Property → List WrittenProperty → Bool
 is_within_limits base new held written =
     nat_le (length base + length new) METHODS && nat_le (length held + length written) PROPERTIES
 
--- what is declared may stand below a superclass: nothing is declared twice, and not too much
+-- The check of a declaration below a superclass: nothing is declared twice, and there is not too much.
 abbrev pub may_stand : List Method → List SignedMethod → List Property → List WrittenProperty → Read (Unit {0})
 may_stand base new held written =
     provided (is_declared_once base new held written) DeclaredTwice (
     provided (is_within_limits base new held written) Limit (Ok tt))
 
--- the class that has these methods, and the properties that are written
+-- The class with these methods, and with the properties in JSON.
 abbrev pub class_with : List Class → ℕ → WrittenClass → List SignedMethod → Read Class
 class_with classes base written new =
     each (property_of (methods classes base) new) written.properties >>= λ own_properties.
@@ -134,7 +135,7 @@ class_with classes base written new =
       properties = own_properties;
     })
 
--- the class that is declared below a superclass
+-- The class that is declared below a superclass.
 unfoldable pub class_below : List Class → ℕ → WrittenClass → Read Class
 class_below classes base written =
     each signed_of written.methods >>= λ new.
@@ -142,7 +143,7 @@ class_below classes base written =
     provided (is_within_limits (methods classes base) new (properties classes base) written.properties) Limit (
     class_with classes base written new))
 
--- the class that is written
+-- The class in JSON.
 unfoldable pub class_of : List Class → Data → Read Class
 class_of classes json =
     class_in json >>= λ written.
@@ -150,7 +151,7 @@ class_of classes json =
     ok_or (index_of written.base classes) NoSuperclass >>= λ base.
     class_below classes base written)
 
--- the class that all others are below
+-- The class below which all others are.
 abbrev pub q_object : Class
 q_object = record {
   name = codes "QObject";

@@ -1,4 +1,4 @@
--- What the code reads of a written class.
+-- A class in JSON, as the code reads it.
 use Rattle.std.specs.Prelude.{map, option_map}
 use Rattle.serde_json.specs.View.{view}
 use Rattle.class_table.specs.declared.form.MethodForm.{MethodForm}

@@ -1,4 +1,4 @@
--- What a class has of its own and from its superclasses.
+-- What a class declares, and what it has from its superclasses.
 use Rattle.std.specs.Prelude.{◌==◌, ◌&&◌, ℕ, Bool, true, not, List, [], ◌∷◌, ◌++◌, Option, length, reverse, map, position, bytes_eq, if◌then◌else◌}
 use Rattle.std.specs.List.{list_any}
 use Rattle.std.specs.Option.{option_map_or}
@@ -10,67 +10,67 @@ use Rattle.class_table.specs.declared.class.Class.{Class}
 use Rattle.class_table.specs.declared.class.Method.{Method}
 use Rattle.class_table.specs.declared.class.Property.{Property}
 
--- what the class at a index has, by what each class has of its own: that of the superclass comes first.
--- The classes stand last declared first, and a superclass is declared earlier
+-- Everything that the class at an index has, from what each class declares; that of the superclass comes first. The
+-- classes are given with the last one first, and a superclass is declared earlier.
 unfoldable pub gathered : {A : Type 0} → (ℕ → Class → List A) → List Class → ℕ → List A
 gathered own [] index = []
 gathered own (class ∷ earlier) index =
     if index == length earlier then option_map_or (λ base. gathered own earlier base) class.superclass [] ++ own index class else gathered own earlier index
 
--- the same of classes in the order of the file
+-- Everything that the class at an index has. The classes are given in the order of the file.
 abbrev pub of_class : {A : Type 0} → (ℕ → Class → List A) → List Class → ℕ → List A
 of_class own classes index = gathered own (reverse classes) index
 
--- the class and its superclasses, by index, QObject first
+-- The class and its superclasses, by index, QObject first.
 abbrev pub line : List Class → ℕ → List ℕ
 line = of_class (λ index class. index ∷ [])
 
--- the methods of a class; a method's number is its index among them
+-- The methods of a class. A method's number is its index in this list.
 abbrev pub methods : List Class → ℕ → List Method
 methods = of_class (λ index class. class.methods)
 
--- the properties of a class; a property's number is its index among them
+-- The properties of a class. A property's number is its index in this list.
 abbrev pub properties : List Class → ℕ → List Property
 properties = of_class (λ index class. class.properties)
 
--- what a superclass hands down, where there is one
+-- What the superclass, if there is one, gives to a class.
 abbrev pub inherited : {A : Type 0} → (ℕ → List A) → Option ℕ → List A
 inherited of_base base = option_map_or of_base base []
 
--- two signatures with the same name and the same kinds
+-- Whether two signatures have the same name and the same kinds.
 abbrev pub is_same : Signature → Signature → Bool
 is_same a b = bytes_eq a.name b.name && pointwise is_same_kind a.kinds b.kinds
 
--- the index of the class of this name
+-- The index of the class with this name.
 abbrev pub index_of : List ℕ → List Class → Option ℕ
 index_of name classes = position (λ class. bytes_eq name class.name) classes
 
--- the number of the method with this signature
+-- The number of the method with this signature.
 abbrev pub method_number : Signature → List Method → Option ℕ
 method_number signature ms = position (λ method. is_same method.signature signature) ms
 
--- the number of the property of this name
+-- The number of the property with this name.
 abbrev pub property_number : List ℕ → List Property → Option ℕ
 property_number name ps = position (λ property. bytes_eq property.name name) ps
 
--- a class inherits itself and its superclasses
+-- Whether a class is this one or below it.
 abbrev pub inherits : List Class → ℕ → ℕ → Bool
 inherits classes index base = list_any (λ at. at == base) (line classes index)
 
--- a signature's normal text
+-- A signature's normal text.
 abbrev pub text_of : Signature → List ℕ
 text_of signature = normal_text signature.name signature.kinds
 
--- the text of a method's signature
+-- The text of a method's signature.
 abbrev pub method_text : Method → List ℕ
 method_text method = text_of method.signature
 
--- no two of the list are the same
+-- Whether no two elements of the list are equal.
 abbrev pub is_distinct : {A : Type 0} → (A → A → Bool) → List A → Bool
 is_distinct same [] = true
 is_distinct same (x ∷ xs) = not (list_any (same x) xs) && is_distinct same xs
 
--- are the signatures of methods, and the names of properties, distinct
+-- Whether the signatures are distinct.
 abbrev pub are_distinct_methods : List Signature → Bool
 are_distinct_methods = is_distinct is_same
 

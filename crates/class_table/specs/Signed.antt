@@ -1,4 +1,4 @@
--- What the code keeps of a method that it has the signature of.
+-- A method whose signature the code has read.
 use Rattle.std.specs.Prelude.{option_map}
 use Rattle.serde_json.specs.View.{view}
 use Rattle.class_table.specs.declared.declare.Signed.{Signed}

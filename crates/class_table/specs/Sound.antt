@@ -1,4 +1,4 @@
--- What holds of every table of classes.
+-- What holds for every table of classes.
 use Rattle.std.specs.Prelude.{◌≡◌, ◌<◌, ◌≤◌, ◌+◌, ◌&&◌, ℕ, suc, Bool, true, false, List, [], ◌∷◌, ◌++◌, Some, None, IfSome, IsTrue, is_some, slice_get, length}
 use Rattle.std.specs.List.{All}
 use Rattle.std.specs.Option.{option_map_or, ForSome}
@@ -12,22 +12,22 @@ use Rattle.class_table.specs.Declaring.{q_object, tells}
 use Rattle.class_table.specs.Lookup.{are_distinct_methods, are_distinct_properties, inherited, line}
 use Rattle.class_table.specs.Lookup.{method_text, methods, names, index_of, properties, signatures}
 
--- a method is kept with the text of its signature; its body keeps to the limits, takes no argument but the
--- method's parameters, and sets only what has a name
+-- A method has the text of its signature. Its body keeps to the limits, takes no argument but the method's parameters,
+-- and sets only properties with valid names.
 pub record IsMethod (method : Method) : Type 0 where
   pub text : method.text ≡ method_text method
   pub params : method.body.params ≡ length method.signature.kinds
   pub body : IsBody method.body
 
--- the method of this number is a signal that tells nothing, or a value of this kind
+-- Whether the method with this number is a signal without parameters, or with one of this kind.
 abbrev pub is_told_by : List Method → Kind → ℕ → Bool
 is_told_by methods kind number = option_map_or (λ method. method.is_signal && tells kind method.signature.kinds) (slice_get methods number) false
 
--- what a property is to send, where it is to send something, is such a signal
+-- Whether the NOTIFY signal of a property, if it has one, is such a signal.
 abbrev pub is_told : List Method → Property → Bool
 is_told methods property = option_map_or (is_told_by methods property.kind) property.notify true
 
--- a class of a table: what it has is what its superclass has, and then its own
+-- A class of a table has what its superclass has, and then its own.
 pub record IsClassAt (classes : List Class) (index : ℕ) (class : Class) : Type 0 where
   pub base_is_earlier : ForSome class.superclass (λ base. base < index)
   pub its_line : line classes index ≡ inherited (line classes) class.superclass ++ index ∷ []
@@ -42,8 +42,8 @@ pub record IsClassAt (classes : List Class) (index : ℕ) (class : Class) : Type
   pub each_method : All IsMethod class.methods
   pub each_property : All (λ property. IsTrue (is_told (inherited (methods classes) class.superclass ++ class.methods) property)) class.properties
 
--- a new class has what it needs to stand behind these: its superclass among them, what the offsets say,
--- nothing twice or too often, and sound methods and properties
+-- A new class fits after these classes: its superclass is one of them, its offsets are right, nothing is declared twice,
+-- there is not too much, and its methods and properties are sound.
 pub record FitsBehind (classes : List Class) (class : Class) : Type 0 where
   pub is_new : index_of class.name classes ≡ None
   pub below : IsTrue (is_some class.superclass)
@@ -57,10 +57,10 @@ pub record FitsBehind (classes : List Class) (class : Class) : Type 0 where
   pub each_method : All IsMethod class.methods
   pub each_property : All (λ property. IsTrue (is_told (inherited (methods classes) class.superclass ++ class.methods) property)) class.properties
 
--- the classes of a table, `QObject` and then those of the file in their order
+-- The classes of a table: `QObject`, and then those of the file in order.
 pub record IsTable (classes : List Class) : Type 0 where
   pub few : length classes ≤ CLASSES + 1
   pub first : slice_get classes 0 ≡ Some q_object
-  -- each class but the first has a superclass
+  -- Each class except the first has a superclass.
   pub below : (index : ℕ) → IfSome (slice_get classes (suc index)) (λ class. IsTrue (is_some class.superclass))
   pub each : (index : ℕ) (class : Class) → slice_get classes index ≡ Some class → IsClassAt classes index class

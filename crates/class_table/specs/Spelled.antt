@@ -1,4 +1,4 @@
--- Methods that are found by a text.
+-- Methods that are found by their texts.
 use Rattle.std.specs.Prelude.{◌≡◌, ◌+◌, ℕ, List, Some, slice_get}
 use Rattle.signature_core.specs.declared.signature.Signature.{Signature}
 use Rattle.signature_core.specs.Reading.{IsNormal, signature_of}
@@ -6,11 +6,11 @@ use Rattle.class_table.specs.declared.class.Class.{Class}
 use Rattle.class_table.specs.declared.class.Method.{Method}
 use Rattle.class_table.specs.Lookup.{method_number}
 
--- the text spells a signature, and this is the number of the method that has it
+-- The text spells a signature, and this is the number of the method that has it.
 abbrev pub IsSpelled : List ℕ → List Method → ℕ → Type 0
 IsSpelled text methods number = (signature : Signature) × (signature_of text ≡ Some signature) × (method_number signature methods ≡ Some number)
 
--- the method of this number is one that the class declares itself, and this is its text, which its signature gives
+-- The class itself declares the method with this number, and this is the text of its signature.
 pub record IsOwnText (text : List ℕ) (class : Class) (number : ℕ) : Type 0 where
   pub at : ℕ
   pub method : Method

@@ -5,11 +5,11 @@ use Rattle.class_table.specs.declared.class.Class.{Class}
 use Rattle.class_table.specs.declared.table.ClassTable.TheInside.{Inside}
 use Rattle.class_table.specs.Sound.{IsTable}
 
--- the classes in the order of the file, `QObject` first
+-- The classes in the order of the file, `QObject` first.
 abbrev pub classes_of : Inside → List Class
 classes_of table = values table.classes
 
--- each class is kept by its name, and has what a class of a table has
+-- Each class is stored under its name, and is a class of a table.
 pub record IsSound (table : Inside) : Type 0 where
   pub by_name : map (λ key. string_bytes key) (keys table.classes) ≡ map (λ class. class.name) (values table.classes)
   pub is_table : IsTable (values table.classes)

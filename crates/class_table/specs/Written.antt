@@ -1,4 +1,4 @@
--- How a class is written in JSON.
+-- Classes in JSON.
 use Rattle.std.specs.Prelude.{ℕ, Bool, false, List, [], ◌∷◌, Option, Some, None, Ok, codes, option_map}
 use Rattle.std.specs.Option.{ok_or, option_map_or}
 use Rattle.serde_json.specs.Data.{Data, Items, no_items, item}
@@ -10,7 +10,7 @@ use Rattle.term_core.specs.Json.{has_only}
 use Rattle.class_table.specs.declared.fault.ClassFaultKind.TheVariants.{BadForm}
 use Rattle.class_table.specs.Steps.{Read, ◌>>=◌, provided, each, in_front}
 
--- a signal, or a slot with its body
+-- A signal, or a slot with its body.
 pub record WrittenMethod : Type 0 where
   pub signature : List ℕ
   pub body : Option Data
@@ -21,14 +21,14 @@ pub record WrittenProperty : Type 0 where
   pub notify : Option (List ℕ)
   pub bindable : Bool
 
--- a class, its signals before its slots
+-- A class, its signals before its slots.
 pub record WrittenClass : Type 0 where
   pub name : List ℕ
   pub base : List ℕ
   pub methods : List WrittenMethod
   pub properties : List WrittenProperty
 
--- the elements of an array
+-- The elements of an array.
 abbrev pub elements : Items → List Data
 elements no_items = []
 elements (item json rest) = json ∷ elements rest
@@ -36,30 +36,30 @@ elements (item json rest) = json ∷ elements rest
 abbrev pub array_in : Data → Read (List Data)
 array_in json = ok_or (option_map elements (as_array json)) BadForm
 
--- what stands behind a key that must be there
+-- The value at a key that must be present.
 abbrev pub at_key : List ℕ → Data → Read Data
 at_key key json = ok_or (get key json) BadForm
 
--- what stands behind a key that may be there, read so; or what it is without the key
+-- The value at a key, or a default if the key is absent.
 abbrev pub optional : {A : Type 0} → (Data → Read A) → A → List ℕ → Data → Read A
 optional read absent key json = option_map_or read (get key json) (Ok absent)
 
 abbrev pub text_in : Data → Read (List ℕ)
 text_in json = ok_or (as_str json) BadForm
 
--- the text behind a key that must be there
+-- The text at a key that must be present.
 abbrev pub member_text : List ℕ → Data → Read (List ℕ)
 member_text key json = do
   found ← at_key key json
   text_in found
 
--- the name behind such a key
+-- The name at a key that must be present.
 abbrev pub name_at : List ℕ → Data → Read (List ℕ)
 name_at key json = do
   text ← member_text key json
   provided (is_name text) BadForm (Ok text)
 
--- the kind whose name stands behind such a key
+-- The kind whose name is at a key that must be present.
 abbrev pub kind_at : List ℕ → Data → Read Kind
 kind_at key json = do
   text ← member_text key json
@@ -68,19 +68,19 @@ kind_at key json = do
 abbrev pub truth_in : Data → Read Bool
 truth_in json = ok_or (as_bool json) BadForm
 
--- a text that need not be there
+-- A text that may be absent, if it is present.
 abbrev pub some_text_in : Data → Read (Option (List ℕ))
 some_text_in json = do
   text ← text_in json
   Ok (Some text)
 
--- a signal is the text of its signature
+-- A signal is the text of its signature.
 abbrev pub signal_in : Data → Read WrittenMethod
 signal_in json = do
   signature ← text_in json
   Ok (record { signature = signature; body = None })
 
--- the keys that a slot, a property and a class may have
+-- The keys that a slot, a property and a class may have.
 abbrev pub slot_keys : List (List ℕ)
 slot_keys = codes "sig" ∷ codes "body" ∷ []
 
@@ -90,7 +90,7 @@ property_keys = codes "name" ∷ codes "type" ∷ codes "notify" ∷ codes "bind
 abbrev pub class_keys : List (List ℕ)
 class_keys = codes "name" ∷ codes "super" ∷ codes "signals" ∷ codes "slots" ∷ codes "properties" ∷ []
 
--- a slot has a signature and a body
+-- A slot has a signature and a body.
 unfoldable pub slot_in : Data → Read WrittenMethod
 slot_in json = do
   signature ← member_text (codes "sig") json
@@ -106,7 +106,7 @@ property_in json = do
   bindable ← optional truth_in false (codes "bindable") json
   provided (has_only property_keys json) BadForm (Ok (record { name = name; kind = kind; notify = notify; bindable = bindable }))
 
--- the methods of a class: its signals, and then its slots
+-- The methods of a class: its signals, and then its slots.
 unfoldable pub methods_in : Data → Read (List WrittenMethod)
 methods_in json = do
   signals ← optional array_in [] (codes "signals") json

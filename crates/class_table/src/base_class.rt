@@ -37,7 +37,7 @@ fn object_methods(alloc: Global) -> Result<Items<Method>, AllocError>
     with(methods, delete_later)
 }
 
-/// The methods and one more behind them.
+/// The methods, with another one appended.
 fn with(mut methods: Items<Method>, method: Method) -> Result<Items<Method>, AllocError>
     ensures { IfOk result (λ more. more ≡ methods ++ method ∷ []) }
 {

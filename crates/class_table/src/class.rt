@@ -88,7 +88,7 @@ fn empty_body(alloc: Global, params: usize) -> Body
 pub struct Property {
     pub name: Text,
     pub kind: Kind,
-    /// The number of the signal that tells of a change, among the class's methods.
+    /// The number of its NOTIFY signal among the methods of the class, inherited ones included.
     pub notify: Option<u32>,
     pub bindable: bool,
 }
@@ -166,7 +166,7 @@ impl Class {
     }
 }
 
-/// Where the method with this signature stands.
+/// The index of the method with this signature in the list.
 fn method_index(methods: &[Method], signature: &Signature) -> Option<usize>
     ensures value { result ≡ method_number signature.now methods.now }
     ensures within { IfSome result (λ index. index < length methods.now) }
@@ -176,7 +176,7 @@ fn method_index(methods: &[Method], signature: &Signature) -> Option<usize>
         .position(|method| is_same(&method.signature, signature))
 }
 
-/// Where the method of this normal text stands.
+/// The index of the method with this normal text in the list.
 fn text_index(methods: &[Method], text: &str) -> Option<usize>
     ensures value { result ≡ position (λ method. bytes_eq method.text text.now) methods.now }
     ensures within { IfSome result (λ index. index < length methods.now) }
@@ -193,7 +193,7 @@ fn is_normal(signature: &Signature) -> bool
     is_name(signature.name.as_str()) && signature.kinds.len() <= PARAMS
 }
 
-/// Where the property of this name stands.
+/// The index of the property of this name in the list.
 fn property_index(properties: &[Property], name: &str) -> Option<usize>
     ensures value { result ≡ property_number name.now properties.now }
     ensures within { IfSome result (λ index. index < length properties.now) }

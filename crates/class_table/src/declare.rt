@@ -50,7 +50,7 @@ fn signed_methods<'j>(alloc: Global, forms: &[MethodForm<'j>]) -> Result<Vec<Sig
     Ok(signed)
 }
 
-/// The signature that a text spells; a text that spells none is a fault of this kind.
+/// Reads a signature from its text; a text that is not a signature is a fault of this kind.
 fn signature(alloc: Global, text: &str, kind: ClassFaultKind) -> Result<Signature, Stop>
     ensures exact { Gives (λ s. s) result (ok_or (signature_of text.now) kind) }
     ensures normal { IfOk result IsNormal }
@@ -155,7 +155,7 @@ fn name_texts(alloc: Global, forms: &[PropertyForm]) -> Result<Vec<Text>, Stop>
     Ok(texts)
 }
 
-/// The number that a signature has, where the new methods stand behind those of the superclass.
+/// The number of the method with this signature, where new methods are numbered after those of the superclass.
 #[tactic(auto, using(crate::proofs::SignalLemmas::number_behind))]
 fn number_of(table: &ClassTable, base: u32, signed: &[Signed], wanted: &Signature) -> Option<u32>
     requires { length (methods table.now base) + length signed.now ≤ METHODS }
@@ -197,7 +197,7 @@ fn is_signal_at(table: &ClassTable, base: u32, signed: &[Signed], number: u32) -
     }
 }
 
-/// Whether a signal with these parameters may tell a value of this kind.
+/// Whether a signal with these parameters may be the NOTIFY signal of a property of this kind.
 fn tells(kind: Kind, params: &[Kind]) -> bool
     ensures { result ≡ tells kind params.now }
 {
@@ -208,7 +208,7 @@ fn tells(kind: Kind, params: &[Kind]) -> bool
     }
 }
 
-/// The number of the signal that a property is to send, where it is to send one.
+/// The number of a property's NOTIFY signal, where it has one.
 fn notify(
     alloc: Global,
     table: &ClassTable,
@@ -312,7 +312,7 @@ fn slot_body(alloc: Global, json: &Value, params: usize) -> Result<Body, Stop>
     }
 }
 
-/// The class that is written, behind the classes of the table.
+/// Reads a class from JSON, which is to be added after the classes of the table.
 #[tactic(auto, using(crate::proofs::DeclaringLemmas::fits_where_given), unfolding(crate::specs::Declaring::class_of))]
 pub(crate) fn declared_class(alloc: Global, table: &ClassTable, json: &Value) -> Result<Class, Stop>
     ensures exact { Gives (λ class. class) result (class_of table.now (view json.now)) }
@@ -375,7 +375,7 @@ fn class_with(
     })
 }
 
-/// Checks that nothing is declared twice, and no more than a class may have.
+/// Checks that nothing is declared twice, and that the class has no more methods and properties than it may.
 fn check_declared(
     alloc: Global,
     table: &ClassTable,

@@ -9,22 +9,22 @@ use std::fmt;
 /// A kind of fault, printed as `C` and two digits.
 #[derive(Clone, Copy, Debug, PartialEq, Eq)]
 pub enum ClassFaultKind {
-    /// The file is no UTF-8 or no JSON.
+    /// The file is not UTF-8 or not JSON.
     NotJson,
-    /// A key is missing, unknown or of the wrong kind, or a name or a type's name is none.
+    /// A key is missing or unknown, its value is of the wrong kind, or a name or a type's name is invalid.
     BadForm,
-    /// A class of this name is there.
+    /// There is already a class of this name.
     NameTaken,
     /// The superclass is not declared earlier.
     NoSuperclass,
-    /// The signature of a signal or a slot is none.
+    /// The signature of a signal or a slot is invalid.
     BadSignature,
     /// A method or a property is there already, in the class or in a superclass.
     DeclaredTwice,
-    /// A property's `notify` is no signal of the class or a superclass, or takes something else than nothing or
-    /// the property's value.
+    /// A property's `notify` is not a signal of the class or a superclass, or has other parameters than a
+    /// single one of the property's kind.
     BadNotify,
-    /// A slot's body is none.
+    /// A slot's body is invalid.
     BadBody,
     /// The file, a class, a body or an expression is too large.
     Limit,

@@ -16,8 +16,9 @@ use std::alloc::Global;
 pub const FILE_BYTES: usize = 1_048_576;
 
 impl ClassTable {
-    /// The table that a class file gives: its classes behind `QObject`, in the order of the file. A
-    /// fault is the first one in the file, by the order of the kinds, and says which class it is in.
+    /// Reads the table of a class file: `QObject`, and then the classes in the order of the file. A
+    /// refused file has the fault that is found first, with the number of its class, or 0 for the file:
+    /// the file is checked as a whole, and then class by class.
     #[tactic(auto, unfolding(crate::specs::ClassFile::table_of))]
     pub fn from_text(alloc: Global, bytes: &[u8]) -> Result<ClassTable, ClassError>
         ensures { Answers result (table_of bytes.now) }
@@ -68,7 +69,7 @@ fn classes_in(json: &Value) -> Result<&[Value], Stop>
     Ok(written)
 }
 
-/// Puts the classes behind those of the table, one after another.
+/// Adds the classes after those of the table, in order.
 fn declare(
     alloc: Global,
     mut table: ClassTable,

@@ -33,7 +33,7 @@ pub(crate) struct MethodForm<'j> {
 pub(crate) struct PropertyForm<'j> {
     pub(crate) name: &'j str,
     pub(crate) kind: Kind,
-    /// The signature of the signal that tells of a change.
+    /// The signature of the NOTIFY signal, where there is such a signal.
     pub(crate) notify: Option<&'j str>,
     pub(crate) bindable: bool,
 }
@@ -92,7 +92,7 @@ fn signals_in<'j>(alloc: Global, array: &'j [Value]) -> Result<Vec<MethodForm<'j
     Ok(methods)
 }
 
-/// Puts slots behind the methods that are there.
+/// Appends slots to the methods.
 fn slots_in<'j>(
     mut methods: Vec<MethodForm<'j>>,
     array: &'j [Value],
@@ -228,7 +228,7 @@ pub(crate) fn array_in(json: &Value) -> Result<&[Value], Stop>
     }
 }
 
-/// The elements of the array behind a key, none where the key is not there.
+/// The elements of the array at a key, or no elements where the key is absent.
 fn array_at<'j>(json: &'j Value, key: &str) -> Result<&'j [Value], Stop>
     ensures { Gives (λ v. map view v.now) result (optional array_in [] key.now (view json.now)) }
 {
@@ -265,14 +265,14 @@ fn text_in(json: &Value) -> Result<&str, Stop>
     }
 }
 
-/// The text behind a key that must be there.
+/// The text at a key that must be present.
 fn member_text<'j>(json: &'j Value, key: &str) -> Result<&'j str, Stop>
     ensures { Gives (λ t. t.now) result (member_text key.now (view json.now)) }
 {
     text_in(member(json, key)?)
 }
 
-/// The name behind a key that must be there.
+/// The name at a key that must be present.
 fn name_at<'j>(json: &'j Value, key: &str) -> Result<&'j str, Stop>
     ensures { Gives (λ t. t.now) result (name_at key.now (view json.now)) }
 {
@@ -284,7 +284,7 @@ fn name_at<'j>(json: &'j Value, key: &str) -> Result<&'j str, Stop>
     }
 }
 
-/// The kind whose name stands behind a key that must be there.
+/// The kind whose name is at a key that must be present.
 fn kind_at(json: &Value, key: &str) -> Result<Kind, Stop>
     ensures { Gives (λ k. k) result (kind_at key.now (view json.now)) }
 {

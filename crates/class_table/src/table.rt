@@ -18,8 +18,8 @@ use signature_core::Signature;
 use std::alloc::{AllocError, Global};
 use std::marker::Model;
 
-/// The classes of a class file behind `QObject`, whose index is 0; the first class of the file has
-/// index 1.
+/// `QObject`, whose index is 0, and after it the classes of a class file; the first class of the file
+/// has index 1.
 pub struct ClassTable {
     alloc: Global,
     classes: IndexMap<String, Class>,
@@ -71,7 +71,7 @@ impl ClassTable {
         self.classes.len()
     }
 
-    /// Puts a class behind the others.
+    /// Adds a class after the others.
     pub(crate) fn push(&mut self, class: Class) -> Result<(), ClassError>
         requires room { length self.old ≤ CLASSES }
         requires fits { FitsBehind self.old class }
@@ -258,7 +258,7 @@ impl ClassTable {
     }
 }
 
-/// Puts a class behind those that are kept by their names.
+/// Adds a class after the others, with its name as the key.
 fn insert(
     alloc: Global,
     classes: &mut IndexMap<String, Class>,

@@ -10,22 +10,22 @@ use Rattle.term_core.specs.declared.target.Target.TheVariants.{Itself}
 use Rattle.term_core.specs.Act.{Act, Acts, single_action, when, nothing, more}
 use Rattle.term_core.specs.Term.{Term, const, arg, state, binary}
 
--- its context object's `x` is set to a value
+-- Sets the `x` of the context object to a value.
 abbrev pub sets_x : Term → Acts
 sets_x value = more (single_action (Set Itself (codes "x") value)) nothing
 
--- `x` is set to a number, or to the most where it is above that
+-- Sets `x` to a number, but at most to this maximum.
 abbrev pub at_most : ℤ → Term → Act
 at_most most number = when (binary Less (const (v.Int most)) number) (sets_x (const (v.Int most))) (sets_x number)
 
--- the same, but to the least where it is below that
+-- Sets `x` to a number, but within these bounds.
 abbrev pub clamped : ℤ → ℤ → Term → List Act
 clamped least most number = when (binary Less number (const (v.Int least))) (sets_x (const (v.Int least))) (more (at_most most number) nothing) ∷ []
 
--- the body of `clamp`: so it is done with its first argument
+-- The body of `clamp`, which sets `x` to its first argument within the bounds.
 abbrev pub clamp_body : ℤ → ℤ → Body
 clamp_body least most = record { params = 1; actions = clamped least most (arg 0) }
 
--- the functor itself, whose state stays as it is
+-- The functor. Its state never changes.
 abbrev pub clamp : ℤ → ℤ → Functor
 clamp least most = record { name = codes "clamp"; params = Int ∷ []; body = clamp_body least most; next = state }

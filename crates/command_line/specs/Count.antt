@@ -10,18 +10,18 @@ use Rattle.term_core.specs.declared.target.Target.TheVariants.{Itself}
 use Rattle.term_core.specs.Act.{Act, single_action}
 use Rattle.term_core.specs.Term.{Term, const, state, binary}
 
--- one more than a number
+-- A number plus one.
 abbrev pub one_more : Term → Term
 one_more number = binary Sum number (const (v.Int (pos 1)))
 
--- its context object's `y` is set to one more than a number
+-- Sets the `y` of the context object to a number plus one.
 abbrev pub counted : Term → List Act
 counted number = single_action (Set Itself (codes "y") (one_more number)) ∷ []
 
--- the body of `count`: so it is done with its state
+-- The body of `count`, which sets `y` to its state plus one.
 abbrev pub count_body : Body
 count_body = record { params = 1; actions = counted state }
 
--- the functor itself
+-- The functor.
 abbrev pub count : Functor
 count = record { name = codes "count"; params = Int ∷ []; body = count_body; next = one_more state }

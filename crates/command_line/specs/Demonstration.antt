@@ -17,22 +17,22 @@ use Rattle.class_table.specs.Declaring.{q_object, signal_of, slot_of}
 abbrev pub signature : List ℕ → List Kind → Signature
 signature name kinds = record { name = name; kinds = kinds }
 
--- a signal, and a slot that does these actions
+-- A signal.
 abbrev pub signal : List ℕ → List Kind → Method
 signal name kinds = signal_of (signature name kinds)
 
 abbrev pub slot : List ℕ → List Kind → List Act → Method
 slot name kinds actions = slot_of (signature name kinds) (record { params = length kinds; actions = actions })
 
--- a property, and the number of the signal that tells of a change
+-- A property, with the number of its NOTIFY signal.
 abbrev pub property : List ℕ → Kind → Option ℕ → Bool → Property
 property name kind notify bindable = record { name = name; kind = kind; notify = notify; bindable = bindable }
 
--- the signal `ping()`
+-- The signal `ping()`.
 abbrev pub ping : Signature
 ping = signature (codes "ping") []
 
--- a class that holds values; `QObject` has three methods and one property
+-- A class that holds values. `QObject` has three methods and one property.
 abbrev pub cell : Class
 cell = record {
   name = codes "Cell";
@@ -51,21 +51,21 @@ cell = record {
       property (codes "big") kind.Ulonglong None false ∷ [];
 }
 
--- connects the sender's `ping()` to `late()`, and no more to `note()`
+-- Connects the sender's `ping()` to `late()`, and disconnects it from `note()`.
 abbrev pub swaps : List Act
 swaps =
     single_action (Connect Sender ping Itself (signature (codes "late") []) Auto false false) ∷
     single_action (Disconnect Sender (Some ping) (Some Itself) (Some (signature (codes "note") []))) ∷ []
 
--- deletes the sender, and then writes to it
+-- Deletes the sender, and then writes to it.
 abbrev pub kills : List Act
 kills = single_action (Delete Sender) ∷ single_action (Set Sender (codes "objectName") (const (v.Text (codes "x")))) ∷ []
 
--- takes the child `c` out of the tree, and then deletes the sender
+-- Moves the child `c` out of the tree, and then deletes the sender.
 abbrev pub rescues : List Act
 rescues = single_action (SetParent (Child (codes "c")) None) ∷ single_action (Delete Sender) ∷ []
 
--- a class whose slots act while a signal is being sent
+-- A class whose slots act while a signal is being sent.
 abbrev pub probe : Class
 probe = record {
   name = codes "Probe";
@@ -84,6 +84,6 @@ probe = record {
   properties = [];
 }
 
--- the classes that are there where no class file is given
+-- The classes if no class file is given.
 unfoldable pub demonstration : List Class
 demonstration = q_object ∷ cell ∷ probe ∷ []

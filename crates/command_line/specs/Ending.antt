@@ -1,4 +1,4 @@
--- How the program ends, and what it says then.
+-- How the program ends, and its last text.
 use Rattle.std.specs.Prelude.{◌≡◌, ◌≢◌, ◌⊎◌, ◌++◌, ◌∷◌, ◌==◌, ℕ, List, [], Option, Some, None, codes, if◌then◌else◌}
 use Rattle.std.specs.Fmt.{decimal}
 use Rattle.std.specs.Cow.{cow_str_bytes}
@@ -15,50 +15,50 @@ use Rattle.command_line.specs.declared.ending.Ending.{Ending}
 use Rattle.command_line.specs.declared.ending.Stream.{Stream}
 use Rattle.command_line.specs.declared.ending.Stream.TheVariants.{StandardOutput, StandardError}
 
--- a text ended by a line feed
+-- A text ended by a line feed.
 abbrev pub line : List ℕ → List ℕ
 line text = text ++ 10 ∷ []
 
--- what is said of a class file with this fault, or of one that could not be read
+-- The message for a class file with this fault, or for one that could not be read.
 abbrev pub class_text : Option ClassFault → List ℕ
 class_text (Some fault) = codes "metad: class file refused: " ++ kind_text fault.kind ++ codes " at class " ++ decimal fault.class
 class_text None = codes "metad: class file refused: unreadable"
 
--- the status, the stream and all that is said on it
+-- The status, the stream, and the text written to it.
 pub record IsEnding (status : ℕ) (stream : Stream) (text : List ℕ) (ending : Ending) : Type 0 where
   pub status_is : ending.status ≡ status
   pub stream_is : ending.stream ≡ stream
   pub text_is : cow_str_bytes ending.text ≡ text
 
--- the end for want of memory
+-- The end when memory runs out.
 abbrev pub IsOutOfMemory : Ending → Type 0
 IsOutOfMemory = IsEnding 5 StandardError (line (codes "metad: out of memory"))
 
--- the end after a name that is not one of a session
+-- The end after an invalid session name.
 abbrev pub IsOfBadName : Ending → Type 0
 IsOfBadName = IsEnding 2 StandardError (line (codes "metad: bad session name"))
 
--- the end after a class file that gave no classes
+-- The end after a refused class file.
 abbrev pub EndsByClasses : ClassFileError → Ending → Type 0
 EndsByClasses (Refused fault) ending = IsEnding 1 StandardError (line (class_text (Some fault))) ending
 EndsByClasses Unreadable ending = IsEnding 1 StandardError (line (class_text None)) ending
 EndsByClasses Memory ending = IsOutOfMemory ending
 
--- where a text goes with which the program ends by this status
+-- The stream of the last text, by the exit status.
 abbrev pub stream_for : ℕ → Stream
 stream_for status = if status == 0 then StandardOutput else StandardError
 
--- the status and the stream of the end after words that gave no options
+-- The status and the stream of the end after words that gave no options.
 pub record IsToldOfWords (kind : ErrorKind) (ending : Ending) : Type 0 where
   pub not_memory : kind ≢ OutOfMemory
   pub status_is : ending.status ≡ status_for kind
   pub stream_is : ending.stream ≡ stream_for (status_for kind)
 
--- the end after words that gave no options
+-- The end after words that gave no options.
 abbrev pub EndsByWords : ErrorKind → Ending → Type 0
 EndsByWords kind ending = IsOutOfMemory ending ⊎ IsToldOfWords kind ending
 
--- what is known of a sink: the bytes that it has taken, and how often it failed
+-- A sink: the bytes that it has taken, if they are known, and how often it failed.
 pub record Sunk : Type 0 where
   pub received : Option (List ℕ)
   pub failures : ℕ
@@ -66,18 +66,18 @@ pub record Sunk : Type 0 where
 abbrev pub sunk : Option (List ℕ) → ℕ → Sunk
 sunk held failures = record { received = held; failures = failures }
 
--- a sink took all of a text, or it failed
+-- A sink took all of a text, or it failed.
 abbrev pub Takes : Sunk → Sunk → List ℕ → Type 0
 Takes old new text = (Appends old.received new.received text × (new.failures ≡ old.failures)) ⊎ FailsOnce old.failures new.failures
 
--- standard output took all of the text, or it failed: then standard error is told, and the status is 4
+-- Standard output took the whole text, or it failed: then a message goes to standard error, and the status is 4.
 abbrev pub Shows : Ending → ℕ → Sunk → Sunk → Sunk → Sunk → Type 0
 Shows ending status output output_after error error_after =
     ((status ≡ ending.status) × Appends output.received output_after.received (cow_str_bytes ending.text)
     × (output_after.failures ≡ output.failures) × (error_after ≡ error))
     ⊎ ((status ≡ 4) × FailsOnce output.failures output_after.failures × Takes error error_after (line (codes "metad: write fault")))
 
--- standard error is told the text, and standard output nothing
+-- The text goes to standard error, and nothing to standard output.
 abbrev pub Complains : Ending → ℕ → Sunk → Sunk → Sunk → Sunk → Type 0
 Complains ending status output output_after error error_after =
     (status ≡ ending.status) × Takes error error_after (cow_str_bytes ending.text) × (output_after ≡ output)

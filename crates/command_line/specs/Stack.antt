@@ -1,6 +1,6 @@
--- The stack that the program asks for before anything else.
+-- The stack that the program reserves before anything else.
 use Rattle.std.specs.Prelude.{ℕ}
 
--- as many bytes as the deepest calls need, and a third more
+-- What the deepest calls need, in bytes, plus a third.
 abbrev pub STACK_BYTES : ℕ
 STACK_BYTES = 2097152

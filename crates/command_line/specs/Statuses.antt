@@ -1,9 +1,9 @@
--- How the program ends where the command line gives no options.
+-- The exit status if the command line gives no options.
 use Rattle.std.specs.Prelude.{ℕ}
 use Rattle.clap.specs.declared.error.kind.ErrorKind.{ErrorKind}
 use Rattle.clap.specs.declared.error.kind.ErrorKind.TheVariants.{DisplayHelp, DisplayVersion, OutOfMemory}
 
--- the exit status: 0 where something was asked for that is shown, 5 for want of memory, 2 for a mistake
+-- The exit status: 0 after help, 5 if memory ran out, 2 after a mistake.
 abbrev pub status_for : ErrorKind → ℕ
 status_for DisplayHelp = 0
 status_for DisplayVersion = 0

@@ -33,7 +33,7 @@ fn less(alloc: Global, a: Expr, b: Expr) -> Result<Expr, AllocError>
     })
 }
 
-/// One action, and nothing behind it.
+/// A list of one action.
 fn alone(alloc: Global, action: Action) -> Result<Vec<Action>, AllocError>
     ensures { IfOk result (λ actions. actions.items ≡ action ∷ []) }
 {

@@ -27,7 +27,7 @@ pub enum ClassFileError {
     Refused(ClassFault),
     /// The class file could not be opened or read.
     Unreadable,
-    /// Memory was wanted and not found.
+    /// Out of memory.
     Memory,
 }
 
@@ -64,7 +64,7 @@ impl From<ClassError> for ClassFileError {
     }
 }
 
-/// The classes of the file at this path, or the demonstration classes where there is no path.
+/// The classes of the file at this path, or the demonstration classes if no path is given.
 pub fn classes_at<F: ClassFiles + AllocGlobal>(
     files: &F,
     path: Option<&str>,
@@ -78,7 +78,7 @@ pub fn classes_at<F: ClassFiles + AllocGlobal>(
     classes_of(files.alloc(), file)
 }
 
-/// The classes of a class file, or the demonstration classes where there is none.
+/// The classes of a class file, or the demonstration classes if no file is given.
 pub fn classes_of<S: Source + Drop>(
     alloc: Global,
     file: Option<S>,

@@ -27,8 +27,8 @@ pub trait ClassFiles {
         ensures kinds { (fault : ClassFault) → result ≢ Err (Refused fault) };
 }
 
-/// The files of the system, of which nothing is known: that the file at the path is opened, where it can
-/// be, is only tested. A read that is interrupted is made again, at most 1,000 times in a row.
+/// The files of the system. Proofs assume nothing about their bytes: only tests cover that the file at the
+/// path is opened. A read that is interrupted is made again, at most 1,000 times in a row.
 impl<R: Files> ClassFiles for R {
     type File = Counted<R::File>;
 

@@ -16,8 +16,8 @@ pub trait CommandLine {
         ensures { AreWords (λ words. map string_bytes words.items) (given self.now) result };
 }
 
-/// The command line of the process, of which nothing is known: that its words are those that the process
-/// was given is only tested.
+/// The command line of the process. Proofs assume nothing about its words: only tests cover that they are
+/// those that the process was given.
 impl<R: Env + AllocGlobal> CommandLine for R {
     ghost given = { λ _. None };
 

@@ -47,7 +47,7 @@ fn count_actions(alloc: Global, state: u64) -> Result<Vec<Action>, AllocError>
     counted(alloc, Expr { node })
 }
 
-/// The state of `count` behind a call that finds this one: one more, up to the largest.
+/// The state of `count` after a call that finds this one: one more, up to the largest.
 #[tactic(auto, using(crate::proofs::StateLemmas::state_counts))]
 fn count_state(state: u64) -> u64
     ensures { (args : List ValueSeen) → result ≡ after (one_more term.state) state args }

@@ -1,12 +1,12 @@
-//! The classes that are there where no class file is given.
+//! The classes that are used if no class file is given.
 
-/// A class file of two classes, to try the server with. `Cell` holds values: a property `x` that
-/// tells of a change by a signal and one `y` that does not, further ones that bindings can be given
-/// to (`z`, `flag`), and `big`, which takes none; its slot `setX(int)` writes `x`, and `seen(int)`
-/// does nothing but be called. `Probe` has slots that act on whoever sent the signal or on
-/// themselves while it is being sent: they connect and disconnect (`swap`), emit (`again`), delete
-/// the sender and then write to it (`kill`), take a child out of the tree before its parent goes
-/// (`rescue`), and delete themselves (`drop`).
+/// A class file of two classes, to try the server with. `Cell` holds values: a property `x` with a
+/// signal that notifies of changes, and three without one (`y`, `z`, `flag`). These four can have
+/// bindings, and a fifth, `big`, cannot. Its slot `setX(int)` writes `x`, and `seen(int)` does
+/// nothing. `Probe` has slots that act on whoever sent the signal or on themselves while it is being
+/// sent: they connect and disconnect (`swap`), emit (`again`), delete the sender and then write to
+/// it (`kill`), take a child out of the tree before its parent goes (`rescue`), and delete
+/// themselves (`drop`).
 pub const DEMONSTRATION: &str = r#"{"classes":[
 {"name":"Cell","super":"QObject","signals":["xChanged(int)"],
 "slots":[{"sig":"seen(int)","body":[]},

@@ -13,25 +13,25 @@ use std::alloc::{AllocError, Global};
 use std::borrow::CowStr;
 use wire_format::{Failed, Sink, write_all};
 
-/// A stream that the program says its last text on.
+/// The stream that the program writes its last text to.
 #[derive(Clone, Copy, PartialEq, Eq)]
 pub enum Stream {
     StandardOutput,
     StandardError,
 }
 
-/// How the program ends: by which exit status, and what it says then. The status is 0 after help, 1
-/// after a class file that is refused, 2 after a mistake in the command line or a name that no session
-/// can have, 5 for want of memory.
+/// How the program ends: its exit status and its last text. The status is 0 after help, 1 after a
+/// class file that is refused, 2 after a mistake in the command line or a name that no session can
+/// have, and 5 if memory runs out.
 #[derive(Drop)]
 pub struct Ending {
     pub status: u8,
     pub stream: Stream,
-    /// Each of its lines is ended by a line feed.
+    /// Each of its lines ends with a line feed.
     pub text: CowStr<'static, Global>,
 }
 
-/// The program prints this of a command line that is no text, in the form of its other mistakes.
+/// The message for a command line that is not valid UTF-8, in the form of other mistakes.
 const NO_UTF_8: &str = "error: invalid UTF-8 was detected in one or more arguments
 
 Usage: metad [OPTIONS] [CLASSES]
@@ -40,7 +40,7 @@ For more information, try '--help'.
 ";
 
 impl Ending {
-    /// The end for want of memory, which takes none.
+    /// The end when memory runs out. It allocates nothing.
     pub fn out_of_memory() -> Ending
         ensures { IsOutOfMemory result }
     {
@@ -51,7 +51,7 @@ impl Ending {
         }
     }
 
-    /// The end after words of the command line that are no UTF-8.
+    /// The end after words of the command line that are not valid UTF-8.
     pub fn no_utf_8() -> Ending
         ensures { IsEnding 2 StandardError NO_UTF_8.now result }
     {
@@ -73,7 +73,7 @@ impl Ending {
         }
     }
 
-    /// The end after a command line that gives no options: help is shown, or the mistake is told.
+    /// The end after a command line that gives no options: it shows the help, or reports the mistake.
     pub fn of_words(alloc: Global, refusal: &clap::Error) -> Ending
         ensures { EndsByWords (kind_of refusal.now) result }
     {
@@ -111,9 +111,8 @@ impl Ending {
         }
     }
 
-    /// Says the text, and gives the exit status. Where standard output does not take all of it, that
-    /// is told on standard error, and the status is 4; where standard error does not, there is nobody
-    /// left to tell.
+    /// Writes the text to its stream, and returns the exit status. If standard output does not take all
+    /// of it, a message goes to standard error and the status is 4. A failure of standard error is ignored.
     pub fn say<O: Sink, E: Sink>(&self, output: &mut O, error: &mut E) -> u8
         ensures shown { self.now.stream ≡ StandardOutput → Shows self.now result
             (sunk (O.held output.old) (O.failures output.old)) (sunk (O.held output.new) (O.failures output.new))
@@ -139,8 +138,8 @@ impl Ending {
     }
 }
 
-/// Returns the text about a class file that is refused, without the end of the line: by its fault, or none
-/// where it could not be read.
+/// Returns the message about a refused class file, without a line feed. `fault` is `None` if the file could
+/// not be read.
 pub fn class_text(alloc: Global, fault: Option<&ClassFault>) -> Result<String, AllocError>
     ensures { IfOk result (λ text. string_bytes text ≡ class_text (option_copied fault.entry)) }
 {
@@ -153,7 +152,7 @@ pub fn class_text(alloc: Global, fault: Option<&ClassFault>) -> Result<String, A
     }
 }
 
-/// Returns the line about a class file that is refused, with its end.
+/// Returns the message about a refused class file as a line, with its line feed.
 fn class_line(alloc: Global, fault: Option<&ClassFault>) -> Result<String, AllocError>
     ensures { IfOk result (λ text. string_bytes text ≡ line (class_text (option_copied fault.entry))) }
 {

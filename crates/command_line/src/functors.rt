@@ -23,7 +23,7 @@ fn one_int(alloc: Global) -> Result<Items<Kind>, AllocError>
     Ok(kinds)
 }
 
-/// A table with `clamp` alone, whose closure is handed in.
+/// A table with only `clamp`, which runs the closure `run`.
 #[tactic(auto, using(crate::proofs::ClampLemmas::clamp_is_body, crate::proofs::ClampLemmas::clamp_is_next))]
 pub fn with_clamp(alloc: Global, least: i32, most: i32, run: Closure) -> Result<Functors, Fault>
     requires callable { MayBeCalled (Closure.pre run) (Int ∷ []) }
@@ -39,7 +39,7 @@ pub fn with_clamp(alloc: Global, least: i32, most: i32, run: Closure) -> Result<
     Ok(functors)
 }
 
-/// Puts `count`, whose closure is handed in, behind `clamp`.
+/// Adds `count`, which runs the closure `run`, to a table with only `clamp`.
 #[tactic(auto, using(crate::proofs::CountLemmas::count_is_body, crate::proofs::CountLemmas::count_is_next))]
 pub fn add_count(
     alloc: Global,

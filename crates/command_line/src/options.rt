@@ -16,7 +16,7 @@ pub const DEFAULT_TURNS: u32 = 10_000;
 /// The options say what the program is to do.
 #[derive(Drop)]
 pub struct Options {
-    /// The path of the class file, as it was written; none stands for the demonstration classes.
+    /// The path of the class file, exactly as given. Without one, the demonstration classes are used.
     pub classes: Option<Text>,
     /// How many turns each command has for the calls that it causes.
     pub turns: u32,
@@ -27,18 +27,18 @@ pub struct Options {
 /// Why there are no options.
 #[derive(Drop)]
 pub enum OptionsError {
-    /// A word asks for help, or the words hold a mistake, or memory was wanted.
+    /// A word asks for help, the words hold a mistake, or memory ran out.
     Words(Error),
-    /// The name that stands for a session is none.
+    /// The name given by `--slice` is not a valid session name.
     SessionName,
 }
 
-/// The options that the words of a command line give. The program's name is not among the words; in
-/// all that an error says it is `metad`. The turns are given by `--turns N` or `--turns=N`, and a
-/// session's name by `--slice NAME` or `--slice=NAME`, each once at most, before the path or behind it.
-/// Behind `--` there are no options, so that a path may begin with `-`. An empty word is a path too.
-/// The error holds the help, where a word asks for it before any mistake, or else the first mistake, or
-/// says that memory was wanted. Only where there is none of these is a name looked at.
+/// The options that the words of a command line give. The words do not include the program's name,
+/// which error messages give as `metad`. The turns are given by `--turns N` or `--turns=N`, and a
+/// session's name by `--slice NAME` or `--slice=NAME`, each at most once, before or after the path.
+/// After `--` there are no options, so that a path may begin with `-`. An empty word is a path too.
+/// The error holds the help if a word asks for it before any mistake, or else the first mistake, or
+/// it says that memory ran out. The session's name is checked last.
 pub fn options_of<S: AsStr>(alloc: Global, words: &[S]) -> Result<Options, OptionsError>
     ensures asked { Reads (asked (map S.text words.now)) result }
     ensures classes { IfOk result (λ options.
@@ -56,7 +56,7 @@ pub fn options_of<S: AsStr>(alloc: Global, words: &[S]) -> Result<Options, Optio
     }
 }
 
-/// Whether a session may have the name, where there is one.
+/// Whether a session may have the name, if one is given.
 fn is_named(slice: Option<&Text>) -> bool
     ensures { result ≡ is_named (option_copied slice.entry) }
 {
@@ -89,7 +89,7 @@ fn read_words<S: AsStr>(alloc: Global, words: &[S]) -> Result<Options, Error>
     })
 }
 
-/// The text that an argument was given, if it was.
+/// The text of an argument, if it was given.
 fn text_of(alloc: Global, matches: &ArgMatches<'_>, id: &str) -> Result<Option<Text>, AllocError>
     ensures { IfOk result (λ text. text ≡ first_value (found_of matches.now) id.now) }
 {
@@ -163,7 +163,7 @@ Examples:
   echo '{"class":"QObject","do":"new","session":"a"}' | metad
   metad lamps.json < session     answers with the classes of a file
   metad lamps.json < /dev/null   checks the file: status 0, or 1 and its first fault
-  metad --slice a < session      writes the lines by which a is told the same
+  metad --slice a < session      writes the lines that can affect what a receives
 
 Documents: the manual page metad(1), and README.md and docs/ of the sources,
 which make install puts into share/doc/metad. docs/TUTORIAL.md is the way in."#;

@@ -1,19 +1,19 @@
-//! The stack, whose pages are asked for before anything else, while there is memory for them: a stack that
-//! has to grow where there is none ends the program by a signal.
+//! The stack. The program asks for its pages before anything else: if the stack had to grow when memory has
+//! run out, a signal would end the program.
 ghost use Rattle.std.specs.Prelude.{◌≡◌, ◌≤◌, nat_lt, Some, None, if◌then◌else◌};
 ghost use Rattle.command_line.specs.Stack.{STACK_BYTES};
 
 use std::alloc::{AllocError, Global};
 
-/// The bytes of stack that the deepest calls need, and a third more.
+/// The bytes of stack to reserve: what the deepest calls need, plus a third.
 const STACK: usize = 2 * 1024 * 1024;
 
-/// Has the system give the stack as many bytes as the deepest calls need. They are asked for on the heap
-/// first, where the answer may be that there are none.
+/// Reserves memory for the stack of the deepest calls. It allocates as much on the heap first, where running
+/// out of memory is an error that can be returned.
 pub fn reserve_stack(alloc: Global) -> Result<(), AllocError> {
     let mut block = Vec::with_capacity(alloc, STACK)?;
     block.push(1)?;
-    // A block that is given back small leaves the allocator's limits where they are.
+    // Freeing a small block leaves the allocator's limits unchanged.
     block.shrink_to_fit();
     let byte = block[0];
     match byte_of_stack(byte, byte as usize) {
@@ -22,15 +22,15 @@ pub fn reserve_stack(alloc: Global) -> Result<(), AllocError> {
     }
 }
 
-/// The byte at an index of as many on the stack as the deepest calls need, where each is this one.
+/// Fills as many bytes of stack as the deepest calls need with a byte, and returns the one at an index.
 fn byte_of_stack(byte: u8, at: usize) -> Option<u8>
     ensures { result ≡ (if nat_lt at STACK_BYTES then Some byte else None) }
 {
     byte_of::<STACK>(byte, at)
 }
 
-/// The byte at an index of so many on the stack, where each is this one. It is never inlined, so that they
-/// are given back when it returns.
+/// Fills `BYTES` bytes of stack with a byte, and returns the one at an index. It is never inlined, so that
+/// they are released when it returns.
 #[inline(never)]
 fn byte_of<const BYTES: usize>(byte: u8, at: usize) -> Option<u8>
     requires { BYTES ≤ STACK_BYTES }

@@ -46,7 +46,7 @@ same_kept rows old new same kept = record {
   sound = rw same.last_number kept.sound;
   apart = kept.apart;
   short = kept.short;
-  routed = record { sent = rw same.sent kept.routed.sent; received = rw same.received kept.routed.received };
+  routed = same.routed rows kept.routed;
 }
 
 -- no row stands under a key that is vacant

@@ -1,6 +1,6 @@
 -- Rows that go, with the links to them.
-use Rattle.std.proofs.Common.{◌≡◌, ◌≢◌, ◌∙◌, ℕ, ◌<◌, ◌≤◌, ◌^◌, ◌==◌, Bool, true, false, not, List, [], Some, IsSome, length, map, filter, refl, sym, ap, subst}
-use Rattle.std.proofs.Common.{arith}
+use Rattle.std.proofs.Common.{◌≡◌, ◌≢◌, ◌∙◌, ◌⊎◌, ℕ, ◌<◌, ◌≤◌, ◌^◌, ◌==◌, Bool, true, false, not, List, [], Some, IsSome, length, map, filter}
+use Rattle.std.proofs.Common.{refl, sym, ap, subst, arith}
 use Rattle.std.specs.List.{All, Any}
 use Rattle.std.proofs.lemmas.Bool.Decides.{nat_tests}
 use Rattle.std.proofs.lemmas.List.{get_or-map, length-map}
@@ -9,16 +9,16 @@ use Rattle.std.proofs.lemmas.List.Kept.{AllPairs-filter}
 use Rattle.std.proofs.lemmas.List.Sums.{length-filter, count_by-le-length}
 use Rattle.shared_rows.specs.Table.{ChangesAt, IsPlace, Table, with_place}
 use Rattle.shared_rows.proofs.ForCallers.{changes_open, changes_same, changes_twice, changes_with, with_there}
-use Rattle.shared_rows.specs.Links.{AreLinked, without_link}
+use Rattle.shared_rows.specs.Links.{without_link}
 use Rattle.shared_rows.specs.Rows.{Keyed, row_under, rows_at, without}
-use Rattle.shared_rows.proofs.LinkedLemmas.{all_from, linked_filter}
+use Rattle.shared_rows.proofs.LinkedLemmas.{all_from}
 use Rattle.shared_rows.proofs.RowsLemmas.{length-without}
 use Rattle.connection_list.specs.declared.connection.Connection.{Connection}
 use Rattle.connection_list.specs.declared.link.Link.{Link}
 use Rattle.connection_list.specs.declared.routes.Routes.{Routes}
 use Rattle.connection_list.specs.Rows.{IsSound}
-use Rattle.connection_list.specs.Routes.{AreGone, IsPlaceKept, link_cmp, link_of, links_of, place_of, received_of, sent_of}
-use Rattle.connection_list.proofs.LinkLemmas.{link_same, link_total}
+use Rattle.connection_list.specs.Routes.{AreGone, IsLinkedAt, IsPlaceKept, Loses, buckets_of, link_cmp, link_of, place_of, received_of, sent_of}
+use Rattle.connection_list.proofs.BucketLemmas.{linked_gone}
 use Rattle.connection_list.proofs.KeyedLemmas.{IsApart, filter_all, filter_without, only_under, stands_under, under_key}
 use Rattle.connection_list.proofs.RoutesLemmas.{rising_keyed}
 
@@ -60,11 +60,12 @@ sound_filter keep rows old new sound same = record {
 }
 
 module _ (key : ℕ) (row : Connection) (rows : List (Keyed Connection)) (apart : IsApart rows) (stands : row_under rows key ≡ Some row) where
-  linked_without : (link_of : Keyed Connection → Link) → ((keyed : Keyed Connection) → (link_of keyed).key ≡ keyed.key) → (links : List Link)
-      → AreLinked link_of rows links
-      → AreLinked link_of (without rows key) (without_link link_cmp links (link_of (record { key = key; row = row })))
-  linked_without link_of key_is links linked =
-      linked_filter link_total link_same link_of (λ keyed. not (keyed.key == key)) rows links (link_of (record { key = key; row = row })) linked
+  linked_without : (link_of : Keyed Connection → Link) → ((keyed : Keyed Connection) → (link_of keyed).key ≡ keyed.key) → (object : ℕ) {old new : List Link}
+      → IsLinkedAt link_of rows object old
+      → (new ≡ without_link link_cmp old (link_of (record { key = key; row = row })))
+      ⊎ ((object ≢ (link_of (record { key = key; row = row })).object) × (new ≡ old)) → IsLinkedAt link_of (without rows key) object new
+  linked_without link_of key_is object linked change =
+      linked_gone link_of (λ keyed. not (keyed.key == key)) rows (link_of (record { key = key; row = row })) object linked
       (all_from (λ keyed. not (keyed.key == key) ≡ true → link_of keyed ≢ link_of (record { key = key; row = row })) rows (λ keyed there keeps same.
       let same_key : keyed.key ≡ key = sym (key_is keyed) ∙ (ap (λ (l : Link). l.key) same ∙ key_is (record { key = key; row = row })) in
       absurd (grind (arith, nat_tests, same_key, keeps))))
@@ -72,17 +73,19 @@ module _ (key : ℕ) (row : Connection) (rows : List (Keyed Connection)) (apart 
       let same_key : keyed.key ≡ key = grind (arith, nat_tests, goes) in
       let same_row : keyed.row ≡ row = only_under rows key row apart stands keyed there same_key in
       ap (λ k. link_of (record { key = k; row = keyed.row })) same_key ∙ ap (λ r. link_of (record { key = key; row = r })) same_row))
+      change
 
   pub kept_without : (old new : Routes) → IsPlaceKept rows old → new.last_number ≡ old.last_number
-      → new.sent.links ≡ without_link link_cmp old.sent.links (sent_of (record { key = key; row = row }))
-      → new.received.links ≡ without_link link_cmp old.received.links (received_of (record { key = key; row = row })) → IsPlaceKept (without rows key) new
+      → Loses (sent_of (record { key = key; row = row })) old.sent new.sent
+      → Loses (received_of (record { key = key; row = row })) old.received new.received
+      → IsPlaceKept (without rows key) new
   kept_without old new kept same sent received = record {
     sound = sound_filter (λ keyed. not (keyed.key == key)) rows old new kept.sound same;
     apart = AllPairs-filter (λ earlier later. earlier.key ≢ later.key) (λ keyed. not (keyed.key == key)) rows kept.apart;
     short = All-filter (λ keyed. not (keyed.key == key)) (λ keyed. keyed.key < 2 ^ 32) rows kept.short;
     routed = record {
-      sent = rw sent (linked_without sent_of (λ keyed. refl) old.sent.links kept.routed.sent);
-      received = rw received (linked_without received_of (λ keyed. refl) old.received.links kept.routed.received);
+      sent = λ object. linked_without sent_of (λ keyed. refl) object (kept.routed.sent object) (sent object);
+      received = λ object. linked_without received_of (λ keyed. refl) object (kept.routed.received object) (received object);
     };
   }
 
@@ -94,8 +97,8 @@ module _ (place key : ℕ) (row : Connection) (old new : Table (List (Keyed Conn
       (kept.short (stands_under (rows_at old place) key row stands).0 (record { key = key; row = row }) (stands_under (rows_at old place) key row stands).1)
 
   pub one_gone : new ≡ with_place old place (without (rows_at old place) key) → after.last_number ≡ before.last_number
-      → after.sent.links ≡ without_link link_cmp before.sent.links (sent_of (record { key = key; row = row }))
-      → after.received.links ≡ without_link link_cmp before.received.links (received_of (record { key = key; row = row }))
+      → Loses (sent_of (record { key = key; row = row })) before.sent after.sent
+      → Loses (received_of (record { key = key; row = row })) before.received after.received
       → AreGone (λ keyed. keyed.key == key) place old new before after
   one_gone changed same sent received =
       let now : rows_at new place ≡ without (rows_at old place) key = ap (λ table. rows_at table place) changed
@@ -109,9 +112,10 @@ module _ (place key : ℕ) (row : Connection) (old new : Table (List (Keyed Conn
       }
 
 -- at both ends its link is gone
-pub links_without : (old new : Routes) (keyed : Keyed Connection) → new.sent.links ≡ without_link link_cmp old.sent.links (sent_of keyed)
-    → new.received.links ≡ without_link link_cmp old.received.links (received_of keyed)
-    → (received : Bool) → links_of received new ≡ without_link link_cmp (links_of received old) (link_of received keyed)
+pub links_without : (old new : Routes) (keyed : Keyed Connection)
+    → Loses (sent_of keyed) old.sent new.sent
+    → Loses (received_of keyed) old.received new.received
+    → (received : Bool) → Loses (link_of received keyed) (buckets_of received old) (buckets_of received new)
 links_without old new keyed sent received true = received
 links_without old new keyed sent received false = sent
 

@@ -1,5 +1,5 @@
 -- Routes that are made with the first connection.
-use Rattle.std.proofs.Common.{◌≡◌, ◌∙◌, ℕ, List, [], ◌∷◌, Option, Some, None, IsSome, Box, Global, sym, ap, subst, arith}
+use Rattle.std.proofs.Common.{◌≡◌, ◌∙◌, ℕ, List, [], ◌∷◌, Option, Some, None, IsSome, Box, Global, get_or, refl, sym, ap, subst, arith}
 use Rattle.std.specs.List.{All}
 use Rattle.shared_rows.specs.Rows.{Keyed, row_under}
 use Rattle.connection_list.specs.declared.connection.Connection.{Connection}
@@ -19,7 +19,7 @@ module _ (made : Option (Box Routes Global)) (seen : Routes) (view_is : routes_i
   -- where no routes were made there is no row
   pub all_of_none : (P : Keyed Connection → Type 0) → All P rows
   all_of_none P k default within =
-      let there = (subst (IsRouted rows) seen_none routed).sent.each k default within in
+      let there = ((subst (IsRouted rows) seen_none routed).sent (get_or rows k default).row.sender).each k default within refl in
       absurd (omega (arith, there.1))
 
   pub none_under : (key : ℕ) → IsSome (row_under rows key) → ⊥

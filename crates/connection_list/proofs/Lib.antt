@@ -1,4 +1,5 @@
 pub mod LinkLemmas
+pub mod BucketLemmas
 mod ListingLemmas
 pub mod KeyedLemmas
 pub mod WithoutLemmas

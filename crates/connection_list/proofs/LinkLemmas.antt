@@ -80,6 +80,12 @@ past_on object (Some signal) x y least past = ⊎_elim
     (λ (differs : x.object ≢ y.object). let less : x.object < y.object = omega (arith, least.object, differs) in grind (arith, nat_tests, past, less))
     (cases_eq x.object y.object)
 
+-- a link that is neither before a group nor behind it has its object
+pub inside_same : (object : ℕ) (signal : Option ℕ) (link : Link) → is_before object signal link ≡ false → not (is_past object signal link) ≡ true
+    → link.object ≡ object
+inside_same object None link before past = grind (arith, nat_tests, before, past)
+inside_same object (Some signal) link before past = grind (arith, nat_tests, before, past)
+
 module _ (links : List Link) (order : IsInOrder link_cmp links) (object : ℕ) (signal : Option ℕ) where
   pub before_parted : IsPartitionedBy (is_before object signal) links
   before_parted i j d upto within before = ⊎_elim

@@ -8,15 +8,17 @@ use Rattle.std.proofs.lemmas.Bool.{cases_Bool}
 use Rattle.std.proofs.lemmas.Bool.Decides.{nat_tests}
 use Rattle.std.proofs.lemmas.List.{get_or-map, length-map}
 use Rattle.std.proofs.lemmas.List.Elements.{All-contains}
-use Rattle.shared_rows.specs.Links.{AreLinked, IsInOrder, first_from, with_link}
+use Rattle.shared_rows.specs.Links.{IsInOrder, first_from}
 use Rattle.shared_rows.specs.Rows.{Keyed, added}
-use Rattle.shared_rows.proofs.LinkedLemmas.{first_none, first_some, linked_push}
+use Rattle.shared_rows.proofs.LinkedLemmas.{first_none, first_some}
 use Rattle.connection_list.specs.declared.connection.Connection.{Connection}
 use Rattle.connection_list.specs.declared.link.Link.{Link}
 use Rattle.connection_list.specs.Ends.{touches}
 use Rattle.connection_list.specs.Rows.{IsSound, is_next}
-use Rattle.connection_list.specs.Routes.{IsPlaceKept, IsRouted, link_cmp, place_of, received_of, sent_of}
+use Rattle.connection_list.specs.Buckets.{HaveSame}
+use Rattle.connection_list.specs.Routes.{AreSame, Gains, IsLinkedAt, IsPlaceKept, IsRouted, link_cmp, links_at, no_routes, place_of, received_of, sent_of}
 use Rattle.connection_list.specs.declared.routes.Routes.{Routes}
+use Rattle.connection_list.proofs.BucketLemmas.{linked_push, linked_same}
 use Rattle.connection_list.proofs.LinkLemmas.{at_least, from, link_same, link_total, not_below}
 
 -- each number is below all later ones
@@ -81,6 +83,9 @@ abbrev key_in : Option (Keyed Connection) → Option ℕ
 key_in found = option_map (λ keyed. keyed.key) found
 
 module _ (sender signal after up_to : ℕ) (rows : List (Keyed Connection)) (routes : Routes) (kept : IsPlaceKept rows routes) where
+  abbrev links : List Link
+  links = links_at false sender routes
+
   abbrev pub calls_next : Keyed Connection → Bool
   calls_next keyed = is_next sender signal after up_to keyed.row
 
@@ -113,27 +118,27 @@ module _ (sender signal after up_to : ℕ) (rows : List (Keyed Connection)) (rou
       ∙ (ap (λ s. is_lt (link_cmp (sent_of keyed) (from keyed.row.sender s (after + 1)))) (sym is.signal_is)
       ∙ not_below (sent_of keyed) (after + 1) (omega (arith, is.above)))
 
-  pub none_next : first_from link_cmp routes.sent.links (from sender signal (after + 1)) ≡ None → None ≡ key_in (find calls_next rows)
+  pub none_next : first_from link_cmp links (from sender signal (after + 1)) ≡ None → None ≡ key_in (find calls_next rows)
   none_next none = none_from (λ k d within next.
-      let low = first_none link_total link_same routes.sent.links (from sender signal (after + 1)) none (sent_of (get_or rows k d))
-      (kept.routed.sent.each k d within) in
+      let low = first_none link_total link_same links (from sender signal (after + 1)) none (sent_of (get_or rows k d))
+      ((kept.routed.sent sender).each k d within (facts (get_or rows k d) next).sender_is) in
       let high = reaches (get_or rows k d) next in
       absurd (cc (low, high)))
 
-  module _ (order : IsInOrder link_cmp routes.sent.links) (link : Link)
-      (found : first_from link_cmp routes.sent.links (from sender signal (after + 1)) ≡ Some link) where
+  module _ (order : IsInOrder link_cmp links) (link : Link)
+      (found : first_from link_cmp links (from sender signal (after + 1)) ≡ Some link) where
     low : is_lt (link_cmp link (from sender signal (after + 1))) ≡ false
-    low = (first_some link_total link_same routes.sent.links order (from sender signal (after + 1)) link found).1
+    low = (first_some link_total link_same links order (from sender signal (after + 1)) link found).1
 
-    upto : (keyed : Keyed Connection) → Contains routes.sent.links (sent_of keyed) → calls_next keyed ≡ true → is_lt (link_cmp (sent_of keyed) link) ≡ false
-    upto keyed there next = (first_some link_total link_same routes.sent.links order (from sender signal (after + 1)) link found).2 (sent_of keyed) there
+    upto : (keyed : Keyed Connection) → Contains links (sent_of keyed) → calls_next keyed ≡ true → is_lt (link_cmp (sent_of keyed) link) ≡ false
+    upto keyed there next = (first_some link_total link_same links order (from sender signal (after + 1)) link found).2 (sent_of keyed) there
         (reaches keyed next)
 
     pub next_key : link.object ≡ sender → link.signal ≡ signal → link.number ≤ up_to → Some link.key ≡ key_in (find calls_next rows)
     next_key object same_signal within =
-        let stands = (first_some link_total link_same routes.sent.links order (from sender signal (after + 1)) link found).0 in
+        let stands = (first_some link_total link_same links order (from sender signal (after + 1)) link found).0 in
         let any : Any (λ keyed. sent_of keyed ≡ link) rows = All-contains
-        (λ link. Any (λ keyed. sent_of keyed ≡ link) rows) routes.sent.links link kept.routed.sent.all stands in
+        (λ link. link.object ≡ sender → Any (λ keyed. sent_of keyed ≡ link) rows) links link (kept.routed.sent sender).all stands object in
         let keyed : Keyed Connection = any.1 in
         let is : sent_of keyed ≡ link = any.4 in
         let bound = (at_least link (from sender signal (after + 1)) low).number (sym object) (sym same_signal) in
@@ -145,13 +150,13 @@ module _ (sender signal after up_to : ℕ) (rows : List (Keyed Connection)) (rou
         ∙ sym (ap key_in (find_least (λ (k : Keyed Connection). k.row.number) calls_next rows (rising_keyed rows routes kept.sound) keyed
         (any.0, any.2, any.3) next (λ k d inside other_next.
         let other = facts (get_or rows k d) other_next in
-        let above = at_least (sent_of (get_or rows k d)) link (upto (get_or rows k d) (kept.routed.sent.each k d inside) other_next) in
+        let above = at_least (sent_of (get_or rows k d)) link (upto (get_or rows k d) ((kept.routed.sent sender).each k d inside other.sender_is) other_next) in
         omega (arith, number_is, above.number (object ∙ sym other.sender_is) (same_signal ∙ sym other.signal_is)))))
 
     pub no_next : (link.object ≡ sender → link.signal ≡ signal → link.number ≤ up_to → ⊥) → None ≡ key_in (find calls_next rows)
     no_next differs = none_from (λ k d inside next.
         let is = facts (get_or rows k d) next in
-        let above = at_least (sent_of (get_or rows k d)) link (upto (get_or rows k d) (kept.routed.sent.each k d inside) next) in
+        let above = at_least (sent_of (get_or rows k d)) link (upto (get_or rows k d) ((kept.routed.sent sender).each k d inside is.sender_is) next) in
         let least = at_least link (from sender signal (after + 1)) low in
         let object : link.object ≡ sender = omega (arith, above.object, least.object, is.sender_is) in
         let same_signal : link.signal ≡ signal = omega (arith, above.signal (object ∙ sym is.sender_is), least.signal (sym object), is.signal_is) in
@@ -159,11 +164,36 @@ module _ (sender signal after up_to : ℕ) (rows : List (Keyed Connection)) (rou
 
 -- one more connection is found from both ends
 pub routed_push : (rows : List (Keyed Connection)) (old new : Routes) (keyed : Keyed Connection) → IsRouted rows old
-    → new.sent.links ≡ with_link link_cmp old.sent.links (sent_of keyed) → new.received.links ≡ with_link link_cmp old.received.links (received_of keyed)
+    → Gains (sent_of keyed) old.sent new.sent
+    → Gains (received_of keyed) old.received new.received
     → IsRouted (added rows keyed.key keyed.row) new
 routed_push rows old new keyed routed sent received = record {
-  sent = rw sent (linked_push link_total link_same sent_of rows old.sent.links keyed routed.sent);
-  received = rw received (linked_push link_total link_same received_of rows old.received.links keyed routed.received);
+  sent = λ object. linked_push sent_of rows keyed object (routed.sent object) (sent object);
+  received = λ object. linked_push received_of rows keyed object (routed.received object) (received object);
+}
+
+-- the same connections are found by the same links
+pub routed_same : (old new : Routes) → HaveSame old.sent new.sent → HaveSame old.received new.received → (rows : List (Keyed Connection)) → IsRouted rows old
+    → IsRouted rows new
+routed_same old new sent received rows routed = record {
+  sent = λ object. linked_same sent_of rows object (routed.sent object) (sent object);
+  received = λ object. linked_same received_of rows object (routed.received object) (received object);
+}
+
+pub same_routes : (routes : Routes) → AreSame routes routes
+same_routes routes = record { last_number = refl; routed = λ rows routed. routed }
+
+pub same_then : {first second third : Routes} → AreSame first second → AreSame second third → AreSame first third
+same_then one two = record { last_number = two.last_number ∙ one.last_number; routed = λ rows routed. two.routed rows (one.routed rows routed) }
+
+pub same_apart : (old new : Routes) → new.last_number ≡ old.last_number → HaveSame old.sent new.sent → HaveSame old.received new.received → AreSame old new
+same_apart old new number sent received = record { last_number = number; routed = routed_same old new sent received }
+
+-- where nothing was ever connected, nothing is found
+pub none_routed : IsRouted [] no_routes
+none_routed = record {
+  sent = λ object. record { each = λ k d within. absurd (omega (arith, within)); all = λ k d within. absurd (omega (arith, within)) };
+  received = λ object. record { each = λ k d within. absurd (omega (arith, within)); all = λ k d within. absurd (omega (arith, within)) };
 }
 
 -- an object is at an end of the connections that its links lead to, and of no other
@@ -173,10 +203,10 @@ module _ (object : ℕ) (rows : List (Keyed Connection)) (routes : Routes) (rout
 
   touches_from : (link_of : Keyed Connection → Link) → ((keyed : Keyed Connection) → (link_of keyed).key ≡ keyed.key)
       → ((keyed : Keyed Connection) → (link_of keyed).object ≡ object → touches object keyed.row ≡ true)
-      → (links : List Link) → AreLinked link_of rows links → (key : ℕ) → Any (λ link. (link.object ≡ object) × (link.key ≡ key)) links → Touching key
+      → (links : List Link) → IsLinkedAt link_of rows object links → (key : ℕ) → Any (λ link. (link.object ≡ object) × (link.key ≡ key)) links → Touching key
   touches_from link_of key_is ends_at links linked key any =
-      let row : Any (λ keyed. link_of keyed ≡ any.1) rows = All-contains (λ link. Any (λ keyed. link_of keyed ≡ link) rows) links any.1 linked.all
-      (any.0, any.2, any.3) in (
+      let row : Any (λ keyed. link_of keyed ≡ any.1) rows = All-contains (λ link. link.object ≡ object → Any (λ keyed. link_of keyed ≡ link) rows) links any.1
+      linked.all (any.0, any.2, any.3) any.4.0 in (
         row.0,
         row.1,
         row.2,
@@ -187,21 +217,24 @@ module _ (object : ℕ) (rows : List (Keyed Connection)) (routes : Routes) (rout
         ),
       )
 
-  pub touching_sent : (key : ℕ) → Any (λ link. (link.object ≡ object) × (link.key ≡ key)) routes.sent.links → Touching key
-  touching_sent key any = touches_from sent_of (λ keyed. refl) (λ keyed is. grind (arith, nat_tests, is)) routes.sent.links routed.sent key any
+  pub touching_sent : (key : ℕ) → Any (λ link. (link.object ≡ object) × (link.key ≡ key)) (links_at false object routes) → Touching key
+  touching_sent key any = touches_from sent_of (λ keyed. refl) (λ keyed is. grind (arith, nat_tests, is)) (links_at false object routes) (routed.sent object)
+      key any
 
-  pub touching_received : (found : Option ℕ) → IfSome found (λ key. Any (λ link. (link.object ≡ object) × (link.key ≡ key)) routes.received.links)
+  pub touching_received : (found : Option ℕ) → IfSome found (λ key. Any (λ link. (link.object ≡ object) × (link.key ≡ key)) (links_at true object routes))
       → IfSome found Touching
   touching_received None any = tt
   touching_received (Some key) any = touches_from received_of (λ keyed. refl)
-      (λ keyed is. grind (arith, nat_tests, is)) routes.received.links routed.received key any
+      (λ keyed is. grind (arith, nat_tests, is)) (links_at true object routes) (routed.received object) key any
 
-  pub touching_none : All (λ link. link.object ≢ object) routes.sent.links → (found : Option ℕ)
-      → IfNone found (All (λ link. link.object ≢ object) routes.received.links) → IfNone found (All (λ keyed. touches object keyed.row ≡ false) rows)
+  pub touching_none : All (λ link. link.object ≢ object) (links_at false object routes) → (found : Option ℕ)
+      → IfNone found (All (λ link. link.object ≢ object) (links_at true object routes)) → IfNone found (All (λ keyed. touches object keyed.row ≡ false) rows)
   touching_none sent (Some key) received = tt
   touching_none sent None received = λ k d within.
-      let no_sender : (get_or rows k d).row.sender ≢ object =
-      All-contains (λ link. link.object ≢ object) routes.sent.links (sent_of (get_or rows k d)) sent (routed.sent.each k d within) in
-      let no_receiver : (get_or rows k d).row.receiver ≢ object =
-      All-contains (λ link. link.object ≢ object) routes.received.links (received_of (get_or rows k d)) received (routed.received.each k d within) in
+      let no_sender : (get_or rows k d).row.sender ≢ object = λ is.
+      All-contains (λ link. link.object ≢ object) (links_at false object routes) (sent_of (get_or rows k d)) sent
+      ((routed.sent object).each k d within is) is in
+      let no_receiver : (get_or rows k d).row.receiver ≢ object = λ is.
+      All-contains (λ link. link.object ≢ object) (links_at true object routes) (received_of (get_or rows k d)) received
+      ((routed.received object).each k d within is) is in
       grind (arith, nat_tests, no_sender, no_receiver)

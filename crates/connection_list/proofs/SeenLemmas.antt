@@ -17,7 +17,7 @@ use Rattle.connection_list.specs.declared.connection.Connection.{Connection}
 use Rattle.connection_list.specs.declared.routes.Routes.{Routes}
 use Rattle.connection_list.specs.Rows.{IsSound, Rows, has_number, no_rows, without}
 use Rattle.connection_list.specs.Table.{rows_at, with_rows}
-use Rattle.connection_list.specs.Routes.{AreGone, AreKept, IsPlaceKept, IsRouted, place_of}
+use Rattle.connection_list.specs.Routes.{AreGone, AreKept, IsPlaceKept, IsRouted, no_routes, place_of}
 use Rattle.connection_list.proofs.KeyedLemmas.{filter_alike, filter_map, only_under, stands_under}
 use Rattle.connection_list.proofs.RoutesLemmas.{rising_keyed}
 use Rattle.connection_list.proofs.WithoutLemmas.{length-without}
@@ -31,10 +31,6 @@ pub record IsSeen (rows : Table (List (Keyed Connection))) (routes : Table Route
   pub is : (default : Routes) → at ≡ get_or routes.places place default
   pub kept : IsPlaceKept (shared.rows_at rows place) at
   pub shows : rows_at table place ≡ place_of (shared.rows_at rows place) at
-
--- what a look past the places gives
-abbrev pub blank : Routes
-blank = record { last_number = 0; sent = record { links = []; capacity = 0 }; received = record { links = []; capacity = 0 } }
 
 places_there : (rows : Table (List (Keyed Connection))) (routes : Table Routes) (table : Table Rows) (place : ℕ) → AreKept rows.places routes.places
     → paired_tables place_of rows routes ≡ table → IsPlace table place → IsPlace rows place × IsPlace routes place
@@ -64,8 +60,8 @@ module _ {rows : Table (List (Keyed Connection))} {routes : Table Routes} {table
       }
 
   -- also where nothing was read there
-  pub seen_anyhow : IsSeen rows routes table place (get_or routes.places place blank)
-  seen_anyhow = seen (λ default. get_or_default routes.places place blank default (places_there rows routes table place kept view_is is_place).1)
+  pub seen_anyhow : IsSeen rows routes table place (get_or routes.places place no_routes)
+  seen_anyhow = seen (λ default. get_or_default routes.places place no_routes default (places_there rows routes table place kept view_is is_place).1)
 
 module _ {rows : Table (List (Keyed Connection))} {routes : Table Routes} {table : Table Rows} {place : ℕ} {at : Routes}
     (seen : IsSeen rows routes table place at) where

@@ -12,15 +12,15 @@ use Rattle.shared_rows.specs.Table.{Table, with_place}
 use Rattle.shared_rows.proofs.ForCallers.{with_same}
 use Rattle.shared_rows.specs.Rows.{Keyed, row_under, with_row}
 use Rattle.shared_rows.specs.Rows as shared
-use Rattle.shared_rows.proofs.LinkedLemmas.{linked_same}
 use Rattle.connection_list.specs.declared.connection.Connection.{Connection}
 use Rattle.connection_list.specs.declared.routes.Routes.{Routes}
 use Rattle.connection_list.specs.Ends.{calls_functor}
 use Rattle.connection_list.specs.Rows.{IsSound, Rows, has_number, is_of_functor, no_rows, state_of, with_state}
 use Rattle.connection_list.specs.Table.{rows_at, with_rows}
-use Rattle.connection_list.specs.Routes.{AreKept, IsPlaceKept, place_of, received_of, sent_of}
+use Rattle.connection_list.specs.Routes.{AreKept, IsPlaceKept, no_routes, place_of, received_of, sent_of}
+use Rattle.connection_list.proofs.BucketLemmas.{linked_map}
 use Rattle.connection_list.proofs.KeyedLemmas.{IsApart, found_none, found_under, only_under}
-use Rattle.connection_list.proofs.SeenLemmas.{IsSeen, blank, kept_changed, numbered_alike, view_changed}
+use Rattle.connection_list.proofs.SeenLemmas.{IsSeen, kept_changed, numbered_alike, view_changed}
 use Rattle.connection_list.proofs.StateLemmas.{sound_stepped, stepped-same, stepped_row}
 
 map_alike : {X Y : Type 0} (f g : X → Y) (xs : List X) → All (λ x. f x ≡ g x) xs → map f xs ≡ map g xs
@@ -51,8 +51,8 @@ module _ (number state : ℕ) where
         short = λ i d within. let inside : i < length rows = omega (arith, within, many) in rw (get_or-map stepped_keyed rows i d d inside)
             (kept.short i d inside);
         routed = record {
-          sent = linked_same sent_of stepped_keyed sent_same rows routes.sent.links kept.routed.sent;
-          received = linked_same received_of stepped_keyed received_same rows routes.received.links kept.routed.received;
+          sent = λ object. linked_map sent_of stepped_keyed sent_same rows object (kept.routed.sent object);
+          received = λ object. linked_map received_of stepped_keyed received_same rows object (kept.routed.received object);
         };
       }
     where
@@ -144,7 +144,7 @@ module _ {rows : Table (List (Keyed Connection))} {routes : Table Routes} {table
       place_kept = kept_stepped number state (shared.rows_at rows place) at seen.kept
 
       routes_same : with_place routes place at ≡ routes
-      routes_same = ap (with_place routes place) (seen.is blank) ∙ with_same blank routes place
+      routes_same = ap (with_place routes place) (seen.is no_routes) ∙ with_same no_routes routes place
 
       pub stepped_kept : AreKept new.places routes.places
       stepped_kept =

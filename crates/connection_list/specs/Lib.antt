@@ -1,3 +1,4 @@
+pub mod Buckets
 pub mod Ends
 pub mod Routes
 pub mod Rows

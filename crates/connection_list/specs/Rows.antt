@@ -11,20 +11,20 @@ use Rattle.connection_list.specs.declared.limit.TheConstants.{CONNECTIONS, LISTE
 use Rattle.connection_list.specs.Ends.{same_ends, calls, calls_functor, touches}
 
 pub record Rows : Type 0 where
-  -- the connections that stand, by rising number
+  -- The connections that exist, by ascending number.
   pub rows : List Connection
-  -- the number that was given last, or 0
+  -- The number that was given last, or 0.
   pub last_number : ℕ
 
--- no connection was ever made
+-- No connection was ever made.
 abbrev pub no_rows : Rows
 no_rows = record { rows = []; last_number = 0 }
 
--- each number is below those that stand later
+-- Each number is below all later ones.
 abbrev pub IsRising : List Connection → Type 0
 IsRising rows = AllPairs (λ earlier later. earlier.number < later.number) rows
 
--- what is true of the connections of every place
+-- What holds for the connections of every place.
 pub record IsSound (place : Rows) : Type 0 where
   pub rising : IsRising place.rows
   pub from_one : All (λ row. 1 ≤ row.number) place.rows
@@ -32,7 +32,7 @@ pub record IsSound (place : Rows) : Type 0 where
   pub fits : place.last_number < 2 ^ 32
   pub few : length place.rows ≤ CONNECTIONS
 
--- why a new connection is refused, in the order in which refusals are looked for
+-- Why a new connection is refused: the first reason that applies.
 abbrev pub connect_refusal : Rows → NewConnection → Bool → Option Code
 connect_refusal place new unique =
     if unique && list_any (same_ends new) place.rows then Some ConnectedAlready
@@ -40,7 +40,7 @@ connect_refusal place new unique =
     else (if nat_le (2 ^ 32 - 1) place.last_number then Some NumbersUsedUp
     else None))
 
--- the new connection under its number, whose functor has the state 0
+-- The new connection with its number. Its functor has the state 0.
 abbrev pub numbered : ℕ → NewConnection → Connection
 numbered number new = record {
   number = number;
@@ -53,42 +53,42 @@ numbered number new = record {
   state = 0;
 }
 
--- the place with one more connection, which has the next number
+-- The place with another connection, which has the next number.
 abbrev pub connected : Rows → NewConnection → Rows
 connected place new = record { rows = place.rows ++ numbered (place.last_number + 1) new ∷ []; last_number = place.last_number + 1 }
 
--- the place without the connections that pass a test; no number is given again
+-- The place without the connections that pass a test. No number is given again.
 abbrev pub without : (Connection → Bool) → Rows → Rows
 without test place = record { rows = filter (λ row. not (test row)) place.rows; last_number = place.last_number }
 
--- is this its number
+-- Whether this is the connection's number.
 abbrev pub has_number : ℕ → Connection → Bool
 has_number number row = row.number == number
 
--- is this its number, and does it call a functor
+-- Whether this is the connection's number, and it calls a functor.
 abbrev pub is_of_functor : ℕ → Connection → Bool
 is_of_functor number row = has_number number row && calls_functor row.callee
 
--- the place where the functor of the connection with this number has another state, if one stands
+-- The place in which the functor of the connection with this number has another state, if there is such a connection.
 abbrev pub with_state : ℕ → ℕ → Rows → Rows
 with_state number state place = record place { rows = map (λ row. if is_of_functor number row then record row { state = state } else row) place.rows }
 
--- the state of the functor that the connection with this number calls; none where no such one stands
+-- The state of the functor that the connection with this number calls; `None` if there is no such connection.
 abbrev pub state_of : ℕ → Rows → Option ℕ
 state_of number place = option_and_then (λ row. if calls_functor row.callee then Some row.state else None) (find (has_number number) place.rows)
 
--- is a connection listed: it has a greater number, and the object at either end where one is named
+-- Whether a connection is listed: it has a greater number, and the object, if one is named, at either end.
 abbrev pub is_listed : Option ℕ → ℕ → Connection → Bool
 is_listed object after row = nat_lt after row.number && option_map_or (λ named. touches named row) object true
 
--- the first of these connections that are listed
+-- The first of these connections that are listed.
 abbrev pub listed : Option ℕ → ℕ → List Connection → List Connection
 listed object after rows = take LISTED (filter (is_listed object after) rows)
 
--- does this signal of this object call the connection's callee, and is its number at most `up_to`
+-- Whether this signal of this object calls the connection's callee, and its number is at most `up_to`.
 abbrev pub is_sent : ℕ → ℕ → ℕ → Connection → Bool
 is_sent sender signal up_to row = nat_le row.number up_to && calls sender signal row
 
--- the same, where the number is also above `after`
+-- Whether this signal of this object calls the connection's callee, and its number is above `after` and at most `up_to`.
 abbrev pub is_next : ℕ → ℕ → ℕ → ℕ → Connection → Bool
 is_next sender signal after up_to row = nat_lt after row.number && is_sent sender signal up_to row

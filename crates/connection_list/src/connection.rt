@@ -3,7 +3,7 @@
 use plain_types::{Callee, ConnectionType};
 use shared_rows::Numbered;
 
-/// A connection, as `connect` is asked for it.
+/// A connection for `connect` to make.
 #[derive(Clone, Copy)]
 pub struct NewConnection {
     /// The object that sends the signal.
@@ -17,7 +17,7 @@ pub struct NewConnection {
     pub single: bool,
 }
 
-/// A connection that stands.
+/// A connection that has been made.
 #[derive(Clone, Copy)]
 pub struct Connection {
     /// Counted from 1 in each place, in the order of making, and never given twice before a `clear`.

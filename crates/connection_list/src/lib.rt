@@ -3,6 +3,7 @@
 //! they are is not known.
 #![tactic(auto)]
 
+mod buckets;
 mod connection;
 mod ends;
 mod limit;

@@ -8,23 +8,25 @@ ghost use Rattle.connection_list.specs.Routes.{is_before, is_past, link_cmp};
 
 use shared_rows::Links;
 
-/// Leads to a connection from one of its ends. Those of an object stand together, and of these those
-/// of a signal, by rising number.
+/// Leads to a connection from one of its ends. Links are sorted by object, then signal, then number, so
+/// the links of an object are adjacent, and so are those of one of its signals.
 #[derive(Clone, Copy, PartialEq, Eq, PartialOrd, Ord)]
 pub(crate) struct Link {
     pub(crate) object: u32,
     /// At the receiving end it is 0.
     pub(crate) signal: u32,
     pub(crate) number: u32,
-    /// The connection stands under this key among the rows of all places.
+    /// The key of the connection's row in the table of all places.
     pub(crate) key: u32,
 }
 
-/// The links of one end that a walk looks at: those from `start` on and before `end`.
+/// The links of an object at one end that a walk looks at: those of its bucket from `start` on and before `end`.
 #[derive(Clone, Copy)]
 pub(crate) struct Group {
     /// Whether it is the receiving end.
     pub(crate) received: bool,
+    /// The object at that end.
+    pub(crate) object: u32,
     pub(crate) start: usize,
     pub(crate) end: usize,
 }
@@ -37,19 +39,22 @@ pub(crate) fn group_of(
     signal: Option<u32>,
 ) -> Group
     ensures received { result.received ≡ received }
+    ensures object { result.object ≡ object }
     ensures within { result.end ≤ length links.now.links }
     ensures before { AllWithin (λ link. is_before object signal link ≡ true) links.now.links 0 result.start }
+    ensures inside { AllWithin (λ link. link.object ≡ object) links.now.links result.start result.end }
     ensures past { AllWithin (λ link. is_past object signal link ≡ true) links.now.links result.end (length links.now.links) }
 {
     let all = links.as_buffer();
     Group {
         received,
+        object,
         start: all.partition_point(|link| is_before(object, signal, link)),
         end: all.partition_point(|link| !is_past(object, signal, link)),
     }
 }
 
-/// Whether a link stands before all of an object, or of one of its signals.
+/// Whether a link sorts before every link of an object, or of one of its signals.
 fn is_before(object: u32, signal: Option<u32>, link: &Link) -> bool
     ensures { result ≡ is_before object signal link.now }
 {
@@ -59,7 +64,7 @@ fn is_before(object: u32, signal: Option<u32>, link: &Link) -> bool
     }
 }
 
-/// Whether it stands behind all of them.
+/// Whether a link sorts after every link of an object, or of one of its signals.
 fn is_past(object: u32, signal: Option<u32>, link: &Link) -> bool
     ensures { result ≡ is_past object signal link.now }
 {
@@ -69,8 +74,8 @@ fn is_past(object: u32, signal: Option<u32>, link: &Link) -> bool
     }
 }
 
-/// The least link that is this one or above it. It is looked for at the position `near` first, which then
-/// is the one behind it.
+/// The first link that is not less than `link`. The position `near` is tried first. If a link is found,
+/// `near` becomes the position after it.
 pub(crate) fn first_near(links: &Links<Link>, link: Link, near: &mut usize) -> Option<Link>
     ensures first { result ≡ first_from link_cmp links.now.links link }
     ensures sound { IsInOrder link_cmp links.now.links }
@@ -84,7 +89,7 @@ pub(crate) fn first_near(links: &Links<Link>, link: Link, near: &mut usize) -> O
     Some(all.get(at))
 }
 
-/// How many links are below one: as many as is guessed, or all, or else what a search finds.
+/// How many links are less than `link`. The guess is tried first, then the number of all links, then a search.
 fn count_below(links: &Links<Link>, link: Link, guess: usize) -> usize
     ensures { IsPartitionPoint (λ other. is_lt (link_cmp other link) ≡ true) (λ other. is_lt (link_cmp other link) ≡ false) links.now.links result }
 {

@@ -4,15 +4,16 @@ ghost use Rattle.std.specs.Prelude.{List, OnOk, Some, false, find, length, slice
 ghost use Rattle.std.specs.List.{list_any};
 ghost use Rattle.std.specs.Option.{option_map};
 ghost use Rattle.shared_rows.specs.Table.{IsPlace};
-ghost use Rattle.shared_rows.specs.Links.{IsInOrder, with_link, without_link};
+ghost use Rattle.shared_rows.specs.Links.{IsInOrder};
 ghost use Rattle.shared_rows.specs.Rows.{Keyed, added, row_under, rows_at};
 ghost use Rattle.connection_list.specs.declared.connection.Connection.{Connection};
 ghost use Rattle.connection_list.specs.declared.link.Link.{Link};
 ghost use Rattle.connection_list.specs.Ends.{matches, same_ends, touches};
 ghost use Rattle.connection_list.specs.Rows.{is_next};
 ghost use Rattle.connection_list.specs.Routes.{AreGone, AreSame, HaveRoom, IsGroup, IsPlaceKept, IsRouted, link_cmp};
-ghost use Rattle.connection_list.specs.Routes.{link_of, links_of, no_routes, received_of, sent_of};
+ghost use Rattle.connection_list.specs.Routes.{Gains, Loses, buckets_of, link_of, links_at, no_routes, received_of, sent_of};
 
+use crate::buckets::Buckets;
 use crate::connection::{Connection, NewConnection};
 use crate::ends::{matches, same_ends};
 use crate::link::{Group, Link, first_near, group_of};
@@ -26,9 +27,9 @@ use std::marker::Model;
 pub(crate) struct Routes {
     pub(crate) last_number: u32,
     /// From the senders.
-    pub(crate) sent: Links<Link>,
+    pub(crate) sent: Buckets,
     /// From the receivers.
-    pub(crate) received: Links<Link>,
+    pub(crate) received: Buckets,
 }
 
 impl Routes {
@@ -38,24 +39,24 @@ impl Routes {
     {
         Routes {
             last_number: 0,
-            sent: Links::new(alloc),
-            received: Links::new(alloc),
+            sent: Buckets::new(alloc),
+            received: Buckets::new(alloc),
         }
     }
 
-    fn reserve(&mut self) -> Result<(), AllocError>
+    fn reserve(&mut self, alloc: Global, sender: u32, receiver: u32) -> Result<(), AllocError>
         ensures same { AreSame self.old self.new }
-        ensures room { OnOk result (HaveRoom self.new) }
+        ensures room { OnOk result (HaveRoom sender receiver self.new) }
     {
-        self.sent.reserve()?;
-        self.received.reserve()
+        self.sent.reserve(alloc, sender)?;
+        self.received.reserve(alloc, receiver)
     }
 
     fn link(&mut self, row: &Connection, key: u32)
-        requires { HaveRoom self.old }
+        requires { HaveRoom row.now.sender row.now.receiver self.old }
         ensures number { self.new.last_number ≡ row.now.number }
-        ensures sent { self.new.sent.links ≡ with_link link_cmp self.old.sent.links (sent_of (record { key = key; row = row.now })) }
-        ensures received { self.new.received.links ≡ with_link link_cmp self.old.received.links (received_of (record { key = key; row = row.now })) }
+        ensures sent { Gains (sent_of (record { key = key; row = row.now })) self.old.sent self.new.sent }
+        ensures received { Gains (received_of (record { key = key; row = row.now })) self.old.received self.new.received }
     {
         self.sent.insert_reserved(sent_link(row, key));
         self.received.insert_reserved(received_link(row, key));
@@ -64,8 +65,8 @@ impl Routes {
 
     fn unlink(&mut self, row: &Connection, key: u32)
         ensures number { self.new.last_number ≡ self.old.last_number }
-        ensures sent { self.new.sent.links ≡ without_link link_cmp self.old.sent.links (sent_of (record { key = key; row = row.now })) }
-        ensures received { self.new.received.links ≡ without_link link_cmp self.old.received.links (received_of (record { key = key; row = row.now })) }
+        ensures sent { Loses (sent_of (record { key = key; row = row.now })) self.old.sent self.new.sent }
+        ensures received { Loses (received_of (record { key = key; row = row.now })) self.old.received self.new.received }
     {
         self.sent.remove(sent_link(row, key));
         self.received.remove(received_link(row, key));
@@ -104,23 +105,28 @@ impl LazyRoutes {
         }
     }
 
-    /// Makes room for one more connection.
-    pub(crate) fn reserve(&mut self, alloc: Global) -> Result<(), AllocError>
+    /// Makes room for one more connection of two objects.
+    pub(crate) fn reserve(
+        &mut self,
+        alloc: Global,
+        sender: u32,
+        receiver: u32,
+    ) -> Result<(), AllocError>
         ensures same { AreSame self.old self.new }
-        ensures room { OnOk result (HaveRoom self.new) }
+        ensures room { OnOk result (HaveRoom sender receiver self.new) }
     {
         if let Some(routes) = &mut self.made {
-            return routes.reserve();
+            return routes.reserve(alloc, sender, receiver);
         }
         let mut routes = Box::new(alloc, Routes::new(alloc))?;
-        routes.reserve()?;
+        routes.reserve(alloc, sender, receiver)?;
         self.made = Some(routes);
         Ok(())
     }
 
     /// Adds a connection of the next number.
     pub(crate) fn add(&mut self, row: &Connection, key: u32)
-        requires { HaveRoom self.old }
+        requires { HaveRoom row.now.sender row.now.receiver self.old }
         ensures number { self.new.last_number ≡ row.now.number }
         ensures routed { (rows : List (Keyed Connection)) → IsRouted rows self.old → IsRouted (added rows key row.now) self.new }
     {
@@ -137,7 +143,7 @@ impl LazyRoutes {
         requires stands { IsSome (row_under (rows_at rows.old place) key) }
         ensures gone { AreGone (λ keyed. keyed.key == key) place rows.old rows.new self.old self.new }
         ensures links { (received : Bool) (row : Connection) → row_under (rows_at rows.old place) key ≡ Some row
-            → links_of received self.new ≡ without_link link_cmp (links_of received self.old) (link_of received (record { key = key; row = row })) }
+            → Loses (link_of received (record { key = key; row = row })) (buckets_of received self.old) (buckets_of received self.new) }
     {
         let Some(routes) = &mut self.made else {
             unreachable!()
@@ -177,7 +183,7 @@ impl LazyRoutes {
         let mut left = group.end;
         'links: while left > group.start {
             left -= 1;
-            let key = self.key_at(group.received, left);
+            let key = self.key_at(group, left);
             if matches(pattern, rows.get(place, key)) {
                 self.take_out(rows, place, key);
             }
@@ -205,7 +211,7 @@ impl LazyRoutes {
             receiver: Some(receiver),
         });
         'links: for at in group.start..group.end {
-            let key = self.key_at(group.received, at);
+            let key = self.key_at(group, at);
             if same_ends(new, rows.get(place, key)) {
                 return true;
             }
@@ -220,15 +226,26 @@ impl LazyRoutes {
         let Some(routes) = &self.made else {
             return Group {
                 received: false,
+                object: pattern.sender,
                 start: 0,
                 end: 0,
             };
         };
-        let sent = group_of(&routes.sent, false, pattern.sender, pattern.signal);
+        let sent = group_of(
+            routes.sent.bucket(pattern.sender),
+            false,
+            pattern.sender,
+            pattern.signal,
+        );
         let Some(receiver) = pattern.receiver else {
             return sent;
         };
-        let received = group_of(&routes.received, true, receiver.object, None);
+        let received = group_of(
+            routes.received.bucket(receiver.object),
+            true,
+            receiver.object,
+            None,
+        );
         if received.end.saturating_sub(received.start) < sent.end.saturating_sub(sent.start) {
             received
         } else {
@@ -236,25 +253,25 @@ impl LazyRoutes {
         }
     }
 
-    /// The key that the link at a position of one end leads to.
-    fn key_at(&self, received: bool, at: usize) -> usize
-        requires { at < length (links_of received self.now) }
-        ensures key { (default : Link) → result ≡ (slice_index_or (links_of received self.now) at default).key }
-        ensures sound { IsInOrder link_cmp (links_of received self.now) }
+    /// The key that the link at a position of a group's bucket leads to.
+    fn key_at(&self, group: Group, at: usize) -> usize
+        requires { at < length (links_at group.received group.object self.now) }
+        ensures key { (default : Link) → result ≡ (slice_index_or (links_at group.received group.object self.now) at default).key }
+        ensures sound { IsInOrder link_cmp (links_at group.received group.object self.now) }
     {
         let Some(routes) = &self.made else {
             unreachable!()
         };
-        let links = if received {
+        let buckets = if group.received {
             &routes.received
         } else {
             &routes.sent
         };
-        links.as_buffer().get(at).key as usize
+        buckets.bucket(group.object).as_buffer().get(at).key as usize
     }
 
-    /// The key of the connection that an emission calls next. Its link is looked for at the position
-    /// `near` first, which then is the one behind it.
+    /// The key of the connection that an emission calls next. The position `near` is tried first. If a link
+    /// is found, `near` becomes the position after it.
     pub(crate) fn next_sent(
         &self,
         sender: u32,
@@ -278,7 +295,7 @@ impl LazyRoutes {
             number: after + 1,
             key: 0,
         };
-        let link = first_near(&routes.sent, start, near)?;
+        let link = first_near(routes.sent.bucket(sender), start, near)?;
         if link.object != sender || link.signal != signal || link.number > up_to {
             return None;
         }
@@ -295,9 +312,9 @@ impl LazyRoutes {
         let Some(routes) = &self.made else {
             return None;
         };
-        match first_of(&routes.sent, object) {
+        match first_of(routes.sent.bucket(object), object) {
             Some(key) => Some(key),
-            None => first_of(&routes.received, object),
+            None => first_of(routes.received.bucket(object), object),
         }
     }
 }

@@ -78,10 +78,10 @@ impl Connections {
         *self.routes.get_mut(place) = LazyRoutes::new();
     }
 
-    /// Adds a connection behind all others, and returns its number. Where `unique` is asked, it is
-    /// refused as `Code::ConnectedAlready` if its sender, signal, receiver and callee are joined
-    /// already: a functor is compared here as a method is, and is never one; then `Code::Limit` is beyond `CONNECTIONS`, and `Code::NumbersUsedUp` after the
-    /// number 4,294,967,295.
+    /// Adds a connection after all others, and returns its number. If `unique` is set, the refusal is
+    /// `Code::ConnectedAlready` when a connection has the same sender, signal, receiver and callee (functors
+    /// are compared like methods, and never equal one). Otherwise it is `Code::Limit` beyond `CONNECTIONS`,
+    /// and then `Code::NumbersUsedUp` after the number 4,294,967,295.
     pub fn connect(&mut self, place: usize, new: NewConnection, unique: bool) -> Result<u32, Fault>
         requires { IsPlace self.old place }
         ensures refusal { RefusedBy (connect_refusal (rows_at self.old place) new unique) result }
@@ -93,7 +93,7 @@ impl Connections {
             return Err(Fault::Refused(code));
         }
         let routes = self.routes.get_mut(place);
-        routes.reserve(self.alloc)?;
+        routes.reserve(self.alloc, new.sender, new.receiver)?;
         let row = numbered(routes.last_number() + 1, &new);
         let key = self.rows.push(place, row)?;
         routes.add(&row, key as u32);
@@ -123,7 +123,7 @@ impl Connections {
         self.routes.get(place).joins(&self.rows, place, new)
     }
 
-    /// Takes out the connection with a number, and returns whether it stood.
+    /// Removes the connection with a number, and returns whether there was one.
     pub fn disconnect_one(&mut self, place: usize, number: u32) -> bool
         requires { IsPlace self.old place }
         ensures stood { result ≡ list_any (has_number number) (rows_at self.old place).rows }
@@ -160,10 +160,10 @@ impl Connections {
         routes.drop_object(&mut self.rows, place, object);
     }
 
-    /// The connection that an emission of `sender`'s `signal` calls next: of those that stand, the one
-    /// with the least number above `after` and at most `up_to`. An emission keeps the last number of
-    /// its beginning as `up_to`, so that what is connected meanwhile is not called. `near` is a guess, 0 at
-    /// first, that is kept from one of its calls to the next: where it is right, nothing is searched for.
+    /// The connection that an emission of `sender`'s `signal` calls next: the one with the least number
+    /// above `after` and at most `up_to`. An emission sets `up_to` to the last number when it begins, so that
+    /// connections made meanwhile are not called. `near` is a guess, 0 at first, that the emission passes
+    /// from one call to the next: a right guess saves the search.
     pub fn next_after(
         &self,
         place: usize,
@@ -184,7 +184,7 @@ impl Connections {
         Some(*self.rows.get(place, key as usize))
     }
 
-    /// Whether a connection stands that an emission of `sender`'s `signal` would call if it began now.
+    /// Whether an emission of `sender`'s `signal` that began now would call any connection.
     pub fn is_sent(&self, place: usize, sender: u32, signal: u32) -> bool
         requires { IsPlace self.now place }
         ensures sent { result ≡ is_some (find (is_next sender signal 0 (rows_at self.now place).last_number) (rows_at self.now place).rows) }
@@ -205,8 +205,8 @@ impl Connections {
         Some(*self.rows.get(place, key))
     }
 
-    /// Gives the functor of the connection with a number another state, which takes no memory, and
-    /// returns whether such a connection stands. Where none does, nothing is changed.
+    /// Sets the state of the functor that the connection with a number calls. Returns false and changes
+    /// nothing if there is no such connection or it calls a method. Allocates nothing.
     pub fn set_state(&mut self, place: usize, number: u32, state: u64) -> bool
         requires { IsPlace self.old place }
         ensures stood { result ≡ is_some (state_of number (rows_at self.old place)) }
@@ -224,8 +224,8 @@ impl Connections {
         true
     }
 
-    /// The state of the functor that the connection with a number calls; nothing where it has gone, or
-    /// calls a method.
+    /// The state of the functor that the connection with a number calls; `None` if there is no such
+    /// connection or it calls a method.
     pub fn state(&self, place: usize, number: u32) -> Option<u64>
         requires { IsPlace self.now place }
         ensures { result ≡ state_of number (rows_at self.now place) }
@@ -247,7 +247,7 @@ impl Connections {
         self.routes.get(place).last_number()
     }
 
-    /// How many connections stand, at most `CONNECTIONS`.
+    /// How many connections a place has, at most `CONNECTIONS`.
     pub fn count(&self, place: usize) -> usize
         requires { IsPlace self.now place }
         ensures count { result ≡ length (rows_at self.now place).rows }

@@ -1,4 +1,4 @@
--- What the items of an agenda come to.
+-- The effects of an agenda's items.
 use Rattle.std.specs.Prelude.{◌≡◌, ◌++◌, List, Result, OnErr, OnOk}
 use Rattle.session_model.specs.declared.post.Post.{Post}
 use Rattle.session_model.specs.Items.{Item, Next, puts}
@@ -11,9 +11,9 @@ use Rattle.dispatch.specs.declared.command_output.CommandOutput.{CommandOutput}
 use Rattle.dispatch.specs.Prefix.{IsPrefix}
 use Rattle.dispatch.specs.CommandOutput.{doing_at}
 
--- all that something comes to is done, with these posts: whatever was posted before, it leads to this session,
--- with these behind; and all other sessions have heard them. Where memory was wanted for the session itself,
--- these are the first of those that all of it posts
+-- The whole effect is done, with these posts. Whatever was posted before, it leads to this session, with these posts
+-- appended, and they have reached all other sessions. If memory ran out for the session itself, these are a prefix of
+-- its posts.
 pub record RunsNext {T E : Type 0} (caller : SessionContext) (next : List Post → Next) (old new : Tables) (before after : CommandOutput)
     (result : Result T E) : Type 0 where
   pub posts : List Post
@@ -23,6 +23,6 @@ pub record RunsNext {T E : Type 0} (caller : SessionContext) (next : List Post �
       → IsPrefix (earlier ++ posts) (run (settings_of caller.setup.now) (next earlier).items (next earlier).doing).posts)
   pub reaches : Reaches caller.setup.now.classes caller.name.now caller.place posts old new before.failing after.failing
 
--- these items are done
+-- These items are done.
 abbrev pub RunsItems : {T E : Type 0} → SessionContext → List Item → Tables → Tables → CommandOutput → CommandOutput → Result T E → Type 0
 RunsItems caller items old new before after = RunsNext caller (λ earlier. puts items (doing_at caller.place old before earlier)) old new before after

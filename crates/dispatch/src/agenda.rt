@@ -40,9 +40,9 @@ use std::alloc::AllocError;
 use term_core::{Action, SingleAction, Step};
 use variant_value::{Args, Value};
 
-/// Sends a signal, unless the signals of its object are blocked: calls its connections one after another,
-/// as they stand by then, up to the last that was made when the sending began. `destroyed()` cannot be
-/// blocked.
+/// Sends a signal, unless the signals of its object are blocked: posts it to the sessions that have joined it, then
+/// calls its connections one after another. Connections made meanwhile are not called, nor those broken before they
+/// are reached. `destroyed()` cannot be blocked.
 #[cycle(agenda)]
 pub(crate) fn emit<F: FunctorTable>(
     actor: &CallContext<F>,
@@ -84,8 +84,8 @@ pub(crate) fn emit<F: FunctorTable>(
     Ok(())
 }
 
-/// Calls what a connection calls, which stands: later, by an event, or at once. A single-shot connection
-/// goes first.
+/// Calls the callee of an existing connection: at once, or later by an event. A single-shot connection is broken
+/// first.
 #[cycle(agenda)]
 fn call<F: FunctorTable>(
     actor: &CallContext<F>,
@@ -190,8 +190,8 @@ fn call_later(
     tables.enqueue_call(caller.place, call)
 }
 
-/// Calls a method of an object, which is this one: sends it on at its own depth, where it is a signal, and else
-/// tells of the slot and does what its body says.
+/// Calls the method of an object that has this index. A signal is sent on, at its own depth. For a slot, the call
+/// is reported and the actions of its body are run.
 #[cycle(agenda)]
 pub fn run_method<F: FunctorTable>(
     actor: &CallContext<F>,
@@ -227,9 +227,9 @@ pub fn run_method<F: FunctorTable>(
     acts(actor, tables, output, slot, method.body.actions.as_slice())
 }
 
-/// Tells of a functor that is called, and does what it answers over the state that its connection keeps. The
-/// state that follows is kept there before that. Where the connection has gone, the state is 0, and the
-/// one that follows is kept nowhere.
+/// Reports the call of a functor, and runs the actions that the functor answers for the state that its connection
+/// keeps. The connection gets the next state before the actions run. If the connection is gone, the state is 0 and
+/// the next one is dropped.
 #[cycle(agenda)]
 pub fn run_functor<F: FunctorTable>(
     actor: &CallContext<F>,

@@ -1,4 +1,4 @@
-//! The output of a command holds the lines that it has told so far, and the turns that it has left.
+//! The output of a command: its lines so far, and the turns that are left for the calls that it causes.
 ghost use Rattle.std.specs.Prelude.{◌≡◌, OnOk};
 ghost use Rattle.session_model.specs.declared.line.Line.TheVariants as line;
 ghost use Rattle.session_model.specs.declared.line.Line.TheVariants.{BindingWarning, Warning};
@@ -12,13 +12,12 @@ use session_model::{Call, Line};
 use std::alloc::{AllocError, Global};
 use variant_value::Args;
 
-/// The output of a command holds the lines that it has told so far, and the turns that it has left for the
-/// calls that it causes.
+/// The output of a command: its lines so far, and the turns that are left for the calls that it causes.
 #[derive(Drop)]
 pub struct CommandOutput {
     pub lines: Items<Line>,
     pub turns: u32,
-    /// It was told that no turn is left.
+    /// Whether the warning that no turn is left has been given.
     pub spent: bool,
     /// How many events it took.
     pub taken: u32,
@@ -27,7 +26,7 @@ pub struct CommandOutput {
 }
 
 impl CommandOutput {
-    /// Of a command that begins.
+    /// The output of a command that begins.
     pub fn new(setup: &Setup) -> CommandOutput
         ensures { result ≡ fresh_output setup.now.turns }
     {
@@ -73,7 +72,7 @@ impl CommandOutput {
         })
     }
 
-    /// Warns that a turn is wanted and none is left, once in a command.
+    /// Warns that no turn is left, once in a command.
     pub fn use_up(&mut self) -> Result<(), AllocError>
         ensures told { OnOk result (self.new ≡ spent self.old) }
         ensures failing { self.new.failing ≡ self.old.failing }
@@ -86,8 +85,7 @@ impl CommandOutput {
         Ok(())
     }
 
-    /// Warns of what an action of the slot of `object` was refused for. Where memory was wanted there is
-    /// nothing to warn of.
+    /// Warns that an action of the slot of `object` was refused. If memory ran out, it fails without a warning.
     pub(crate) fn warn_of(&mut self, fault: Fault, object: u32) -> Result<(), AllocError>
         ensures told { OnOk result (Warns fault object self.old self.new) }
         ensures failing { self.new.failing ≡ self.old.failing }
@@ -98,7 +96,7 @@ impl CommandOutput {
         }
     }
 
-    /// Tells of a slot or a functor that is called, by its name.
+    /// Reports the call of a slot or a functor, by its name.
     pub(crate) fn call(&mut self, alloc: Global, name: &Text, slot: &Slot) -> Result<(), AllocError>
         ensures told { OnOk result (self.new ≡ with_line self.old
             (line.Call (record { method = name.now; object = slot.now.object; sender = slot.now.sender; args = slot.now.args.now }))) }

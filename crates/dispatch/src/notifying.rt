@@ -22,7 +22,7 @@ use session_model::NESTED_SIGNALS;
 use session_tables::Tables;
 use std::alloc::AllocError;
 
-/// Tells what there is to tell of a write.
+/// Notifies of the changes of a write.
 #[cycle(agenda)]
 #[inline(always)]
 pub fn notify<F: FunctorTable>(
@@ -82,7 +82,7 @@ fn notify_of<F: FunctorTable>(
     )
 }
 
-/// Tells of changes. All that is told of them is found before the first is told. It is never inlined: a
+/// Notifies of changes. All signals and warnings are determined before the first is given. This is never inlined: a
 /// deletion nests as deep as there are objects, and must keep little on the stack.
 #[cycle(agenda)]
 #[inline(never)]

@@ -7,8 +7,8 @@ use plain_types::Callee;
 use shared_rows::Numbered;
 use variant_value::Args;
 
-/// How soon an event is taken (`Qt::EventPriority`): before those of a lower priority, and behind those
-/// of its own that were posted earlier.
+/// How soon an event is taken (`Qt::EventPriority`): before those of a lower priority, and after those of
+/// its own that were posted earlier.
 #[derive(Clone, Copy, PartialEq, Eq)]
 pub enum Priority {
     /// `Qt::LowEventPriority`, -1.
@@ -20,7 +20,7 @@ pub enum Priority {
 }
 
 impl Priority {
-    /// Where it stands among all, the highest first.
+    /// The position of a priority among all three, 0 for the highest.
     pub(crate) fn rank(self) -> u64
         ensures rank { result ≡ rank_of self }
         ensures few { result ≤ 2 }
@@ -99,7 +99,7 @@ impl Event {
 /// How many numbers each priority has.
 pub(crate) const NUMBERS: u64 = 1 << 62;
 
-/// An event as it stands in its queue.
+/// An event in its queue, with the number that orders it.
 #[derive(Drop)]
 pub(crate) struct QueuedEvent {
     /// Less than `NUMBERS`, and above those of all events of its priority that were posted before it and

@@ -10,7 +10,7 @@ use shared_rows::Links;
 use std::alloc::{AllocError, Global};
 use std::cmp::Ordering;
 
-/// A count tells how many rows name an object.
+/// How many rows name an object.
 #[derive(Clone, Copy)]
 pub(crate) struct Count {
     pub(crate) rows: u32,
@@ -18,7 +18,7 @@ pub(crate) struct Count {
     pub(crate) is_dropped: bool,
 }
 
-/// An object and its count. The object alone says where an entry stands.
+/// An object and its count. Entries are ordered by their objects alone.
 #[derive(Clone, Copy)]
 pub(crate) struct Entry {
     object: u32,
@@ -63,15 +63,15 @@ impl PartialOrd for Entry {
     }
 }
 
-/// What an object has that no row names.
+/// The count of an object that no row names.
 const NO_ROWS: Count = Count {
     rows: 0,
     is_dropped: false,
 };
 
-/// How many rows name an object, for each object that any row names. Mostly one changes that stands near the
-/// one that changed last. The events of an object are dropped here, by a mark, and none of its rows is looked
-/// at.
+/// How many rows name an object, for each object that any row names. An entry that changes is usually near
+/// the one that changed last. Dropping the events of an object marks its entry here and visits none of its
+/// rows.
 #[derive(Drop)]
 pub(crate) struct ObjectCounts {
     entries: Links<Entry>,
@@ -103,7 +103,7 @@ impl ObjectCounts {
         }
     }
 
-    /// One row more names the object, and none of its rows is of a dropped event.
+    /// Counts another row that names the object, and clears its mark for dropped events.
     pub(crate) fn add(&mut self, object: u32) -> Result<(), AllocError>
         requires { count_of self.old object < 2 ^ 32 - 1 }
         ensures ok { OnOk result (IsCounted self.old self.new object (count_of self.old object + 1)) }
@@ -117,7 +117,7 @@ impl ObjectCounts {
         self.entries.insert(Entry { object, count })
     }
 
-    /// One row fewer names the object. Was its event dropped?
+    /// Counts one row fewer for the object, and returns whether its events are dropped.
     pub(crate) fn subtract(&mut self, object: u32) -> bool
         ensures was { result ≡ is_dropped self.old object }
         ensures counted { IsCounted self.old self.new object (count_of self.old object - 1) }
@@ -162,7 +162,7 @@ impl ObjectCounts {
         rows
     }
 
-    /// Gives an object that is counted another count, which takes no memory.
+    /// Changes the count of an object that is counted. Allocates nothing.
     fn set(&mut self, object: u32, count: Count)
         requires { 0 < count_of self.old object }
         ensures { (other : ℕ) → count_at self.new other ≡ (if object == other then count else count_at self.old other) }

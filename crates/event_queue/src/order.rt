@@ -11,7 +11,7 @@ use crate::object_counts::ObjectCounts;
 use shared_rows::{Numbered, SharedRows};
 use std::alloc::AllocError;
 
-/// Puts an event behind those of its priority and above, and before those below.
+/// Puts an event after those of its priority or a higher one, and before those of a lower one.
 pub(crate) fn place_event(
     rows: &mut SharedRows<QueuedEvent>,
     place: usize,
@@ -33,7 +33,7 @@ pub(crate) fn place_event(
     Ok(())
 }
 
-/// How many events of the place have a number below this one; they stand before the others.
+/// How many events of the place have a number below this one. They come before all others.
 fn count_below(rows: &SharedRows<QueuedEvent>, place: usize, number: u64) -> usize
     requires { IsPlace rows.now place }
     ensures count { IsCountBelow (rows_at rows.now place) number result }
@@ -41,7 +41,7 @@ fn count_below(rows: &SharedRows<QueuedEvent>, place: usize, number: u64) -> usi
 {
     let mut low = 0;
     let mut high = rows.len(place);
-    // Mostly all of them have, so that the first look is at the last one.
+    // Usually all of them do, so the last one is checked first.
     let mut at = high.saturating_sub(1);
     'looks: while low < high {
         let (_, posted) = rows.at(place, at);
@@ -55,8 +55,9 @@ fn count_below(rows: &SharedRows<QueuedEvent>, place: usize, number: u64) -> usi
     low
 }
 
-/// A number of the priority whose numbers begin at `start`, less `start`: it is above those of the events
-/// of that priority, of which the last one stands before this position, if there are any.
+/// A number, relative to `start`, for a new event of the priority whose numbers begin at `start`. It is
+/// above the numbers of all queued events of that priority, which are before the position `before`. It
+/// fails if the numbers are used up.
 fn next_number(
     rows: &SharedRows<QueuedEvent>,
     place: usize,
@@ -114,8 +115,8 @@ fn take_row(rows: &mut SharedRows<QueuedEvent>, place: usize) -> Option<Event>
     Some(rows.remove(place, key).event)
 }
 
-/// Sweeps where rows of the object are of dropped events, so that another of its events can wait. So
-/// many events wait; where as many rows stand, no object has to be looked up.
+/// Sweeps out dropped events if some are the object's, so that a new event of the object can wait. `queued`
+/// events wait: if there are no more rows than that, none is dropped, and the object is not looked up.
 pub(crate) fn make_way(
     rows: &mut SharedRows<QueuedEvent>,
     objects: &mut ObjectCounts,

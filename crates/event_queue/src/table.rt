@@ -16,14 +16,14 @@ use std::marker::Model;
 /// How many events a place holds at most.
 pub const EVENTS: usize = 16384;
 
-/// Clients are told these counts of a queue.
+/// The counts of a queue. Clients can ask for them.
 #[derive(Clone, Copy)]
 pub struct Counts {
     /// How many events wait.
     pub queued: usize,
-    /// How many events were lost, as `note_lost` was told; no more than 2^64 - 1 are counted.
+    /// How many lost events `note_lost` has counted. It stops at 2^64 - 1.
     pub lost: u64,
-    /// How many events did not match, as `note_mismatched` was told; no more than 2^64 - 1 are counted.
+    /// How many mismatched events `note_mismatched` has counted. It stops at 2^64 - 1.
     pub mismatched: u64,
 }
 
@@ -113,10 +113,10 @@ impl Queues {
         *self.logs.get_mut(place) = Log::new(self.alloc);
     }
 
-    /// Puts an event behind those of its priority and above, and before those below, and returns whether it
-    /// did: a queue of `EVENTS` takes no more, of whatever priorities. It fails where memory is short, and
-    /// besides where 2^32 events have rows at all places, or where 2^62 of this priority were posted at this
-    /// one since none of it had a row.
+    /// Puts an event after those of its priority or a higher one, and before those of a lower one. Returns
+    /// false, and changes nothing, if `EVENTS` events wait already. It fails if memory runs out, if 2^32
+    /// events have rows at all places, or if 2^62 events of this priority were posted at this place since it
+    /// last had no row of that priority.
     pub fn post(&mut self, place: usize, event: Event) -> Result<bool, AllocError>
         requires { IsPlace self.old place }
         ensures answer { IfOk result (λ answer. answer ≡ has_room (queue_at self.old place)) }

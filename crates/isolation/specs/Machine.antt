@@ -1,26 +1,29 @@
 -- A machine: what the sessions of a server do, each with a state of its own.
 use Rattle.std.specs.Prelude.{◌≡◌, ◌⊎◌, Bool, true, false, List}
 
--- what a command gives: the new state of its session, the lines told to it, and what is posted to the others
+-- The effect of a command: the new state of its session, the lines that the session receives, and the posts to the
+-- others.
 pub record Effect (State Line Post : Type 0) : Type 0 where
   pub state : State
   pub lines : List Line
   pub posts : List Post
 
--- what a session does with a command and with a post of another session, which names its joins listen to, and which joins it accepts
+-- How a session handles a command and a post of another session, which sessions its joins name, and which joins it
+-- accepts.
 pub record Machine (Name State Command Line Post : Type 0) : Type 0 where
-  -- are the two names one
+  -- Whether two names are the same.
   pub same : Name → Name → Bool
-  -- what a command gives, in the session of this name and state
+  -- The effect of a command in the session with this name and state.
   pub does : Name → State → Command → Effect State Line Post
-  -- the state after a post of the named session
+  -- The state after a post of this session.
   pub arrives : State → Name → Post → State
-  -- does a join that stands in this state name that session
+  -- Whether a join that exists in this state names this session.
   pub names : State → Name → Bool
-  -- is the command, in the session of this name and state, accepted as a join of that name
+  -- Whether the command, in the session with this name and state, is accepted as a join that names this session.
   pub accepts : Name → State → Command → Name → Bool
 
--- names are told apart, what no join names is passed over, and an accepted join adds its name and nothing else does
+-- Names can be compared; a session ignores posts of sessions that none of its joins names; an accepted join adds its
+-- name, and nothing else adds one.
 pub record IsLawful {Name State Command Line Post : Type 0} (m : Machine Name State Command Line Post) : Type 0 where
   pub equal : (a b : Name) → m.same a b ≡ true → a ≡ b
   pub itself : (a : Name) → m.same a a ≡ true
@@ -31,7 +34,7 @@ pub record IsLawful {Name State Command Line Post : Type 0} (m : Machine Name St
       → m.accepts self state command name ≡ true → m.names (m.does self state command).state name ≡ true
   pub arrived : (state : State) (from : Name) (post : Post) (name : Name) → m.names (m.arrives state from post) name ≡ true → m.names state name ≡ true
 
--- a command, and the session that gives it
+-- A command, and the session that gives it.
 pub record Tagged (Name Command : Type 0) : Type 0 where
   pub session : Name
   pub command : Command

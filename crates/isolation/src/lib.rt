@@ -1,10 +1,10 @@
-//! These laws hold of the sessions of a server, proved once for every machine.
+//! The laws by which the sessions of a server are isolated, proved once for every machine.
 //!
-//! A machine says what a session does with a command, what arrives at the others, and whom a join
-//! names. It is lawful where a session passes over the posts of a session that none of its joins
-//! names, and where a join stands after a command that is accepted as one, and comes from no other.
-//! The words stand in `specs`; for a server it is enough to show that its machine is lawful, and that
-//! its calls do what the machine does.
+//! A machine says what a session does with a command, what arrives at the others, and which sessions
+//! its joins name. It is lawful if a session ignores the posts of a session that none of its joins
+//! names, and if a command that is accepted as a join makes one, and nothing else does. The terms are
+//! defined in `specs`. For a server it is enough to show that its machine is lawful, and that its calls
+//! do what the machine does.
 #![tactic(auto)]
 
 ghost use Rattle.std.specs.Prelude.{Bool};
@@ -42,8 +42,8 @@ pub fn slice_laws<Name, State, Command, Line, Post>()
     ensures notes_are_right { (m : Machine Name State Command Line Post) → IsLawful m → NotesAreRight m }
 {}
 
-/// The laws of other lists that tell a session the same: those between its slice and the whole, and those
-/// in which only the commands of others stand elsewhere.
+/// The laws of other lists of commands that give a session the same lines: those between its slice and the
+/// whole, and those in which commands that cannot influence it are at other positions.
 ///
 /// There is nothing to run, as in `laws`.
 pub fn list_laws<Name, State, Command, Line, Post>()
@@ -51,11 +51,11 @@ pub fn list_laws<Name, State, Command, Line, Post>()
     ensures interleaving { (m : Machine Name State Command Line Post) → IsLawful m → InterleavingLaw m }
 {}
 
-/// The laws of inputs in pieces, where some pieces are faults: what is said to a session is what
-/// its commands are told alone, and stays the same where the commands of sessions are left out
+/// The laws of inputs in pieces, where some pieces are faults. A session's commands give it the lines that
+/// they would give it alone. What it receives stays the same if the commands of sessions are left out
 /// that no chain of joins from it leads to.
 ///
-/// There is nothing to run, as in `laws`. A fault is any value, as a code with a session's name.
+/// There is nothing to run, as in `laws`. A fault is any value, such as a code with a session's name.
 pub fn piece_laws<Name, State, Command, Line, Post, Fault>()
     ensures leaving_out { (m : Machine Name State Command Line Post) → IsLawful m → LeavingOutPieces Fault m }
     ensures said_stays { (m : Machine Name State Command Line Post) → IsLawful m → SaidStays Fault m }
@@ -63,10 +63,10 @@ pub fn piece_laws<Name, State, Command, Line, Post, Fault>()
     ensures told_alone { (m : Machine Name State Command Line Post) → IsLawful m → ToldAlone Fault m }
 {}
 
-/// The law of runs in which memory runs out: sessions that are closed under joins, and whose own commands
-/// were all done, are told what the machine tells them, whatever memory other sessions did not find.
+/// The law of runs in which memory runs out. Sessions that are closed under joins, and whose own commands
+/// were all done, receive what the machine gives them, even if other sessions run out of memory.
 ///
-/// There is nothing to run, as in `laws`. `anew` says which commands begin a failed session anew.
+/// There is nothing to run, as in `laws`. The law's test picks the commands that restart a failed session.
 pub fn spared_laws<Name, State, Command, Line, Post>()
     ensures spared { (m : Machine Name State Command Line Post) (anew : Command → Bool) → IsLawful m → SparedLaw m anew }
 {}

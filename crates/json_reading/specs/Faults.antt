@@ -1,16 +1,16 @@
--- Tokens that no JSON has, wherever they stand in an object. Only private clauses cite it.
+-- Tokens that no JSON object can have. Only private clauses cite this.
 use Rattle.std.specs.Prelude.{◌≡◌, ℕ, List, ◌∷◌, None}
 use Rattle.json.specs.Token.{Token}
 use Rattle.json.specs.Json.{items, members, value}
 
--- no value begins with this token
+-- No value begins with this token.
 abbrev pub BeginsNoValue : Token → Type 0
 BeginsNoValue token = (depth : ℕ) (rest : List Token) → value depth (token ∷ rest) ≡ None
 
--- the tokens do not begin with the rest of a list that is a member's value
+-- The tokens do not begin with the rest of a list that is a member's value.
 abbrev pub HasNoItems : List Token → Type 0
 HasNoItems tokens = (turns : ℕ) → items (value 125) turns tokens ≡ None
 
--- the tokens do not begin with the rest of the whole object
+-- The tokens do not begin with the rest of the whole object.
 abbrev pub HasNoMembers : List Token → Type 0
 HasNoMembers tokens = (turns : ℕ) → members (value 126) turns tokens ≡ None

@@ -1,4 +1,4 @@
--- What members and their values stand for, as `serde_json` sees them.
+-- Members and their values, as `serde_json` sees them.
 use Rattle.std.specs.Prelude.{List, [], ◌∷◌}
 use Rattle.serde_json.specs.Data.{Data, null, boolean, number, string, array, unsigned, Items, no_items, item, Members, no_members, put}
 use Rattle.serde_json.specs.Find.{of_integer}
@@ -25,7 +25,7 @@ data_of (field.Plain s) = scalar_data s
 data_of (field.List ss) = array (items_in ss.items)
 data_of (field.Tree v) = view v.now
 
--- the members, put one after another to those that were found before
+-- The members, each added to those before it.
 abbrev pub members_from : Members → List Member → Members
 members_from found [] = found
 members_from found (m ∷ ms) = members_from (put m.key.now (data_of m.value) found) ms

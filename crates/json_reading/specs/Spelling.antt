@@ -1,4 +1,4 @@
--- How members are spelled, where no value is a tree: by the tokens of `json`, and in a text. Only private clauses cite it.
+-- How members without trees are spelled: by the tokens of `json`, and in a text. Only private clauses cite this.
 use Rattle.std.specs.Prelude.{◌≡◌, ℕ, ◌^◌, ◌<◌, ◌≤◌, List, [], ◌∷◌, ◌++◌, length, drop, map, decimal, ⊤, FitsSigned}
 use Rattle.std.specs.Int.{w64}
 use Rattle.std.specs.Fmt.{signed_decimal}
@@ -32,7 +32,7 @@ object_tokens ms = begin_object ∷ (member_tokens ms ++ end_object ∷ [])
 abbrev pub member_text : Member → List ℕ
 member_text m = quoted m.key.now ++ (58 ∷ [] ++ print (field_tokens m.value))
 
--- a number has at most 64 bits
+-- A number has at most 64 bits.
 abbrev pub Fits : Scalar → Type 0
 Fits Null = ⊤
 Fits (Truth t) = ⊤
@@ -44,7 +44,7 @@ abbrev pub AllFit : List Scalar → Type 0
 AllFit [] = ⊤
 AllFit (s ∷ ss) = Fits s × AllFit ss
 
--- the value is no tree
+-- The value is not a tree.
 abbrev pub IsSpelled : Field → Type 0
 IsSpelled (field.Plain s) = Fits s
 IsSpelled (field.List ss) = AllFit ss.items
@@ -54,7 +54,7 @@ abbrev pub AreSpelled : List Member → Type 0
 AreSpelled [] = ⊤
 AreSpelled (m ∷ ms) = IsSpelled m.value × AreSpelled ms
 
--- the text s stands in d from i up to j
+-- The text `s` is in `d` from `i` up to `j`.
 pub record StandsAt (d : List ℕ) (i : ℕ) (s : List ℕ) (j : ℕ) : Type 0 where
   pub text : drop i d ≡ s ++ drop j d
   pub later : i < j

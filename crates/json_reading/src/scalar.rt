@@ -12,7 +12,7 @@ use crate::field::Scalar;
 use crate::stop::Stop;
 use std::simd::prelude::*;
 
-/// The byte at a place, or 0 behind the end.
+/// The byte at a place, or 0 past the end.
 #[inline(always)]
 pub(crate) fn byte_at(bytes: &[u8], at: usize) -> u8
     ensures { result ≡ get_or bytes.now at 0 }

@@ -1,6 +1,6 @@
-//! `metad`: a server of live objects in isolated sessions. It reads commands from standard input, one
-//! JSON object a line, and writes what the sessions are told to standard output, or the lines that one of
-//! them depends on.
+//! `metad`: a server of live objects in isolated sessions. It reads commands from standard input and writes
+//! the sessions' answers to standard output, one JSON object a line. For the slice of a session it writes
+//! the input lines that can affect the session's answers instead.
 #![tactic(auto)]
 
 ghost use Rattle.std.specs.Prelude.{◌≡◌, ◌∷◌, [], IfOk};
@@ -70,8 +70,8 @@ fn serve(rt: &HostRuntime, beginning: Beginning) -> Result<Summary, RunFault> {
     run_with(rt, beginning, functors)
 }
 
-/// Reads standard input to its end, and writes on standard output what the sessions are told, or for the
-/// slice of a session the lines on which what it is told depends.
+/// Reads standard input to its end, and writes the sessions' answers to standard output, or for the slice
+/// of a session the input lines that can affect its answers.
 fn run_with(
     rt: &HostRuntime,
     beginning: Beginning,
@@ -97,11 +97,11 @@ fn run_with(
     }
 }
 
-/// Tells what a run came to, and gives the exit status.
+/// Reports how a run failed, if it did, and returns the exit status.
 fn end_of_run(rt: &HostRuntime, run: &Result<Summary, RunFault>) -> ExitCode {
     let (status, complaint) = status_of(run);
     if let Some(text) = complaint {
-        // There is nobody left to tell where this fails too.
+        // A failure to write this is ignored.
         let _ = eprintln!(rt; "{text}");
     }
     ExitCode::from(status)

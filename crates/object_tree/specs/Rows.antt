@@ -6,19 +6,19 @@ use Rattle.object_tree.specs.declared.row.Row.{Row}
 abbrev pub has_number : ℕ → Row → Bool
 has_number number row = row.number == number
 
--- the row of an object
+-- The row of an object.
 abbrev pub row_of : List Row → ℕ → Option Row
 row_of rows number = find (has_number number) rows
 
--- is there such an object
+-- Whether there is such an object.
 abbrev pub is_there : List Row → ℕ → Bool
 is_there rows number = is_some (row_of rows number)
 
--- the parent of an object, where it has one
+-- The parent of an object, if it has one.
 abbrev pub parent_of : List Row → ℕ → Option ℕ
 parent_of rows number = option_and_then (λ row. row.parent) (row_of rows number)
 
--- are two parents the same, or none both
+-- Whether two parents are the same, or both absent.
 abbrev pub is_same : Option ℕ → Option ℕ → Bool
 is_same a b = option_eq (λ x y. x == y) a b
 
@@ -31,16 +31,16 @@ numbers rows = map (λ row. row.number) rows
 abbrev pub stamps : List Row → List ℕ
 stamps rows = map (λ row. row.stamp) rows
 
--- the rows with one more, before those of a greater stamp
+-- The rows with another one, before those with greater stamps.
 abbrev pub inserted : Row → List Row → List Row
 inserted row [] = row ∷ []
 inserted row (first ∷ rest) = if nat_lt row.stamp first.stamp then row ∷ first ∷ rest else first ∷ inserted row rest
 
--- the rows by rising stamp
+-- The rows by ascending stamp.
 abbrev pub by_stamp : List Row → List Row
 by_stamp [] = []
 by_stamp (row ∷ rest) = inserted row (by_stamp rest)
 
--- the children of a parent, by age; those of no parent are the roots
+-- The children of a parent, by age. Without a parent, the roots.
 unfoldable pub children : List Row → Option ℕ → List ℕ
 children rows parent = numbers (by_stamp (filter (has_parent parent) rows))

@@ -15,9 +15,9 @@ use plain_types::{Code, Fault};
 impl Forests {
     /// Adds an object, and returns its number.
     ///
-    /// The first refusal of these counts: `NoSuchObject` for a parent that is not there, `Dying` for one
-    /// that is dying, `Limit` where the place holds 4,096 objects or the parent stands on level 64, and
-    /// `NumbersUsedUp` where the numbers or the stamps have run out.
+    /// It is refused with the first of these that applies: `NoSuchObject` if the parent does not exist,
+    /// `Dying` if it is dying, `Limit` if the place holds 4,096 objects or the parent is on level 64, and
+    /// `NumbersUsedUp` if the numbers or the stamps have run out.
     pub fn add(&mut self, place: usize, parent: Option<u32>, class: u32) -> Result<u32, Fault>
         requires { IsPlace self.old place }
         ensures refusal { RefusedBy (add_refusal (forest_at self.old place) parent) result }

@@ -12,10 +12,10 @@ use crate::row::Row;
 use shared_rows::GapBuffer;
 use std::cmp::Ordering;
 
-/// A child, with its parent and its age. The fields stand in this order so that they fill 16 bytes,
-/// which a removal moves fast.
+/// A child, with its parent and its age. The fields are in this order so that they fill 16 bytes, which
+/// a removal moves fast.
 ///
-/// In order, those of later parents stand first and the roots last.
+/// Children of later parents come first, and the roots come last.
 #[derive(Clone, Copy, PartialEq, Eq)]
 pub(crate) struct Child {
     pub(crate) stamp: u64,
@@ -52,7 +52,7 @@ impl PartialOrd for Child {
     }
 }
 
-/// The number of a parent, and 0 where there is none: a child of a greater one stands first.
+/// The number of a parent, or 0 for a root. Children of greater parents come first.
 pub(crate) fn order_of(parent: Option<u32>) -> u32
     ensures { result ≡ order_of parent }
 {
@@ -78,8 +78,8 @@ pub(crate) struct Kids<'a> {
     pub(crate) end: usize,
 }
 
-/// Where children are looked for first. Where those of one parent after the other are asked for, a group
-/// mostly stands as far before the last one as that stood before the one before it, and is as large.
+/// A guess at where the children of the next parent are. When the parents are visited in order, a group
+/// is usually as large as the last one, and as far before it as that one was before its predecessor.
 #[derive(Clone, Copy)]
 pub(crate) struct Near {
     start: usize,
@@ -90,7 +90,7 @@ pub(crate) struct Near {
 }
 
 impl Near {
-    /// Before the children that stand at a position.
+    /// Guesses one child, just before a position.
     pub(crate) fn before(start: usize) -> Near {
         Near {
             start,
@@ -100,7 +100,7 @@ impl Near {
         }
     }
 
-    /// Before a group that was found near this one, or still this one where it has no child.
+    /// The guess after this one has led to a group. An empty group changes only `none`.
     pub(crate) fn behind(self, kids: Kids<'_>) -> Near
         requires { AreWithin kids }
     {
@@ -132,8 +132,8 @@ pub(crate) fn group(all: &GapBuffer<Child>, parent: u32, near: Near) -> Kids<'_>
     Kids { all, start, end }
 }
 
-/// How many have a later parent, where so many have this one or a later one, and this parent has perhaps
-/// this number of children.
+/// How many children have a later parent, given that `end` have this parent or a later one. `size` is a
+/// guess at how many have this parent.
 fn start_of(children: &GapBuffer<Child>, parent: u64, end: usize, size: usize) -> usize
     requires order { IsInOrder child_cmp children.now.items }
     requires parent { parent < 2 ^ 32 }
@@ -164,7 +164,7 @@ pub(crate) fn first_of(all: &GapBuffer<Child>, parent: u32) -> Option<Child>
     }
 }
 
-/// How many have this parent or a later one: they stand before all others. A guess that is right saves
+/// How many children have this parent or a later one: they come before all others. A right guess saves
 /// the search.
 #[inline(always)]
 fn count_from(children: &GapBuffer<Child>, parent: u64, guess: usize, second: usize) -> usize
@@ -192,7 +192,7 @@ fn count_from_second(children: &GapBuffer<Child>, parent: u64, guess: usize) -> 
     children.partition_point(|child| parent <= child.parent as u64)
 }
 
-/// Whether so many have this parent or a later one.
+/// Whether exactly `count` children have this parent or a later one.
 #[inline(always)]
 fn is_count_from(children: &GapBuffer<Child>, parent: u64, count: usize) -> bool
     requires { IsInOrder child_cmp children.now.items }

@@ -1,4 +1,4 @@
-//! The children of objects, the search among them, and how many levels hang at them.
+//! The children of objects, the search among them, and how many levels are below them.
 ghost use Rattle.std.specs.Prelude.{◌≡◌, ◌++◌, ◌≤◌, IfOk, OnOk, ℕ, Bool, find, length, map};
 ghost use Rattle.shared_rows.specs.Table.{IsPlace};
 ghost use Rattle.object_tree.specs.Children.{AreWithin, kids_of};
@@ -12,7 +12,7 @@ use crate::forests::Forests;
 use std::alloc::AllocError;
 
 impl Forests {
-    /// The children of a parent in the order in which they came to it; of no parent, the roots.
+    /// The children of a parent, in the order in which they were added to it. Without a parent, the roots.
     pub fn children(&self, place: usize, parent: Option<u32>) -> Result<Vec<u32>, AllocError>
         requires { IsPlace self.now place }
         ensures { IfOk result (λ found. found.items ≡ children (forest_at self.now place).rows parent) }

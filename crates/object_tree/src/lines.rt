@@ -1,4 +1,4 @@
-//! The lines that objects stand in.
+//! Lines: an object and its ancestors.
 ghost use Rattle.std.specs.Prelude.{◌≡◌, ◌≤◌, length};
 ghost use Rattle.shared_rows.specs.Table.{IsPlace};
 ghost use Rattle.object_tree.specs.Rows.{parent_of};
@@ -16,7 +16,7 @@ impl Forests {
         self.row(place, number)?.parent
     }
 
-    /// On which level an object stands.
+    /// The level of an object.
     #[tactic(auto, unfolding(crate::specs::Lines::line))]
     pub fn depth(&self, place: usize, number: u32) -> usize
         requires { IsPlace self.now place }
@@ -35,7 +35,7 @@ impl Forests {
         depth
     }
 
-    /// The level of a parent; 0 where there is none.
+    /// The level of a parent, or 0 without a parent.
     pub(crate) fn depth_at(&self, place: usize, parent: Option<u32>) -> usize
         requires { IsPlace self.now place }
         ensures value { result ≡ depth_at (forest_at self.now place).rows parent }

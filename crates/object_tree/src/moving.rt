@@ -17,12 +17,12 @@ use plain_types::Code;
 use shared_rows::{Links, SharedRows};
 
 impl Forests {
-    /// Gives an object another parent, or makes it a root, behind all that are there; it takes no memory.
+    /// Makes an object the last child of another parent, or the last root. Allocates nothing.
     ///
-    /// The first refusal of these counts: `NoSuchObject` and `Dying` for the object, then both for the
-    /// parent. Of the parent that the object has nothing more is asked, and nothing changes. Else:
-    /// `Cycle` where the parent is the object or below it, `Limit` where something that hangs at the
-    /// object would stand below level 64, and `NumbersUsedUp` where the stamps have run out.
+    /// It is refused with the first of these that applies: `NoSuchObject` or `Dying` for the object, then
+    /// for the parent. If the object already has this parent, nothing changes. Otherwise: `Cycle` if the
+    /// parent is the object or below it, `Limit` if the object or something below it would be below level
+    /// 64, and `NumbersUsedUp` if the stamps have run out.
     pub fn set_parent(&mut self, place: usize, object: u32, parent: Option<u32>) -> Result<(), Code>
         requires { IsPlace self.old place }
         ensures refusal { result_err result ≡ set_parent_refusal (forest_at self.old place) object parent }
@@ -46,7 +46,7 @@ impl Forests {
         Ok(())
     }
 
-    /// Refuses an object another parent.
+    /// Refuses to give an object another parent.
     #[tactic(auto, unfolding(crate::specs::Refusing::set_parent_refusal))]
     fn check_set_parent(&self, place: usize, object: u32, parent: Option<u32>) -> Result<(), Code>
         requires { IsPlace self.now place }
@@ -102,7 +102,7 @@ impl Forests {
     }
 }
 
-/// Gives an object a parent and a stamp, which takes no memory.
+/// Gives an object a parent and a stamp. Allocates nothing.
 pub(crate) fn hang(
     rows: &mut SharedRows<Row>,
     children: &mut Links<Child>,
@@ -131,7 +131,7 @@ pub(crate) fn hang(
     children.replace(child_of(row), child_of(hung));
 }
 
-/// Whether two parents are the same, or none both.
+/// Whether two parents are the same, or both absent.
 fn is_same(a: Option<u32>, b: Option<u32>) -> bool
     ensures { result ≡ is_same a b }
 {

@@ -4,7 +4,7 @@ use shared_rows::Numbered;
 /// The most objects that a forest holds.
 pub const OBJECTS: usize = 4096;
 
-/// The most levels of a tree; a root stands on the first.
+/// The most levels of a tree; a root is on level 1.
 pub const DEPTH: usize = 64;
 
 /// An object.
@@ -16,7 +16,7 @@ pub struct Row {
     pub class: u32,
     /// The object above it; a root has none.
     pub parent: Option<u32>,
-    /// When it came to this parent, against other objects: the greater the later.
+    /// Orders objects by when they got their present parent: the greater, the later.
     pub stamp: u64,
     /// Whether it is being deleted.
     pub dying: bool,

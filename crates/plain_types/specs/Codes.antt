@@ -6,7 +6,7 @@ use Rattle.plain_types.specs.declared.code.Code.TheVariants.{BadSignature, DoesN
 use Rattle.plain_types.specs.declared.code.Code.TheVariants.{NoSuchProperty, Cycle, Dying, Limit, NameTaken, OwnSession, NoGroup, NotBindable}
 use Rattle.plain_types.specs.declared.code.Code.TheVariants.{NumbersUsedUp, SessionFailed, OutOfMemory, BadValue, TurnsUsedUp}
 
--- the bytes that stand for a code
+-- The bytes of a code.
 abbrev pub code_text : Code → List ℕ
 code_text UnreadableLine = codes "E01"
 code_text NotACommand = codes "E02"

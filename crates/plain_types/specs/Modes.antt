@@ -1,4 +1,4 @@
--- How calls are made, by its name.
+-- Connection types by their names.
 use Rattle.std.specs.Prelude.{ℕ, List, Option, Some, None, bytes_eq, codes, if◌then◌else◌}
 use Rattle.plain_types.specs.declared.connection_type.ConnectionType.{ConnectionType}
 use Rattle.plain_types.specs.declared.connection_type.ConnectionType.TheVariants.{Auto, Direct, Queued}

@@ -39,7 +39,7 @@ pub enum Code {
     NotBindable,
     /// Numbers of objects, connections or ages have run out.
     NumbersUsedUp,
-    /// A session that has failed for want of memory and was not reset since.
+    /// A session that ran out of memory, failed, and has not been reset since.
     SessionFailed,
     OutOfMemory,
     /// A value, a kind or a form that does not serve.

@@ -1,4 +1,4 @@
--- No topic without a place stands in the lists. No public clause cites this module.
+-- Every listed topic has a place. No public clause cites this module.
 use Rattle.std.specs.Prelude.{◌≡◌, ◌==◌, Bool, false, length}
 use Rattle.std.specs.Option.{option_map_or}
 use Rattle.indexmap.specs.IndexMap.{IndexMap, get}
@@ -7,7 +7,7 @@ use Rattle.publish_board.specs.declared.listed.Listed.{Listed}
 use Rattle.publish_board.specs.declared.topic.Topic.{Topic}
 use Rattle.publish_board.specs.Topics.{is_same}
 
--- does the topic stand there without a place
+-- Whether the topic is listed without a place.
 abbrev pub is_empty_at : {S : Type 0} → IndexMap Topic (Linked Listed) S → Topic → Bool
 is_empty_at lists topic = option_map_or (λ list. length list.links == 0) (get is_same lists topic) false
 

@@ -1,4 +1,4 @@
--- What joins are of: a session, or what that publishes under a name. No public clause cites this module.
+-- Topics of joins: a session, or what it publishes under a name. No public clause cites this module.
 use Rattle.std.specs.Prelude.{ℕ, ◌&&◌, ◌++◌, Bool, List, [], Option, Some, None, bytes_eq}
 use Rattle.std.specs.Hash.{HashWrites, str}
 use Rattle.std.specs.Option.{option_eq, option_map}
@@ -7,28 +7,28 @@ use Rattle.publish_board.specs.declared.topic.Sought.{Sought}
 use Rattle.publish_board.specs.declared.topic.Topic.{Topic}
 use Rattle.publish_board.specs.Rows.{is_from, listens}
 
--- is a join to this session, and where a name is given, to what that publishes under the name
+-- Whether a join is to this session and, if a name is given, to what it publishes under that name.
 abbrev pub joins_to : List ℕ → Option (List ℕ) → Join → Bool
 joins_to from None = is_from from
 joins_to from (Some name) = listens from name
 
--- is a join of the topic
+-- Whether a join is of the topic.
 abbrev pub is_of : Topic → Join → Bool
 is_of topic = joins_to topic.from topic.name
 
--- are two topics one
+-- Whether two topics are equal.
 abbrev pub is_same : Topic → Topic → Bool
 is_same topic other = bytes_eq topic.from other.from && option_eq bytes_eq topic.name other.name
 
--- the topic that is looked for
+-- The topic that is looked for.
 abbrev pub topic_of : Sought → Topic
 topic_of sought = record { from = sought.from.now; name = option_map (λ name. name.now) sought.name }
 
--- what a name feeds a hash, where there is one
+-- What a name, if there is one, writes to a hash.
 abbrev pub name_fed : Option (List ℕ) → HashWrites
 name_fed None = []
 name_fed (Some name) = str name
 
--- what a topic feeds a hash
+-- What a topic writes to a hash.
 abbrev pub topic_fed : Topic → HashWrites
 topic_fed topic = str topic.from ++ name_fed topic.name

@@ -81,8 +81,9 @@ impl Board {
         *self.desks.get_mut(place) = LazyDesk::new();
     }
 
-    /// Publishes a signal of an object behind all others. It is refused as `Code::NameTaken` where
-    /// the place publishes under this name already, and then as `Code::Limit` beyond `PUBLICATIONS`.
+    /// Publishes a signal of an object, after the place's other publications. It is refused with
+    /// `Code::NameTaken` if the place already publishes this name, and then with `Code::Limit` beyond
+    /// `PUBLICATIONS`.
     pub fn publish(&mut self, place: usize, row: Publication) -> Result<(), Fault>
         requires { IsPlace self.old place }
         ensures refusal { RefusedBy (publish_refusal (desk_at self.old place) row.name) result }
@@ -92,7 +93,7 @@ impl Board {
         self.desks.get_mut(place).publish(self.alloc, row)
     }
 
-    /// Takes out the publication of a name, and returns whether it stood. This takes no memory.
+    /// Removes the publication with a name, and returns whether there was one. Allocates nothing.
     pub fn unpublish(&mut self, place: usize, name: &Text) -> bool
         requires { IsPlace self.old place }
         ensures stood { result ≡ list_any (has_name name.now) (desk_at self.old place).publications }
@@ -101,10 +102,10 @@ impl Board {
         self.desks.get_mut(place).unpublish(name)
     }
 
-    /// Joins behind all other joins, for the session of the name `own` and a method with parameters of
-    /// the kinds `wanted`. It is refused as `Code::DoesNotFit` where these are not the first of the
-    /// join's kinds, then as `Code::OwnSession` where it names the session itself, and then as
-    /// `Code::Limit` beyond `JOINS`. What it names need not be published.
+    /// Adds a join after all others, for the session named `own` and a method whose parameters have the
+    /// kinds `wanted`. It is refused with `Code::DoesNotFit` if these are not the first of the join's kinds,
+    /// then with `Code::OwnSession` if it names the session itself, and then with `Code::Limit` beyond
+    /// `JOINS`. What it names need not be published.
     pub fn join(
         &mut self,
         place: usize,
@@ -139,8 +140,7 @@ impl Board {
         Ok(())
     }
 
-    /// Takes out the joins that are equal in these four, and returns whether there was one. This takes
-    /// no memory.
+    /// Removes the joins that are equal in these four, and returns whether there was one. Allocates nothing.
     pub fn leave(
         &mut self,
         place: usize,
@@ -164,7 +164,7 @@ impl Board {
         stood
     }
 
-    /// Takes out what an object publishes, and the joins that call it. This takes no memory.
+    /// Removes what an object publishes, and the joins that call it. Allocates nothing.
     pub fn drop_object(&mut self, place: usize, object: u32)
         requires { IsPlace self.old place }
         ensures { self.new ≡ with_desk self.old place (without_object object (desk_at self.old place)) }
@@ -277,8 +277,8 @@ impl Board {
     }
 
     /// The first place from `least` on with a join that listens to what the session `from` publishes under
-    /// `name`. No other place is walked. Where `near` comes from the last call with these names, they are
-    /// mostly not hashed again; before the first call it is `usize::MAX`.
+    /// `name`. No other place is visited. If `near` comes from the last call with these names, they are usually
+    /// not hashed again; before the first call it is `usize::MAX`.
     pub fn next_listener(
         &self,
         from: &Text,

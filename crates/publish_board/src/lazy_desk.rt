@@ -21,7 +21,7 @@ pub const PUBLICATIONS: usize = 1024;
 /// How many joins a place holds at most.
 pub const JOINS: usize = 1024;
 
-/// Clients are told these counts of a desk.
+/// How many rows a desk has. Clients can ask for these counts.
 #[derive(Clone, Copy)]
 pub struct Counts {
     pub publications: usize,
@@ -95,7 +95,7 @@ impl LazyDesk {
         Ok(())
     }
 
-    /// Publishes a signal behind all others.
+    /// Publishes a signal, after all other publications.
     pub(crate) fn publish(&mut self, alloc: Global, row: Publication) -> Result<(), Fault>
         ensures refusal { RefusedBy (publish_refusal self.old row.name) result }
         ensures ok { OnOk result (self.new ≡ published self.old row) }
@@ -110,7 +110,7 @@ impl LazyDesk {
         Ok(())
     }
 
-    /// Takes out the publication of a name, and returns whether it stood.
+    /// Removes the publication with a name, and returns whether there was one.
     pub(crate) fn unpublish(&mut self, name: &Text) -> bool
         ensures stood { result ≡ list_any (has_name name.now) self.old.publications }
         ensures rows { self.new ≡ unpublished self.old name.now }
@@ -150,7 +150,7 @@ impl LazyDesk {
         Ok(())
     }
 
-    /// Adds a join behind all others.
+    /// Adds a join after all others.
     pub(crate) fn add_join(&mut self, alloc: Global, join: Join) -> Result<(), AllocError>
         requires { length self.old.joins < 1024 }
         ensures ok { OnOk result (self.new ≡ with_join self.old join) }
@@ -183,7 +183,7 @@ impl LazyDesk {
     }
 }
 
-/// Makes a place for rows where there is none.
+/// Allocates the rows, unless that has been done.
 fn make(made: &mut Option<Box<Rows>>, alloc: Global) -> Result<(), AllocError>
     ensures same { desk_of made.new ≡ desk_of made.old }
     ensures made { OnOk result (IsSome made.new) }

@@ -10,7 +10,7 @@ use shared_rows::Links;
 use std::alloc::AllocError;
 use std::cmp::Ordering;
 
-/// A place with joins of a topic. Its number alone says where it stands among the others.
+/// A place with joins of a topic. Listed places are ordered by their numbers alone.
 #[derive(Clone, Copy)]
 pub(crate) struct Listed {
     pub(crate) place: usize,
@@ -93,7 +93,7 @@ pub(crate) fn list_one(list: &mut Links<Listed>, place: usize) -> Result<(), All
     list.insert(Listed { place, further })
 }
 
-/// Lists one join of a place no longer. This takes no memory.
+/// Removes one join of a place from the list. Allocates nothing.
 pub(crate) fn unlist_one(list: &mut Links<Listed>, place: usize)
     ensures { (at : ℕ) → count_in list.new.links at ≡ count_in list.old.links at - (if place == at then 1 else 0) }
 {

@@ -1,4 +1,4 @@
--- What actions come to.
+-- The effects of actions.
 use Rattle.std.specs.Prelude.{◌≡◌, ℕ, Bool, true, false, List, [], ◌∷◌, Some, Result, Ok, Err}
 use Rattle.plain_types.specs.declared.fault.Fault.{Fault}
 use Rattle.plain_types.specs.declared.fault.Fault.TheVariants.{Refused, Memory}
@@ -21,24 +21,23 @@ use Rattle.session_effects.specs.declared.effects.Emission.{Emission}
 use Rattle.session_effects.specs.declared.slot.Slot.{Slot}
 use Rattle.session_effects.specs.Setup.{settings_of}
 
--- no other session has changed, and none has failed or was mended
+-- No other session has changed, and none has failed or was restored.
 pub record KeepsOthers (place : ℕ) (old new : Tables) : Type 0 where
   pub only : ChangesOnly place old new
   pub failed : new.failed ≡ old.failed
 
--- an action in the body of a slot
+-- An action in the body of a slot, as an item.
 abbrev pub act_of : Slot → term.Act → Item
 act_of slot action = Act action slot.args.now slot.object slot.sender slot.depth
 
--- may a single action send a signal or delete an object
+-- Whether a single action may send a signal or delete an object.
 abbrev pub is_nested : SingleAction → Bool
 is_nested (e.Set of property value) = true
 is_nested (e.Emit of signal args) = true
 is_nested (e.Delete target) = true
 is_nested _ = false
 
--- the call has found exactly the operation that an action is, with its ends, or is refused as it is, unless memory
--- was wanted
+-- The call has found exactly the operation of an action, with its ends, or has its refusal, unless memory ran out.
 abbrev pub FindsOperation : SessionContext → Slot → SingleAction → Tables → Result Operation Fault → Type 0
 FindsOperation caller slot plain tables (Ok operation) =
     (act_operation (settings_of caller.setup.now) (state_at tables caller.place) slot.object slot.sender plain ≡ Some (Ok operation))
@@ -47,8 +46,8 @@ FindsOperation caller slot plain tables (Err (Refused code)) =
     act_operation (settings_of caller.setup.now) (state_at tables caller.place) slot.object slot.sender plain ≡ Some (Err code)
 FindsOperation caller slot plain tables (Err Memory) = Unit {0}
 
--- an action comes to these items and these tables by what the call returns, or to a warning where it is refused,
--- whatever was told before and however many turns are left
+-- An action has the effect of these items and tables, which the call returns, or of a warning if it is refused. This
+-- holds for all earlier lines and any number of turns.
 abbrev pub Tries : {T : Type 0} → SessionContext → Slot → SingleAction → Tables → (T → List Item) → Tables → Result T Fault → Type 0
 Tries caller slot plain old items new (Ok value) = (doing : Execution) →
     step (settings_of caller.setup.now) (act_of slot (single_action plain)) (in_state doing (state_at old caller.place))
@@ -58,7 +57,7 @@ Tries caller slot plain old items new (Err (Refused code)) = (doing : Execution)
     ≡ puts (Warn code (Some slot.object) ∷ []) (in_state doing (state_at old caller.place))
 Tries caller slot plain old items new (Err Memory) = Unit {0}
 
--- the call has found exactly this emission of the object, or is refused as it is, unless memory was wanted
+-- The call has found exactly this emission of the object, or has its refusal, unless memory ran out.
 abbrev pub IsSent : ℕ → Found (ℕ × List Value) → Result Emission Fault → Type 0
 IsSent object wanted (Ok sent) = (sent.object ≡ object) × (wanted ≡ Ok (sent.signal, sent.args))
 IsSent object wanted (Err (Refused code)) = wanted ≡ Err code

@@ -1,4 +1,4 @@
--- What is fixed for the whole life of an engine, as definitions see it.
+-- The settings of an engine, as definitions see them.
 use Rattle.session_model.specs.Thread.{Settings}
 use Rattle.session_effects.specs.declared.setup.Setup.{Setup}
 

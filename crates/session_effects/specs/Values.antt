@@ -3,7 +3,7 @@ use Rattle.std.specs.Prelude.{Bool, true, false}
 use Rattle.plain_types.specs.declared.code.Code.{Code}
 use Rattle.plain_types.specs.declared.code.Code.TheVariants.{Limit}
 
--- is this the code of a limit
+-- Whether this is the code of a limit.
 abbrev pub is_limit : Code → Bool
 is_limit Limit = true
 is_limit _ = false

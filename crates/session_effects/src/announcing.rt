@@ -1,4 +1,4 @@
-//! Changes are told by warnings, and by the signals of properties.
+//! Announcing changes, by warnings and by the NOTIFY signals of properties.
 ghost use Rattle.std.specs.Prelude.{◌≡◌, IfOk, map, option_and_then, option_map, slice_get, ℕ};
 ghost use Rattle.std.specs.Option.{option_copied};
 ghost use Rattle.class_table.specs.Lookup.{properties};
@@ -23,18 +23,18 @@ use session_tables::{Tables, WriteChanges};
 use std::alloc::AllocError;
 use variant_value::{Args, Value};
 
-/// A write leaves this to be told.
+/// What a write leaves to be announced.
 #[derive(Drop)]
 pub enum PendingAnnouncements {
     Nothing,
-    /// The value of one property alone is another one, and there is a signal that tells of it.
+    /// Only one property has changed, and it has a NOTIFY signal.
     One(NotifySignal),
     /// All of these, in order.
     Several(Items<Change>),
 }
 
-/// A signal that is to be sent since it tells that a declared property has another value (NOTIFY). What
-/// it is sent with is read of the property when it is sent, before anything else is done.
+/// The NOTIFY signal that is to be sent since a declared property has changed. Its argument is read from
+/// the property when the signal is sent, before anything else is done.
 #[derive(Clone, Copy)]
 pub struct NotifySignal {
     pub object: u32,
@@ -44,17 +44,17 @@ pub struct NotifySignal {
     pub signal: u32,
 }
 
-/// One of the things that are told of several changes, as they were when all was changed: what is called by
-/// one may write what another one tells of.
+/// A warning or a signal that announces one of several changes. It holds what was true when all of them were
+/// made, since a slot that one announcement calls may write a property that another one announces.
 #[derive(Drop)]
 pub enum Announcement {
-    /// A bound property stands for an error, which is new or another one.
+    /// A bound property has an error that is new, or differs from the one before.
     Warning(At, BindingError),
-    /// A property has another value, and there is a signal that tells of it.
+    /// A property has another value, and it has a NOTIFY signal.
     Signal(Emission),
 }
 
-/// Returns what there is to tell of a write to a property that the class of its object declares.
+/// Returns what is to be announced after a write to a property that the class of its object declares.
 pub(crate) fn news_of(
     caller: &SessionContext,
     object: u32,
@@ -77,7 +77,7 @@ pub(crate) fn news_of(
     }
 }
 
-/// The signal of an object that tells that a declared property has changed, where its class names one.
+/// The NOTIFY signal of an object's declared property, where its class names one.
 fn notice_of(
     caller: &SessionContext,
     object: u32,
@@ -156,7 +156,7 @@ pub fn announcements(
     Ok(told)
 }
 
-/// Returns the announcement of a change, where it is told.
+/// Returns the announcement of a change; a new value has one only where the property has a NOTIFY signal.
 fn announcement_of(
     caller: &SessionContext,
     tables: &Tables,
@@ -172,7 +172,7 @@ fn announcement_of(
     }
 }
 
-/// The signal that tells that a property has this value now, where there is one.
+/// The NOTIFY signal for a property that has this value now, where it has such a signal.
 fn notification(
     caller: &SessionContext,
     tables: &Tables,

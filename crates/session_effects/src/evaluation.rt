@@ -15,8 +15,8 @@ use term_core::{Expr, Target};
 use term_evaluation::{Halt, Reads, evaluate, standing};
 use variant_value::Value;
 
-/// Where the expressions of a slot's body are evaluated: the session as it stands, the object whose slot
-/// it is, and the object that sent the signal, or 0.
+/// What the expressions of a slot's body are evaluated with: the session's current state, the object whose
+/// slot it is, and the object that sent the signal, or 0.
 #[derive(Clone, Copy)]
 pub struct Reader<'a> {
     pub tables: &'a Tables,
@@ -46,7 +46,7 @@ impl Reads for Reader<'_> {
     }
 }
 
-/// The number of the object that a target is, or 0 where there is none.
+/// The number of the object that a target names, or 0 where the child or the sender is missing.
 #[inline(always)]
 pub fn object_of(reader: &Reader, target: &Target) -> Result<u32, AllocError>
     ensures { IfOk result (λ object. object ≡ object_of (state_at reader.now.tables.now reader.now.place) reader.now.object reader.now.sender target.now) }

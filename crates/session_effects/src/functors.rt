@@ -40,7 +40,7 @@ pub fn functor_named(caller: &SessionContext, name: &Text) -> Result<u32, Code>
     }
 }
 
-/// Where the functor of this name stands.
+/// The index of the functor of this name in the list.
 fn place_of(functors: &[Functor], name: &str) -> Option<usize>
     ensures { result ≡ index_of name.now functors.now }
 {

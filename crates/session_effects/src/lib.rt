@@ -1,7 +1,7 @@
 //! What single actions do to a session, and what actions and commands look up for it: methods, arguments, and
-//! the connections that are asked for. Nothing here calls a slot, sends a signal or deletes an object: of an
-//! action that does, it is said what follows. Beside them, the properties of each class in the form that the
-//! tables take.
+//! the connections that are asked for. Nothing here calls a slot, sends a signal or deletes an object: for an
+//! action that does, the functions return what is to be done. The crate also lists the properties of each class
+//! in the form that the tables take.
 #![tactic(auto)]
 
 mod announcing;

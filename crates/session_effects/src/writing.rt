@@ -1,4 +1,4 @@
-//! Writing properties, and what there is to tell of it.
+//! Writing properties, and what is to be announced after that.
 ghost use Rattle.std.specs.Prelude.{◌≡◌, ◌<◌, ℕ, Err, IfOk, List, length};
 ghost use Rattle.term_core.specs.declared.action.SingleAction.TheVariants as e;
 ghost use Rattle.variant_value.specs.Values.{IsShort};
@@ -25,7 +25,7 @@ use std::alloc::AllocError;
 use term_core::{Expr, Target};
 use variant_value::{TEXT_BYTES, Value};
 
-/// Does an action that writes a property, and returns what there is to tell of it.
+/// Does an action that writes a property, and returns what is to be announced.
 pub fn set(
     caller: &SessionContext,
     tables: &mut Tables,
@@ -93,7 +93,7 @@ fn refusal_of_long(caller: &SessionContext, tables: &Tables, object: u32, proper
     }
 }
 
-/// Gives a declared property a value of its kind, and returns what there is to tell of it.
+/// Gives a declared property a value of its kind, and returns what is to be announced.
 pub fn write_declared(
     caller: &SessionContext,
     tables: &mut Tables,
@@ -113,8 +113,8 @@ pub fn write_declared(
     Ok(news_of(caller, object, class, number, changed))
 }
 
-/// Gives a dynamic property a value, or takes it away where the value is invalid. More than `DYNAMIC` of
-/// one object are `Limit`.
+/// Gives a dynamic property a value, or removes the property where the value is `Invalid`. More than
+/// `DYNAMIC` of them in one object are `Limit`.
 pub fn write_dynamic(
     caller: &SessionContext,
     tables: &mut Tables,

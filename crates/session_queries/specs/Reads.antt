@@ -1,4 +1,4 @@
--- What a query returns.
+-- The result of a query.
 use Rattle.std.specs.Prelude.{Result}
 use Rattle.plain_types.specs.Answers.{Answers}
 use Rattle.plain_types.specs.declared.fault.Fault.{Fault}
@@ -10,6 +10,6 @@ use Rattle.session_tables.specs.Tables.{state_at}
 use Rattle.session_effects.specs.declared.session_context.SessionContext.{SessionContext}
 use Rattle.session_effects.specs.Setup.{settings_of}
 
--- a query returns exactly its answer, or why it is refused, unless memory was wanted
+-- A query returns exactly its answer, or why it is refused, unless memory ran out.
 pub record Reads (caller : SessionContext) (query : Query) (tables : Tables) (result : Result Answer Fault) : Type 0 where
   pub returns : Answers result (query_answer (settings_of caller.setup.now) (state_at tables caller.place) query)

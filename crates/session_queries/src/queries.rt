@@ -82,7 +82,7 @@ fn find(
     Ok(Answer::Found(found))
 }
 
-/// Reads a property of an object, which is invalid where there is none of this name.
+/// Reads a property of an object; the value is invalid where there is no property of this name.
 #[tactic(auto, using(crate::proofs::ReadingLemmas::starved_reading))]
 fn get(
     caller: &SessionContext,

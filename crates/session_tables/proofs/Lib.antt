@@ -18,4 +18,5 @@ pub mod ShowingLemmas
 pub mod TakenLemmas
 pub mod WrittenLemmas
 pub mod BoundLemmas
+pub mod HereLemmas
 pub mod ForCallers

@@ -78,9 +78,6 @@ module _ (store other : Store) (old noted : Table Graph) (place : ℕ) (change :
   pub at_noted : graph_at noted place ≡ settled_graph store (graph_at old place)
   at_noted = ap (λ table. graph_at table place) is ∙ column.with_there no_graph old place _ there
 
-  pub place_noted : IsPlace noted place
-  place_noted = column.changes_open no_graph old noted place (column.changes_with no_graph old noted place _ there is) there
-
   pub settled_at_once : (new : Table Graph) → new ≡ with_graph noted place
       (settled_graph other (record (graph_at noted place) { bindings = change (graph_at noted place).bindings }))
       → new ≡ with_graph old place (settled_graph other (record (graph_at old place) { bindings = change (graph_at old place).bindings }))
@@ -126,6 +123,17 @@ told_after store other graph change written = by (is_open graph) refl
     by true e = ap (λ deep. cond deep [] (graphs.changes graph.last now written)) e
         ∙ sym (ap (λ deep. cond deep [] (graphs.changes (all_shown store graph.bindings) now written)) e)
     by false e = refl
+
+-- so it is at a place that was noted, and bound otherwise
+pub told_settled : (store other now : Store) (old noted changed : Table Graph) (place : ℕ) (change : List Binding → List Binding) (written : Option Property)
+    → IsPlace old place → noted ≡ with_graph old place (settled_graph store (graph_at old place))
+    → changed ≡ with_graph noted place (record (graph_at noted place) { bindings = change (graph_at noted place).bindings }) → now ≡ other
+    → settled_changes now (graph_at changed place) written ≡ cond (is_open (graph_at old place)) []
+    (graphs.changes (all_shown store (graph_at old place).bindings) (all_shown other (change (graph_at old place).bindings)) written)
+told_settled store other now old noted changed place change written there first second same =
+    ap (λ store. settled_changes store (graph_at changed place) written) same
+    ∙ (ap (λ graph. settled_changes other graph written) (changed_at store store old noted changed changed place change there first second)
+    ∙ told_after store other (graph_at old place) change written)
 
 -- a place that is changed and settled
 pub settled_once : (store : Store) (old changed new : Table Graph) (place : ℕ) (graph : Graph) → IsPlace old place → changed ≡ with_graph old place graph

@@ -38,6 +38,3 @@ module _ (stores noted took : StoreTable) (old after : Table Graph) (place : ℕ
         ∙ (ap (λ (shelves : StoreTable). with_store shelves place (written store q.object q.number value)) took_is
         ∙ ap (λ table. let shelves : StoreTable = record stores { table = table } in shelves)
         (column.with_twice stores.table place (taken store (graph_at old place) q) (written store q.object q.number value))))
-
-    pub wrote_at : store_at wrote place ≡ written store q.object q.number value
-    wrote_at = ap (λ (shelves : StoreTable). store_at shelves place) wrote_is ∙ column.with_there [] stores.table place _ shelf

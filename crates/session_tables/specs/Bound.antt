@@ -8,32 +8,32 @@ use Rattle.binding_graph.specs.Table.{Graphs, graph_at, with_graph}
 use Rattle.session_model.specs.State.{closed}
 
 pub record BoundShelves : Type 0 where
-  -- what is stored
+  -- The stored values.
   pub shelves : StoreTable
-  -- the bindings and groups; outside of groups what was shown is no part of them
+  -- The bindings and groups, without what properties showed unless a group is open.
   pub graphs : Table Graph
 
--- what graphs are but for what was shown outside of groups
+-- The graphs, without what properties showed unless a group is open.
 abbrev pub all_closed : Table Graph → Table Graph
 all_closed graphs = record { places = map closed graphs.places; room = graphs.room }
 
--- so stores and bindings are seen, and what was written is not
+-- Stores and bindings as contracts see them, without marks.
 abbrev pub seen_of : StoreTable → Graphs → BoundShelves
 seen_of shelves bindings = record { shelves = shelves; graphs = all_closed bindings.graphs }
 
--- what is stored at a place
+-- The store of a place.
 abbrev pub stored_at : BoundShelves → ℕ → Store
 stored_at bound place = store_at bound.shelves place
 
--- what is bound there, and the groups
+-- The graph of a place.
 abbrev pub bound_at : BoundShelves → ℕ → Graph
 bound_at bound place = graph_at bound.graphs place
 
--- with another store and another graph at a place, and all else as before
+-- The tables with a different store and a different graph at a place.
 abbrev pub with_bound : BoundShelves → ℕ → Store → Graph → BoundShelves
 with_bound bound place store graph = record { shelves = with_store bound.shelves place store; graphs = with_graph bound.graphs place graph }
 
--- no place but this one has changed, nor what classes declare
+-- Only this place has changed, and not what classes declare.
 pub record ChangesBound (place : ℕ) (old new : BoundShelves) : Type 0 where
   pub layouts : new.shelves.layouts ≡ old.shelves.layouts
   pub stores : ChangesAt [] place old.shelves.table new.shelves.table

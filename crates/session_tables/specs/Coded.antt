@@ -1,4 +1,4 @@
--- How the logic stores what properties store and their bindings.
+-- How the logic stores the values of properties and their bindings.
 use Rattle.std.specs.Prelude.{[], refl}
 use Rattle.std.specs.Coded.{Coded, code_by, coded×}
 use Rattle.shared_rows.specs.Table.{Table, table_code}

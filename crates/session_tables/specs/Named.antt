@@ -1,4 +1,4 @@
--- What a write to the property of a name comes to.
+-- The result of a write to the property with a name.
 use Rattle.std.specs.Prelude.{◌≡◌, ℕ, List, Some, None, Result, Ok, Err}
 use Rattle.plain_types.specs.declared.code.Code.TheVariants.{BadValue}
 use Rattle.plain_types.specs.declared.fault.Fault.{Fault}
@@ -17,12 +17,12 @@ use Rattle.session_tables.specs.declared.named.NamedWrite.TheVariants.{Declared,
 use Rattle.session_tables.specs.declared.tables.Tables.{Tables}
 use Rattle.session_tables.specs.Tables.{state_at, with_state}
 
--- these are the changes from one state to another, where this property was written
+-- These are the changes between two states, if this property was written.
 abbrev pub Tells : At → State → State → WriteChanges → Type 0
 Tells at old new changed = changes_in at (shown new at.object at.number).0 changed ≡ changes old new (Some at)
 
 module _ (place object : ℕ) (name : List ℕ) (value : Value) (old : Tables) where
-  -- a declared property of this name was given the value as one of its kind
+  -- The declared property with this name was set to the value, converted to its kind.
   pub record WritesDeclared (found : ℕ) (changed : WriteChanges) (after : Tables) : Type 0 where
     pub of : writing.DeclaredField
     pub written : Value
@@ -32,13 +32,13 @@ module _ (place object : ℕ) (name : List ℕ) (value : Value) (old : Tables) w
     pub new : after ≡ with_state old place (with_writing (state_at old place) object (writing.Declared of.number written))
     pub told : Tells (record { object = object; number = of.number }) (state_at old place) (state_at after place) changed
 
-  -- there is one of this name, whose kind the value does not fit
+  -- There is a declared property with this name, and the value does not fit its kind.
   pub record DoesNotFit : Type 0 where
     pub of : writing.DeclaredField
     pub named : declared (state_at old place) object name ≡ Some of
     pub misfit : converted of.kind value ≡ None
 
-  -- a value was written to the property of a name, or there is none, or it does not fit, or memory was wanted
+  -- A value was written to the property with a name, or there is none, or it does not fit, or memory ran out.
   abbrev pub WritesNamed : Result NamedWrite Fault → Tables → Type 0
   WritesNamed (Ok (Declared number changed)) new = WritesDeclared number changed new
   WritesNamed (Ok (Undeclared rest)) new = (rest ≡ value) × (declared (state_at old place) object name ≡ None) × (new ≡ old)

@@ -1,4 +1,4 @@
--- What other sessions get from one of them.
+-- The posts of a session, and what they do to the other sessions.
 use Rattle.std.specs.Prelude.{◌≡◌, ◌⊎◌, ◌&&◌, ℕ, Bool, false, eqb, IsFalse, IsTrue, List, [], ◌∷◌, length, if◌then◌else◌}
 use Rattle.std.specs.List.{list_any, slice_get}
 use Rattle.std.specs.Option.{option_map_or}
@@ -16,62 +16,62 @@ use Rattle.session_tables.specs.declared.tables.Tables.{Tables}
 use Rattle.session_tables.specs.Session.{Session, failed_session}
 use Rattle.session_tables.specs.Tables.{AreEven, IsPlaced, failed_at, session_at}
 
--- a session after posts of another one; one that has failed ignores them
+-- A session after posts of another one. A failed session ignores them.
 abbrev pub after_posts : List Class → List ℕ → List Post → Session → Session
 after_posts classes from posts session = if session.failed then session else record { state = arrive_all classes session.state from posts; failed = false }
 
--- does a join take a post of the session `from`: it names what is posted, and its kinds are those of the post
+-- Whether a join takes a post of the session `from`: it names what is posted, and its kinds match those of the post.
 abbrev pub takes : List ℕ → Post → Join → Bool
 takes from post join = listens from post.name join && is_matched post.kinds join
 
--- has a session a join that takes one of these posts
+-- Whether a session has a join that takes one of these posts.
 abbrev pub takes_some : List ℕ → List Post → Session → Bool
 takes_some from posts session = list_any (λ post. list_any (takes from post) session.state.desk.joins) posts
 
--- a session fails by posts: it had not failed before, and one of its joins takes one of them
+-- A session fails by posts: it had not failed before, and one of its joins takes one of them.
 abbrev pub FailsBy : List ℕ → List Post → Session → Session → Type 0
 FailsBy from posts old new = IsFalse old.failed × IsTrue (takes_some from posts old) × (new ≡ failed_session)
 
--- a session hears posts, or memory is wanted for one of them that it takes: then it has failed
+-- A session receives posts. If memory ran out for one that it takes, it has failed.
 abbrev pub ReceivesPosts : List Class → List ℕ → List Post → Session → Session → Type 0
 ReceivesPosts classes from posts old new = (new ≡ after_posts classes from posts old) ⊎ FailsBy from posts old new
 
--- the post of a signal for the publication at an index
+-- The post of a signal for the publication at an index.
 abbrev pub post_at : Desk → ℕ → List Kind → List Value → List Post
 post_at desk index kinds args = option_map_or (λ row. post_of kinds args row ∷ []) (slice_get desk.publications index) []
 
--- where that is of this signal
+-- The post of a signal for the publication at an index, if the publication is of the signal.
 abbrev pub posts_at : Desk → ℕ → ℕ → ℕ → List Kind → List Value → List Post
 posts_at desk index object signal kinds args = option_map_or (λ row. posts_by object signal kinds args (row ∷ [])) (slice_get desk.publications index) []
 
--- the post that is on its way
+-- The post that is delivered.
 abbrev pub post_in : Posting → Post
 post_in posting = record { name = posting.name.now; kinds = posting.kinds.now; arguments = posting.args.now }
 
--- these posts at this place, and none elsewhere
+-- These posts at this place, and no posts elsewhere.
 abbrev pub only_at : ℕ → List Post → ℕ → List Post
 only_at place posts at = if eqb at place then posts else []
 
--- there are as many places as before, and what classes declare stays
+-- There are as many places as before, and what classes declare is unchanged.
 pub record AreShaped (old new : Tables) : Type 0 where
   pub layouts : new.stores.shelves.layouts ≡ old.stores.shelves.layouts
   pub places : length new.failed.places ≡ length old.failed.places
   pub even : AreEven old → AreEven new
 
--- these posts of the session at a place, which has this name, have reached each other place; `before` and
--- `after` say whether any session has failed by a post so far
+-- These posts of the session at a place, which has this name, have reached every other place. `before` and `after` say
+-- whether any session has failed by a post so far.
 pub record ReachesBy (classes : List Class) (from : List ℕ) (place : ℕ) (posts : ℕ → List Post) (old new : Tables) (before after : Bool) : Type 0 where
   pub shape : AreShaped old new
-  -- the session itself has neither failed nor was mended
+  -- The session itself has neither failed nor been restored.
   pub own : failed_at new place ≡ failed_at old place
-  -- every other one hears its posts
+  -- Every other session receives its posts.
   pub others : (at : ℕ) → IsFalse (eqb at place) → IsPlaced old at → ReceivesPosts classes from (posts at) (session_at old at) (session_at new at)
-  -- where none is said to have failed, none has
+  -- If no session is reported to have failed, none has.
   pub all : IsFalse after → IsFalse before
       × ((at : ℕ) → IsFalse (eqb at place) → IsPlaced old at → session_at new at ≡ after_posts classes from (posts at) (session_at old at))
-  -- and where one is said to have, one has
+  -- If one is reported to have failed, one has.
   pub one : IsFalse before → IsTrue after → (at : ℕ) × IsFalse (eqb at place) × IsPlaced old at × IsFalse (failed_at old at) × IsTrue (failed_at new at)
 
--- the same posts have reached all
+-- The same posts have reached all places.
 abbrev pub Reaches : List Class → List ℕ → ℕ → List Post → Tables → Tables → Bool → Bool → Type 0
 Reaches classes from place posts = ReachesBy classes from place (λ at. posts)

@@ -1,4 +1,4 @@
--- What is found of a property by its name.
+-- Properties by their names.
 use Rattle.std.specs.Prelude.{ℕ, List, Option, Some, None, if◌then◌else◌}
 use Rattle.std.specs.Option.{option_map_or}
 use Rattle.std.specs.Prelude.{option_and_then}
@@ -8,14 +8,13 @@ use Rattle.property_store.specs.Store.{Store, dynamic_value, field_number, prope
 use Rattle.property_store.specs.declared.property.Property.{Property}
 use Rattle.binding_graph.specs.Graph.{Graph, is_bound, value_in}
 
--- the value of the property of a name: of one that the class declares what it shows, of a dynamic one what it
--- was set to
+-- The value of the property with a name: the value that a declared property shows, or that a dynamic one was set to.
 abbrev pub named_in : Store → Graph → ℕ → List ℕ → Option Value
 named_in store graph object name =
     option_and_then (λ of. option_map_or (λ number. Some (value_in store graph (record { object = object; number = number })).0)
     (field_number name of.fields) (dynamic_value name of.dynamic)) (properties_of store object)
 
--- the declared property of a name, where it is bound
+-- The declared property with a name, if it is bound.
 abbrev pub bound_named : Store → Graph → ℕ → List ℕ → Option Property
 bound_named store graph object name =
     option_and_then (λ at. if is_bound graph.bindings (record { object = object; number = at.0 })

@@ -4,13 +4,13 @@ use Rattle.session_model.specs.State.{State, empty}
 
 pub record Session : Type 0 where
   pub state : State
-  -- memory was wanted for the session and not found; it refuses every command
+  -- Whether memory ran out for the session; then it refuses every command except `reset`.
   pub failed : Bool
 
--- a session that has had no command
+-- A session that has had no command.
 abbrev pub fresh : Session
 fresh = record { state = empty; failed = false }
 
--- a session that has failed for want of memory
+-- A session that has failed because memory ran out.
 abbrev pub failed_session : Session
 failed_session = record { state = empty; failed = true }

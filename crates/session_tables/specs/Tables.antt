@@ -21,7 +21,7 @@ use Rattle.session_model.specs.State.{State, fields_of}
 use Rattle.session_tables.specs.declared.tables.Tables.{Tables}
 use Rattle.session_tables.specs.Session.{Session}
 
--- the tables have as many places
+-- All tables have equally many places.
 pub record AreEven (tables : Tables) : Type 0 where
   pub forests : length tables.forests.places ≡ length tables.failed.places
   pub stores : length tables.stores.shelves.table.places ≡ length tables.failed.places
@@ -30,17 +30,17 @@ pub record AreEven (tables : Tables) : Type 0 where
   pub queues : length tables.queues.places ≡ length tables.failed.places
   pub desks : length tables.desks.places ≡ length tables.failed.places
 
--- the place has been opened in each table, and so has any place that one of them has
+-- The place has been opened in each table, and so has every place of any of them.
 abbrev pub IsPlaced : Tables → ℕ → Type 0
 IsPlaced tables place = IsPlace tables.forests place × IsPlace tables.stores.shelves.table place × IsPlace tables.connections place
     × IsPlace tables.queues place × IsPlace tables.failed place × IsPlace tables.desks place × IsPlace tables.stores.graphs place × AreEven tables
 
--- one more place can be opened in each without memory
+-- Another place can be opened in each table without memory.
 abbrev pub HasRoom : Tables → Type 0
 HasRoom tables = (1 ≤ tables.forests.room) × (1 ≤ tables.stores.shelves.table.room) × (1 ≤ tables.stores.graphs.room)
     × (1 ≤ tables.connections.room) × (1 ≤ tables.queues.room) × (1 ≤ tables.desks.room) × (1 ≤ tables.failed.room)
 
--- with one more place, for a session that has had no command
+-- The tables with another place, for a session that has had no command.
 abbrev pub opened : Tables → Tables
 opened tables = record {
   forests = places.opened tables.forests empty_forest;
@@ -54,7 +54,7 @@ opened tables = record {
   failed = places.opened tables.failed false;
 }
 
--- the state of the session at a place
+-- The state of the session at a place.
 abbrev pub state_at : Tables → ℕ → State
 state_at tables place = record {
   forest = forest_at tables.forests place;
@@ -65,15 +65,15 @@ state_at tables place = record {
   desk = desk_at tables.desks place;
 }
 
--- has the session at a place failed
+-- Whether the session at a place has failed.
 abbrev pub failed_at : Tables → ℕ → Bool
 failed_at tables place = slice_index_or tables.failed.places place false
 
--- the session at a place
+-- The session at a place.
 abbrev pub session_at : Tables → ℕ → Session
 session_at tables place = record { state = state_at tables place; failed = failed_at tables place }
 
--- with another state at a place, and all else as before
+-- The tables with a different state at a place.
 abbrev pub with_state : Tables → ℕ → State → Tables
 with_state tables place state = record {
   forests = with_forest tables.forests place state.forest;
@@ -84,14 +84,14 @@ with_state tables place state = record {
   failed = tables.failed;
 }
 
--- with another session there
+-- The tables with a different session at a place.
 abbrev pub with_session : Tables → ℕ → Session → Tables
 with_session tables place session = record (with_state tables place session.state) { failed = with_place tables.failed place session.failed }
 
--- no session but the one at this place has changed
+-- Only the session at this place has changed.
 pub record ChangesOnly (place : ℕ) (old new : Tables) : Type 0 where
   pub forests : ChangesAt empty_forest place old.forests new.forests
-  -- and what classes declare stays
+  -- What classes declare is unchanged.
   pub layouts : new.stores.shelves.layouts ≡ old.stores.shelves.layouts
   pub stores : ChangesAt [] place old.stores.shelves.table new.stores.shelves.table
   pub graphs : ChangesAt no_graph place old.stores.graphs new.stores.graphs
@@ -100,7 +100,7 @@ pub record ChangesOnly (place : ℕ) (old new : Tables) : Type 0 where
   pub desks : ChangesAt no_desk place old.desks new.desks
   pub failed : ChangesAt false place old.failed new.failed
 
--- each place is as before, and there may be more room
+-- Each place is unchanged, and there may be more room.
 pub record AreSame (old new : Tables) : Type 0 where
   pub forests : new.forests.places ≡ old.forests.places
   pub layouts : new.stores.shelves.layouts ≡ old.stores.shelves.layouts
@@ -111,10 +111,10 @@ pub record AreSame (old new : Tables) : Type 0 where
   pub desks : new.desks.places ≡ old.desks.places
   pub failed : new.failed.places ≡ old.failed.places
 
--- the tables know the properties that each class declares
+-- The tables know the properties that each class declares.
 abbrev pub AreLaid : List Class → Tables → Type 0
 AreLaid classes tables = (class : ℕ) → shelves.fields_of tables.stores.shelves class ≡ fields_of classes class
 
--- every object of a session has its properties, and nothing else has any
+-- Exactly the objects of a session have properties.
 abbrev pub AreStored : State → Type 0
 AreStored state = map (λ of. of.object) state.store ≡ numbers state.forest.rows

@@ -1,4 +1,4 @@
-//! The stores hold the values of all places' properties; beside them stand their bindings.
+//! The properties of the objects of all places, together with their bindings.
 ghost use Rattle.std.specs.Prelude.{◌≡◌, ◌≤◌, [], IfOk, IsFalse, None, OnErr, OnOk};
 ghost use Rattle.shared_rows.specs.Table.{IsPlace, Opens, opened};
 ghost use Rattle.property_store.specs.Store.{IsSound, added, properties_of, without};
@@ -153,7 +153,8 @@ impl BoundStores {
     }
 }
 
-/// Whether nothing is bound and no group is open; what is true of every store is told with it.
+/// Whether nothing is bound and no group is open. The contract also says that the store is sound, as every store
+/// is.
 pub(crate) fn is_idle(stores: &Stores, bindings: &Bindings, place: usize) -> bool
     requires store { IsPlace stores.now.shelves.table place }
     requires graph { IsPlace bindings.now.graphs place }

@@ -1,6 +1,6 @@
-//! The tables of a server's sessions, side by side: what each session holds, and whether it has
-//! failed for want of memory. A session has the same place in all of them, and no call touches
-//! another place than the one that it names, but for a post, which reaches the sessions that join it.
+//! The tables of a server's sessions: what each session holds, and whether it has failed because memory ran out. A
+//! session has the same place in all of them. A call touches only the place that it names, except for a post, which
+//! reaches the sessions that have joined it.
 #![tactic(auto)]
 
 mod bindings;

@@ -35,9 +35,9 @@ pub struct Sending<'a> {
 }
 
 impl Tables {
-    /// Posts a signal that is sent, once for each publication of it, to every session that has joined
-    /// that: it is there an event then. Where memory is wanted for that, the session that has joined
-    /// fails. Returns whether one has failed, now or before, as it is told.
+    /// Posts a signal that is sent to every session that has joined it, once for each publication of it. A post is
+    /// an event of the session that it reaches; if there is no memory for it, that session fails. Returns whether
+    /// any session has failed by this, or `failing` was true.
     pub fn deliver(&mut self, sending: &Sending, failing: bool) -> bool
         requires { IsPlaced self.old sending.now.place }
         ensures reaches { Reaches sending.now.classes.now sending.now.from.now sending.now.place
@@ -56,7 +56,7 @@ impl Tables {
         failing
     }
 
-    /// Posts it for one publication, where that is of this signal.
+    /// Posts the signal for one publication, if this publication is of the signal.
     fn post_by(&mut self, sending: &Sending, index: usize, failing: bool) -> bool
         requires placed { IsPlaced self.old sending.now.place }
         requires within { index < length (desk_at self.old.desks sending.now.place).publications }
@@ -119,8 +119,8 @@ impl Tables {
         failing
     }
 
-    /// Lets a post of the session `from` arrive at a session. One that has failed ignores it; where memory
-    /// is wanted for a join that takes it, the session fails.
+    /// Delivers a post of the session `from` to a session. A session that has failed ignores it. If there is no
+    /// memory for a join that takes it, the session fails.
     pub fn arrive(
         &mut self,
         alloc: Global,

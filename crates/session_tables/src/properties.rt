@@ -32,8 +32,8 @@ impl Tables {
         self.stores.stores.declared(place, object, name)
     }
 
-    /// A copy of the value of the property of this name: of a declared one what it shows, of a dynamic one
-    /// what it was set to; `Invalid` where there is none.
+    /// A copy of the value of the property of this name: the value that a declared one shows, or that a dynamic one
+    /// was set to; `Invalid` where there is no such property.
     pub fn property(&self, place: usize, object: u32, name: &str) -> Result<Value, AllocError>
         requires { IsPlaced self.now place }
         ensures { IfOk result (λ value. value ≡ unwrap_or (named_value (state_at self.now place) object name.now) Invalid) }

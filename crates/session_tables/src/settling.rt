@@ -1,5 +1,5 @@
-//! How a place is changed, and what is told of that. Where memory runs out in one of these calls, the place may be left
-//! without what its properties showed; then its bindings are to be cleared.
+//! How a place is changed, and which changes clients are notified of. If memory runs out in one of these calls, the
+//! values that the place's properties showed may be lost; the caller must then clear its bindings.
 ghost use Rattle.std.specs.Prelude.{◌≡◌, IfOk, IfSome, IsTrue, Some, None, OnErr, OnOk, length};
 ghost use Rattle.shared_rows.specs.Table.{IsPlace};
 ghost use Rattle.plain_types.specs.Answers.{RefusedBy};

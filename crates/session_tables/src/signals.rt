@@ -25,7 +25,7 @@ impl Tables {
         self.connections.connect(place, new, unique)
     }
 
-    /// Breaks the connection of this number, and returns whether it stood.
+    /// Breaks the connection of this number, and returns whether it existed.
     pub fn disconnect_one(&mut self, place: usize, number: u32) -> bool
         requires { IsPlaced self.old place }
         ensures stood { result ≡ list_any (has_number number) (state_at self.old place).connections.rows }
@@ -57,7 +57,7 @@ impl Tables {
         }
     }
 
-    /// The state of the functor of the connection with this number, or 0 where that has gone.
+    /// The state of the functor of the connection with this number, or 0 if there is no such connection.
     pub fn functor_state(&self, place: usize, number: u32) -> u64
         requires { IsPlaced self.now place }
         ensures { result ≡ functor_state (state_at self.now place) number }
@@ -65,7 +65,7 @@ impl Tables {
         self.connections.state(place, number).unwrap_or(0)
     }
 
-    /// Gives the functor of the connection with this number another state, where that stands.
+    /// Gives the functor of the connection with this number another state, if the connection exists.
     pub fn step_functor(&mut self, place: usize, number: u32, next: u64)
         requires { IsPlaced self.old place }
         ensures { self.new ≡ with_state self.old place (with_functor_state (state_at self.old place) number next) }

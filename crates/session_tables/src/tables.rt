@@ -42,8 +42,8 @@ impl Drop for Tables {
 }
 
 impl Tables {
-    /// Tables with no place, which take no memory yet. An object of a class has the properties that
-    /// stand here at the class's number. The names of sessions are hashed with these keys.
+    /// Tables with no place, which take no memory yet. The layout at a class's number lists the properties of its
+    /// objects. The names of sessions are hashed with the keys of `hashing`.
     pub fn new(alloc: Global, layouts: Items<Items<Field>>, hashing: RandomState) -> Tables
         ensures forests { result.forests.places ≡ [] }
         ensures layouts { result.stores.shelves.layouts ≡ layouts }
@@ -91,8 +91,7 @@ impl Tables {
         self.failed.open(false)
     }
 
-    /// Takes all that a session holds out; the numbers of its objects and connections are then given
-    /// again.
+    /// Removes all that a session holds. The numbers of its objects and connections start again from the first.
     pub fn clear(&mut self, place: usize)
         requires { IsPlaced self.old place }
         ensures { self.new ≡ with_state self.old place empty }
@@ -104,7 +103,7 @@ impl Tables {
         self.desks.clear(place);
     }
 
-    /// Lets a session fail.
+    /// Clears a session and marks it as failed.
     pub fn give_up(&mut self, place: usize)
         requires { IsPlaced self.old place }
         ensures { self.new ≡ with_session self.old place failed_session }
@@ -113,7 +112,7 @@ impl Tables {
         *self.failed.get_mut(place) = true;
     }
 
-    /// Lets a session begin anew, whether it has failed or not.
+    /// Resets a session, whether it has failed or not.
     pub fn renew(&mut self, place: usize)
         requires { IsPlaced self.old place }
         ensures { self.new ≡ with_session self.old place fresh }

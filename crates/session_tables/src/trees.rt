@@ -133,7 +133,7 @@ impl Tables {
         self.stores.shows_text(place, at, wanted)
     }
 
-    /// Whether an object has this title, where one is wanted.
+    /// Whether an object has this title. True if no title is given.
     pub(crate) fn has_title(
         &self,
         place: usize,
@@ -149,7 +149,7 @@ impl Tables {
         }
     }
 
-    /// Whether an object is of this class or one below it, where one is wanted.
+    /// Whether an object is of this class or one below it. True if no class is given.
     pub(crate) fn is_of_class(
         &self,
         classes: &ClassTable,

@@ -1,14 +1,14 @@
-//! A write may change several properties.
+//! The changes that a write causes.
 ghost use Rattle.std.specs.Prelude.{◌≡◌};
 ghost use Rattle.session_tables.specs.WriteChanges.{alone};
 
 use binding_graph::Change;
 use plain_types::Items;
 
-/// A write to a declared property has changed these, as clients are told.
+/// The changes of a write to a declared property that clients are notified of.
 #[derive(Drop)]
 pub enum WriteChanges {
-    /// Nothing that is told.
+    /// There is nothing to notify of.
     Nothing,
     /// The value of the written property alone, which it shows now.
     Written,

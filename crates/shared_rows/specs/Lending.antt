@@ -4,6 +4,6 @@ use Rattle.std.specs.Borrow.{Lends, MutBor, Fml, RattleType}
 use Rattle.shared_rows.specs.Table.{Table, with_place}
 use Rattle.shared_rows.specs.contracts.table.Places.{the_row}
 
--- the table ends with the last value behind `value` at the place
+-- The table ends with the last value of the borrow `value` at the place.
 abbrev pub LendsPlace : (T : RattleType) → MutBor (Table T.Denot) → ℕ → MutBor T.Denot → Fml
 LendsPlace T table place value = Lends (the_row T) T table value (with_place table.now place)

@@ -10,13 +10,12 @@ use crate::search::point;
 use std::alloc::{AllocError, Global};
 use std::marker::Model;
 
-/// A list that is changed mostly where it was changed last. Where an element goes out it leaves a gap,
-/// and the next change there moves but the elements between. Memory for one more element is asked for
-/// by `reserve`, and no other call takes any.
+/// A gap buffer: a list that is fast to change near its last change. Removing an element leaves a gap,
+/// and a change near the gap moves only the elements between the two. Only `reserve` allocates memory.
 #[derive(Drop)]
 pub struct GapBuffer<T: Copy> {
-    /// The elements before the gap, old ones at the places of the gap, which are not of the list, and the
-    /// elements behind it.
+    /// The elements before the gap, then the gap, then the elements after it. The gap holds stale elements,
+    /// which are not part of the list.
     places: Vec<T>,
     gap: Gap,
 }
@@ -37,7 +36,7 @@ impl<T: Copy> Model for GapBuffer<T> {
 }
 
 impl<T: Copy> GapBuffer<T> {
-    /// No element, which takes no memory yet.
+    /// Creates an empty list, without allocating.
     pub fn new(alloc: Global) -> GapBuffer<T>
         ensures { result.items ≡ [] }
     {
@@ -87,15 +86,15 @@ impl<T: Copy> GapBuffer<T> {
         Some(self.get(len - 1))
     }
 
-    /// Where the gap stands, mostly where an element went out last or behind the one that came in last: a
-    /// search may look there first.
+    /// The position of the gap: usually where the last element was removed, or just after the last one
+    /// inserted. A search may look there first.
     pub fn last_change(&self) -> usize
         ensures { result ≤ length self.now.items }
     {
         self.gap.start as usize
     }
 
-    /// Makes room for one more element, in the gap where that is large.
+    /// Makes room for one more element: by closing the gap if it is large, or else by allocating.
     pub fn reserve(&mut self) -> Result<(), AllocError>
         ensures items { self.new.items ≡ self.old.items }
         ensures room { OnOk result (length self.new.items < self.new.capacity) }
@@ -107,7 +106,7 @@ impl<T: Copy> GapBuffer<T> {
         Ok(())
     }
 
-    /// Adds an element at the end where there is room.
+    /// Appends an element. There must be room for it.
     pub fn push_reserved(&mut self, element: T)
         requires { length self.old.items < self.old.capacity }
         ensures { self.new ≡ record self.old { items = self.old.items ++ element ∷ [] } }
@@ -115,7 +114,7 @@ impl<T: Copy> GapBuffer<T> {
         self.gap = pushed(&mut self.places, self.gap, element);
     }
 
-    /// Puts an element in where there is room.
+    /// Inserts an element at a position. There must be room for it.
     pub fn insert_reserved(&mut self, at: usize, element: T)
         requires room { length self.old.items < self.old.capacity }
         requires within { at ≤ length self.old.items }
@@ -124,7 +123,7 @@ impl<T: Copy> GapBuffer<T> {
         self.gap = inserted(&mut self.places, self.gap, at, element);
     }
 
-    /// Puts another element in place of one.
+    /// Replaces the element at a position.
     pub fn set(&mut self, at: usize, element: T)
         requires { at < length self.old.items }
         ensures { self.new ≡ record self.old { items = set self.old.items at element } }
@@ -132,7 +131,7 @@ impl<T: Copy> GapBuffer<T> {
         write(&mut self.places, self.gap, at, element);
     }
 
-    /// Takes an element out, which leaves a gap there.
+    /// Removes the element at a position and returns it.
     pub fn remove(&mut self, at: usize) -> T
         requires { at < length self.old.items }
         ensures element { (default : T) → result ≡ slice_index_or self.old.items at default }
@@ -143,7 +142,7 @@ impl<T: Copy> GapBuffer<T> {
         element
     }
 
-    /// Takes out all elements, and keeps the memory for others.
+    /// Removes all elements and keeps the memory.
     pub fn clear(&mut self)
         ensures { self.new ≡ record self.old { items = [] } }
     {
@@ -151,7 +150,7 @@ impl<T: Copy> GapBuffer<T> {
         self.gap = Gap { start: 0, gone: 0 };
     }
 
-    /// How many elements pass, where those that do stand before those that do not.
+    /// Counts the elements that pass `pred`, provided that they come before all those that do not.
     pub fn partition_point<P: FnMut(&T) -> bool>(&self, pred: P) -> usize
         requires { P.IsAlwaysCallable pred }
         ensures bound { result ≤ length self.now.items }

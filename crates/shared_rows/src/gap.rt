@@ -6,14 +6,14 @@ ghost use Rattle.shared_rows.specs.Gap.{HasRoom, IsGapOf, IsPlaceOf, listed};
 
 use std::alloc::AllocError;
 
-/// Where the gap stands, and how many places it has.
+/// A run of unused places among those of a list: the first of them, and how many there are.
 #[derive(Clone, Copy)]
 pub(crate) struct Gap {
     pub(crate) start: u32,
     pub(crate) gone: u32,
 }
 
-/// How many elements stand beside the gap.
+/// The length of the list, without the places of the gap.
 pub(crate) fn count<T: Copy>(places: &Vec<T>, gap: Gap) -> usize
     requires { IsGapOf places.now.items gap }
     ensures { result ≡ length (listed places.now.items gap) }
@@ -21,7 +21,7 @@ pub(crate) fn count<T: Copy>(places: &Vec<T>, gap: Gap) -> usize
     places.len() - gap.gone as usize
 }
 
-/// Where an element of the list stands.
+/// The place that holds the element at a position of the list.
 pub(crate) fn position(gap: Gap, at: usize) -> usize
     requires { at + gap.gone < 4294967296 }
     ensures { IsPlaceOf gap at result }
@@ -33,7 +33,7 @@ pub(crate) fn position(gap: Gap, at: usize) -> usize
     }
 }
 
-/// An element of the list.
+/// The element at a position of the list.
 pub(crate) fn read<T: Copy>(places: &Vec<T>, gap: Gap, at: usize) -> &T
     requires gap { IsGapOf places.now.items gap }
     requires within { at < length (listed places.now.items gap) }
@@ -42,7 +42,7 @@ pub(crate) fn read<T: Copy>(places: &Vec<T>, gap: Gap, at: usize) -> &T
     &places[position(gap, at)]
 }
 
-/// Puts another element in place of one.
+/// Replaces the element at a position of the list.
 pub(crate) fn write<T: Copy>(places: &mut Vec<T>, gap: Gap, at: usize, element: T)
     requires gap { IsGapOf places.old.items gap }
     requires within { at < length (listed places.old.items gap) }
@@ -53,14 +53,14 @@ pub(crate) fn write<T: Copy>(places: &mut Vec<T>, gap: Gap, at: usize, element: 
     places[position(gap, at)] = element;
 }
 
-/// Whether one more element takes no memory, and a place is still counted by 32 bits.
+/// Whether one more element fits without allocating, and 32 bits can still count the places.
 fn has_room<T: Copy>(places: &Vec<T>) -> bool
     ensures { IsTrue result ↔ HasRoom places.now (length places.now.items) }
 {
     places.len() < places.capacity().min(4294967295)
 }
 
-/// Moves the gap, past a run of elements. One with no place is only counted elsewhere.
+/// Moves the gap so that it starts at `to`. Moving an empty gap moves no elements.
 fn moved<T: Copy>(places: &mut Vec<T>, gap: Gap, to: usize) -> Gap
     requires gap { IsGapOf places.old.items gap }
     requires within { to + gap.gone ≤ length places.old.items }
@@ -83,8 +83,7 @@ fn moved<T: Copy>(places: &mut Vec<T>, gap: Gap, to: usize) -> Gap
     }
 }
 
-/// Gives up a gap that has come to the end of the places. One at the front stays, for the next that goes
-/// out there.
+/// Drops the gap if it is at the end of the places. A gap elsewhere stays, for the next change there.
 fn trimmed<T: Copy>(places: &mut Vec<T>, gap: Gap) -> Gap
     requires { IsGapOf places.old.items gap }
     ensures items { listed places.new.items result ≡ listed places.old.items gap }
@@ -102,7 +101,7 @@ fn trimmed<T: Copy>(places: &mut Vec<T>, gap: Gap) -> Gap
     }
 }
 
-/// Gives up the gap.
+/// Moves the gap to the end and drops it.
 #[cold]
 #[inline(never)]
 fn closed<T: Copy>(places: &mut Vec<T>, gap: Gap) -> Gap
@@ -117,7 +116,7 @@ fn closed<T: Copy>(places: &mut Vec<T>, gap: Gap) -> Gap
     trimmed(places, gap)
 }
 
-/// Makes room where there is some, in the gap at least.
+/// Makes room at the end for one more element, by closing the gap if there is no other room.
 fn with_room<T: Copy>(places: &mut Vec<T>, gap: Gap) -> Gap
     requires gap { IsGapOf places.old.items gap }
     requires room { HasRoom places.old (length (listed places.old.items gap)) }
@@ -132,7 +131,7 @@ fn with_room<T: Copy>(places: &mut Vec<T>, gap: Gap) -> Gap
     closed(places, gap)
 }
 
-/// Adds an element at the end.
+/// Appends an element.
 pub(crate) fn pushed<T: Copy>(places: &mut Vec<T>, gap: Gap, element: T) -> Gap
     requires gap { IsGapOf places.old.items gap }
     requires room { HasRoom places.old (length (listed places.old.items gap)) }
@@ -145,7 +144,7 @@ pub(crate) fn pushed<T: Copy>(places: &mut Vec<T>, gap: Gap, element: T) -> Gap
     gap
 }
 
-/// Puts an element into the gap, which is moved to where it comes in.
+/// Inserts an element by moving the gap to its position and filling the gap's first place.
 fn filled<T: Copy>(places: &mut Vec<T>, gap: Gap, at: usize, element: T) -> Gap
     requires gap { IsGapOf places.old.items gap }
     requires some { 0 < gap.gone }
@@ -162,16 +161,16 @@ fn filled<T: Copy>(places: &mut Vec<T>, gap: Gap, at: usize, element: T) -> Gap
     }
 }
 
-/// Whether a place is so far behind the gap that elements behind it are moved by one, rather than the gap
-/// to there.
+/// Whether a position is more than `most` elements after the gap. Then the elements after the position are
+/// shifted by one, and the gap is not moved.
 fn is_far(gap: Gap, at: usize, most: usize) -> bool
     ensures { IsTrue result → gap.start ≤ at }
 {
     most < at.saturating_sub(gap.start as usize)
 }
 
-/// Gives a gap that has no place half of those that are free, up to a sixteenth of all. They hold an
-/// element, as places of a gap do.
+/// If the gap is empty, opens one at the end with half the free places, but at most one more than a
+/// sixteenth of the list. Its places hold copies of `element`.
 fn opened<T: Copy>(places: &mut Vec<T>, gap: Gap, element: T) -> Gap
     requires gap { IsGapOf places.old.items gap }
     requires room { HasRoom places.old (length (listed places.old.items gap)) }
@@ -195,7 +194,7 @@ fn opened<T: Copy>(places: &mut Vec<T>, gap: Gap, element: T) -> Gap
     }
 }
 
-/// Puts an element in behind the gap, which stays.
+/// Inserts an element after the gap, without moving the gap.
 fn inserted_behind<T: Copy>(places: &mut Vec<T>, gap: Gap, at: usize, element: T)
     requires gap { IsGapOf places.old.items gap }
     requires room { HasRoom places.old (length places.old.items) }
@@ -209,7 +208,7 @@ fn inserted_behind<T: Copy>(places: &mut Vec<T>, gap: Gap, at: usize, element: T
     prove!(put.is_ok());
 }
 
-/// Puts an element in, by the faster way.
+/// Inserts an element the faster way: into the gap, or by shifting the elements after its position.
 pub(crate) fn inserted<T: Copy>(places: &mut Vec<T>, gap: Gap, at: usize, element: T) -> Gap
     requires gap { IsGapOf places.old.items gap }
     requires room { HasRoom places.old (length (listed places.old.items gap)) }
@@ -230,7 +229,7 @@ pub(crate) fn inserted<T: Copy>(places: &mut Vec<T>, gap: Gap, at: usize, elemen
     filled(places, gap, at, element)
 }
 
-/// Takes an element out behind the gap, which stays.
+/// Removes an element after the gap, without moving the gap.
 fn removed_behind<T: Copy>(places: &mut Vec<T>, gap: Gap, at: usize)
     requires gap { IsGapOf places.old.items gap }
     requires behind { gap.start ≤ at }
@@ -242,7 +241,7 @@ fn removed_behind<T: Copy>(places: &mut Vec<T>, gap: Gap, at: usize)
     places.remove(at + gap.gone as usize);
 }
 
-/// Leaves an element to the gap, which is moved to it.
+/// Removes an element by moving the gap up to it and widening the gap by its place.
 fn widened<T: Copy>(places: &mut Vec<T>, gap: Gap, at: usize) -> Gap
     requires gap { IsGapOf places.old.items gap }
     requires within { at < length (listed places.old.items gap) }
@@ -257,8 +256,8 @@ fn widened<T: Copy>(places: &mut Vec<T>, gap: Gap, at: usize) -> Gap
     }
 }
 
-/// Takes an element out, by the faster way, and gives up a gap that has come to the end. The gap goes
-/// twice as far as elements would, since mostly the next one goes out near this one.
+/// Removes an element the faster way, and drops the gap if it is then at the end. Moving the gap may move
+/// twice as many elements as shifting would, since the next removal is usually nearby.
 pub(crate) fn removed<T: Copy>(places: &mut Vec<T>, gap: Gap, at: usize) -> Gap
     requires gap { IsGapOf places.old.items gap }
     requires within { at < length (listed places.old.items gap) }
@@ -274,7 +273,7 @@ pub(crate) fn removed<T: Copy>(places: &mut Vec<T>, gap: Gap, at: usize) -> Gap
     trimmed(places, gap)
 }
 
-/// Makes room for one more element where there is none.
+/// Makes room for one more element if there is no room yet.
 pub(crate) fn reserved<T: Copy>(places: &mut Vec<T>, gap: Gap) -> Result<Gap, AllocError>
     requires { IsGapOf places.old.items gap }
     ensures ok { IfOk result (λ now. (listed places.new.items now ≡ listed places.old.items gap)
@@ -288,7 +287,8 @@ pub(crate) fn reserved<T: Copy>(places: &mut Vec<T>, gap: Gap) -> Result<Gap, Al
     with_more_room(places, gap)
 }
 
-/// Makes room in the gap, where that has more than a 64th of the places, and in more memory otherwise.
+/// Makes room by closing the gap if that has more than a 64th of the places, or else by allocating. It
+/// fails if memory runs out or the list has 2^32 - 1 elements.
 #[cold]
 #[inline(never)]
 fn with_more_room<T: Copy>(places: &mut Vec<T>, gap: Gap) -> Result<Gap, AllocError>

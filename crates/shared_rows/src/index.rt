@@ -1,4 +1,4 @@
-//! Where the rows of one place stand.
+//! The index of a place, which finds its rows by their numbers.
 ghost use Rattle.std.specs.Prelude.{◌-◌, ◌<◌, ◌≤◌, IfErr, IfOk, IfSome, IfNone};
 ghost use Rattle.shared_rows.specs.Index.{IsAt, IsCountBelow, IsRisingIndex, IsWindow, HasNot};
 
@@ -19,7 +19,7 @@ pub(crate) struct Entry<N> {
     pub(crate) key: u32,
 }
 
-/// Where an entry can stand: from `low` on and before `high`, and most likely at `guess`.
+/// The positions where an entry may be: from `low` on and before `high`, most likely at `guess`.
 #[derive(Clone, Copy)]
 pub(crate) struct Window {
     low: usize,
@@ -27,9 +27,9 @@ pub(crate) struct Window {
     guess: usize,
 }
 
-/// Where the entry with a number stands. As numbers differ, it is no farther from another entry than
-/// their numbers are, and just as far where none between the two was taken out: the first entry gives a
-/// guess, and so does each one that is looked at.
+/// The position of the entry with a number. Two entries are no farther apart than their numbers are, and
+/// exactly as far if there is an entry for each number between. So every entry that is read gives a guess
+/// of the position, beginning with the first entry.
 #[inline(always)]
 pub(crate) fn position<N: Number>(entries: &GapBuffer<Entry<N>>, number: u64) -> Option<usize>
     requires { IsRisingIndex N.value entries.now.items }
@@ -53,7 +53,7 @@ pub(crate) fn position<N: Number>(entries: &GapBuffer<Entry<N>>, number: u64) ->
     }
 }
 
-/// Looks by turns at the guess and in the middle of what is left of a window.
+/// Searches a window, reading alternately at the guess and in the middle of what is left.
 #[inline(never)]
 fn search<N: Number>(
     entries: &GapBuffer<Entry<N>>,
@@ -81,7 +81,7 @@ fn search<N: Number>(
     None
 }
 
-/// The position in the middle of a window.
+/// The middle position of a window.
 fn middle(window: Window) -> usize
     requires { window.low < window.high }
     ensures { (window.low ≤ result) × (result < window.high) }
@@ -89,7 +89,7 @@ fn middle(window: Window) -> usize
     window.low + (window.high - window.low) / 2
 }
 
-/// Looks at a position of a window: it is the one of the number, or a narrower window is left.
+/// Reads the entry at a position of a window: returns the position if it has the number, or a narrower window.
 #[inline(always)]
 fn look<N: Number>(
     entries: &GapBuffer<Entry<N>>,
@@ -124,7 +124,7 @@ fn look<N: Number>(
     })
 }
 
-/// How many entries have a number below this one, which is where its own would stand.
+/// How many entries have a smaller number, which is the position where an entry with this number belongs.
 pub(crate) fn count_below<N: Number>(entries: &GapBuffer<Entry<N>>, number: u64) -> usize
     requires { IsRisingIndex N.value entries.now.items }
     ensures { IsCountBelow N.value entries.now.items number result }

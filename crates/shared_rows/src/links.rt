@@ -1,4 +1,4 @@
-//! Small keys in order, which lead to rows from another side.
+//! Sorted lists of small keys, which are another way to find rows.
 ghost use Rattle.std.specs.Prelude.{◌≡◌, ◌≤◌, ◌↔◌, [], IsTrue, OnOk, OnErr, length};
 ghost use Rattle.std.specs.List.{Contains, slice_get};
 ghost use Rattle.shared_rows.specs.Links.{HasRoom, IsInOrder, IsSeat, first_from, with_link, without_link};
@@ -8,11 +8,11 @@ use std::alloc::{AllocError, Global};
 use std::cmp::Ordering;
 use std::marker::Model;
 
-/// Keys by rising order, each once. Where one comes in or goes out, others move as in a gap buffer.
+/// A list of distinct keys in rising order, kept in a gap buffer.
 #[derive(Drop)]
 pub struct Links<K: Ord + Copy> {
     items: GapBuffer<K>,
-    /// For so many at least there is memory.
+    /// At least this many keys fit without allocating.
     capacity: usize,
 }
 
@@ -29,7 +29,7 @@ impl<K: Ord + Copy> Model for Links<K> {
 }
 
 impl<K: Ord + Copy> Links<K> {
-    /// No link, which takes no memory yet.
+    /// Creates an empty list, without allocating.
     pub fn new(alloc: Global) -> Links<K>
         ensures { result.links ≡ [] }
     {
@@ -63,7 +63,7 @@ impl<K: Ord + Copy> Links<K> {
         Ok(())
     }
 
-    /// Adds a link where it is not there yet.
+    /// Adds a link if it is not there yet.
     pub fn insert(&mut self, link: K) -> Result<(), AllocError>
         ensures ok { OnOk result (self.new.links ≡ with_link K.cmp self.old.links link) }
         ensures err { OnErr result (self.new ≡ self.old) }
@@ -73,7 +73,7 @@ impl<K: Ord + Copy> Links<K> {
         Ok(())
     }
 
-    /// Adds a link where it is not there yet and there is room, which takes no memory.
+    /// Adds a link if it is not there yet, without allocating. There must be room for it.
     pub fn insert_reserved(&mut self, link: K)
         requires { HasRoom self.old }
         ensures { self.new ≡ record self.old { links = with_link K.cmp self.old.links link } }
@@ -84,7 +84,7 @@ impl<K: Ord + Copy> Links<K> {
         }
     }
 
-    /// Takes out a link where it is there.
+    /// Removes a link if it is there.
     pub fn remove(&mut self, link: K)
         ensures { self.new ≡ record self.old { links = without_link K.cmp self.old.links link } }
     {
@@ -93,7 +93,7 @@ impl<K: Ord + Copy> Links<K> {
         }
     }
 
-    /// Puts a link for another one that is there, which takes no memory.
+    /// Replaces a link that is there by another one, without allocating.
     pub fn replace(&mut self, old: K, new: K)
         requires { Contains self.old.links old }
         ensures { self.new ≡ record self.old { links = with_link K.cmp (without_link K.cmp self.old.links old) new } }
@@ -112,7 +112,7 @@ impl<K: Ord + Copy> Links<K> {
         &self.items
     }
 
-    /// The least link that is this one or above it.
+    /// The least link that is not below this one.
     #[inline(always)]
     pub fn first_from(&self, link: K) -> Option<K>
         ensures first { result ≡ first_from K.cmp self.now.links link }
@@ -124,7 +124,7 @@ impl<K: Ord + Copy> Links<K> {
         }
     }
 
-    /// Takes out all links, and keeps the memory for others.
+    /// Removes all links and keeps the memory.
     pub fn clear(&mut self)
         ensures { self.new ≡ record self.old { links = [] } }
     {
@@ -132,8 +132,8 @@ impl<K: Ord + Copy> Links<K> {
     }
 }
 
-/// The least link that is this one or above it: most that are looked for are below all others, where no
-/// search is needed.
+/// The least link that is not below this one. No search is needed for a link below all others, as most that
+/// are looked for are.
 fn first_from_front<K: Ord + Copy>(links: &GapBuffer<K>, link: K) -> Option<K>
     requires { IsInOrder K.cmp links.now.items }
     ensures { result ≡ first_from K.cmp links.now.items link }
@@ -147,7 +147,7 @@ fn first_from_front<K: Ord + Copy>(links: &GapBuffer<K>, link: K) -> Option<K>
     }
 }
 
-/// The link at a position, where there is one.
+/// The link at a position, if there is one.
 fn link_at<K: Copy>(links: &GapBuffer<K>, at: usize) -> Option<K>
     ensures { result ≡ slice_get links.now.items at }
 {
@@ -158,8 +158,8 @@ fn link_at<K: Copy>(links: &GapBuffer<K>, at: usize) -> Option<K>
     }
 }
 
-/// Where a link stands, or where it would stand: most that come in do so behind all others, before them
-/// or behind the one that came in last, where no search is needed.
+/// The position of a link, or the one where it would be inserted. Most new links go after all others, before
+/// them or right after the last one inserted, and need no search.
 fn seat<K: Ord + Copy>(links: &GapBuffer<K>, link: K) -> Result<usize, usize>
     requires { IsInOrder K.cmp links.now.items }
     ensures { IsSeat K.cmp links.now.items link result }
@@ -170,7 +170,7 @@ fn seat<K: Ord + Copy>(links: &GapBuffer<K>, link: K) -> Result<usize, usize>
     }
 }
 
-/// Finds the position of a link with a look at the first one.
+/// Finds the position of a link, and first checks if it comes before all others.
 fn seat_from_front<K: Ord + Copy>(links: &GapBuffer<K>, link: K) -> Result<usize, usize>
     requires { IsInOrder K.cmp links.now.items }
     ensures { IsSeat K.cmp links.now.items link result }
@@ -181,7 +181,7 @@ fn seat_from_front<K: Ord + Copy>(links: &GapBuffer<K>, link: K) -> Result<usize
     }
 }
 
-/// Finds the position of a link with a look where the last change was, where the next one mostly is.
+/// Finds the position of a link, and first looks where the last change was, as the next one is often there.
 fn seat_near<K: Ord + Copy>(links: &GapBuffer<K>, link: K) -> Result<usize, usize>
     requires { IsInOrder K.cmp links.now.items }
     ensures { IsSeat K.cmp links.now.items link result }
@@ -197,7 +197,7 @@ fn seat_near<K: Ord + Copy>(links: &GapBuffer<K>, link: K) -> Result<usize, usiz
     }
 }
 
-/// Finds the position of a link by a search of all of them.
+/// Finds the position of a link by binary search.
 fn seat_by_halves<K: Ord + Copy>(links: &GapBuffer<K>, link: K) -> Result<usize, usize>
     requires { IsInOrder K.cmp links.now.items }
     ensures { IsSeat K.cmp links.now.items link result }

@@ -43,7 +43,7 @@ impl<R: Numbered> Model for SharedRows<R> {
 }
 
 impl<R: Numbered> SharedRows<R> {
-    /// A table with no place, which takes no memory yet.
+    /// Creates a table with no place, without allocating.
     pub fn new(alloc: Global) -> SharedRows<R>
         ensures { result.places ≡ [] }
     {
@@ -95,7 +95,7 @@ impl<R: Numbered> SharedRows<R> {
         &slot.row
     }
 
-    /// How many rows stand at the place.
+    /// The number of rows of the place.
     pub fn len(&self, place: usize) -> usize
         requires { IsPlace self.now place }
         ensures len { result ≡ length (rows_at self.now place) }
@@ -104,7 +104,7 @@ impl<R: Numbered> SharedRows<R> {
         self.indexes.get(place).len()
     }
 
-    /// The key and the row at a position, of which the least number has 0.
+    /// The key and the row at a position. Positions count from 0, in the order of the rows' numbers.
     pub fn at(&self, place: usize, position: usize) -> (usize, &R)
         requires place { IsPlace self.now place }
         requires stands { position < length (rows_at self.now place) }
@@ -114,8 +114,8 @@ impl<R: Numbered> SharedRows<R> {
         (key, &self.slab[key].row)
     }
 
-    /// Adds a row of a greater number than all of its place, and returns its key. It fails where memory
-    /// is short, or where rows stand under all keys of 32 bits.
+    /// Adds a row whose number is greater than all others of its place, and returns its key. It fails if
+    /// memory runs out or the table is full, as keys have 32 bits.
     pub fn push(&mut self, place: usize, row: R) -> Result<usize, AllocError>
     where
         R: Drop,
@@ -141,7 +141,7 @@ impl<R: Numbered> SharedRows<R> {
         Ok(key)
     }
 
-    /// Adds a row of a number that its place does not have yet, and returns its key. It fails as
+    /// Adds a row whose number its place does not have yet, and returns its key. It fails as
     /// [`push`](SharedRows::push) does.
     pub fn insert(&mut self, place: usize, row: R) -> Result<usize, AllocError>
     where
@@ -167,8 +167,7 @@ impl<R: Numbered> SharedRows<R> {
         Ok(key)
     }
 
-    /// Puts a row for the one under a key, which has the same number, and returns the one that stood
-    /// there.
+    /// Replaces the row under a key by one with the same number, and returns the old row.
     pub fn replace(&mut self, place: usize, key: usize, row: R) -> R
         requires place { IsPlace self.old place }
         requires number { option_map R.number (row_under (rows_at self.old place) key) ≡ Some (R.number row) }
@@ -179,8 +178,7 @@ impl<R: Numbered> SharedRows<R> {
         mem::replace(&mut self.slab[key], slot).row
     }
 
-    /// Changes the row under a key where it stands, by a call that leaves it its number, and returns what
-    /// the call does.
+    /// Changes the row under a key in place, and returns what `change` returns. The row must keep its number.
     pub fn update<T, F: FnOnce(&mut R) -> T>(&mut self, place: usize, key: usize, change: F) -> T
         requires place { IsPlace self.old place }
         requires stands { IsSome (row_under (rows_at self.old place) key) }
@@ -194,7 +192,7 @@ impl<R: Numbered> SharedRows<R> {
         change(&mut slot.row)
     }
 
-    /// Takes out the row under a key.
+    /// Removes the row under a key and returns it.
     pub fn remove(&mut self, place: usize, key: usize) -> R
         requires place { IsPlace self.old place }
         requires stands { IsSome (row_under (rows_at self.old place) key) }
@@ -208,7 +206,7 @@ impl<R: Numbered> SharedRows<R> {
         row
     }
 
-    /// Takes out the row with a number, where there is one, with one search.
+    /// Removes the row with a number and returns it, if there is one, with a single search.
     pub fn take(&mut self, place: usize, number: u64) -> Option<R>
         requires { IsPlace self.old place }
         ensures taken { IfSome result (λ row. (key : ℕ) × (key_of R.number (rows_at self.old place) number ≡ Some key)
@@ -225,8 +223,8 @@ impl<R: Numbered> SharedRows<R> {
         Some(row)
     }
 
-    /// Takes out all rows of the place, and gives back the memory of its index. What its rows stood in
-    /// serves the next rows of any place.
+    /// Removes all rows of the place and frees its index. The memory of the rows is reused for the next rows
+    /// of any place.
     pub fn clear(&mut self, place: usize)
     where
         R: Drop,
@@ -240,7 +238,7 @@ impl<R: Numbered> SharedRows<R> {
         self.drop_index(place);
     }
 
-    /// Gives back the memory of an index that has no entry.
+    /// Frees an index that has no entries.
     fn drop_index(&mut self, place: usize)
         requires place { IsPlace self.old place }
         requires empty { rows_at self.old place ≡ [] }

@@ -28,7 +28,7 @@ impl<T> Model for Places<T> {
 impl<T> Places<T> {
     ghost use Rattle.shared_rows.specs.Lending.{LendsPlace};
 
-    /// A table with no place, which takes no memory yet.
+    /// Creates a table with no place, without allocating.
     pub fn new(alloc: Global) -> Places<T>
         ensures { result.places ≡ [] }
     {
@@ -44,7 +44,7 @@ impl<T> Places<T> {
         self.items.reserve(1)
     }
 
-    /// Opens the next place with this value, and answers its number.
+    /// Opens the next place with this value, and returns its number.
     pub fn open(&mut self, value: T) -> usize
         requires { 1 ≤ self.old.room }
         ensures { Opens self.old value self.new result }
@@ -75,7 +75,7 @@ impl<T> Places<T> {
         &self.items[place]
     }
 
-    /// The value at a place, to be changed there; every other place stays as it was.
+    /// The value at a place, for changing it. All other places are unchanged.
     pub fn get_mut(&mut self, place: usize) -> &mut T
         requires { IsPlace self.old place }
         ensures* writes_back { sem 𝓛 (LendsPlace T.row self.entry place result) }

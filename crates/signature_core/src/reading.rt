@@ -40,7 +40,7 @@ fn word_len(text: &[u8]) -> usize
     text.iter().take_while(|byte| is_name_byte(**byte)).count()
 }
 
-/// The text behind the white space that it begins with.
+/// The text after its leading white space.
 #[tactic(auto, using(std::proofs::lemmas::List::take_rest), unfolding(crate::specs::Reading::skip))]
 fn skip(text: &[u8]) -> &[u8]
     ensures { result.now ≡ skip text.now }
@@ -48,7 +48,7 @@ fn skip(text: &[u8]) -> &[u8]
     &text[blanks(text)..]
 }
 
-/// The word that the text begins with, and the text behind it.
+/// The word that the text begins with, and the text after that word and the white space that follows it.
 #[tactic(auto, unfolding(crate::specs::Reading::word, crate::specs::Reading::behind_word))]
 fn word(text: &[u8]) -> (&[u8], &[u8])
     ensures word { result.0.now ≡ word text.now }
@@ -58,7 +58,7 @@ fn word(text: &[u8]) -> (&[u8], &[u8])
     (word, skip(rest))
 }
 
-/// The text behind this mark, where it begins with it.
+/// The text after this mark and the white space that follows it, where the text begins with the mark.
 #[tactic(auto, unfolding(crate::specs::Reading::behind_mark))]
 fn mark(text: &[u8], mark: u8) -> Option<&[u8]>
     ensures { option_copied result ≡ behind_mark mark text.now }
@@ -69,7 +69,7 @@ fn mark(text: &[u8], mark: u8) -> Option<&[u8]>
     }
 }
 
-/// The text behind the `&` that it may begin with.
+/// The text after a leading `&` and the white space that follows it, or all of the text where it begins otherwise.
 #[tactic(auto, unfolding(crate::specs::Reading::behind_reference))]
 fn reference(text: &[u8]) -> &[u8]
     ensures { result.now ≡ behind_reference text.now }
@@ -77,7 +77,7 @@ fn reference(text: &[u8]) -> &[u8]
     mark(text, b'&').unwrap_or(text)
 }
 
-/// The kind of the parameter that the text begins with, and the text behind it.
+/// The kind of the parameter that the text begins with, and the text after that parameter.
 #[tactic(auto, unfolding(crate::specs::Reading::param_at))]
 fn param(text: &[u8]) -> Option<(Kind, &[u8])>
     ensures { option_map (λ read. (read.0, read.1.now)) result ≡ param_at text.now }
@@ -94,7 +94,7 @@ fn param(text: &[u8]) -> Option<(Kind, &[u8])>
     Some((kind, behind_first))
 }
 
-/// The kinds of the parameters that the text begins with, and the text behind them.
+/// The kinds of the parameters that the text begins with, and the text after them.
 fn params(alloc: Global, text: &[u8]) -> Result<Option<(Vec<Kind>, &[u8])>, AllocError>
     ensures { IfOk result (λ found. option_map (λ read. (read.0.items, read.1.now)) found
         ≡ params_at PARAMS text.now) }
@@ -114,7 +114,7 @@ fn params(alloc: Global, text: &[u8]) -> Result<Option<(Vec<Kind>, &[u8])>, Allo
     Ok(None)
 }
 
-/// The kinds of the parameters between the parentheses, and the text behind them.
+/// The kinds of the parameters between the parentheses, and the text after them.
 #[tactic(auto, unfolding(crate::specs::Reading::inside_at))]
 fn inside(alloc: Global, text: &[u8]) -> Result<Option<(Vec<Kind>, &[u8])>, AllocError>
     ensures { IfOk result (λ found. option_map (λ read. (read.0.items, read.1.now)) found

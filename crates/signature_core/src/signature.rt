@@ -33,9 +33,9 @@ impl Signature {
     ghost use Rattle.signature_core.specs.Grammar.{Spells, normal_text};
     ghost use Rattle.signature_core.specs.Reading.{signature_of, IsNormal};
 
-    /// The signature that the text spells; a text that spells none is `BadSignature`. As in Qt,
+    /// Reads a signature from its text; a text that is not a signature is `BadSignature`. As in Qt,
     /// white space, `const`, a reference to a constant, and `void` in place of no parameters make
-    /// no difference; a reference without `const` is another type, and there is none such.
+    /// no difference. A reference without `const` is a different type, which no parameter may have.
     pub fn normalise(alloc: Global, text: &str) -> Result<Signature, Fault>
         ensures exact { Answers result (ok_or (signature_of text.now) BadSignature) }
 
@@ -69,7 +69,7 @@ impl Signature {
     }
 }
 
-/// Writes the kinds' names behind the text, with commas between them.
+/// Appends the kinds' names to the text, with commas between them.
 fn push_names(text: &mut String, kinds: &[Kind]) -> Result<(), AllocError>
     ensures pushed { IfOk result (λ _. string_bytes text.new
         ≡ string_bytes text.old ++ join_with_byte 44 (map kind_name kinds.now)) }

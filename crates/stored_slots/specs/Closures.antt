@@ -1,5 +1,5 @@
--- What is owed for a closure that is handed in as a functor, by what is known of its calls: when it may be
--- called, and what it may answer.
+-- What must hold for a closure that becomes a functor, by what is known about its calls: when it may be called, and what
+-- it may return.
 use Rattle.std.specs.Prelude.{◌≡◌, ◌<◌, ◌^◌, ℕ, List, Result, Ok}
 use Rattle.std.specs.Borrow.{Bor}
 use Rattle.std.specs.Global.{Global, Vec}
@@ -13,16 +13,16 @@ use Rattle.term_evaluation.specs.Stating.{after, with_state}
 use Rattle.term_evaluation.specs.Unfolding.{unfolded_body}
 use Rattle.stored_slots.specs.Functors.{AreArguments}
 
--- it may be called with every state, a number of 64 bits, and with whatever may be given for the parameters
+-- The closure may be called with every state, a 64-bit number, and with all arguments that fit the parameters.
 abbrev pub MayBeCalled : (Global → ℕ → Bor (List Value) → Type 0) → List Kind → Type 0
 MayBeCalled pre params = (alloc : Global) (state : ℕ) (args : Bor (List Value)) → state < 2 ^ 64 → AreArguments params args.now → pre alloc state args
 
--- whatever it answers to that, unless memory is wanted, is the body with the state and the arguments put in
+-- Unless memory runs out, it returns the body with the state and the arguments put in.
 abbrev pub GivesBody : (Global → ℕ → Bor (List Value) → Result (Vec Act × ℕ) AllocError → Type 0) → List Kind → Body → Type 0
 GivesBody post params body = (alloc : Global) (state : ℕ) (args : Bor (List Value)) (answer : Vec Act × ℕ) → state < 2 ^ 64
     → AreArguments params args.now → post alloc state args (Ok answer) → answer.0.items ≡ unfolded_body args.now (with_state state body)
 
--- and the state that follows
+-- Unless memory runs out, it returns the next state.
 abbrev pub GivesNext : (Global → ℕ → Bor (List Value) → Result (Vec Act × ℕ) AllocError → Type 0) → List Kind → Term → Type 0
 GivesNext post params next = (alloc : Global) (state : ℕ) (args : Bor (List Value)) (answer : Vec Act × ℕ)
     → state < 2 ^ 64 → AreArguments params args.now → post alloc state args (Ok answer) → answer.1 ≡ after next state args.now

@@ -1,4 +1,4 @@
--- What is said of a functor is proved in one way at most, so it can be kept with it.
+-- The facts about a functor have at most one proof, so they can be stored with it.
 use Rattle.std.proofs.Props.{props}
 use Rattle.signature_core.specs.declared.kind.Kind.{Kind}
 use Rattle.std.specs.Prelude.{ℕ, List}

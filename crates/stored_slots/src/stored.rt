@@ -14,12 +14,12 @@ use std::alloc::{AllocError, Global};
 use term_core::Action;
 use variant_value::Value;
 
-/// The actions of a functor that is called over a state and with arguments, and the state that follows. It
-/// takes memory of the allocator that it is given, and its error is want of that.
+/// Returns the actions of a functor that is called with a state and arguments, and the next state. It takes
+/// memory from the allocator that it is given, and its error means that this ran out.
 pub type Closure = Box<dyn Fn(Global, u64, &[Value]) -> Result<(Vec<Action>, u64), AllocError>>;
 
-/// A functor beside its closure. What whoever handed the two in has proved: the first three facts are all
-/// that is known of the closure, and the last is known of the functor.
+/// A functor and its closure, with what the caller of `Functors::add` proved: the first three facts are all
+/// that is known about the closure, and the last is about the functor.
 #[derive(Drop)]
 pub(crate) struct StoredFunctor {
     pub(crate) functor: Functor,

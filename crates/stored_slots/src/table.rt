@@ -27,7 +27,7 @@ impl Drop for Functors {
     }
 }
 
-/// Where the functor of this name stands.
+/// The index of the functor of this name in the list.
 fn number_of(stored: &[StoredFunctor], name: &str) -> Option<usize>
     ensures number { result ≡ position (λ one. bytes_eq name.now one.functor.name) stored.now }
     ensures within { IfSome result (λ number. number < length stored.now) }
@@ -58,18 +58,17 @@ impl Functors {
         }
     }
 
-    /// Puts a functor behind the others. A name that another one has is `NameTaken`, and one more than
-    /// [`FUNCTORS`] is `Limit`.
+    /// Adds a functor after the others. A name that another functor has is `NameTaken`, and a functor
+    /// beyond the first [`FUNCTORS`] is `Limit`.
     ///
-    /// Who hands the closure in owes facts of it, proved where it is made: with every state, and with
-    /// arguments that are as many as the parameters and of their kinds, it may be called, whatever
-    /// allocator it is given; and an `Ok` of it is the body with those put in, and the state that follows.
-    /// So a closure whose answer depends on anything else, as on how often it was called, cannot be
-    /// handed in.
+    /// The caller proves two facts about the closure, where it is made. It may be called with any
+    /// allocator, any state, and arguments that are as many as the parameters and of their kinds; and an
+    /// `Ok` from it is the body with the state and the arguments put in, and the next state. A closure
+    /// whose answer depends on anything else, such as how often it was called, cannot be added.
     ///
-    /// Of the body and of what gives the next state facts are owed too: they keep to the limits of
-    /// bodies and bindings, and take no argument but the parameters; what the body sets has a name, and
-    /// the next state reads no property.
+    /// The caller also proves that the body and the expression for the next state keep to the limits of
+    /// bodies and bindings and take no argument but the parameters, that the body sets only properties
+    /// whose names are valid, and that the next state reads no property.
     pub fn add(
         &mut self,
         name: Text,
@@ -123,9 +122,9 @@ impl Functors {
         Some(index as u32)
     }
 
-    /// Calls the functor at this index over a state with these arguments: returns the actions of its body with
-    /// both put in, and the state that follows. This is known of its closure by what `add` was promised, and by
-    /// nothing else. An error is want of memory, the closure's own among it.
+    /// Calls the functor at this index with a state and arguments: returns the actions of its body with both put
+    /// in, and the next state. All that is known about the closure is what the caller of `add` proved. An error
+    /// means that memory ran out, in the closure too.
     pub fn call(
         &self,
         index: u32,
@@ -142,7 +141,7 @@ impl Functors {
         stored.answer(self.alloc, state, args)
     }
 
-    /// The functors without their closures, once more.
+    /// Copies of the functors, without their closures.
     pub fn rows(&self) -> Result<Items<Functor>, AllocError>
         ensures rows { IfOk result (λ rows. rows ≡ functors_of self.now) }
         ensures few { IfOk result (λ rows. length rows ≤ FUNCTORS) }

@@ -1,4 +1,4 @@
--- Actions, and how many they are.
+-- Actions, and their number.
 use Rattle.std.specs.Prelude.{ℕ, ◌+◌, ◌&&◌, Bool, true, List, [], ◌∷◌}
 use Rattle.std.specs.List.{list_all}
 use Rattle.plain_types.specs.Names.{is_name}
@@ -20,7 +20,7 @@ abbrev pub acts_of : List Act → Acts
 acts_of [] = nothing
 acts_of (action ∷ rest) = more action (acts_of rest)
 
--- how many actions there are, those in branches among them
+-- The number of actions, those in branches included.
 abbrev mutual
   pub count : Act → ℕ
   count (single_action e) = 1
@@ -30,13 +30,13 @@ abbrev mutual
   counts nothing = 0
   counts (more action rest) = count action + counts rest
 
--- the expressions of a single action keep to their limits
+-- Whether the expressions of a single action keep to their limits.
 abbrev pub is_effect_limited : SingleAction → Bool
 is_effect_limited (e.Set of property value) = is_within_limits value
 is_effect_limited (e.Emit of signal args) = list_all is_within_limits args
 is_effect_limited _ = true
 
--- all expressions keep to their limits
+-- Whether all expressions keep to their limits.
 abbrev mutual
   pub is_limited : Act → Bool
   is_limited (single_action e) = is_effect_limited e
@@ -46,12 +46,12 @@ abbrev mutual
   are_limited nothing = true
   are_limited (more action rest) = is_limited action && are_limited rest
 
--- the property that a single action sets has a name
+-- Whether the property that a single action sets has a valid name.
 abbrev pub is_effect_named : SingleAction → Bool
 is_effect_named (e.Set of property value) = is_name property
 is_effect_named _ = true
 
--- so have all that are set
+-- Whether all properties that are set have valid names.
 abbrev mutual
   pub is_named : Act → Bool
   is_named (single_action e) = is_effect_named e

@@ -6,7 +6,7 @@ use Rattle.term_core.specs.declared.action.SingleAction.TheVariants as e
 use Rattle.term_core.specs.Act.{Act, Acts, single_action, when, nothing, more}
 use Rattle.term_core.specs.Term.{Term, const, arg, state, prop, binary, choice}
 
--- every argument of an expression is among the first so many
+-- Every argument in an expression is one of the first `count`.
 abbrev pub TakesAtMost : ℕ → Term → Type 0
 TakesAtMost n (const value) = Unit {0}
 TakesAtMost n (arg place) = place < n
@@ -15,7 +15,7 @@ TakesAtMost n (prop target name) = Unit {0}
 TakesAtMost n (binary operator a b) = TakesAtMost n a × TakesAtMost n b
 TakesAtMost n (choice test a b) = TakesAtMost n test × (TakesAtMost n a × TakesAtMost n b)
 
--- so it is in an action that does one thing, and in any action
+-- Every argument in an action is one of the first `count`.
 abbrev pub EffectTakesAtMost : ℕ → SingleAction → Type 0
 EffectTakesAtMost n (e.Set of property value) = TakesAtMost n value
 EffectTakesAtMost n (e.Emit of signal sent) = All (TakesAtMost n) sent

@@ -15,7 +15,7 @@ use Rattle.term_core.specs.Forms.{is_within_limits, term_in}
 use Rattle.term_core.specs.Term.{Term, reads_nothing}
 use Rattle.term_core.specs.Json.{Read, ◌>>=◌, where_only, at_key}
 
--- a choice between two lists of actions, by what stands behind `then` and `else`
+-- A choice between two lists of actions, by the values at `then` and `else`.
 abbrev pub choice_in : Scope → Data → Option (Read (List Act)) → Option (Read (List Act)) → Read Act
 choice_in scope json held failed = where_only (codes "when" ∷ codes "then" ∷ codes "else" ∷ []) json (do
   condition ← at_key (codes "when") json
@@ -24,23 +24,23 @@ choice_in scope json held failed = where_only (codes "when" ∷ codes "then" ∷
   test ← term_in scope condition
   Ok (when test (acts_of a) (acts_of b)))
 
--- an action, by the same
+-- An action, by the values at `then` and `else`.
 abbrev pub made : Scope → Data → Option (Read (List Act)) → Option (Read (List Act)) → Read Act
 made scope json held failed =
     if is_some (get (codes "when") json) then choice_in scope json held failed else (effect_in scope json >>= λ plain. Ok (single_action plain))
 
 abbrev mutual
-  -- the action that a piece of JSON is, however large
+  -- The action in JSON, of any size.
   pub act_in : Scope → Data → Read Act
   act_in scope (object inside) = made scope (object inside) (branch_in scope (codes "then") inside) (branch_in scope (codes "else") inside)
   act_in scope _ = Err BadValue
 
-  -- the actions behind a key, where it is there
+  -- The actions at a key, if it is present.
   pub branch_in : Scope → List ℕ → Members → Option (Read (List Act))
   branch_in scope key no_members = None
   branch_in scope key (member other json rest) = if bytes_eq key other then Some (actions_in scope json) else branch_in scope key rest
 
-  -- the actions of an array
+  -- The actions of an array.
   pub actions_in : Scope → Data → Read (List Act)
   actions_in scope (array items) = acts_in scope items
   actions_in scope _ = Err BadValue
@@ -49,33 +49,33 @@ abbrev mutual
   acts_in scope no_items = Ok []
   acts_in scope (item json rest) = act_in scope json >>= λ action. acts_in scope rest >>= λ actions. Ok (action ∷ actions)
 
--- an action, by what its keys lead to
+-- An action, by the values at its keys.
 abbrev pub action_in : Scope → Data → Read Act
 action_in scope json = made scope json (option_map (actions_in scope) (get (codes "then") json)) (option_map (actions_in scope) (get (codes "else") json))
 
--- actions keep to the limits
+-- Whether actions keep to the limits.
 abbrev pub is_body_limited : List Act → Bool
 is_body_limited actions = nat_le (counts (acts_of actions)) ACTIONS && are_limited (acts_of actions)
 
 abbrev pub limited_body : ℕ → List Act → Read Body
 limited_body params actions = if is_body_limited actions then Ok (record { params = params; actions = actions }) else Err Limit
 
--- the body of a slot with so many parameters
+-- The body of a slot with this many parameters.
 abbrev pub body_of : ℕ → Data → Read Body
 body_of params json = actions_in (Slot params) json >>= limited_body params
 
--- the body of a functor with so many parameters, which may speak of the functor's state
+-- The body of a functor with this many parameters, which may use the functor's state.
 abbrev pub functor_body_of : ℕ → Data → Read Body
 functor_body_of params json = actions_in (Functor params) json >>= limited_body params
 
--- a body keeps to the limits, takes no argument but its parameters, and sets only what has a name
+-- A body keeps to the limits, takes no argument but its parameters, and sets only properties with valid names.
 pub record IsBody (body : Body) : Type 0 where
   pub limited : IsTrue (is_body_limited body.actions)
   pub arguments : ActsTakeAtMost body.params (acts_of body.actions)
   pub named : IsTrue (are_named (acts_of body.actions))
 
--- what gives a functor with so many parameters its next state keeps to the limits, takes no argument but its
--- parameters, and reads no property
+-- The expression for the next state of a functor with this many parameters keeps to the limits, takes no argument but
+-- the parameters, and reads no property.
 pub record IsNext (params : ℕ) (next : Term) : Type 0 where
   pub limited : IsTrue (is_within_limits next)
   pub arguments : TakesAtMost params next

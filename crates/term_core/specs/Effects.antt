@@ -1,4 +1,4 @@
--- The forms of actions in JSON that do one thing.
+-- The forms in JSON of actions that do one thing.
 use Rattle.std.specs.Prelude.{◌&&◌, ◌||◌, ℕ, Bool, false, List, [], ◌∷◌, Option, Some, None, Ok, Err, codes, is_none, is_some, option_and_then}
 use Rattle.std.specs.Option.{option_map_or}
 use Rattle.serde_json.specs.Data.{Data, null, Items, no_items, item}
@@ -16,33 +16,33 @@ use Rattle.term_core.specs.Term.{Term}
 use Rattle.term_core.specs.Json.{Read, ◌>>=◌, formed, where_holds, has_only, where_only, at_key, name_in, target_in}
 use Rattle.term_core.specs.Forms.{subject_in, term_in}
 
--- the signature that a text spells
+-- The signature that a text spells.
 abbrev pub signature_in : Data → Read Signature
 signature_in json = formed (option_and_then signature_of (as_str json))
 
--- what null stands for, or what is there
+-- `None` for null, and otherwise what is read.
 abbrev pub unless_null : {A : Type 0} → (Data → Read A) → Data → Read (Option A)
 unless_null read null = Ok None
 unless_null read json = read json >>= λ value. Ok (Some value)
 
--- what stands behind a key that may be absent
+-- The value at a key that may be absent.
 abbrev pub optional : {A : Type 0} → (Data → Read A) → List ℕ → Data → Read (Option A)
 optional read key json = option_map_or (λ there. read there >>= λ value. Ok (Some value)) (get key json) (Ok None)
 
--- a truth behind a key, false where the key is absent
+-- A truth value at a key; false if the key is absent.
 abbrev pub flag_in : List ℕ → Data → Read Bool
 flag_in key json = option_map_or (λ there. formed (as_bool there)) (get key json) (Ok false)
 
--- how calls are made
+-- The connection type.
 abbrev pub mode_in : Data → Read ConnectionType
 mode_in json = option_map_or (λ there. formed (option_and_then mode_named (as_str there))) (get (codes "type") json) (Ok mode.Auto)
 
--- the expressions of a list
+-- The expressions of a list.
 abbrev pub terms_in : Scope → Items → Read (List Term)
 terms_in scope no_items = Ok []
 terms_in scope (item json rest) = term_in scope json >>= λ term. terms_in scope rest >>= λ terms. Ok (term ∷ terms)
 
--- each action by what stands behind the key that names it, and by the whole object
+-- Each action, by the value at the key that names it, and by the whole object.
 
 abbrev pub set_in : Scope → Data → Data → Read SingleAction
 set_in scope json named = where_only (codes "set" ∷ codes "to" ∷ codes "of" ∷ []) json (do
@@ -74,7 +74,7 @@ connect_in json named = where_only (codes "connect" ∷ codes "of" ∷ codes "to
   method ← signature_in member
   Ok (e.Connect of signal to method mode unique single))
 
--- a method is named only beside a receiver
+-- A method is named only together with a receiver.
 abbrev pub has_receiver : Data → Bool
 has_receiver json = is_none (get (codes "method") json) || is_some (get (codes "to") json)
 
@@ -108,7 +108,7 @@ set_parent_in json named = where_only (codes "setParent" ∷ codes "of" ∷ []) 
   of ← subject_in json
   Ok (e.SetParent of parent))
 
--- the action whose key the object has
+-- The action whose key the object has.
 abbrev pub effect_in : Scope → Data → Read SingleAction
 effect_in scope json =
     option_map_or (set_in scope json) (get (codes "set") json) (

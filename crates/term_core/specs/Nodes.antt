@@ -1,4 +1,4 @@
--- The expression that a node stands for.
+-- The expression of a node.
 use Rattle.term_core.specs.Term.{Term, const, arg, state, prop, binary, choice}
 use Rattle.term_core.specs.declared.expr.Node.{Node}
 use Rattle.term_core.specs.declared.expr.Node.TheVariants as node

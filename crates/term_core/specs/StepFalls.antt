@@ -1,4 +1,4 @@
--- Each action of a branch counts less than the action that chooses.
+-- Each action of a branch counts less than the action that chooses the branch.
 use Rattle.std.specs.Prelude.{◌≤◌, max}
 use Rattle.std.proofs.Common.{arith}
 use Rattle.term_core.specs.Act.{count}

@@ -1,4 +1,4 @@
--- The action that a step stands for.
+-- The action of a step.
 use Rattle.std.specs.Prelude.{◌+◌, ◌≤◌, List, [], ◌∷◌}
 use Rattle.std.proofs.Common.{arith}
 use denote.Param.Weighed.{most}
@@ -10,7 +10,7 @@ abbrev pub act_at : Step → Act
 act_at (step.Single e) = single_action e
 act_at (step.When test a b) = when test (acts_of a.items) (acts_of b.items)
 
--- no action of a list counts more than all of them
+-- No action of a list counts more than the whole list.
 pub most_counts : (actions : List Act) → most (λ action. count action + 1) actions ≤ counts (acts_of actions) + 1
 most_counts [] = omega arith
 most_counts (action ∷ rest) = omega (arith, most_counts rest)

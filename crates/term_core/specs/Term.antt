@@ -1,4 +1,4 @@
--- An expression: a tree of constants, arguments, a functor's state, properties and what is made of them.
+-- Expressions: trees of constants, arguments, a functor's state, properties, and operators over them.
 use Rattle.std.specs.Prelude.{ℕ, ◌+◌, ◌&&◌, Bool, true, false, List, length, nat_le}
 use Rattle.variant_value.specs.declared.value.TheConstants.{TEXT_BYTES}
 use Rattle.variant_value.specs.declared.value.Value.{Value}
@@ -14,7 +14,7 @@ pub data Term : Type 0 where
   binary : Operator → Term → Term → Term
   choice : Term → Term → Term → Term
 
--- how many forms an expression is made of
+-- The number of forms in an expression.
 abbrev pub nodes : Term → ℕ
 nodes (const value) = 1
 nodes (arg place) = 1
@@ -23,7 +23,7 @@ nodes (prop target name) = 1
 nodes (binary operator a b) = nodes a + nodes b + 1
 nodes (choice test a b) = nodes test + nodes a + nodes b + 1
 
--- a text is not too long
+-- Whether a value is not a text that is too long.
 abbrev pub is_short : Value → Bool
 is_short v.Invalid = true
 is_short (v.Bool b) = true
@@ -33,7 +33,7 @@ is_short (v.Longlong z) = true
 is_short (v.Ulonglong n) = true
 is_short (v.Text text) = nat_le (length text) TEXT_BYTES
 
--- no constant is too long a text
+-- Whether no constant is a text that is too long.
 abbrev pub has_short_texts : Term → Bool
 has_short_texts (const value) = is_short value
 has_short_texts (arg place) = true
@@ -42,7 +42,7 @@ has_short_texts (prop target name) = true
 has_short_texts (binary operator a b) = has_short_texts a && has_short_texts b
 has_short_texts (choice test a b) = has_short_texts test && (has_short_texts a && has_short_texts b)
 
--- an expression reads no property
+-- Whether an expression reads no property.
 abbrev pub reads_nothing : Term → Bool
 reads_nothing (const value) = true
 reads_nothing (arg place) = true

@@ -35,8 +35,8 @@ pub enum SingleAction {
         unique: bool,
         single: bool,
     },
-    /// Breaks the connections that match: of any signal, to any object, to any of its methods, where
-    /// none is named. A method is named only beside an object.
+    /// Breaks the connections that match. A signal, receiver or method that is not named matches any;
+    /// a method is named only together with a receiver.
     Disconnect {
         of: Target,
         signal: Option<Signature>,

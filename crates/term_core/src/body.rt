@@ -31,11 +31,10 @@ impl Drop for Body {
 }
 
 impl Body {
-    /// The body of a slot with `params` parameters. JSON that is none is `BadValue`; so is an argument
-    /// beyond the parameters, a state, which a slot does not have, and a text that is no signature where
-    /// one is asked. More than
-    /// [`ACTIONS`] actions, or an expression of more than [`NODES`](crate::NODES) forms or with a
-    /// text of more than `TEXT_BYTES`, is `Limit`, but only where nothing is `BadValue`.
+    /// Reads the body of a slot with `params` parameters. JSON that is not a body is `BadValue`; so are
+    /// an argument beyond the parameters, a state, which a slot does not have, and an invalid signature.
+    /// More than [`ACTIONS`] actions, or an expression of more than [`NODES`](crate::NODES) forms or with
+    /// a text of more than `TEXT_BYTES`, is `Limit`, but only where nothing is `BadValue`.
     pub fn from_json(alloc: Global, json: &Json, params: usize) -> Result<Body, Fault>
         ensures answers { Answers result (body_of params (view json.now)) }
         ensures params { IfOk result (λ body. body.params ≡ params) }
@@ -45,8 +44,8 @@ impl Body {
         limited(params, actions)
     }
 
-    /// The body of a functor with `params` parameters, which may speak of the functor's state. It is
-    /// refused as that of a slot is.
+    /// Reads the body of a functor with `params` parameters, which may use the functor's state. Faults
+    /// and limits are otherwise those of a slot's body.
     pub fn from_json_state(alloc: Global, json: &Json, params: usize) -> Result<Body, Fault>
         ensures answers { Answers result (functor_body_of params (view json.now)) }
         ensures params { IfOk result (λ body. body.params ≡ params) }
@@ -68,7 +67,7 @@ fn limited(params: usize, actions: Items<Action>) -> Result<Body, Fault>
     Ok(Body { params, actions })
 }
 
-/// The action that the JSON is, however large. What is none is `BadValue`.
+/// Reads an action of any size. JSON that is not an action is `BadValue`.
 #[cycle(bodies)]
 fn action(alloc: Global, scope: Scope, json: &Json) -> Result<Action, Fault>
     ensures { Answers result (action_in scope (view json.now)) }

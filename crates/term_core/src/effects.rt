@@ -51,7 +51,7 @@ fn target_or_null(alloc: Global, json: &Json) -> Result<Option<Target>, Fault>
     }
 }
 
-/// The truth behind a key, or false where the key is absent.
+/// The truth at a key, or false where the key is absent.
 fn flag(json: &Json, key: &str) -> Result<bool, Fault>
     ensures { Answers result (flag_in key.now (view json.now)) }
 {
@@ -61,7 +61,7 @@ fn flag(json: &Json, key: &str) -> Result<bool, Fault>
     }
 }
 
-/// The mode behind the key `type`.
+/// The mode at the key `type`, or `Auto` where the key is absent.
 fn mode(json: &Json) -> Result<ConnectionType, Fault>
     ensures { Answers result (mode_in (view json.now)) }
 {
@@ -149,7 +149,7 @@ fn connect(alloc: Global, json: &Json, named: &Json) -> Result<SingleAction, Fau
     })
 }
 
-/// The target behind the key `to`, which may be absent.
+/// The target at the key `to`, which may be absent.
 fn receiver(alloc: Global, json: &Json) -> Result<Option<Target>, Fault>
     ensures { Answers result (optional target_in (codes "to") (view json.now)) }
 {
@@ -159,7 +159,7 @@ fn receiver(alloc: Global, json: &Json) -> Result<Option<Target>, Fault>
     }
 }
 
-/// The signature behind the key `method`, which may be absent.
+/// The signature at the key `method`, which may be absent.
 fn method(alloc: Global, json: &Json) -> Result<Option<Signature>, Fault>
     ensures { Answers result (optional signature_in (codes "method") (view json.now)) }
 {
@@ -169,7 +169,7 @@ fn method(alloc: Global, json: &Json) -> Result<Option<Signature>, Fault>
     }
 }
 
-/// Whether a receiver is named, which must be where a method is.
+/// Whether a receiver is named, as it must be where a method is named; true where no method is.
 fn has_receiver(json: &Json) -> bool
     ensures { result ≡ has_receiver (view json.now) }
 {
@@ -236,7 +236,7 @@ fn set_parent(alloc: Global, json: &Json, named: &Json) -> Result<SingleAction, 
     Ok(SingleAction::SetParent { of, parent })
 }
 
-/// The action that the JSON is, unless it chooses between others. What is none is `BadValue`.
+/// Reads an action that does one thing. Other JSON, and an action that chooses between others, is `BadValue`.
 pub(crate) fn single_action(alloc: Global, scope: Scope, json: &Json) -> Result<SingleAction, Fault>
     ensures { Answers result (effect_in scope (view json.now)) }
 {

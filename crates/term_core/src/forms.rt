@@ -14,7 +14,7 @@ use plain_types::Fault;
 use serde_json::Value as Json;
 use std::alloc::Global;
 
-/// The target behind the key `of`, or the object itself.
+/// The target at the key `of`, or the object itself where the key is absent.
 pub(crate) fn subject(alloc: Global, json: &Json) -> Result<Target, Fault>
     ensures { Answers result (subject_in (view json.now)) }
 {
@@ -71,7 +71,7 @@ fn only_member(json: &Json) -> Option<(&str, &Json)>
     }
 }
 
-/// The expression that the JSON is, however large. What is none is `BadValue`.
+/// Reads an expression of any size. JSON that is not an expression is `BadValue`.
 #[cycle(forms)]
 pub(crate) fn expression(alloc: Global, scope: Scope, json: &Json) -> Result<Expr, Fault>
     ensures { Answers result (term_in scope (view json.now)) }

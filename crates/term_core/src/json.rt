@@ -12,7 +12,7 @@ use serde_json::{Map, Value as Json};
 use std::alloc::Global;
 use variant_value::Value;
 
-/// The fault of a form that is none.
+/// The fault for JSON that is not a valid form.
 pub(crate) const BAD: Fault = Fault::Refused(Code::BadValue);
 
 /// Whether the JSON is an object with no keys but these.

@@ -13,7 +13,7 @@ pub enum Operator {
     Less,
     /// Whether two numbers, two truths or two texts are equal.
     Equal,
-    /// Two texts, one behind the other.
+    /// The first of two texts, followed by the second.
     Concatenated,
 }
 

@@ -1,10 +1,10 @@
-//! Where an expression stands.
+//! The places where an expression may be written.
 ghost use Rattle.std.specs.Prelude.{◌≡◌};
 ghost use Rattle.term_core.specs.Forms.{params, has_target, has_state};
 
 use crate::target::Target;
 
-/// Where an expression stands, which decides what it may speak of.
+/// The place where an expression is written, which decides what it may refer to.
 #[derive(Clone, Copy)]
 pub(crate) enum Scope {
     Binding,
@@ -17,7 +17,7 @@ pub(crate) enum Scope {
 }
 
 impl Scope {
-    /// How many arguments there are to speak of.
+    /// How many arguments the expression may refer to.
     pub(crate) fn params(self) -> usize
         ensures { result ≡ params self }
     {
@@ -27,7 +27,7 @@ impl Scope {
         }
     }
 
-    /// Whether this target may be spoken of.
+    /// Whether the expression may read properties of this target.
     pub(crate) fn has_target(self, target: &Target) -> bool
         ensures { result ≡ has_target self target.now }
     {
@@ -38,7 +38,7 @@ impl Scope {
         }
     }
 
-    /// Whether there is a state to speak of.
+    /// Whether the expression may refer to a state.
     pub(crate) fn has_state(self) -> bool
         ensures { result ≡ has_state self }
     {

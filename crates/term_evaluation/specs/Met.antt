@@ -1,4 +1,4 @@
--- The properties that an evaluation really comes to.
+-- The properties that an evaluation really reads.
 use Rattle.std.specs.Prelude.{◌<◌, ℕ, suc, Bool, true, false, List, [], ◌∷◌, ◌++◌, length, slice_index_or, Option, Some, None, Ok, Err}
 use Rattle.variant_value.specs.declared.value.Value.{Value}
 use Rattle.variant_value.specs.Values.{truth_in}
@@ -8,19 +8,19 @@ use Rattle.term_evaluation.specs.declared.reading.Read.{Read}
 use Rattle.term_evaluation.specs.Evaluation.{eval_by}
 use Rattle.term_evaluation.specs.Outcomes.{Answer}
 
--- what is come to by the value of a first answer; behind a fault nothing is
+-- What is read after a first answer, by its value; nothing after a fault.
 abbrev pub behind : {O : Type 0} → Answer O → (Value → List Read) → List Read
 behind (Ok value) f = f value
 behind (Err cause) f = []
 
--- what is come to in the branch that is taken
+-- What is read in the branch that is taken.
 abbrev pub in_branch : Option Bool → List Read → List Read → List Read
 in_branch None held failed = []
 in_branch (Some true) held failed = held
 in_branch (Some false) held failed = failed
 
--- the properties that the evaluation of an expression really reads, in order: up to the first fault, and
--- of a choice those of the test and of the branch that is taken
+-- The properties that the evaluation of an expression really reads, in order, up to the first fault. Of a choice these
+-- are those of the test and of the branch that is taken.
 abbrev pub met_by : {O : Type 0} → List Value → (Target → List ℕ → Answer O) → Term → List Read
 met_by args read (const value) = []
 met_by args read (arg place) = []
@@ -30,6 +30,6 @@ met_by args read (binary operator a b) = met_by args read a ++ behind (eval_by a
 met_by args read (choice test a b) =
     met_by args read test ++ behind (eval_by args read test) (λ t. in_branch (truth_in t) (met_by args read a) (met_by args read b))
 
--- it is true of all but the last
+-- It is true of all but the last.
 abbrev pub EachButLast : {X : Type 0} → (X → Type 0) → List X → Type 0
 EachButLast {X} P xs = (k : ℕ) (d : X) → suc k < length xs → P (slice_index_or xs k d)

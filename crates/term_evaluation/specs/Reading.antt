@@ -3,7 +3,7 @@ use Rattle.std.specs.Prelude.{List, [], ◌∷◌, ◌++◌}
 use Rattle.term_core.specs.Term.{Term, const, arg, state, prop, binary, choice}
 use Rattle.term_evaluation.specs.declared.reading.Read.{Read}
 
--- the properties in the order in which they are written, each as often as it stands there
+-- The properties in the order in which they are written, repetitions included.
 abbrev pub reads_of : Term → List Read
 reads_of (const value) = []
 reads_of (arg place) = []

@@ -8,13 +8,13 @@ use Rattle.term_core.specs.declared.body.Body.{Body}
 use Rattle.term_core.specs.Act.{Act, Acts, single_action, when, nothing, more}
 use Rattle.term_core.specs.Term.{Term, const, arg, state, prop, binary, choice}
 
--- an action that does one thing, with each of its expressions changed
+-- An action that does one thing, with each of its expressions changed.
 abbrev pub effect_by : (Term → Term) → SingleAction → SingleAction
 effect_by change (e.Set of property value) = e.Set of property (change value)
 effect_by change (e.Emit of signal sent) = e.Emit of signal (map change sent)
 effect_by change other = other
 
--- any action, so: the test of a choice, and what is in both branches
+-- Any action with each expression changed: the test of a choice, and those in both branches.
 abbrev mutual
   pub act_by : (Term → Term) → Act → Act
   act_by change (single_action plain) = single_action (effect_by change plain)
@@ -24,8 +24,7 @@ abbrev mutual
   acts_by change nothing = nothing
   acts_by change (more action rest) = more (act_by change action) (acts_by change rest)
 
--- an expression with the constants that are given in place of its arguments; an argument that is not
--- given stays as it is
+-- An expression in which the given constants replace the arguments. Other arguments stay.
 abbrev pub unfolded_term : List Value → Term → Term
 unfolded_term args (const value) = const value
 unfolded_term args (arg place) = option_map_or const (slice_get args place) (arg place)
@@ -34,7 +33,7 @@ unfolded_term args (prop target name) = prop target name
 unfolded_term args (binary operator a b) = binary operator (unfolded_term args a) (unfolded_term args b)
 unfolded_term args (choice test a b) = choice (unfolded_term args test) (unfolded_term args a) (unfolded_term args b)
 
--- actions, so
+-- An action in which the given constants replace the arguments.
 abbrev pub unfolded_effect : List Value → SingleAction → SingleAction
 unfolded_effect args plain = effect_by (unfolded_term args) plain
 
@@ -44,6 +43,6 @@ unfolded args action = act_by (unfolded_term args) action
 abbrev pub unfolded_acts : List Value → Acts → Acts
 unfolded_acts args actions = acts_by (unfolded_term args) actions
 
--- the actions of a body, so
+-- The actions of a body in which the given constants replace the arguments.
 abbrev pub unfolded_body : List Value → Body → List Act
 unfolded_body args body = map (unfolded args) body.actions

@@ -1,9 +1,9 @@
-//! Two values that are made one beside the other.
+//! Two results that may each have run out of memory.
 ghost use Rattle.std.specs.Prelude.{◌≡◌, IfOk, Ok};
 
 use std::alloc::AllocError;
 
-/// The two values, or the want of memory that there was at one of them.
+/// The two values, or an error where memory ran out for either.
 pub(crate) fn both<A: Drop, B: Drop>(
     a: Result<A, AllocError>,
     b: Result<B, AllocError>,

@@ -77,8 +77,8 @@ pub fn evaluate<R: Reads>(
     }
 }
 
-/// The value of an expression that is a constant or an argument, where it stands; such a value needs no
-/// reader, and none other is told.
+/// A reference to the value of an expression that is a constant or a given argument, which takes neither
+/// a reader nor a copy; `None` for any other expression.
 pub fn standing<'a>(expr: &'a Expr, args: &'a [Value]) -> Option<&'a Value>
     ensures { option_map (λ value. value.now) result ≡ standing args.now expr.now }
 {

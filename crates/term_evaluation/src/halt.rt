@@ -2,14 +2,14 @@
 use plain_types::{Code, Fault};
 use std::alloc::AllocError;
 
-/// Why an evaluation ends without a value. `O` is what the reader of properties may answer beside the
-/// codes, as that a property depends on itself.
+/// Why an evaluation ends without a value. `O` is the type of a reader's own faults, for which there is
+/// no code, such as that a property depends on itself.
 #[derive(Drop)]
 pub enum Halt<O> {
     Refused(Code),
     /// The reader's own fault, as the reader answered it.
     Own(O),
-    /// Memory was wanted and not found.
+    /// Memory ran out.
     Memory,
 }
 

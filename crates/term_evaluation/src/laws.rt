@@ -11,7 +11,8 @@ pub fn reads_suffice<O>()
     ensures { ReadsSuffice O }
 {}
 
-/// Nor does it depend on those of them that the evaluation does not come to.
+/// The value of an expression depends on no property but those that its evaluation reads: with another
+/// reader that answers the same at these, it reads the same properties and has the same value or fault.
 pub fn met_suffice<O>()
     ensures { MetSuffice O }
 {}
@@ -23,8 +24,8 @@ pub fn finite_reads_suffice<O>()
     ensures { FiniteReadsSuffice O }
 {}
 
-/// An expression has over arguments what it has with the arguments put in, over none. So the body of a
-/// slot can be run where it stands, and no copy of it is needed.
+/// Evaluating an expression with arguments gives what evaluating it without arguments gives once they are
+/// put in. So the body of a slot can be run in place, and no copy of it is needed.
 pub fn evaluates_in_place<O>()
     ensures { EvaluatesInPlace O }
 {}

@@ -171,7 +171,7 @@ fn equal_texts(a: &Value, b: &Value) -> Option<bool>
     Some(text(a)? == text(b)?)
 }
 
-/// The second text behind the first.
+/// The first text followed by the second.
 fn concatenated(alloc: Global, a: &Value, b: &Value) -> Result<Value, Fault>
     ensures { Answers result (text_value (of_two text_in (λ x y. x ++ y) a.now b.now)) }
 {

@@ -28,7 +28,7 @@ pub fn reads_of(alloc: Global, expr: &Expr) -> Result<Items<Read>, AllocError>
     Ok(Items::from_vec(found))
 }
 
-/// Puts the properties that the expression reads behind those that were found before.
+/// Appends the properties that the expression reads to those found before.
 fn gather(alloc: Global, expr: &Expr, found: &mut Vec<Read>) -> Result<(), AllocError>
     ensures { IfOk result (λ _. found.new.items ≡ found.old.items ++ reads_of expr.now) }
 {

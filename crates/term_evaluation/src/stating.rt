@@ -10,8 +10,8 @@ use std::alloc::{AllocError, Global};
 use term_core::Expr;
 use variant_value::Value;
 
-/// The state behind a call that finds `state`: what `next` is with the state and the arguments put in. Where
-/// that is a fault, or no whole number from 0 to 2^64 - 1, the state stays as it was.
+/// The state after a call: the value of `next` with `state` and the arguments put in. Where that is a fault,
+/// or not a whole number from 0 to 2^64 - 1, the state is unchanged.
 pub fn after(alloc: Global, next: &Expr, state: u64, args: &[Value]) -> Result<u64, AllocError>
     ensures { IfOk result (λ follows. follows ≡ after next.now state args.now) }
 {

@@ -1,5 +1,5 @@
-//! The cases of a test, which stand in a JSON array. Each is an array itself, of what is given and of what
-//! is wanted.
+//! Reading the cases of a test from a JSON array. Each case is itself an array: what is given, and what is
+//! wanted.
 use serde_json::Value as Json;
 use std::alloc::{AllocError, Global};
 use variant_value::Value;
@@ -16,7 +16,7 @@ pub(crate) fn part(case: &Json, at: usize) -> &Json {
     case.get(at).unwrap_or(case)
 }
 
-/// A text of a case, empty where there is none.
+/// A text of a case, or an empty text where that part is missing or not a text.
 pub(crate) fn word(case: &Json, at: usize) -> &str {
     part(case, at).as_str().unwrap_or("")
 }

@@ -156,7 +156,7 @@ fn value_of(alloc: Global, actions: &[Action], args: &[Value]) -> Result<String,
     }
 }
 
-/// Whether the first value of actions ends so.
+/// Whether evaluating the first value of actions ends as wanted.
 fn ends_so(
     alloc: Global,
     actions: &[Action],
@@ -167,7 +167,7 @@ fn ends_so(
     Ok(found.as_str() == wanted)
 }
 
-/// Whether the first value of actions, where it is a constant or an argument, stands so.
+/// Whether the first value of actions, where it can be had by reference, is the wanted one; otherwise true.
 fn stands_so(
     alloc: Global,
     actions: &[Action],
@@ -184,7 +184,7 @@ fn stands_so(
     Ok(found.as_str() == wanted)
 }
 
-/// The same where the arguments are put in first.
+/// Whether evaluating the first value of a body ends as wanted once the arguments are put in.
 fn ends_so_unfolded(
     alloc: Global,
     body: &Body,
@@ -304,8 +304,8 @@ fn sums(alloc: Global, count: usize, inner: &str) -> Result<Json, AllocError> {
     Json::from_str(alloc, &text).map_err(|_| AllocError)
 }
 
-/// Each case has this many sums, the innermost operand, and how they end: 64 forms, 65, 65 of which one is
-/// none, and as deep as the reader of JSON goes.
+/// Each case has a number of nested sums, the innermost operand, and how their evaluation ends. In order: 64
+/// forms, 65 forms, 65 with an invalid one, and as deep as the reader of JSON goes.
 const SUMS: [(usize, &str, &str); 4] = [
     (
         30,

@@ -1,8 +1,8 @@
-//! A reader and writer that fails as it is told.
+//! A reader and writer whose first calls fail.
 use std::io;
 use std::io::{ErrorKind, Read, Write};
 
-/// Fails at its first calls, and then gives the bytes of a slice, or takes one byte a call.
+/// Fails at its first `times` calls, and then gives the bytes of a slice, or takes one byte per call.
 #[derive(Drop)]
 pub struct Troubled<'a> {
     pub kind: ErrorKind,

@@ -4,7 +4,7 @@ use shared_rows::GapBuffer;
 use std::mem::size_of;
 use std::test::Fail;
 
-/// The next of numbers that seem to come by chance.
+/// The pseudo-random number that follows another one.
 fn next(state: u32) -> u32 {
     state.wrapping_mul(1664525).wrapping_add(1013904223)
 }

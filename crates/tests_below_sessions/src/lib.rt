@@ -1,7 +1,7 @@
 //! Tests of what only a call can show of the crates below sessions: which texts are read without a tree, which
 //! calls of a device are made again, examples from outside of what no command reaches so far, that calls of
 //! the shared tables succeed where memory is found, and that the definitions mean what the rules say. What lines
-//! and class files show of these crates stands in the rows and the tools of the built program.
+//! and class files can show of these crates is tested on the built program, by its rows and tools.
 #![tactic(auto)]
 
 #[cfg(test)]

@@ -4,7 +4,7 @@ use json_reading::{Stop, scan_members, token_members};
 use std::alloc::Global;
 use std::test::Fail;
 
-/// A text, with what scanning and what reading tokens make of it.
+/// A text, with the outcomes of scanning it and of reading its tokens.
 type Served = (&'static str, &'static str, &'static str);
 
 const TEXTS: [Served; 36] = [
@@ -69,7 +69,7 @@ fn by_tokens(alloc: Global, text: &str) -> &'static str {
     outcome(&token_members(alloc, text, &mut scratch))
 }
 
-/// The first text of which scanning or reading tokens makes something else.
+/// The first text for which scanning or reading tokens has another outcome than is listed.
 fn first_wrong(alloc: Global, texts: &[Served]) -> Option<&'static str> {
     for (text, scans, reads) in texts {
         if scanned(alloc, *text) != *scans || by_tokens(alloc, *text) != *reads {

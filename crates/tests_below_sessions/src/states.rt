@@ -9,9 +9,9 @@ use term_core::{Body, Expr};
 use term_evaluation::{NoObjects, after, evaluate, unfold};
 use variant_value::Value;
 
-/// Each case has an expression for the next state, the state that a call finds, its argument, and the state
-/// that follows, or why there is none. In order: what stays and what counts, at the largest state too; what is
-/// no state; a fault, and one in the branch that is not taken; then what is none of the forms.
+/// Each case has an expression for the next state, the state before a call, the call's argument, and the state
+/// after it, or the code by which the expression is refused. In order: states that stay or count, the largest
+/// too; values that can and cannot be a state; a fault, and one in a branch that is not taken; refused expressions.
 const NEXT: &str = r#"[
 [{"state":true}, 7, 1, "7"],
 [{"+":[{"state":true},{"const":1}]}, 7, 1, "8"],

@@ -23,17 +23,17 @@ enum Asked {
     Bind(u32, usize, &'static str),
     /// Whether it was bound.
     Take(u32, usize),
-    /// The value, and behind it 0, or 1 for a loop and 2 for another error.
+    /// The value, followed by one digit: 0 for no error, 1 for a loop, 2 for another error.
     ValueOf(u32, usize),
-    /// The property that was written, of object 0 none. For each change four digits: 1 for an error and 2 for
-    /// a value, the object, the number of the property, and the error as above or the value.
+    /// Settles after a write of this property, or of no property where the object is 0. Four digits for each
+    /// change: 1 for an error or 2 for a value, the object, the property's number, and the error as above or the value.
     Settle(u32, usize),
-    /// The depth, or the number of the code behind 100.
+    /// The depth, or 100 plus the number of the code.
     Begin,
     End,
     /// Adds an object.
     Add(u32),
-    /// Takes an object out. What is answered is as for `Settle`.
+    /// Removes an object. Digits for each change, as for `Settle`.
     Remove(u32),
     Clear,
     Count,
@@ -271,7 +271,7 @@ fn digit_behind(digits: u64, digit: u64) -> u64 {
     digits.wrapping_mul(10).wrapping_add(digit)
 }
 
-/// A change behind others.
+/// The digits with the four of another change appended.
 fn behind(digits: u64, change: &Change) -> u64 {
     let (kind, digit) = match &change.told {
         ChangeKind::Error(error) => (1, digit_of(*error)),
@@ -550,8 +550,8 @@ fn settlings_evaluate_what_changes_reach(rt: HostRuntime) -> Result<(), Fail> {
     Ok(())
 }
 
-/// Of a thousand bound properties, of which each reads another property, the value of the first after a write of
-/// what it reads, and how many evaluations that took.
+/// Binds a property of each of a thousand objects to another property of that object, and writes what the first
+/// one reads. Returns the value of the first bound property, and how many evaluations the write took.
 fn written_of_many(alloc: Global) -> Result<(u64, u64), AllocError> {
     let mut bench = Bench::new(alloc)?;
     for object in 1..1001 {

@@ -15,7 +15,7 @@ enum Asked {
     Write(usize, i64),
     ValueAt(usize),
     Read(&'static str),
-    /// The number of the declared property of a name, or 9 where there is none.
+    /// The number of the declared property of a name, or 9 where no declared property has that name.
     NumberOf(&'static str),
     /// How many declared properties it has.
     Fields,
@@ -25,7 +25,7 @@ enum Asked {
     /// How many dynamic properties it has.
     DynamicNames,
     Next(u32),
-    /// Three calls tell this together: 1 for its property 0, 10 for another one, 100 for all.
+    /// The sum over three calls: 1 for its property 0, 10 for another property, 100 for all.
     TakeWritten,
     HasWritten,
     DropObject,
@@ -34,7 +34,7 @@ enum Asked {
 
 use Asked::*;
 
-/// A table with two places, the first of which has objects 3 and 5.
+/// A table with two places; objects 3 and 5 are in the first one.
 #[derive(Drop)]
 struct Bench {
     table: Stores,
@@ -168,7 +168,7 @@ impl Bench {
     }
 }
 
-/// Opens two places, of which the first has an object of each class.
+/// Opens two places, and adds an object of each class to the first.
 fn open_places(table: &mut Stores) -> Result<(), AllocError>
     requires { table.old.shelves.table.places ≡ [] }
     ensures { OnOk result (length table.new.shelves.table.places ≡ 2) }

@@ -65,7 +65,7 @@ fn clamp_keeps_to_its_bounds(rt: HostRuntime) -> Result<(), Fail> {
     Ok(())
 }
 
-/// Whether a functor is taken or refused as it has to be where so many were handed in before.
+/// Whether `add` returned what it must after this many functors.
 fn is_as_wanted(count: usize, added: Result<(), Fault>) -> bool {
     match added {
         Ok(()) => count < FUNCTORS,
@@ -94,7 +94,7 @@ fn are_found(functors: &Functors) -> bool {
     true
 }
 
-/// The name of the functor at an index, empty where there is none.
+/// The name of the functor at an index, or an empty text where no functor has that index.
 fn name_of(functors: &Functors, index: u32) -> &str {
     match functors.row(index) {
         Some(functor) => functor.name.as_str(),

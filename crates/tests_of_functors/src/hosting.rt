@@ -22,8 +22,8 @@ const COUNTER: &str = r#"[
 [{"set":"x","to":{"+":[{"state":true},{"const":1}]}}],
 {"+":[{"state":true},{"const":1}]}]"#;
 
-/// Sets `x` to its argument where that is another than at the call before. Its state is the last argument,
-/// moved so that no `int` is 0, which says that there was none.
+/// Sets `x` to its argument where that differs from the argument of the call before. Its state is the last
+/// argument plus 2147483649, which is never 0 for an `int`; 0 means that there was no call before.
 const DEBOUNCER: &str = r#"[
 [{"when":{"=":[{"state":true},{"+":[{"arg":0},{"const":2147483649}]}]},"then":[],
 "else":[{"set":"x","to":{"arg":0}}]}],

@@ -1,4 +1,4 @@
-//! Sessions alone: what comes to one of them tells, on an engine of its own, what it tells beside the others.
+//! Sessions alone: on an engine of its own, a session gives the same lines as among others on a server.
 ghost use Rattle.std.specs.Prelude.{◌≡◌, All, Some, IfOk, OnOk};
 ghost use Rattle.session_model.specs.Fitting.{IsRightPost};
 ghost use Rattle.session_engine.specs.Core.{place};
@@ -19,8 +19,7 @@ use std::test::Fail;
 use stored_slots::Functors;
 use variant_value::Value;
 
-/// A session receives these, as a test writes them: a line of its own, or a number that another session posts
-/// under the name `temp`.
+/// What a session receives: a line of its own, or a number that another session posts under the name `temp`.
 #[derive(Clone, Copy)]
 enum Coming<'a> {
     Own(&'a str),
@@ -79,7 +78,7 @@ fn items_of(alloc: Global, comings: &[Coming]) -> Result<Vec<Item>, AllocError>
     Ok(items)
 }
 
-/// The place of a session, which is opened where it is not there.
+/// The place of a session, which is opened if it does not exist yet.
 fn place_of(engine: &mut Engine, name: &Text) -> Result<usize, AllocError>
     ensures { IfOk result (λ at. place (seen_engine engine.new) name.now ≡ Some at) }
 {
@@ -89,7 +88,7 @@ fn place_of(engine: &mut Engine, name: &Text) -> Result<usize, AllocError>
     }
 }
 
-/// Returns what a session is told of these on an engine, with ample memory.
+/// Returns the lines that a session gives for these items on an engine. It fails if memory runs out.
 fn told_by(
     alloc: Global,
     engine: &mut Engine,
@@ -117,7 +116,7 @@ fn told_alone(alloc: Global, name: &str, comings: &[Coming]) -> Result<String, A
     )
 }
 
-/// A session that joins what `a` publishes receives these, and takes two of three changes of it.
+/// What a session receives that joins what `a` publishes, and gets two posts before it leaves.
 const JOINER: [Coming<'static>; 7] = [
     Coming::Own(r#"{"class":"Cell","do":"new","session":"b"}"#),
     Coming::Own(
@@ -153,7 +152,7 @@ fn a_joiner_alone_is_told_what_it_is_told_beside_its_publisher(
     Ok(())
 }
 
-/// A post comes to a session that is there.
+/// Delivers a post to a session.
 fn comes(
     alloc: Global,
     engine: &mut Engine,
@@ -165,7 +164,7 @@ fn comes(
     engine.arrive(place, &from, &post_of(alloc, coming.1)?)
 }
 
-/// A session begins anew, whatever it has.
+/// Resets a session.
 fn begins_anew(engine: &mut Engine, name: &Text) -> Result<(), AllocError> {
     let place = place_of(engine, name)?;
     engine.reset(place);
@@ -174,7 +173,7 @@ fn begins_anew(engine: &mut Engine, name: &Text) -> Result<(), AllocError> {
 
 const CHILDREN: [Coming<'static>; 1] = [Coming::Own(r#"{"do":"children","session":"b"}"#)];
 
-/// What the same session is told of one post, and what it has when it has begun anew.
+/// The lines of a joiner after a post that it joined and one from a stranger, and its objects after a reset.
 fn told_by_single_calls(alloc: Global) -> Result<String, AllocError> {
     let mut engine = engine(alloc)?;
     let name = Text::from_str(alloc, "b")?;
@@ -206,14 +205,14 @@ fn a_post_comes_by_itself_and_a_session_begins_anew(rt: HostRuntime) -> Result<(
     Ok(())
 }
 
-/// How many sessions there are in a ring, each of which joins the one before it.
+/// How many sessions there are in a ring. Each one joins the one before it.
 const RING: u16 = 100;
 
-/// The step in which each writes what it publishes: behind its 40 objects, the connections of the first to the
-/// others, its publication and its join.
+/// The step in which each session writes what it publishes. Before it come the steps for 40 objects, the
+/// connections of the first to the others, the publication and the join.
 const WRITING: u16 = 81;
 
-/// The lines of a session by their step, where `@` is the session's number and `%` another one.
+/// The lines of a session by their step, where `@` is the session's number and `%` another number.
 const MAKING: &str = r#"{"class":"Cell","do":"new","session":"s@"}"#;
 
 const CONNECTING: &str =
@@ -229,12 +228,12 @@ const SETTING: &str = r#"{"do":"set","object":1,"property":"x","session":"s@","v
 
 const SPINNING: &str = r#"{"do":"spin","session":"s@"}"#;
 
-/// Each session is told this last.
+/// The last lines of each session.
 const LAST: &str = r#"{"args":[%],"call":"seen(int)","object":2,"sender":0,"session":"s@"}
 {"reply":{"events":1,"left":0,"lost":0,"mismatched":0},"session":"s@"}
 "#;
 
-/// A text with both numbers put in.
+/// A template filled with both numbers.
 fn filled(alloc: Global, template: &str, own: u16, other: u16) -> Result<String, AllocError> {
     let mut text = String::new(alloc);
     for character in template.chars() {
@@ -296,7 +295,7 @@ fn arrival_at(alloc: Global, session: u16) -> Result<Item, AllocError>
     item_of(alloc, &Coming::Posted(from.as_str(), number))
 }
 
-/// Puts behind these what comes to one of them in a step: its own line, and what the one before it posts.
+/// Adds what a session receives in a step: its own line, and what the session before it posts.
 fn add_step(alloc: Global, items: &mut Vec<Item>, session: u16, step: u16) -> Result<(), AllocError>
     requires { All IsRightItem items.old.items }
     ensures { OnOk result (All IsRightItem items.new.items) }
@@ -313,8 +312,8 @@ fn add_step(alloc: Global, items: &mut Vec<Item>, session: u16, step: u16) -> Re
     Ok(())
 }
 
-/// Returns the items of one session of the ring: its own lines, and the posts of the one before it, before its
-/// own turn where that one has its turn earlier.
+/// Returns the items of a session of the ring: its own lines, and the posts of the session before it. A post
+/// comes before its own line of that step if the other session takes its turn earlier.
 fn ring_items(alloc: Global, session: u16) -> Result<Vec<Item>, AllocError>
     ensures { IfOk result (λ items. All IsRightItem items.items) }
 {
@@ -325,7 +324,7 @@ fn ring_items(alloc: Global, session: u16) -> Result<Vec<Item>, AllocError>
     Ok(items)
 }
 
-/// Returns what is told to one session of a run.
+/// Returns the lines that a run gives for one session.
 fn told_in(
     alloc: Global,
     name: &Text,
@@ -345,8 +344,8 @@ fn told_in(
     Ok(text)
 }
 
-/// Whether a session of the ring is told alone what it was told in the run, to the call of what the one before
-/// it wrote.
+/// Whether a session of the ring gives the same lines alone as in the run, and the last of them are the call
+/// with what the session before it wrote.
 fn is_told_alone(
     alloc: Global,
     session: u16,

@@ -1,4 +1,4 @@
-//! Runs that end before their input does: at any call of a device that moves a byte a call, and at their bounds.
+//! Runs that end before their input does: at a call of a device that fails, and at their bounds.
 use crate::fakes::{SlowSink, SlowSource};
 use crate::runs::{LAMP, LAMP_TOLD, counted};
 use crate::served::{Host, Way, outcome_by};
@@ -7,7 +7,7 @@ use std::alloc::{AllocError, Global};
 use std::test::Fail;
 use wire_lines::{RunFault, Summary};
 
-/// `b` listens to what `a` publishes, and is called when it takes its events.
+/// `b` joins what `a` publishes, and its slot is called when it takes its events.
 const TOLD_OF_TEMP: &str = r#"{"class":"Cell","do":"new","session":"a"}
 {"class":"Cell","do":"new","session":"b"}
 {"do":"join","from":"a","method":"seen(int)","name":"temp","object":1,"session":"b","types":["int"]}
@@ -36,7 +36,7 @@ const SESSIONS: [Session; 3] = [
     (GIVEN, 10, Way::SliceOfB, GIVEN_BY_B),
 ];
 
-/// Trouble comes at the call that is told by its number: the source fails, or the sink, or that takes nothing.
+/// What goes wrong at a call: the source fails, the sink fails, or the sink takes nothing.
 #[derive(Clone, Copy)]
 enum Trouble {
     Reading,
@@ -44,7 +44,7 @@ enum Trouble {
     Idling,
 }
 
-/// The devices, each of which moves so many bytes a call.
+/// Makes the devices. Each moves at most `at_once` bytes a call, and one has trouble at a call.
 fn devices<'a>(
     alloc: Global,
     input: &'a str,
@@ -61,8 +61,8 @@ fn devices<'a>(
     (source, SlowSink::new(alloc, at_once, writing, idling))
 }
 
-/// At how many calls a session's run breaks off by trouble there, up to the first that it does not come to; nothing
-/// where it ends otherwise.
+/// How many calls a session's run makes if trouble at each of them breaks it off. It is `None` if the run ends in any
+/// other way.
 fn breaks_off(
     alloc: Global,
     session: &Session,
@@ -87,9 +87,9 @@ fn breaks_off(
     Ok(None)
 }
 
-/// How many calls that are. The three lines have 184 bytes and are told 86, the others 410 and 303; what is told is
-/// written by calls of its own before each read, which comes to one more at the end. The last ten have 602, and those
-/// that are kept of them 309, which are written when all are done.
+/// How many calls each session makes, by bytes a call and kind of trouble. The first session reads 184 bytes and writes
+/// 86, the second 410 and 303. Its output is written before the next read, in calls of its own. The last reads 602 bytes,
+/// and writes its slice of 309 bytes at the end. One more read finds the end of the input.
 const CALLS: [(usize, Trouble, [u32; 3]); 6] = [
     (1, Trouble::Reading, [185, 411, 603]),
     (1, Trouble::Writing, [86, 303, 309]),
@@ -122,17 +122,17 @@ fn runs_break_off_at_any_call(rt: HostRuntime) -> Result<(), Fail> {
     Ok(())
 }
 
-/// A line behind two that are skipped.
+/// A line after two blank ones, which are skipped.
 const NEW_BEHIND_BLANKS: &str =
     "\n \t\r\n{\"class\":\"QObject\",\"do\":\"new\",\"session\":\"a\"}\n";
 
-/// Lines, all of which come by the first call; how many lines and calls there may be; how the run ends, and how many
+/// Lines that the first call gives all at once; how many lines and calls there may be; how the run ends, and how many
 /// bytes it has written then.
 type Case = (&'static str, u64, u64, Result<Summary, RunFault>, usize);
 
 const ENDLESS: Result<Summary, RunFault> = Err(RunFault::Endless);
 
-/// Whether it does.
+/// Whether a run ends as its case says.
 fn ends_within(alloc: Global, case: &Case) -> Result<bool, AllocError> {
     let source = SlowSource::new(case.0.as_bytes(), 65_536, 0);
     let sink = SlowSink::new(alloc, 7, 0, 0);

@@ -1,4 +1,4 @@
-//! Sources and sinks that give, take or fail as they are told, and keys to hash with.
+//! Sources and sinks that give, take or fail as a test wants, and keys to hash with.
 ghost use Rattle.std.specs.Prelude.{Some};
 
 use std::alloc::{AllocError, Global};
@@ -8,7 +8,7 @@ use std::io::Read;
 use std::random::RandomSource;
 use wire_format::{Failed, Sink, Source};
 
-/// Gives the bytes of a slice, a few a call, and fails at one of its calls.
+/// Gives the bytes of a slice, a few per call, and fails at one of its calls.
 #[derive(Drop)]
 pub struct SlowSource<'a> {
     pub left: &'a [u8],
@@ -55,7 +55,7 @@ impl<'a> Source for SlowSource<'a> {
     }
 }
 
-/// Takes a few bytes a call, and fails at one of its calls, or takes nothing at one.
+/// Takes a few bytes per call, and fails at one of its calls, or takes nothing at one.
 #[derive(Drop)]
 pub struct SlowSink {
     pub received: Vec<u8>,

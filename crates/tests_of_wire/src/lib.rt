@@ -1,6 +1,6 @@
-//! Tests of what only a call can show of the sessions and of the crates between the bytes and them: that
-//! devices may be slow and fail, that sessions fail alone, that runs go on, and that all of it happens
-//! where memory is found. What lines show of them stands in the rows of the built program.
+//! Tests of the sessions and of the crates between them and the bytes that need direct calls: slow and
+//! failing devices, sessions alone, and several runs on one server, with enough memory. What can be
+//! tested by lines is tested on the built program.
 #![tactic(auto)]
 
 #[cfg(test)]

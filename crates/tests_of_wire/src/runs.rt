@@ -1,4 +1,4 @@
-//! Whole runs where memory is found, over sources and sinks that give, take or fail as they are told.
+//! Whole runs with enough memory, over sources and sinks that give and take a few bytes per call.
 use crate::fakes::{SlowSink, SlowSource};
 use crate::served::{Host, outcome_of};
 use std::alloc::{AllocError, Global};
@@ -26,7 +26,7 @@ pub fn counted(lines: u64) -> Result<Summary, RunFault> {
     })
 }
 
-/// A text so often, each then filled up with spaces to so many bytes.
+/// A text, how often it is repeated, and the length to which each repetition is filled up with spaces.
 struct Part(&'static str, usize, usize);
 
 /// Lines of any form and length.
@@ -68,7 +68,7 @@ fn bytes_of(alloc: Global, parts: &[Part]) -> Result<Vec<u8>, AllocError> {
     Ok(bytes)
 }
 
-/// Whether an input is answered by this where so many of its bytes come at once.
+/// Whether an input is answered by `wanted` if each call gives at most `at_once` of its bytes.
 fn is_answered_at(
     alloc: Global,
     input: &[u8],
@@ -81,7 +81,7 @@ fn is_answered_at(
     Ok(outcome.is(counted(lines), wanted))
 }
 
-/// The same however many come.
+/// Whether an input is answered by `wanted`, in pieces of 1, 7 and 65,536 bytes.
 fn is_answered(alloc: Global, input: &[u8], wanted: &[u8], lines: u64) -> Result<bool, AllocError> {
     for at_once in [1, 7, 65_536] {
         if !is_answered_at(alloc, input, at_once, wanted, lines)? {

@@ -1,5 +1,5 @@
-//! Whole runs, each over a server of its own, with devices that give, take or fail as they are told. What the
-//! calls ensure is left behind here, since the tests look only at what they did.
+//! Whole runs, each on a server of its own, with devices that give, take or fail as a test wants. The functions
+//! here have no contracts, since the tests look only at what the runs did.
 use crate::fakes::{SlowSink, SlowSource, hashing};
 use crate::functors::starving_server;
 use crate::lines::lamps;
@@ -10,7 +10,7 @@ use std::alloc::{AllocError, Global};
 use stored_slots::Functors;
 use wire_lines::{RunFault, Summary, run, run_bounded, run_slice};
 
-/// The turns of a command where the command line does not say.
+/// The turns of a command if the command line does not set them.
 pub const TURNS: u32 = 10_000;
 
 /// The servers that are run: one with the classes of lamps and no functors, the program's, and one with a
@@ -62,12 +62,12 @@ impl Outcome {
             && !self.memory_refused
     }
 
-    /// Whether the run broke off by this fault when it had written a front of these bytes.
+    /// Whether the run ended with this fault after it had written a prefix of these bytes.
     pub fn breaks_off(&self, fault: RunFault, whole: &[u8]) -> bool {
         whole.starts_with(&self.written) && self.is(Err(fault), &self.written)
     }
 
-    /// Whether the run came to its end and told these lines, and memory was refused or not.
+    /// Whether the run finished and wrote these lines, and whether memory was refused is as given.
     pub fn tells(&self, lines: &str, memory_refused: bool) -> bool {
         let Ok(summary) = &self.ended else {
             return false;
@@ -135,7 +135,7 @@ pub fn outcome_of(
     outcome_by(alloc, host, reader, writer, Way::Whole)
 }
 
-/// Returns the outcome of an input all of which is there at once.
+/// Returns the outcome of a run whose first read gives the whole input, up to 65,536 bytes.
 pub fn answers(alloc: Global, host: Host, input: &str) -> Result<Outcome, AllocError> {
     let source = SlowSource::new(input.as_bytes(), 65_536, 0);
     outcome_of(alloc, host, source, SlowSink::new(alloc, 7, 0, 0))

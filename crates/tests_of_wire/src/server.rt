@@ -18,7 +18,7 @@ fn fresh(alloc: Global) -> Result<Server, AllocError> {
     Server::new(alloc, lamps(alloc)?, Functors::new(alloc), 1000, hashing()?)
 }
 
-/// Returns the report of a server. No clause says here what that is, so that the tests look only at it.
+/// Returns the report of a server. It has no contract, so that the tests look only at the report.
 fn report_of(server: &mut Server, list: &[Tagged]) -> Report {
     server.run(list)
 }
@@ -31,7 +31,7 @@ fn commands(alloc: Global, lines: &str) -> Result<Vec<Tagged>, AllocError> {
     Ok(list)
 }
 
-/// Writes what is told to each of these commands.
+/// Returns the lines that answer these commands, as text.
 fn texts(alloc: Global, list: &[Tagged], entries: &[Entry]) -> Result<String, AllocError> {
     let mut text = String::new(alloc);
     for (given, entry) in list.iter().zip(entries) {
@@ -42,7 +42,7 @@ fn texts(alloc: Global, list: &[Tagged], entries: &[Entry]) -> Result<String, Al
     Ok(text)
 }
 
-/// Writes what is reported to these commands.
+/// Returns a report's lines as text. It fails if memory was refused or an answer is missing.
 fn report_text(alloc: Global, list: &[Tagged], report: &Report) -> Result<String, AllocError> {
     if report.memory_refused || report.lines.len() != list.len() {
         return Err(AllocError);
@@ -79,7 +79,7 @@ const RUNS: [&str; 3] = [
 {"args":[5],"do":"invoke","method":"pressed(int)","object":2,"session":"a"}"#,
 ];
 
-/// Clients are told this.
+/// The answers to all three runs.
 const TOLD: &str = r#"{"reply":1,"session":"a"}
 {"reply":1,"session":"b"}
 {"reply":2,"session":"a"}
@@ -113,20 +113,20 @@ fn is_told(text: &str) -> bool {
     text == TOLD
 }
 
-/// Whether a server says that memory was refused once that is noted, and not before.
+/// Whether a server reports that memory was refused after this is noted, and not before.
 fn notes(server: &mut Server) -> bool {
     let before = server.memory_refused();
     server.note_memory_refused();
     !before && server.memory_refused()
 }
 
-/// Returns what a server reports to all runs, and then whether it notes.
+/// Returns what a server answers to all runs, and then whether it notes that memory was refused.
 fn reports_and_notes(alloc: Global, server: &mut Server) -> Result<(String, bool), AllocError> {
     let text = report_all(alloc, server)?;
     Ok((text, notes(server)))
 }
 
-/// The same of a server of its own.
+/// Returns what a fresh server answers to all runs, and whether it notes that memory was refused.
 fn fresh_one_reports_and_notes(alloc: Global) -> Result<(String, bool), AllocError> {
     let mut server = fresh(alloc)?;
     reports_and_notes(alloc, &mut server)
@@ -140,7 +140,7 @@ fn runs_on_one_server_go_on_and_refused_memory_is_noted(rt: HostRuntime) -> Resu
     Ok(())
 }
 
-/// Two sessions are asked this when one of them was reset, and are told `TOLD_BEHIND`.
+/// Commands of two sessions after one of them was reset. The answers are `TOLD_BEHIND`.
 const BEHIND: &str = r#"{"do":"children","session":"a"}
 {"do":"children","session":"b"}"#;
 
@@ -155,7 +155,7 @@ fn resets(alloc: Global, server: &mut Server, names: &[&'static str]) -> Result<
     Ok(())
 }
 
-/// Returns what a server reports when it has reset a session, and one that is not there.
+/// Returns the answers of a server after it has reset a session, and one that does not exist.
 fn told_behind_resets(alloc: Global) -> Result<String, AllocError> {
     let mut server = fresh(alloc)?;
     reported(alloc, &mut server, RUNS[0])?;

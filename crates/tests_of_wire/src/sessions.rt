@@ -1,4 +1,4 @@
-//! Worked sessions, from bytes to bytes on a fresh server with ample memory, none of which is refused.
+//! Example sessions, from bytes to bytes on a fresh server with enough memory.
 ghost use Rattle.std.specs.Prelude.{◌≡◌, ◌∷◌, [], IfOk};
 ghost use Rattle.signature_core.specs.declared.kind.Kind.TheVariants.{Int};
 ghost use Rattle.stored_slots.specs.Functors.{AreArguments};
@@ -18,7 +18,7 @@ use stored_slots::Functors;
 use term_core::Action;
 use variant_value::Value;
 
-/// Lines and what is answered to them, line by line.
+/// Input lines, and the lines that answer them.
 type Session = (&'static str, &'static str);
 
 const LAMP: Session = (

@@ -1,4 +1,4 @@
-//! The slice of a session: the commands of a run that what it is told depends on.
+//! The slice of a session: the commands of a run that can affect its answers.
 use crate::lines::given;
 use crate::sessions::clamping_server;
 use plain_types::Text;
@@ -6,7 +6,7 @@ use server_world::{Report, Server, Tagged};
 use std::alloc::{AllocError, Global};
 use std::test::Fail;
 
-/// `a` joins what `b` publishes, which then changes, and leaves before it changes again; `c` is by itself.
+/// `a` joins what `b` publishes, which then changes, and leaves before it changes again. `c` is not involved.
 pub const GIVEN: &str = r#"{"class":"Cell","do":"new","session":"a"}
 {"class":"Cell","do":"new","session":"b"}
 {"do":"publish","name":"t","object":1,"session":"b","signal":"xChanged(int)"}
@@ -37,8 +37,8 @@ const SLICES: [Slice; 4] = [
     ("z", &[]),
 ];
 
-/// Returns what a server reports, and which places are kept. No clause says here what that is, so that the test
-/// looks only at it.
+/// Returns the report of a server, and which commands the slice keeps. It has no contract, so that the test
+/// looks only at the result.
 fn kept_of(
     server: &mut Server,
     list: &[Tagged],

@@ -1,4 +1,4 @@
--- The values that are kept.
+-- Lists of values.
 use Rattle.std.specs.Prelude.{List, [], ◌∷◌}
 use Rattle.variant_value.specs.declared.value.Value.{Value}
 use Rattle.variant_value.specs.declared.args.Kept.{Kept}

@@ -13,11 +13,11 @@ use Rattle.variant_value.specs.declared.value.TheConstants.{TEXT_BYTES}
 use Rattle.variant_value.specs.declared.value.Value.{Value}
 use Rattle.variant_value.specs.declared.value.Value.TheVariants as v
 
--- z is `least`, `most`, or between them
+-- Whether `z` is `least`, `most`, or between them.
 abbrev pub is_within : ℤ → ℤ → ℤ → Bool
 is_within least most z = int_le least z && int_le z most
 
--- a whole number as a value of a number kind, where the kind's range holds it
+-- A whole number as a value of a number kind, if it is in the kind's range.
 abbrev pub number_of : Kind → ℤ → Option Value
 number_of k.Bool z = None
 number_of k.Int z = if is_within (neg_ℤ (pos (2 ^ 31))) (pos (2 ^ 31 - 1)) z then Some (v.Int z) else None
@@ -26,19 +26,19 @@ number_of k.Longlong z = if is_within (neg_ℤ (pos (2 ^ 63))) (pos (2 ^ 63 - 1)
 number_of k.Ulonglong z = if is_within (pos 0) (pos (2 ^ 64 - 1)) z then Some (v.Ulonglong (unsigned_abs z)) else None
 number_of k.Text z = None
 
--- a text as a value, where it is not too long
+-- A text as a value, unless it is too long.
 abbrev pub text_of : List ℕ → Result Value Code
 text_of text = if nat_le (length text) TEXT_BYTES then Ok (v.Text text) else Err Limit
 
--- the whole number that a piece of JSON is
+-- The whole number in JSON.
 abbrev pub whole_number : Data → Option ℤ
 whole_number json = option_and_then as_integer (as_number json)
 
--- the value of a number kind that a piece of JSON is
+-- The value in JSON, as a number kind.
 abbrev pub read_number : Kind → Data → Result Value Code
 read_number kind json = ok_or (option_and_then (number_of kind) (whole_number json)) BadValue
 
--- the value of a kind that a piece of JSON is, or why it is none
+-- The value in JSON, as this kind, or why there is none.
 abbrev pub value_of : Kind → Data → Result Value Code
 value_of k.Bool json = ok_or (option_map v.Bool (as_bool json)) BadValue
 value_of k.Int json = read_number k.Int json
@@ -47,11 +47,11 @@ value_of k.Longlong json = read_number k.Longlong json
 value_of k.Ulonglong json = read_number k.Ulonglong json
 value_of k.Text json = option_map_or text_of (as_str json) (Err BadValue)
 
--- a whole number as a value of the first kind that holds it
+-- A whole number as a value of the first kind that can hold it.
 abbrev pub inferred_number : ℤ → Option Value
 inferred_number z = option_or (number_of k.Int z) (option_or (number_of k.Longlong z) (number_of k.Ulonglong z))
 
--- the value that a piece of JSON is by itself, or why it is none
+-- The value in JSON, of the kind that the JSON itself has, or why there is none.
 abbrev pub inferred : Data → Result Value Code
 inferred null = Ok v.Invalid
 inferred (boolean b) = Ok (v.Bool b)
@@ -60,7 +60,7 @@ inferred (string text) = text_of text
 inferred (array ds) = Err BadValue
 inferred (object ms) = Err BadValue
 
--- the JSON of a value
+-- The JSON of a value.
 abbrev pub json_of : Value → Data
 json_of v.Invalid = null
 json_of (v.Bool b) = boolean b
@@ -70,7 +70,7 @@ json_of (v.Longlong z) = number (of_integer z)
 json_of (v.Ulonglong n) = number (unsigned n)
 json_of (v.Text text) = string text
 
--- the kind of a value; the invalid value has none
+-- The kind of a value. The invalid value has none.
 abbrev pub kind_of : Value → Option Kind
 kind_of v.Invalid = None
 kind_of (v.Bool b) = Some k.Bool
@@ -80,7 +80,7 @@ kind_of (v.Longlong z) = Some k.Longlong
 kind_of (v.Ulonglong n) = Some k.Ulonglong
 kind_of (v.Text text) = Some k.Text
 
--- a text is not too long
+-- A text is not too long.
 abbrev pub IsShort : Value → Type 0
 IsShort v.Invalid = Unit {0}
 IsShort (v.Bool b) = Unit {0}
@@ -90,11 +90,11 @@ IsShort (v.Longlong z) = Unit {0}
 IsShort (v.Ulonglong n) = Unit {0}
 IsShort (v.Text text) = length text ≤ TEXT_BYTES
 
--- a value that a property or a parameter of this kind may hold
+-- A value that a property or a parameter of this kind may hold.
 abbrev pub IsOfKind : Kind → Value → Type 0
 IsOfKind kind value = (kind_of value ≡ Some kind) × IsShort value
 
--- the truth, the whole number or the text that a value is
+-- The truth value, whole number or text in a value.
 abbrev pub truth_in : Value → Option Bool
 truth_in v.Invalid = None
 truth_in (v.Bool b) = Some b
@@ -122,7 +122,7 @@ text_in (v.Longlong z) = None
 text_in (v.Ulonglong n) = None
 text_in (v.Text text) = Some text
 
--- a value as one of a kind
+-- A value, converted to a kind.
 abbrev pub converted : Kind → Value → Option Value
 converted k.Bool value = option_map v.Bool (truth_in value)
 converted k.Int value = option_and_then (number_of k.Int) (number_in value)
@@ -131,7 +131,7 @@ converted k.Longlong value = option_and_then (number_of k.Longlong) (number_in v
 converted k.Ulonglong value = option_and_then (number_of k.Ulonglong) (number_in value)
 converted k.Text value = option_map v.Text (text_in value)
 
--- are two values one: of one kind, and with the same content
+-- Whether two values are equal: of the same kind, with the same content.
 abbrev pub is_same : Value → Value → Bool
 is_same v.Invalid v.Invalid = true
 is_same (v.Bool a) (v.Bool b) = if a then b else not b

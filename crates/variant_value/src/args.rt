@@ -68,7 +68,7 @@ impl Args {
         }
     }
 
-    /// Puts a value at a position, and returns whether it is another than the one that stood there;
+    /// Replaces the value at a position, and returns whether the new value differs from the old one;
     /// this takes no memory.
     #[inline(always)]
     pub fn put(&mut self, at: usize, value: Value) -> bool

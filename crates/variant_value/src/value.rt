@@ -50,9 +50,9 @@ impl Drop for Value {
 }
 
 impl Value {
-    /// The value of this kind that the JSON is: true or false, a whole number in the kind's range,
-    /// or a text. What is none of these is `BadValue`, and a text of more than `TEXT_BYTES` is
-    /// `Limit`. A number with a fraction or an exponent is no whole number, nor is `-0`.
+    /// Reads a value of this kind from JSON: true or false, a whole number in the kind's range, or a
+    /// text. Any other JSON is `BadValue`, and a text of more than `TEXT_BYTES` is `Limit`. A number
+    /// with a fraction or an exponent is not a whole number, nor is `-0`.
     pub fn from_json(alloc: Global, kind: Kind, json: &serde_json::Value) -> Result<Value, Fault>
         ensures exact { Answers result (value_of kind (view json.now)) }
         ensures of_kind { IfOk result (IsOfKind kind) }
@@ -87,9 +87,9 @@ impl Value {
         })
     }
 
-    /// The value that the JSON is by itself: true or false, a text, nothing for null, and a whole
-    /// number of the first of the kinds `Int`, `Longlong` and `Ulonglong` that holds it. What is
-    /// none of these is `BadValue`, and a text of more than `TEXT_BYTES` is `Limit`.
+    /// Reads a value whose kind is not given from JSON: true or false, a text, `Invalid` for null, and
+    /// a whole number of the first of the kinds `Int`, `Longlong` and `Ulonglong` that holds it. Any
+    /// other JSON is `BadValue`, and a text of more than `TEXT_BYTES` is `Limit`.
     pub fn infer(alloc: Global, json: &serde_json::Value) -> Result<Value, Fault>
         ensures exact { Answers result (inferred (view json.now)) }
         ensures short { IfOk result IsShort }

@@ -17,7 +17,7 @@ use Rattle.wire_commands.specs.declared.keys.Holds.{Holds}
 use Rattle.wire_commands.specs.declared.keys.Holds.TheVariants as h
 use Rattle.wire_commands.specs.Bindings as bindings
 use Rattle.wire_commands.specs.Classes as classes
-use Rattle.wire_commands.specs.Commands.{asked_of, all_forms}
+use Rattle.wire_commands.specs.Commands.{asked_of, all_forms, frequent}
 use Rattle.wire_commands.specs.Events as events
 use Rattle.wire_commands.specs.Form.{Form, asked_by, asked_in, form_named}
 use Rattle.wire_commands.specs.Held.{Held, absent, any, list, mode, none, number, priority, text, truth, all_held, has_only, held_at, held_by, number_in}
@@ -185,11 +185,15 @@ both_named : (forms others : List Form) → AskNamed forms → AskNamed others �
 both_named [] others each rest = rest
 both_named (form ∷ forms) others each rest = (each.0, both_named forms others each.1 rest)
 
+frequent_named : AskNamed frequent
+unfolding of_property
+frequent_named = search
+
 all_forms_named : AskNamed all_forms
 all_forms_named =
-    both_named trees.forms _ trees_named (both_named properties.forms _ properties_named
+    both_named frequent _ frequent_named (both_named trees.forms _ trees_named (both_named properties.forms _ properties_named
     (both_named bindings.forms _ bindings_named (both_named classes.forms _ classes_named
-    (both_named signals.forms _ signals_named (both_named events.forms sharing.forms events_named sharing_named)))))
+    (both_named signals.forms _ signals_named (both_named events.forms sharing.forms events_named sharing_named))))))
 
 pub asked_named : (json : Data) → IfSome (asked_of json) IsNamedAsked
 unfolding asked_of

@@ -9,7 +9,7 @@ use Rattle.wire_commands.specs.Held.{Held, json_of, number_of, property_of, text
 use Rattle.wire_commands.specs.Keys.{needed, optional}
 use Rattle.wire_commands.specs.Shared.{alone, of_property}
 
--- `bind` binds a property to an expression, which may be any JSON
+-- `bind` binds a property to an expression, which may be any JSON.
 abbrev pub bind_of : List Held → Option Asked
 bind_of (target ∷ property ∷ to ∷ []) = do
   number ← number_of target
@@ -21,19 +21,19 @@ bind_of held = None
 abbrev pub bind : Form
 bind = record { word = codes "bind"; keys = needed (codes "object") Number ∷ needed (codes "property") Name ∷ needed (codes "to") Any ∷ []; asks = bind_of }
 
--- `unbind` binds a property no longer
+-- `unbind` removes the binding of a property.
 abbrev pub unbind : Form
 unbind = of_property (codes "unbind") Unbind
 
--- `bindingError` tells the error that a property stands for
+-- `bindingError` answers with the error of a bound property.
 abbrev pub binding_error : Form
 binding_error = of_property (codes "bindingError") (λ target name. Ask (BindingError target name))
 
--- `binding` tells the expression that a property is bound to
+-- `binding` answers with the expression to which a property is bound.
 abbrev pub binding : Form
 binding = of_property (codes "binding") (λ target name. Ask (Binding target name))
 
--- `bindings` tells which properties are bound
+-- `bindings` lists the bound properties.
 abbrev pub bindings_of : List Held → Option Asked
 bindings_of (after ∷ []) = Some (Ask (Bindings (property_of after)))
 bindings_of held = None
@@ -41,14 +41,14 @@ bindings_of held = None
 abbrev pub bindings : Form
 bindings = record { word = codes "bindings"; keys = optional (codes "after") Property ∷ []; asks = bindings_of }
 
--- `begin` begins a group
+-- `begin` begins a group.
 abbrev pub begin : Form
 begin = alone (codes "begin") Begin
 
--- `end` ends a group
+-- `end` ends a group.
 abbrev pub end : Form
 end = alone (codes "end") End
 
--- the forms of these commands
+-- The forms of these commands.
 unfoldable pub forms : List Form
 forms = bind ∷ unbind ∷ binding_error ∷ binding ∷ bindings ∷ begin ∷ end ∷ []

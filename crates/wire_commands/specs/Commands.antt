@@ -1,5 +1,5 @@
 -- The commands.
-use Rattle.std.specs.Prelude.{ℕ, List, ◌++◌, Option, codes, map}
+use Rattle.std.specs.Prelude.{ℕ, List, [], ◌∷◌, ◌++◌, Option, codes, map}
 use Rattle.serde_json.specs.Data.{Data}
 use Rattle.json_reading.specs.Fields.{◌>>=◌, text_at}
 use Rattle.session_model.specs.Asked.{Asked}
@@ -12,7 +12,7 @@ use Rattle.wire_commands.specs.Signals as signals
 use Rattle.wire_commands.specs.Events as events
 use Rattle.wire_commands.specs.Sharing as sharing
 
--- the forms of all commands, family by family: the words that a family does not know are those of the families after it
+-- The forms of all commands, family by family. A word that a family does not know belongs to a later family.
 abbrev pub from_sharing : List Form
 from_sharing = sharing.forms
 
@@ -31,14 +31,21 @@ from_bindings = bindings.forms ++ from_classes
 abbrev pub from_properties : List Form
 from_properties = properties.forms ++ from_bindings
 
-abbrev pub all_forms : List Form
-all_forms = trees.forms ++ from_properties
+abbrev pub from_trees : List Form
+from_trees = trees.forms ++ from_properties
 
--- their words
+-- The most frequent commands, which come before the families.
+abbrev pub frequent : List Form
+frequent = properties.set ∷ properties.get ∷ trees.new ∷ signals.invoke ∷ []
+
+abbrev pub all_forms : List Form
+all_forms = frequent ++ from_trees
+
+-- The words of all commands.
 abbrev pub all_words : List (List ℕ)
 all_words = map (λ form. form.word) all_forms
 
--- what a command in JSON asks, beside the session that gives it
+-- The command in JSON, without its session.
 unfoldable pub asked_of : Data → Option Asked
 asked_of json = do
   word ← text_at (codes "do") json

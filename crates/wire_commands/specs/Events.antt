@@ -9,15 +9,15 @@ use Rattle.wire_commands.specs.Held.{Held, number_of, truth_of}
 use Rattle.wire_commands.specs.Keys.{needed}
 use Rattle.wire_commands.specs.Shared.{alone, of_object}
 
--- `spin` takes the events that there are
+-- `spin` takes the queued events.
 abbrev pub spin : Form
 spin = alone (codes "spin") Spin
 
--- `deleteLater` deletes an object when its event is taken
+-- `deleteLater` deletes an object when its event is taken.
 abbrev pub delete_later : Form
 delete_later = of_object (codes "deleteLater") (λ target. Do (DeleteLater target))
 
--- `block` blocks the signals of an object, or lets them through
+-- `block` blocks the signals of an object, or unblocks them.
 abbrev pub block_of : List Held → Option Asked
 block_of (target ∷ on ∷ []) = option_map (λ number. Do (Block number (truth_of on))) (number_of target)
 block_of held = None
@@ -25,10 +25,10 @@ block_of held = None
 abbrev pub block : Form
 block = record { word = codes "block"; keys = needed (codes "object") Number ∷ needed (codes "on") Truth ∷ []; asks = block_of }
 
--- `status` tells how much there is in the session
+-- `status` answers with the counts of what the session holds.
 abbrev pub status : Form
 status = alone (codes "status") (Ask Status)
 
--- the forms of these commands
+-- The forms of these commands.
 unfoldable pub forms : List Form
 forms = spin ∷ delete_later ∷ block ∷ status ∷ []

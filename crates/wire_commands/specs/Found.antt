@@ -1,4 +1,4 @@
--- What is found at keys, in front of how they hold it. But for `are_distinct`, only private clauses cite it.
+-- What members have at keys, before it is read. Except for `are_distinct`, only private clauses cite this.
 use Rattle.std.specs.Prelude.{◌≡◌, ◌&&◌, ◌<◌, ℕ, Bool, true, not, List, [], ◌∷◌, bytes_eq, codes, get_or}
 use Rattle.std.specs.Prelude.{length, map, Option, Some, None, option_and_then, option_map}
 use Rattle.std.specs.List.{list_any}
@@ -11,25 +11,25 @@ use Rattle.wire_commands.specs.declared.keys.Key.{Key as KeyInCode}
 use Rattle.wire_commands.specs.Held.{Held, absent, reads}
 use Rattle.wire_commands.specs.Keys.{Key, needed, optional, key_seen, key_word}
 
--- the words of keys
+-- The words of keys.
 abbrev pub words_of : List KeyInCode → List (List ℕ)
 words_of keys = map key_word (map key_seen keys)
 
--- with those that every command has
+-- These keys, and those that every command has.
 abbrev pub with_common : List (List ℕ) → List (List ℕ)
 with_common words = codes "do" ∷ codes "session" ∷ words
 
--- no two words are the same
+-- No two words are equal.
 abbrev pub are_distinct : List (List ℕ) → Bool
 are_distinct [] = true
 are_distinct (word ∷ words) = not (list_any (bytes_eq word) words) && are_distinct words
 
--- what a key holds, where this is found at it
+-- The value at a key, read from what was found there.
 abbrev pub held_as : Option Data → Key → Option Held
 held_as found (needed word holds) = option_and_then (reads holds) found
 held_as found (optional word holds) = option_map_or (reads holds) found (Some absent)
 
--- at the place of each word is what the members have at it
+-- For each word in order, what the members have at it.
 abbrev pub AreFound : {A : Type 0} → (A → Data) → List (List ℕ) → List Member → List (Option A) → Type 0
 AreFound seen words members found =
     (place : ℕ) → place < length words → option_map seen (get_or found place None) ≡ get_member (get_or words place []) (members_in members)

@@ -1,4 +1,4 @@
--- What a line holds at the keys of its command.
+-- The values at the keys of a command.
 use Rattle.std.specs.Prelude.{◌-◌, ◌^◌, ◌&&◌, ◌||◌, ℕ, zero, suc, ℤ, pos, negsuc, Bool, false, List, [], ◌∷◌, codes, bytes_eq}
 use Rattle.std.specs.Prelude.{map, nat_le, if◌then◌else◌, Option, Some, None, option_and_then, option_map, is_some}
 use Rattle.std.specs.List.{list_any}
@@ -20,7 +20,7 @@ use Rattle.wire_commands.specs.declared.keys.Holds.{Holds}
 use Rattle.wire_commands.specs.declared.keys.Holds.TheVariants as h
 use Rattle.wire_commands.specs.Keys.{Key, needed, optional, key_word}
 
--- what a key holds
+-- The value at a key.
 pub data Held : Type 0 where
   absent : Held
   none : Held
@@ -45,77 +45,77 @@ held_seen (code.List field) = list (elements_of (data_of field.now))
 held_seen (code.Property n name) = object_property n name.now
 held_seen (code.Any field) = any (data_of field.now)
 
--- the number that is held, if one is
+-- The number, if the value is one.
 abbrev pub number_of : Held → Option ℕ
 number_of (number n) = Some n
 number_of held = None
 
--- the text that is held, if one is
+-- The text, if the value is one.
 abbrev pub text_of : Held → Option (List ℕ)
 text_of (text t) = Some t
 text_of held = None
 
--- the truth that is held, false where none is
+-- The truth value; false if there is none.
 abbrev pub truth_of : Held → Bool
 truth_of (truth t) = t
 truth_of held = false
 
--- how calls are made, `auto` where nothing is held
+-- The connection type; `auto` if there is none.
 abbrev pub mode_of : Held → ConnectionType
 mode_of (mode m) = m
 mode_of held = Auto
 
--- how soon the event of a call is taken that is made in this way, `Normal` where nothing is held; only one that is queued is an event
+-- The priority of a call's event; `Normal` if there is none. Only a queued call has a priority.
 abbrev pub priority_for : ConnectionType → Held → Option Priority
 priority_for way absent = Some Normal
 priority_for Queued (priority p) = Some p
 priority_for way held = None
 
--- the elements of the array that is held, if one is
+-- The elements of the array, if the value is one.
 abbrev pub list_of : Held → Option (List Data)
 list_of (list elements) = Some elements
 list_of held = None
 
--- the property that is held, if one is
+-- The property, if the value is one.
 abbrev pub property_of : Held → Option NamedProperty
 property_of (object_property n name) = Some (record { object = n; property = name })
 property_of held = None
 
--- the JSON that is held, if any is
+-- The JSON, if there is any.
 abbrev pub json_of : Held → Option Data
 json_of (any json) = Some json
 json_of held = None
 
--- the number of an object or of a connection that a value is
+-- The number of an object or a connection.
 abbrev pub number_in : Data → Option ℕ
 number_in json = do
   figure ← as_number json
   n ← as_u64 figure
   when (nat_le 1 n && nat_le n (2 ^ 32 - 1)) n
 
--- the whole number that a value is, with its sign
+-- A whole number with its sign.
 abbrev pub signed_in : Data → Option ℤ
 signed_in json = option_and_then as_i64 (as_number json)
 
--- the priority of a number: of -1, 0 and 1
+-- The priority with this number: -1, 0 or 1.
 abbrev pub priority_numbered : ℤ → Option Priority
 priority_numbered (negsuc zero) = Some Low
 priority_numbered (pos zero) = Some Normal
 priority_numbered (pos (suc zero)) = Some High
 priority_numbered other = None
 
--- the priority that a value is
+-- A priority.
 abbrev pub priority_in : Data → Option Priority
 priority_in json = option_and_then priority_numbered (signed_in json)
 
--- is JSON an object with no keys but these two
+-- Whether a key is one of the two in an object that names a property.
 abbrev pub is_property_key : List ℕ → Bool
 is_property_key key = bytes_eq key (codes "object") || bytes_eq key (codes "property")
 
 abbrev pub has_property_keys : Data → Bool
 has_property_keys json = option_map_or (all_keys is_property_key) (as_object json) false
 
--- the property that a value names, by an object with the number of its object and its name
+-- A property: an object with the number of the property's object, and the property's name.
 abbrev pub property_in : Data → Option Held
 property_in json = do
   target ← get (codes "object") json
@@ -124,7 +124,7 @@ property_in json = do
   name ← as_str named
   when (is_name name && has_property_keys json) (object_property n name)
 
--- a value, as a key holds it
+-- A value, read as the key says.
 abbrev pub reads : Holds → Data → Option Held
 reads h.Name json = do
   name ← as_str json
@@ -139,12 +139,12 @@ reads h.List json = when (is_some (as_array json)) (list (elements_of json))
 reads h.Property json = property_in json
 reads h.Any json = Some (any json)
 
--- what JSON holds at a key
+-- The value at a key.
 abbrev pub held_at : Data → Key → Option Held
 held_at json (needed word holds) = option_and_then (reads holds) (get word json)
 held_at json (optional word holds) = option_map_or (reads holds) (get word json) (Some absent)
 
--- at each of these keys
+-- The values at these keys.
 abbrev pub all_held : Data → List Key → Option (List Held)
 all_held json [] = Some []
 all_held json (key ∷ keys) = do
@@ -152,14 +152,14 @@ all_held json (key ∷ keys) = do
   rest ← all_held json keys
   Some (first ∷ rest)
 
--- is a key one of these, or one that every command has
+-- Whether a key is one of these, or one that every command has.
 abbrev pub is_known : List (List ℕ) → List ℕ → Bool
 is_known keys key = bytes_eq key (codes "do") || bytes_eq key (codes "session") || list_any (bytes_eq key) keys
 
--- is JSON an object with no keys but these and those that every command has
+-- Whether JSON is an object with no other keys than these and those that every command has.
 unfoldable pub has_only : List (List ℕ) → Data → Bool
 has_only keys json = option_map_or (all_keys (is_known keys)) (as_object json) false
 
--- what JSON holds at these keys, where it has no others
+-- The values at these keys, if there are no others.
 unfoldable pub held_by : Data → List Key → Option (List Held)
 held_by json keys = if has_only (map key_word keys) json then all_held json keys else None

@@ -1,10 +1,10 @@
--- Keys of commands, and what they hold.
+-- Keys of commands, and their values.
 use Rattle.std.specs.Prelude.{ℕ, List}
 use Rattle.wire_commands.specs.declared.keys.Holds.{Holds}
 use Rattle.wire_commands.specs.declared.keys.Key.{Key as KeyInCode}
 use Rattle.wire_commands.specs.declared.keys.Key.TheVariants as code
 
--- a key, what it holds, and whether it must be there
+-- A key, what its value is, and whether it must be present.
 pub data Key : Type 0 where
   needed : List ℕ → Holds → Key
   optional : List ℕ → Holds → Key

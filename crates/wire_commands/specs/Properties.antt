@@ -9,7 +9,7 @@ use Rattle.wire_commands.specs.Held.{Held, json_of, number_of, text_of}
 use Rattle.wire_commands.specs.Keys.{needed}
 use Rattle.wire_commands.specs.Shared.{of_object, of_property}
 
--- `set` writes a property; the value may be any JSON
+-- `set` writes a property; the value may be any JSON.
 abbrev pub set_of : List Held → Option Asked
 set_of (target ∷ property ∷ value ∷ []) = do
   number ← number_of target
@@ -21,18 +21,18 @@ set_of held = None
 abbrev pub set : Form
 set = record { word = codes "set"; keys = needed (codes "object") Number ∷ needed (codes "property") Name ∷ needed (codes "value") Any ∷ []; asks = set_of }
 
--- `get` reads a property
+-- `get` reads a property.
 abbrev pub get : Form
 get = of_property (codes "get") (λ target name. Ask (Get target name))
 
--- `dynamicNames` tells the names of the dynamic properties of an object
+-- `dynamicNames` lists the names of an object's dynamic properties.
 abbrev pub dynamic_names : Form
 dynamic_names = of_object (codes "dynamicNames") (λ target. Ask (DynamicNames target))
 
--- `properties` lists the properties of an object
+-- `properties` lists the properties of an object.
 abbrev pub properties : Form
 properties = of_object (codes "properties") (λ target. Ask (Properties target))
 
--- the forms of these commands
+-- The forms of these commands, except `set` and `get`.
 unfoldable pub forms : List Form
-forms = set ∷ get ∷ dynamic_names ∷ properties ∷ []
+forms = dynamic_names ∷ properties ∷ []

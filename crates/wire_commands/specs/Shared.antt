@@ -7,7 +7,7 @@ use Rattle.wire_commands.specs.Form.{Form}
 use Rattle.wire_commands.specs.Held.{Held, number_of, text_of}
 use Rattle.wire_commands.specs.Keys.{needed, optional}
 
--- a word that needs nothing more
+-- A command without further keys.
 abbrev pub with_nothing : Asked → List Held → Option Asked
 with_nothing asked [] = Some asked
 with_nothing asked held = None
@@ -15,7 +15,7 @@ with_nothing asked held = None
 unfoldable pub alone : List ℕ → Asked → Form
 alone word asked = record { word = word; keys = []; asks = with_nothing asked }
 
--- a word that needs an object
+-- A command with an object.
 abbrev pub with_object : (ℕ → Asked) → List Held → Option Asked
 with_object asks (target ∷ []) = option_map asks (number_of target)
 with_object asks held = None
@@ -23,7 +23,7 @@ with_object asks held = None
 unfoldable pub of_object : List ℕ → (ℕ → Asked) → Form
 of_object word asks = record { word = word; keys = needed (codes "object") Number ∷ []; asks = with_object asks }
 
--- a word that needs a property of an object
+-- A command with a property of an object.
 abbrev pub with_property : (ℕ → List ℕ → Asked) → List Held → Option Asked
 with_property asks (target ∷ property ∷ []) = do
   number ← number_of target
@@ -34,7 +34,7 @@ with_property asks held = None
 unfoldable pub of_property : List ℕ → (ℕ → List ℕ → Asked) → Form
 of_property word asks = record { word = word; keys = needed (codes "object") Number ∷ needed (codes "property") Name ∷ []; asks = with_property asks }
 
--- a word that needs a class
+-- A command with a class.
 abbrev pub with_class : (List ℕ → Asked) → List Held → Option Asked
 with_class asks (class ∷ []) = option_map asks (text_of class)
 with_class asks held = None
@@ -42,7 +42,7 @@ with_class asks held = None
 unfoldable pub of_class : List ℕ → (List ℕ → Asked) → Form
 of_class word asks = record { word = word; keys = needed (codes "class") Name ∷ []; asks = with_class asks }
 
--- a word that needs an object below which something is looked for, by a name and a class where these are given
+-- A command that searches below an object, by a name and a class if they are given.
 abbrev pub with_search : (ℕ → Option (List ℕ) → Option (List ℕ) → Asked) → List Held → Option Asked
 with_search asks (target ∷ name ∷ class ∷ []) = option_map (λ number. asks number (text_of name) (text_of class)) (number_of target)
 with_search asks held = None

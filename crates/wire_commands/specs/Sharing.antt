@@ -1,4 +1,4 @@
--- The commands of publications and joins, and the one that begins anew.
+-- The commands of publications and joins, and `reset`.
 use Rattle.std.specs.Prelude.{ℕ, List, [], ◌∷◌, Option, Some, None, codes, option_and_then, option_map}
 use Rattle.serde_json.specs.Data.{Data}
 use Rattle.serde_json.specs.Find.{as_str}
@@ -11,7 +11,7 @@ use Rattle.wire_commands.specs.Held.{Held, number_of, text_of, list_of}
 use Rattle.wire_commands.specs.Keys.{needed}
 use Rattle.wire_commands.specs.Shared.{alone}
 
--- `publish` publishes a signal of an object under a name
+-- `publish` publishes a signal of an object under a name.
 abbrev pub publish_of : List Held → Option Asked
 publish_of (target ∷ signal ∷ name ∷ []) = do
   of ← number_of target
@@ -27,7 +27,7 @@ publish = record {
   asks = publish_of;
 }
 
--- `unpublish` publishes nothing under a name any more
+-- `unpublish` removes a publication.
 abbrev pub unpublish_of : List Held → Option Asked
 unpublish_of (name ∷ []) = option_map Unpublish (text_of name)
 unpublish_of held = None
@@ -35,7 +35,7 @@ unpublish_of held = None
 abbrev pub unpublish : Form
 unpublish = record { word = codes "unpublish"; keys = needed (codes "name") Name ∷ []; asks = unpublish_of }
 
--- the texts that these are, where each is one
+-- The texts, if each of these is one.
 abbrev pub texts_of : List Data → Option (List (List ℕ))
 texts_of [] = Some []
 texts_of (json ∷ rest) = do
@@ -43,7 +43,7 @@ texts_of (json ∷ rest) = do
   texts ← texts_of rest
   Some (text ∷ texts)
 
--- `join` lets what a session publishes under a name call a method of an object
+-- `join` joins a publication of a session, which then calls a method of an object.
 abbrev pub join_of : List Held → Option Asked
 join_of (from ∷ name ∷ types ∷ target ∷ method ∷ []) = do
   of ← number_of target
@@ -62,7 +62,7 @@ join = record {
   asks = join_of;
 }
 
--- `leave` takes the joins out that were made with these four
+-- `leave` removes the joins that were made with these four keys.
 abbrev pub leave_of : List Held → Option Asked
 leave_of (from ∷ name ∷ target ∷ method ∷ []) = do
   of ← number_of target
@@ -79,18 +79,18 @@ leave = record {
   asks = leave_of;
 }
 
--- `reset` begins anew
+-- `reset` removes everything that the session holds.
 abbrev pub reset : Form
 reset = alone (codes "reset") Reset
 
--- `publications` lists what the session publishes
+-- `publications` lists what the session publishes.
 abbrev pub publications : Form
 publications = alone (codes "publications") (Ask Publications)
 
--- `joins` lists what the session joins
+-- `joins` lists what the session joins.
 abbrev pub joins : Form
 joins = alone (codes "joins") (Ask Joins)
 
--- the forms of these commands
+-- The forms of these commands.
 unfoldable pub forms : List Form
 forms = publish ∷ unpublish ∷ join ∷ leave ∷ reset ∷ publications ∷ joins ∷ []

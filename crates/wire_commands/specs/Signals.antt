@@ -8,7 +8,7 @@ use Rattle.wire_commands.specs.Form.{Form}
 use Rattle.wire_commands.specs.Held.{Held, absent, number, number_of, text_of, truth_of, mode_of, priority_for, list_of}
 use Rattle.wire_commands.specs.Keys.{needed, optional}
 
--- `connect` connects a signal of the sender to a method of the receiver
+-- `connect` connects a signal of the sender to a method of the receiver.
 abbrev pub connect_of : List Held → Option Asked
 connect_of (sender ∷ signal ∷ receiver ∷ method ∷ calls ∷ unique ∷ single ∷ []) = do
   from ← number_of sender
@@ -26,7 +26,7 @@ connect = record {
   asks = connect_of;
 }
 
--- `connectFunctor` connects a signal of the sender to a functor, for a context object
+-- `connectFunctor` connects a signal of the sender to a functor, for a context object.
 abbrev pub connect_functor_of : List Held → Option Asked
 connect_functor_of (sender ∷ signal ∷ context ∷ functor ∷ calls ∷ unique ∷ single ∷ []) = do
   from ← number_of sender
@@ -44,7 +44,8 @@ connect_functor = record {
   asks = connect_functor_of;
 }
 
--- `disconnect` breaks a connection by its number alone, or those of a sender that match; a method is named only beside a receiver
+-- `disconnect` breaks the connection with a number, or those of a sender that match. A method is named only together
+-- with a receiver.
 abbrev pub disconnect_of : List Held → Option Asked
 disconnect_of (number connection ∷ absent ∷ absent ∷ absent ∷ absent ∷ []) = Some (DisconnectOne connection)
 disconnect_of (absent ∷ number sender ∷ signal ∷ absent ∷ absent ∷ []) = Some (Disconnect sender (text_of signal) None None)
@@ -59,7 +60,7 @@ disconnect = record {
   asks = disconnect_of;
 }
 
--- `invoke` calls a slot of an object, or sends a signal of it, at once or later, and then with a priority
+-- `invoke` calls a slot or sends a signal of an object, at once or queued with a priority.
 abbrev pub invoke_of : List Held → Option Asked
 invoke_of (target ∷ method ∷ args ∷ calls ∷ soon ∷ []) = do
   to ← number_of target
@@ -77,7 +78,7 @@ invoke = record {
   asks = invoke_of;
 }
 
--- `connections` lists connections
+-- `connections` lists connections.
 abbrev pub connections_of : List Held → Option Asked
 connections_of (target ∷ after ∷ []) = Some (Ask (Connections (number_of target) (number_of after)))
 connections_of held = None
@@ -85,6 +86,6 @@ connections_of held = None
 abbrev pub connections : Form
 connections = record { word = codes "connections"; keys = optional (codes "object") Number ∷ optional (codes "after") Number ∷ []; asks = connections_of }
 
--- the forms of these commands
+-- The forms of these commands, except `invoke`.
 unfoldable pub forms : List Form
-forms = connect ∷ connect_functor ∷ disconnect ∷ invoke ∷ connections ∷ []
+forms = connect ∷ connect_functor ∷ disconnect ∷ connections ∷ []

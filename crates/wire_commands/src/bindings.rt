@@ -9,7 +9,7 @@ use crate::classes;
 use crate::held::{Held, held_by};
 use crate::keys::{Holds, Key};
 use crate::shared::{is_alone, property_in};
-use json_reading::Member;
+use json_reading::{Member, is_word};
 use session_model::{Command, Query};
 use std::alloc::{AllocError, Global};
 
@@ -23,16 +23,28 @@ pub(crate) fn read(
 ) -> Result<Option<Command>, AllocError>
     ensures { IfOk result (AsksBy from_bindings word.now members.now) }
 {
-    match word {
-        "bind" => bind(alloc, members),
-        "unbind" => unbind(alloc, members),
-        "bindingError" => binding_error(alloc, members),
-        "binding" => binding(alloc, members),
-        "bindings" => bindings(alloc, members),
-        "begin" => Ok(begin(members)),
-        "end" => Ok(end(members)),
-        _ => classes::read(alloc, word, members),
+    if is_word(word, "bind") {
+        return bind(alloc, members);
     }
+    if is_word(word, "unbind") {
+        return unbind(alloc, members);
+    }
+    if is_word(word, "bindingError") {
+        return binding_error(alloc, members);
+    }
+    if is_word(word, "binding") {
+        return binding(alloc, members);
+    }
+    if is_word(word, "bindings") {
+        return bindings(alloc, members);
+    }
+    if is_word(word, "begin") {
+        return begin(members);
+    }
+    if is_word(word, "end") {
+        return end(members);
+    }
+    classes::read(alloc, word, members)
 }
 
 const BIND: [Key; 3] = [
@@ -53,14 +65,17 @@ fn bind(alloc: Global, members: &[Member<'_>]) -> Result<Option<Command>, AllocE
     let Some(object) = object.number() else {
         return Ok(None);
     };
-    match (property.text(alloc)?, to.json(alloc)?) {
-        (Some(property), Some(to)) => Ok(Some(Command::Bind {
-            object,
-            property,
-            to,
-        })),
-        _ => Ok(None),
-    }
+    let Some(property) = property.text(alloc)? else {
+        return Ok(None);
+    };
+    let Some(to) = to.json(alloc)? else {
+        return Ok(None);
+    };
+    Ok(Some(Command::Bind {
+        object,
+        property,
+        to,
+    }))
 }
 
 /// `unbind`: an object and a property.
@@ -109,21 +124,21 @@ fn bindings(alloc: Global, members: &[Member<'_>]) -> Result<Option<Command>, Al
 }
 
 /// `begin`: nothing more.
-fn begin(members: &[Member<'_>]) -> Option<Command>
-    ensures { Asks begin members.now result }
+fn begin(members: &[Member<'_>]) -> Result<Option<Command>, AllocError>
+    ensures { IfOk result (Asks begin members.now) }
 {
     if !is_alone(members) {
-        return None;
+        return Ok(None);
     }
-    Some(Command::Begin)
+    Ok(Some(Command::Begin))
 }
 
 /// `end`: nothing more.
-fn end(members: &[Member<'_>]) -> Option<Command>
-    ensures { Asks end members.now result }
+fn end(members: &[Member<'_>]) -> Result<Option<Command>, AllocError>
+    ensures { IfOk result (Asks end members.now) }
 {
     if !is_alone(members) {
-        return None;
+        return Ok(None);
     }
-    Some(Command::End)
+    Ok(Some(Command::End))
 }

@@ -7,7 +7,7 @@ ghost use Rattle.wire_commands.specs.Classes.{classes, describe, functors, meta}
 
 use crate::shared::{class_in, is_alone};
 use crate::signals;
-use json_reading::Member;
+use json_reading::{Member, is_word};
 use session_model::{Command, Query};
 use std::alloc::{AllocError, Global};
 
@@ -21,13 +21,19 @@ pub(crate) fn read(
 ) -> Result<Option<Command>, AllocError>
     ensures { IfOk result (AsksBy from_classes word.now members.now) }
 {
-    match word {
-        "meta" => meta(alloc, members),
-        "classes" => Ok(classes(members)),
-        "describe" => describe(alloc, members),
-        "functors" => Ok(functors(members)),
-        _ => signals::read(alloc, word, members),
+    if is_word(word, "meta") {
+        return meta(alloc, members);
     }
+    if is_word(word, "classes") {
+        return classes(members);
+    }
+    if is_word(word, "describe") {
+        return describe(alloc, members);
+    }
+    if is_word(word, "functors") {
+        return functors(members);
+    }
+    signals::read(alloc, word, members)
 }
 
 /// `meta`: a class.
@@ -41,13 +47,13 @@ fn meta(alloc: Global, members: &[Member<'_>]) -> Result<Option<Command>, AllocE
 }
 
 /// `classes`: nothing more.
-fn classes(members: &[Member<'_>]) -> Option<Command>
-    ensures { Asks classes members.now result }
+fn classes(members: &[Member<'_>]) -> Result<Option<Command>, AllocError>
+    ensures { IfOk result (Asks classes members.now) }
 {
     if !is_alone(members) {
-        return None;
+        return Ok(None);
     }
-    Some(Command::Ask(Query::Classes))
+    Ok(Some(Command::Ask(Query::Classes)))
 }
 
 /// `describe`: a class.
@@ -61,11 +67,11 @@ fn describe(alloc: Global, members: &[Member<'_>]) -> Result<Option<Command>, Al
 }
 
 /// `functors`: nothing more.
-fn functors(members: &[Member<'_>]) -> Option<Command>
-    ensures { Asks functors members.now result }
+fn functors(members: &[Member<'_>]) -> Result<Option<Command>, AllocError>
+    ensures { IfOk result (Asks functors members.now) }
 {
     if !is_alone(members) {
-        return None;
+        return Ok(None);
     }
-    Some(Command::Ask(Query::Functors))
+    Ok(Some(Command::Ask(Query::Functors)))
 }

@@ -9,7 +9,7 @@ use crate::held::{Held, held_by};
 use crate::keys::{Holds, Key};
 use crate::shared::{is_alone, object_in};
 use crate::sharing;
-use json_reading::Member;
+use json_reading::{Member, is_word};
 use session_model::{Command, Query};
 use std::alloc::{AllocError, Global};
 
@@ -23,31 +23,39 @@ pub(crate) fn read(
 ) -> Result<Option<Command>, AllocError>
     ensures { IfOk result (AsksBy from_events word.now members.now) }
 {
-    match word {
-        "spin" => Ok(spin(members)),
-        "deleteLater" => Ok(delete_later(members)),
-        "block" => Ok(block(members)),
-        "status" => Ok(status(members)),
-        _ => sharing::read(alloc, word, members),
+    if is_word(word, "spin") {
+        return spin(members);
     }
+    if is_word(word, "deleteLater") {
+        return delete_later(members);
+    }
+    if is_word(word, "block") {
+        return block(members);
+    }
+    if is_word(word, "status") {
+        return status(members);
+    }
+    sharing::read(alloc, word, members)
 }
 
 /// `spin`: nothing more.
-fn spin(members: &[Member<'_>]) -> Option<Command>
-    ensures { Asks spin members.now result }
+fn spin(members: &[Member<'_>]) -> Result<Option<Command>, AllocError>
+    ensures { IfOk result (Asks spin members.now) }
 {
     if !is_alone(members) {
-        return None;
+        return Ok(None);
     }
-    Some(Command::Spin)
+    Ok(Some(Command::Spin))
 }
 
 /// `deleteLater`: an object.
-fn delete_later(members: &[Member<'_>]) -> Option<Command>
-    ensures { Asks delete_later members.now result }
+fn delete_later(members: &[Member<'_>]) -> Result<Option<Command>, AllocError>
+    ensures { IfOk result (Asks delete_later members.now) }
 {
-    let object = object_in(members)?;
-    Some(Command::DeleteLater { object })
+    let Some(object) = object_in(members) else {
+        return Ok(None);
+    };
+    Ok(Some(Command::DeleteLater { object }))
 }
 
 const BLOCK: [Key; 2] = [
@@ -56,25 +64,27 @@ const BLOCK: [Key; 2] = [
 ];
 
 /// `block`: an object, and whether its signals are blocked.
-fn block(members: &[Member<'_>]) -> Option<Command>
-    ensures { Asks block members.now result }
+fn block(members: &[Member<'_>]) -> Result<Option<Command>, AllocError>
+    ensures { IfOk result (Asks block members.now) }
 {
     let mut held = [Held::Absent; 2];
     if !held_by(members, &BLOCK, &mut held) {
-        return None;
+        return Ok(None);
     }
     let [object, on] = held;
-    let object = object.number()?;
+    let Some(object) = object.number() else {
+        return Ok(None);
+    };
     let on = on.truth();
-    Some(Command::Block { object, on })
+    Ok(Some(Command::Block { object, on }))
 }
 
 /// `status`: nothing more.
-fn status(members: &[Member<'_>]) -> Option<Command>
-    ensures { Asks status members.now result }
+fn status(members: &[Member<'_>]) -> Result<Option<Command>, AllocError>
+    ensures { IfOk result (Asks status members.now) }
 {
     if !is_alone(members) {
-        return None;
+        return Ok(None);
     }
-    Some(Command::Ask(Query::Status))
+    Ok(Some(Command::Ask(Query::Status)))
 }

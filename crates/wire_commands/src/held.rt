@@ -145,28 +145,56 @@ pub(crate) fn held_by<'m, 'a>(
         return false;
     }
     for (place, key) in keys.iter().enumerate() {
-        let value = found[place];
-        let Some(held) = held_as(value, key) else {
+        if !hold(found[place], key, &mut room[place]) {
             return false;
-        };
-        room[place] = held;
+        }
     }
     true
 }
 
-/// Returns what a key holds, where this value is found at it. None, where it is not held as it must be.
+/// Puts what a key holds into the room, given the value that is found at it. Returns whether it is held as it must be.
 #[inline(always)]
-fn held_as<'m, 'a>(found: Option<&'m Field<'a>>, key: &Key) -> Option<Held<'m, 'a>>
-    ensures { option_map held_seen result
+fn hold<'m, 'a>(found: Option<&'m Field<'a>>, key: &Key, room: &mut Held<'m, 'a>) -> bool
+    ensures { (if result then Some (held_seen room.new) else None)
         ≡ held_as (option_map (λ field. data_of field.now) found.entry) (key_seen key.now) }
 {
     match key {
-        Key::Needed(_, holds) => read(*holds, found?),
+        Key::Needed(_, holds) => match found {
+            Some(field) => put(*holds, field, room),
+            None => false,
+        },
         Key::Optional(_, holds) => match found {
-            Some(field) => read(*holds, field),
-            None => Some(Held::Absent),
+            Some(field) => put(*holds, field, room),
+            None => {
+                *room = Held::Absent;
+                true
+            }
         },
     }
+}
+
+/// Puts the value into the room, as a key holds it. Returns whether it is of the sort that the key holds. Most keys hold
+/// a number, a name or any JSON: these are put there at once, not moved through an `Option`.
+#[inline(always)]
+fn put<'m, 'a>(holds: Holds, field: &'m Field<'a>, room: &mut Held<'m, 'a>) -> bool
+    ensures { (if result then Some (held_seen room.new) else None) ≡ reads holds (data_of field.now) }
+{
+    match holds {
+        Holds::Number => match number_in(field) {
+            Some(number) => *room = Held::Number(number),
+            None => return false,
+        },
+        Holds::Name => match field.as_text() {
+            Some(text) if is_name(text) => *room = Held::Text(text),
+            _ => return false,
+        },
+        Holds::Any => *room = Held::Any(field),
+        _ => match read(holds, field) {
+            Some(held) => *room = held,
+            None => return false,
+        },
+    }
+    true
 }
 
 /// The value, as a key holds it.

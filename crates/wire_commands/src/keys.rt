@@ -1,12 +1,12 @@
 //! Keys of commands, and what they hold.
 
-/// The most keys that a command has, beside those that every command has.
+/// The most keys that a command has, not counting those that every command has.
 pub(crate) const MOST_KEYS: usize = 7;
 
 /// A key holds a value of one of these sorts.
 #[derive(Clone, Copy)]
 pub enum Holds {
-    /// A name, as that of a class, of a property, of a functor, of a session or of what it publishes.
+    /// A name: of a class, a property, a functor, a session or a publication.
     Name,
     /// Any text.
     Text,

@@ -9,13 +9,13 @@ use crate::bindings;
 use crate::held::{Held, held_by};
 use crate::keys::{Holds, Key};
 use crate::shared::{object_in, property_in};
-use json_reading::Member;
+use json_reading::{Member, is_word};
 use session_model::{Command, Query};
 use std::alloc::{AllocError, Global};
 
-/// Reads a command of properties. Any other word is read by the next family.
+/// Reads a command of properties, except `set` and `get`. Any other word is read by the next family.
 #[inline(always)]
-#[tactic(auto, unfolding(crate::specs::Form::asked_by, crate::specs::Properties::forms, crate::specs::Shared::of_object, crate::specs::Shared::of_property))]
+#[tactic(auto, unfolding(crate::specs::Form::asked_by, crate::specs::Properties::forms, crate::specs::Shared::of_object))]
 pub(crate) fn read(
     alloc: Global,
     word: &str,
@@ -23,13 +23,13 @@ pub(crate) fn read(
 ) -> Result<Option<Command>, AllocError>
     ensures { IfOk result (AsksBy from_properties word.now members.now) }
 {
-    match word {
-        "set" => set(alloc, members),
-        "get" => get(alloc, members),
-        "dynamicNames" => Ok(dynamic_names(members)),
-        "properties" => Ok(properties(members)),
-        _ => bindings::read(alloc, word, members),
+    if is_word(word, "dynamicNames") {
+        return dynamic_names(members);
     }
+    if is_word(word, "properties") {
+        return properties(members);
+    }
+    bindings::read(alloc, word, members)
 }
 
 const SET: [Key; 3] = [
@@ -39,7 +39,7 @@ const SET: [Key; 3] = [
 ];
 
 /// `set`: an object, a property and a value, which may be any JSON.
-fn set(alloc: Global, members: &[Member<'_>]) -> Result<Option<Command>, AllocError>
+pub(crate) fn set(alloc: Global, members: &[Member<'_>]) -> Result<Option<Command>, AllocError>
     ensures { IfOk result (Asks set members.now) }
 {
     let mut held = [Held::Absent; 3];
@@ -50,18 +50,21 @@ fn set(alloc: Global, members: &[Member<'_>]) -> Result<Option<Command>, AllocEr
     let Some(object) = object.number() else {
         return Ok(None);
     };
-    match (property.text(alloc)?, value.json(alloc)?) {
-        (Some(property), Some(value)) => Ok(Some(Command::Set {
-            object,
-            property,
-            value,
-        })),
-        _ => Ok(None),
-    }
+    let Some(property) = property.text(alloc)? else {
+        return Ok(None);
+    };
+    let Some(value) = value.json(alloc)? else {
+        return Ok(None);
+    };
+    Ok(Some(Command::Set {
+        object,
+        property,
+        value,
+    }))
 }
 
 /// `get`: an object and a property.
-fn get(alloc: Global, members: &[Member<'_>]) -> Result<Option<Command>, AllocError>
+pub(crate) fn get(alloc: Global, members: &[Member<'_>]) -> Result<Option<Command>, AllocError>
     ensures { IfOk result (Asks get members.now) }
 {
     let Some((object, property)) = property_in(alloc, members)? else {
@@ -71,17 +74,21 @@ fn get(alloc: Global, members: &[Member<'_>]) -> Result<Option<Command>, AllocEr
 }
 
 /// `dynamicNames`: an object.
-fn dynamic_names(members: &[Member<'_>]) -> Option<Command>
-    ensures { Asks dynamic_names members.now result }
+fn dynamic_names(members: &[Member<'_>]) -> Result<Option<Command>, AllocError>
+    ensures { IfOk result (Asks dynamic_names members.now) }
 {
-    let object = object_in(members)?;
-    Some(Command::Ask(Query::DynamicNames { object }))
+    let Some(object) = object_in(members) else {
+        return Ok(None);
+    };
+    Ok(Some(Command::Ask(Query::DynamicNames { object })))
 }
 
 /// `properties`: an object.
-fn properties(members: &[Member<'_>]) -> Option<Command>
-    ensures { Asks properties members.now result }
+fn properties(members: &[Member<'_>]) -> Result<Option<Command>, AllocError>
+    ensures { IfOk result (Asks properties members.now) }
 {
-    let object = object_in(members)?;
-    Some(Command::Ask(Query::Properties { object }))
+    let Some(object) = object_in(members) else {
+        return Ok(None);
+    };
+    Ok(Some(Command::Ask(Query::Properties { object })))
 }

@@ -56,10 +56,13 @@ pub(crate) fn property_in(
         return Ok(None);
     }
     let [object, property] = held;
-    match (object.number(), property.text(alloc)?) {
-        (Some(object), Some(property)) => Ok(Some((object, property))),
-        _ => Ok(None),
-    }
+    let Some(object) = object.number() else {
+        return Ok(None);
+    };
+    let Some(property) = property.text(alloc)? else {
+        return Ok(None);
+    };
+    Ok(Some((object, property)))
 }
 
 const CLASS: [Key; 1] = [Key::Needed("class", Holds::Name)];

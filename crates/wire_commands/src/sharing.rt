@@ -1,4 +1,4 @@
-//! The commands of publications and joins, and the one that begins anew.
+//! The commands of publications and joins, and `reset`.
 
 ghost use Rattle.std.specs.Prelude.{◌≡◌, IfOk, map, option_and_then};
 ghost use Rattle.serde_json.specs.View.{view};
@@ -10,13 +10,13 @@ ghost use Rattle.wire_commands.specs.Sharing.{join, joins, leave, publications, 
 use crate::held::{Held, held_by};
 use crate::keys::{Holds, Key};
 use crate::shared::is_alone;
-use json_reading::Member;
+use json_reading::{Member, is_word};
 use plain_types::{Items, Text};
 use serde_json::Value;
 use session_model::{Command, Query};
 use std::alloc::{AllocError, Global};
 
-/// Reads a command of publications and joins, or the one that begins anew.
+/// Reads a command of publications and joins, or `reset`.
 #[inline(always)]
 #[tactic(auto, unfolding(crate::specs::Form::asked_by, crate::specs::Sharing::forms, crate::specs::Shared::alone))]
 pub(crate) fn read(
@@ -26,16 +26,28 @@ pub(crate) fn read(
 ) -> Result<Option<Command>, AllocError>
     ensures { IfOk result (AsksBy from_sharing word.now members.now) }
 {
-    match word {
-        "publish" => publish(alloc, members),
-        "unpublish" => unpublish(alloc, members),
-        "join" => join(alloc, members),
-        "leave" => leave(alloc, members),
-        "reset" => Ok(reset(members)),
-        "publications" => Ok(publications(members)),
-        "joins" => Ok(joins(members)),
-        _ => Ok(None),
+    if is_word(word, "publish") {
+        return publish(alloc, members);
     }
+    if is_word(word, "unpublish") {
+        return unpublish(alloc, members);
+    }
+    if is_word(word, "join") {
+        return join(alloc, members);
+    }
+    if is_word(word, "leave") {
+        return leave(alloc, members);
+    }
+    if is_word(word, "reset") {
+        return reset(members);
+    }
+    if is_word(word, "publications") {
+        return publications(members);
+    }
+    if is_word(word, "joins") {
+        return joins(members);
+    }
+    Ok(None)
 }
 
 const PUBLISH: [Key; 3] = [
@@ -150,7 +162,7 @@ const LEAVE: [Key; 4] = [
     Key::Needed("method", Holds::Text),
 ];
 
-/// `leave`: what a join was made with, but for its types.
+/// `leave`: the keys of the join, except its types.
 fn leave(alloc: Global, members: &[Member<'_>]) -> Result<Option<Command>, AllocError>
     ensures { IfOk result (Asks leave members.now) }
 {
@@ -176,32 +188,32 @@ fn leave(alloc: Global, members: &[Member<'_>]) -> Result<Option<Command>, Alloc
     }))
 }
 
-/// `reset`: nothing more.
-fn reset(members: &[Member<'_>]) -> Option<Command>
-    ensures { Asks reset members.now result }
+/// `reset`: no other keys.
+fn reset(members: &[Member<'_>]) -> Result<Option<Command>, AllocError>
+    ensures { IfOk result (Asks reset members.now) }
 {
     if !is_alone(members) {
-        return None;
+        return Ok(None);
     }
-    Some(Command::Reset)
+    Ok(Some(Command::Reset))
 }
 
 /// `publications`: nothing more.
-fn publications(members: &[Member<'_>]) -> Option<Command>
-    ensures { Asks publications members.now result }
+fn publications(members: &[Member<'_>]) -> Result<Option<Command>, AllocError>
+    ensures { IfOk result (Asks publications members.now) }
 {
     if !is_alone(members) {
-        return None;
+        return Ok(None);
     }
-    Some(Command::Ask(Query::Publications))
+    Ok(Some(Command::Ask(Query::Publications)))
 }
 
 /// `joins`: nothing more.
-fn joins(members: &[Member<'_>]) -> Option<Command>
-    ensures { Asks joins members.now result }
+fn joins(members: &[Member<'_>]) -> Result<Option<Command>, AllocError>
+    ensures { IfOk result (Asks joins members.now) }
 {
     if !is_alone(members) {
-        return None;
+        return Ok(None);
     }
-    Some(Command::Ask(Query::Joins))
+    Ok(Some(Command::Ask(Query::Joins)))
 }

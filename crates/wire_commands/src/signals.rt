@@ -8,11 +8,11 @@ ghost use Rattle.wire_commands.specs.Signals.{connect, connect_functor, connecti
 use crate::events;
 use crate::held::{Held, held_by};
 use crate::keys::{Holds, Key};
-use json_reading::Member;
+use json_reading::{Member, is_word};
 use session_model::{Command, Query};
 use std::alloc::{AllocError, Global};
 
-/// Reads a command of signals and slots. Any other word is read by the next family.
+/// Reads a command of signals and slots, except `invoke`. Any other word is read by the next family.
 #[inline(always)]
 #[tactic(auto, unfolding(crate::specs::Form::asked_by, crate::specs::Signals::forms))]
 pub(crate) fn read(
@@ -22,14 +22,19 @@ pub(crate) fn read(
 ) -> Result<Option<Command>, AllocError>
     ensures { IfOk result (AsksBy from_signals word.now members.now) }
 {
-    match word {
-        "connect" => connect(alloc, members),
-        "connectFunctor" => connect_functor(alloc, members),
-        "disconnect" => disconnect(alloc, members),
-        "invoke" => invoke(alloc, members),
-        "connections" => Ok(connections(members)),
-        _ => events::read(alloc, word, members),
+    if is_word(word, "connect") {
+        return connect(alloc, members);
     }
+    if is_word(word, "connectFunctor") {
+        return connect_functor(alloc, members);
+    }
+    if is_word(word, "disconnect") {
+        return disconnect(alloc, members);
+    }
+    if is_word(word, "connections") {
+        return connections(members);
+    }
+    events::read(alloc, word, members)
 }
 
 const CONNECT: [Key; 7] = [
@@ -54,7 +59,10 @@ fn connect(alloc: Global, members: &[Member<'_>]) -> Result<Option<Command>, All
     let (Some(sender), Some(receiver)) = (sender.number(), receiver.number()) else {
         return Ok(None);
     };
-    let (Some(signal), Some(method)) = (signal.text(alloc)?, method.text(alloc)?) else {
+    let Some(signal) = signal.text(alloc)? else {
+        return Ok(None);
+    };
+    let Some(method) = method.text(alloc)? else {
         return Ok(None);
     };
     Ok(Some(Command::Connect {
@@ -90,7 +98,10 @@ fn connect_functor(alloc: Global, members: &[Member<'_>]) -> Result<Option<Comma
     let (Some(sender), Some(context)) = (sender.number(), context.number()) else {
         return Ok(None);
     };
-    let (Some(signal), Some(functor)) = (signal.text(alloc)?, functor.text(alloc)?) else {
+    let Some(signal) = signal.text(alloc)? else {
+        return Ok(None);
+    };
+    let Some(functor) = functor.text(alloc)? else {
         return Ok(None);
     };
     Ok(Some(Command::ConnectFunctor {
@@ -112,8 +123,8 @@ const DISCONNECT: [Key; 5] = [
     Key::Optional("method", Holds::Text),
 ];
 
-/// `disconnect`: a connection alone, or a sender and what matches; a method is named only beside a
-/// receiver.
+/// `disconnect`: only a connection, or a sender with an optional signal and receiver. A method is given only
+/// together with a receiver.
 fn disconnect(alloc: Global, members: &[Member<'_>]) -> Result<Option<Command>, AllocError>
     ensures { IfOk result (Asks disconnect members.now) }
 {
@@ -155,7 +166,7 @@ const INVOKE: [Key; 5] = [
 ];
 
 /// `invoke`: a method of an object, what it is given, how it is called, and how soon where it is queued.
-fn invoke(alloc: Global, members: &[Member<'_>]) -> Result<Option<Command>, AllocError>
+pub(crate) fn invoke(alloc: Global, members: &[Member<'_>]) -> Result<Option<Command>, AllocError>
     ensures { IfOk result (Asks invoke members.now) }
 {
     let mut held = [Held::Absent; 5];
@@ -170,16 +181,19 @@ fn invoke(alloc: Global, members: &[Member<'_>]) -> Result<Option<Command>, Allo
     let Some(priority) = priority.priority(mode) else {
         return Ok(None);
     };
-    match (method.text(alloc)?, args.list(alloc)?) {
-        (Some(method), Some(args)) => Ok(Some(Command::Invoke {
-            object,
-            method,
-            args,
-            mode,
-            priority,
-        })),
-        _ => Ok(None),
-    }
+    let Some(method) = method.text(alloc)? else {
+        return Ok(None);
+    };
+    let Some(args) = args.list(alloc)? else {
+        return Ok(None);
+    };
+    Ok(Some(Command::Invoke {
+        object,
+        method,
+        args,
+        mode,
+        priority,
+    }))
 }
 
 const CONNECTIONS: [Key; 2] = [
@@ -188,15 +202,15 @@ const CONNECTIONS: [Key; 2] = [
 ];
 
 /// `connections`: an object, and a number of a connection, where these are given.
-fn connections(members: &[Member<'_>]) -> Option<Command>
-    ensures { Asks connections members.now result }
+fn connections(members: &[Member<'_>]) -> Result<Option<Command>, AllocError>
+    ensures { IfOk result (Asks connections members.now) }
 {
     let mut held = [Held::Absent; 2];
     if !held_by(members, &CONNECTIONS, &mut held) {
-        return None;
+        return Ok(None);
     }
     let [object, after] = held;
     let object = object.number();
     let after = after.number();
-    Some(Command::Ask(Query::Connections { object, after }))
+    Ok(Some(Command::Ask(Query::Connections { object, after })))
 }

@@ -1,7 +1,7 @@
 //! The commands of trees of objects.
 
 ghost use Rattle.std.specs.Prelude.{IfOk};
-ghost use Rattle.wire_commands.specs.Commands.{all_forms};
+ghost use Rattle.wire_commands.specs.Commands.{from_trees};
 ghost use Rattle.wire_commands.specs.Form.{Asks, AsksBy};
 ghost use Rattle.wire_commands.specs.Trees.{children, delete, describe_object, find, find_all, new, parent, set_parent};
 
@@ -9,11 +9,11 @@ use crate::held::{Held, held_by};
 use crate::keys::{Holds, Key};
 use crate::properties;
 use crate::shared::{Search, object_in, search_in};
-use json_reading::Member;
+use json_reading::{Member, is_word};
 use session_model::{Command, Query};
 use std::alloc::{AllocError, Global};
 
-/// Reads a command of trees of objects. Any other word is read by the next family.
+/// Reads a command of trees of objects, except `new`. Any other word is read by the next family.
 #[inline(always)]
 #[tactic(auto, unfolding(crate::specs::Form::asked_by, crate::specs::Trees::forms, crate::specs::Shared::of_object, crate::specs::Shared::of_search))]
 pub(crate) fn read(
@@ -21,19 +21,30 @@ pub(crate) fn read(
     word: &str,
     members: &[Member<'_>],
 ) -> Result<Option<Command>, AllocError>
-    ensures { IfOk result (AsksBy all_forms word.now members.now) }
+    ensures { IfOk result (AsksBy from_trees word.now members.now) }
 {
-    match word {
-        "new" => new(alloc, members),
-        "delete" => Ok(delete(members)),
-        "setParent" => Ok(set_parent(members)),
-        "children" => Ok(children(members)),
-        "find" => find(alloc, members),
-        "parent" => Ok(parent(members)),
-        "findAll" => find_all(alloc, members),
-        "object" => Ok(describe_object(members)),
-        _ => properties::read(alloc, word, members),
+    if is_word(word, "delete") {
+        return delete(members);
     }
+    if is_word(word, "setParent") {
+        return set_parent(members);
+    }
+    if is_word(word, "children") {
+        return children(members);
+    }
+    if is_word(word, "find") {
+        return find(alloc, members);
+    }
+    if is_word(word, "parent") {
+        return parent(members);
+    }
+    if is_word(word, "findAll") {
+        return find_all(alloc, members);
+    }
+    if is_word(word, "object") {
+        return describe_object(members);
+    }
+    properties::read(alloc, word, members)
 }
 
 const NEW: [Key; 2] = [
@@ -42,7 +53,7 @@ const NEW: [Key; 2] = [
 ];
 
 /// `new`: a class, and a parent where one is named.
-fn new(alloc: Global, members: &[Member<'_>]) -> Result<Option<Command>, AllocError>
+pub(crate) fn new(alloc: Global, members: &[Member<'_>]) -> Result<Option<Command>, AllocError>
     ensures { IfOk result (Asks new members.now) }
 {
     let mut held = [Held::Absent; 2];
@@ -58,11 +69,13 @@ fn new(alloc: Global, members: &[Member<'_>]) -> Result<Option<Command>, AllocEr
 }
 
 /// `delete`: an object.
-fn delete(members: &[Member<'_>]) -> Option<Command>
-    ensures { Asks delete members.now result }
+fn delete(members: &[Member<'_>]) -> Result<Option<Command>, AllocError>
+    ensures { IfOk result (Asks delete members.now) }
 {
-    let object = object_in(members)?;
-    Some(Command::Delete { object })
+    let Some(object) = object_in(members) else {
+        return Ok(None);
+    };
+    Ok(Some(Command::Delete { object }))
 }
 
 const SET_PARENT: [Key; 2] = [
@@ -71,32 +84,34 @@ const SET_PARENT: [Key; 2] = [
 ];
 
 /// `setParent`: an object, and its parent or null.
-fn set_parent(members: &[Member<'_>]) -> Option<Command>
-    ensures { Asks set_parent members.now result }
+fn set_parent(members: &[Member<'_>]) -> Result<Option<Command>, AllocError>
+    ensures { IfOk result (Asks set_parent members.now) }
 {
     let mut held = [Held::Absent; 2];
     if !held_by(members, &SET_PARENT, &mut held) {
-        return None;
+        return Ok(None);
     }
     let [object, parent] = held;
-    let object = object.number()?;
+    let Some(object) = object.number() else {
+        return Ok(None);
+    };
     let parent = parent.number();
-    Some(Command::SetParent { object, parent })
+    Ok(Some(Command::SetParent { object, parent }))
 }
 
 const CHILDREN: [Key; 1] = [Key::Optional("object", Holds::Number)];
 
 /// `children`: an object, or none for the roots.
-fn children(members: &[Member<'_>]) -> Option<Command>
-    ensures { Asks children members.now result }
+fn children(members: &[Member<'_>]) -> Result<Option<Command>, AllocError>
+    ensures { IfOk result (Asks children members.now) }
 {
     let mut held = [Held::Absent; 1];
     if !held_by(members, &CHILDREN, &mut held) {
-        return None;
+        return Ok(None);
     }
     let [object] = held;
     let object = object.number();
-    Some(Command::Ask(Query::Children { object }))
+    Ok(Some(Command::Ask(Query::Children { object })))
 }
 
 /// `find`: an object, and a name and a class where these are given.
@@ -121,11 +136,13 @@ fn find(alloc: Global, members: &[Member<'_>]) -> Result<Option<Command>, AllocE
 }
 
 /// `parent`: an object.
-fn parent(members: &[Member<'_>]) -> Option<Command>
-    ensures { Asks parent members.now result }
+fn parent(members: &[Member<'_>]) -> Result<Option<Command>, AllocError>
+    ensures { IfOk result (Asks parent members.now) }
 {
-    let object = object_in(members)?;
-    Some(Command::Ask(Query::Parent { object }))
+    let Some(object) = object_in(members) else {
+        return Ok(None);
+    };
+    Ok(Some(Command::Ask(Query::Parent { object })))
 }
 
 /// `findAll`: an object, and a name and a class where these are given.
@@ -150,9 +167,11 @@ fn find_all(alloc: Global, members: &[Member<'_>]) -> Result<Option<Command>, Al
 }
 
 /// `object`: an object.
-fn describe_object(members: &[Member<'_>]) -> Option<Command>
-    ensures { Asks describe_object members.now result }
+fn describe_object(members: &[Member<'_>]) -> Result<Option<Command>, AllocError>
+    ensures { IfOk result (Asks describe_object members.now) }
 {
-    let object = object_in(members)?;
-    Some(Command::Ask(Query::Object { object }))
+    let Some(object) = object_in(members) else {
+        return Ok(None);
+    };
+    Ok(Some(Command::Ask(Query::Object { object })))
 }

@@ -98,6 +98,11 @@ text_between before s after plain =
     let quoted : (before ++ 34 ∷ []) ++ (s ++ (34 ∷ after)) ≡ before ++ ((34 ∷ (s ++ 34 ∷ [])) ++ after) = simp append_assoc in
     quoted ∙ ap (λ text. before ++ (text ++ after)) (sym (text_of_plain s plain))
 
+pub plain_behind : (a b c d before s after : List ℕ) → list_all is_plain_byte s ≡ true → b ≡ a ++ (before ++ 34 ∷ []) → c ≡ b ++ s → d ≡ c ++ 34 ∷ after
+    → d ≡ a ++ (before ++ (compact_text (string s) ++ after))
+plain_behind a b c d before s after plain e f g =
+    three_behind a b c d (before ++ 34 ∷ []) s (34 ∷ after) e f g ∙ ap (λ text. a ++ text) (text_between before s after plain)
+
 around_word : (opening told session : List ℕ) → around opening told (34 ∷ (session ++ 34 ∷ [])) ≡ opening
     ++ (told ++ (codes ",\"session\":\"" ++ (session ++ codes "\"}\n")))
 around_word opening told session = simp append_assoc

@@ -2,18 +2,18 @@
 use Rattle.std.specs.Prelude.{ℕ}
 use Rattle.wire_format.specs.declared.adapter.Counted.{Counted}
 
--- the device that it reads from or writes to
+-- The device that it reads from or writes to.
 abbrev pub counted_device : {D : Type 0} → Counted D → D
 counted_device c = c.device
 
--- how often it was asked for bytes
+-- How often bytes were read from it.
 abbrev pub counted_reads : {D : Type 0} → Counted D → ℕ
 counted_reads c = c.reads
 
--- how often it gave bytes
+-- How often it gave bytes.
 abbrev pub counted_gave : {D : Type 0} → Counted D → ℕ
 counted_gave c = c.gave
 
--- how often the device failed
+-- How often the device failed.
 abbrev pub counted_failures : {D : Type 0} → Counted D → ℕ
 counted_failures c = c.failures

@@ -1,4 +1,4 @@
--- The objects that are written for descriptions, whose keys stand in byte order.
+-- Descriptions in JSON, with their keys in byte order.
 use Rattle.std.specs.Prelude.{ℕ, List, codes, option_map}
 use Rattle.serde_json.specs.Data.{Data, boolean, string, object, no_members, member}
 use Rattle.plain_types.specs.declared.connection_type.ConnectionType.{ConnectionType}
@@ -19,11 +19,11 @@ use Rattle.session_model.specs.declared.descriptions.PublicationDescription.{Pub
 use Rattle.variant_value.specs.Values.{json_of}
 use Rattle.wire_format.specs.Json.{array_of, error_name, json_of_found, json_of_name, json_of_number}
 
--- the name of a kind
+-- The name of a kind.
 abbrev pub json_of_kind : Kind → Data
 json_of_kind kind = string (kind_name kind)
 
--- the name by which a connection's type is asked for
+-- The name of a connection's type.
 abbrev pub mode_name : ConnectionType → List ℕ
 mode_name Auto = codes "auto"
 mode_name Direct = codes "direct"
@@ -82,7 +82,7 @@ json_of_class described =
     member (codes "slots") (array_of json_of_declared_method described.slots) (
     member (codes "super") (json_of_name described.superclass) no_members)))))
 
--- a connection to a method names its receiver, and one to a functor its context and the state that is kept
+-- A connection to a method has its receiver, and one to a functor has its context object and its state.
 abbrev pub json_of_connection_to : ConnectionDescription → CalleeDescription → Data
 json_of_connection_to row (Method method) =
     object (member (codes "connection") (json_of_number row.number) (

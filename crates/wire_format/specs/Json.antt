@@ -1,29 +1,29 @@
--- What is written for numbers, names, lists and errors.
+-- Numbers, names, lists and errors in JSON.
 use Rattle.std.specs.Prelude.{ℕ, List, codes, Option, Some, None, map}
 use Rattle.serde_json.specs.Data.{Data, null, number, string, array, unsigned}
 use Rattle.serde_json.specs.View.{items_of}
 use Rattle.binding_values.specs.declared.property.BindingError.{BindingError}
 use Rattle.binding_values.specs.declared.property.BindingError.TheVariants.{BindingLoop, EvaluationError}
 
--- a number in JSON
+-- A number in JSON.
 abbrev pub json_of_number : ℕ → Data
 json_of_number n = number (unsigned n)
 
--- a name, or null where there is none
+-- A name; null if there is none.
 abbrev pub json_of_name : Option (List ℕ) → Data
 json_of_name None = null
 json_of_name (Some name) = string name
 
--- a list as an array, each element in JSON
+-- A list as an array, each element in JSON.
 abbrev pub array_of : {A : Type 0} → (A → Data) → List A → Data
 array_of json elements = array (items_of (map json elements))
 
--- a number, or null where there is none
+-- A number; null if there is none.
 abbrev pub json_of_found : Option ℕ → Data
 json_of_found None = null
 json_of_found (Some n) = json_of_number n
 
--- the name of the error that a bound property stands for
+-- The name of a binding's error.
 abbrev pub error_name : BindingError → List ℕ
 error_name BindingLoop = codes "BindingLoop"
 error_name EvaluationError = codes "EvaluationError"

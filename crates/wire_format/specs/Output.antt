@@ -1,4 +1,4 @@
--- What is written for an input.
+-- The output for an input.
 use Rattle.std.specs.Prelude.{◌≡◌, ℕ, Bool, true, List, [], ◌∷◌, map, filter, bytes_eq, Option, Some, None}
 use Rattle.std.specs.List.{flat_map}
 use Rattle.isolation.specs.Influence.{IsClosed, KnowsAll, influences}
@@ -14,15 +14,15 @@ use Rattle.wire_format.specs.declared.fault.LineFault.{LineFault}
 use Rattle.wire_format.specs.Input.{Piece, pieces_of, without}
 use Rattle.wire_format.specs.Text.{blamed, text_of_line}
 
--- all sessions, by their names
+-- All sessions, by their names.
 abbrev pub World : Type 0
 World = List ℕ → State
 
--- what is answered to a piece
+-- The answer to a piece.
 abbrev pub Answer : Type 0
 Answer = pieces.Answer (List ℕ) Line LineFault
 
--- a line that is written, and the session that it names
+-- A line that is written, and the session that it names.
 pub record Said : Type 0 where
   pub session : List ℕ
   pub text : List ℕ
@@ -30,7 +30,7 @@ pub record Said : Type 0 where
 abbrev pub said_by : List ℕ → Line → Said
 said_by session line = record { session = session; text = text_of_line session line }
 
--- the lines that are written for an answer
+-- The lines that are written for an answer.
 abbrev pub said_in : Answer → List Said
 said_in (Told session lines) = map (said_by session) lines
 said_in (Blamed fault) = said_by (blamed fault) (Error fault.code) ∷ []
@@ -38,27 +38,27 @@ said_in (Blamed fault) = said_by (blamed fault) (Error fault.code) ∷ []
 abbrev pub text_of_said : List Said → List ℕ
 text_of_said lines = flat_map (λ line. line.text) lines
 
--- what is answered to the pieces of an input, in order
+-- The answers to the pieces of an input, in order.
 abbrev pub answers_to : Settings → World → List ℕ → List Answer
 answers_to settings world bytes = piece_answers (machine settings) world (pieces_of bytes)
 
--- the lines that are written for an input, in order
+-- The lines that are written for an input, in order.
 unfoldable pub said_all : Settings → World → List ℕ → List Said
 said_all settings world bytes = flat_map said_in (answers_to settings world bytes)
 
--- what is written for an input
+-- The output for an input.
 unfoldable pub output : Settings → World → List ℕ → List ℕ
 output settings world bytes = text_of_said (said_all settings world bytes)
 
--- the states of the sessions after an input
+-- The states of the sessions after an input.
 unfoldable pub world_of : Settings → World → List ℕ → World
 world_of settings world bytes = world_after (machine settings) world (commands_of (pieces_of bytes))
 
--- the lines that name a session
+-- The lines that name a session.
 abbrev pub lines_said_to : List ℕ → List Said → List Said
 lines_said_to session lines = filter (λ line. bytes_eq session line.session) lines
 
--- what is written for one piece, and the states after it
+-- The text for one piece.
 unfoldable pub text_of_piece : Settings → World → Option Piece → List ℕ
 text_of_piece settings world None = []
 text_of_piece settings world (Some (Given given)) = flat_map (text_of_line given.session) (effect (machine settings) world given).lines
@@ -69,7 +69,7 @@ world_after_piece settings world None = world
 world_after_piece settings world (Some (Given given)) = after (machine settings) world given
 world_after_piece settings world (Some (Faulty fault)) = world
 
--- leaving out the lines of sessions that no kept session joins changes nothing that is said to a kept session
+-- Leaving out the lines of sessions that no kept session joins changes nothing that a kept session receives.
 abbrev pub LeavingOutLines : Type 0
 LeavingOutLines =
     (settings : Settings) (keep : List ℕ → Bool) (world : World) (bytes : List ℕ) →
@@ -77,7 +77,7 @@ LeavingOutLines =
     (s : List ℕ) → keep s ≡ true →
     lines_said_to s (said_all settings world (without keep bytes)) ≡ lines_said_to s (said_all settings world bytes)
 
--- so a session sees nothing of the lines of sessions from which no chain of joins leads to it
+-- A session does not notice the lines of sessions to which no chain of joins leads from it.
 abbrev pub LeavingOutStrangers : Type 0
 LeavingOutStrangers =
     (settings : Settings) (world : World) (known : List (List ℕ)) (bytes : List ℕ) →

@@ -13,12 +13,12 @@ use Rattle.wire_format.specs.Text.{is_plain_byte}
 abbrev pub text_of_parts : Parts → List ℕ
 text_of_parts parts = parts.opening.now ++ (parts.told.now ++ (parts.between.now ++ (parts.session.now ++ codes "\"}\n")))
 
--- a value that is no text in which JSON escapes something
+-- Whether a value is written without escapes.
 abbrev pub is_plain_value : Value → Bool
 is_plain_value (Text text) = list_all is_plain_byte text
 is_plain_value _ = true
 
--- an answer of one such value
+-- Whether an answer is one such value.
 abbrev pub is_plain_answer : Answer → Bool
 is_plain_answer (answer.Number n) = true
 is_plain_answer (answer.Found found) = true
@@ -40,7 +40,7 @@ is_plain_answer (answer.Properties properties) = false
 is_plain_answer (answer.Bindings bindings) = false
 is_plain_answer (answer.Binding term) = is_none term
 
--- the lines that are given in parts
+-- Whether a line is written in parts.
 abbrev pub has_parts : Line → Bool
 has_parts (Reply answer) = is_plain_answer answer
 has_parts (Error code) = true

@@ -1,4 +1,4 @@
--- What an answer is written as.
+-- The form in which an answer is written.
 use Rattle.std.specs.Prelude.{ℕ, Bool, true, false, List}
 use Rattle.std.specs.List.{list_all}
 use Rattle.serde_json.specs.Data.{string}
@@ -30,7 +30,7 @@ text_of_shown (Properties properties) = compact_text (array_of json_of_property 
 text_of_shown (Bindings bindings) = compact_text (array_of json_of_named_property bindings.now)
 text_of_shown (Expression expr) = compact_text (json_of_term expr.now)
 
--- a word, or a text in which JSON escapes nothing
+-- Whether an answer is a word, or a text without escapes.
 abbrev pub is_plain_shown : Shown → Bool
 is_plain_shown (Word word) = true
 is_plain_shown (Text text) = list_all is_plain_byte text.now

@@ -1,4 +1,4 @@
--- What is written for an expression: what it is read from, in its shortest form.
+-- Expressions in JSON, in their shortest form.
 use Rattle.std.specs.Prelude.{ℕ, true, List, Option, Some, None, codes}
 use Rattle.serde_json.specs.Data.{Data, null, boolean, string, array, object, no_items, item, no_members, member}
 use Rattle.session_model.specs.declared.named_property.NamedProperty.{NamedProperty}
@@ -10,7 +10,7 @@ use Rattle.term_core.specs.Term.{Term, const, arg, state, prop, binary, choice}
 use Rattle.variant_value.specs.Values.{json_of}
 use Rattle.wire_format.specs.Json.{json_of_number}
 
--- the key of an operator's form
+-- The key of an operator's form.
 abbrev pub operator_key : Operator → List ℕ
 operator_key Sum = codes "+"
 operator_key Difference = codes "-"
@@ -18,22 +18,22 @@ operator_key Less = codes "<"
 operator_key Equal = codes "="
 operator_key Concatenated = codes "cat"
 
--- an object with one member
+-- An object with one member.
 abbrev pub only : List ℕ → Data → Data
 only key json = object (member key json no_members)
 
--- a property of an object that is named
+-- A property of a named object.
 abbrev pub json_of_property_of : Data → List ℕ → Data
 json_of_property_of of name = object (member (codes "of") of (member (codes "prop") (string name) no_members))
 
--- a property of a target; the object itself is not named
+-- A property of a target. The object itself is not named.
 abbrev pub json_of_read : Target → List ℕ → Data
 json_of_read Itself name = only (codes "prop") (string name)
 json_of_read Sender name = json_of_property_of (string (codes "sender")) name
 json_of_read (Child child) name = json_of_property_of (only (codes "child") (string child)) name
 json_of_read (Object number) name = json_of_property_of (json_of_number number) name
 
--- an expression in JSON
+-- An expression in JSON.
 abbrev pub json_of_term : Term → Data
 json_of_term (const value) = only (codes "const") (json_of value)
 json_of_term (arg place) = only (codes "arg") (json_of_number place)
@@ -42,12 +42,12 @@ json_of_term (prop target name) = json_of_read target name
 json_of_term (binary operator a b) = only (operator_key operator) (array (item (json_of_term a) (item (json_of_term b) no_items)))
 json_of_term (choice test a b) = only (codes "if") (array (item (json_of_term test) (item (json_of_term a) (item (json_of_term b) no_items))))
 
--- the expression of a binding, or null where there is none
+-- The expression of a binding; null if there is none.
 abbrev pub json_of_expression : Option Term → Data
 json_of_expression None = null
 json_of_expression (Some term) = json_of_term term
 
--- a property by its object and its name
+-- A property by its object and its name.
 abbrev pub json_of_named_property : NamedProperty → Data
 json_of_named_property named =
     object (member (codes "object") (json_of_number named.object) (

@@ -1,4 +1,4 @@
--- What is written for a line that a session is told.
+-- The text of a line that a session receives.
 use Rattle.std.specs.Prelude.{◌==◌, ◌&&◌, ◌||◌, ℕ, Bool, not, List, [], ◌∷◌, ◌++◌, bytes_eq, codes, nat_le, unwrap_or, Option, Some, None, map, option_map}
 use Rattle.serde_json.specs.Data.{Data, Members, null, boolean, number, string, array, object, unsigned, no_members, member}
 use Rattle.serde_json.specs.View.{items_of}
@@ -24,7 +24,7 @@ use Rattle.wire_format.specs.Descriptions.{json_of_object, json_of_property, jso
 use Rattle.wire_format.specs.Terms.{json_of_expression, json_of_named_property}
 use Rattle.wire_format.specs.declared.fault.LineFault.{LineFault}
 
--- what there is in a class, in JSON, its keys in byte order
+-- The contents of a class in JSON, with its keys in byte order.
 abbrev pub json_of_meta : MetaObject → Data
 json_of_meta meta =
     object (member (codes "class") (string meta.class) (
@@ -34,7 +34,7 @@ json_of_meta meta =
     member (codes "propertyOffset") (json_of_number meta.property_offset) (
     member (codes "super") (json_of_name meta.superclass) no_members))))))
 
--- what came of taking events, in JSON
+-- The result of taking events, in JSON.
 abbrev pub json_of_spin : Spin → Data
 json_of_spin spin =
     object (member (codes "events") (json_of_number spin.events) (
@@ -42,7 +42,7 @@ json_of_spin spin =
     member (codes "lost") (json_of_number spin.lost) (
     member (codes "mismatched") (json_of_number spin.mismatched) no_members))))
 
--- how much there is in a session, in JSON
+-- The counts of a session, in JSON.
 abbrev pub json_of_status : Status → Data
 json_of_status status =
     object (member (codes "bindings") (json_of_number status.bindings) (
@@ -55,7 +55,7 @@ json_of_status status =
     member (codes "publications") (json_of_number status.publications) (
     member (codes "queued") (json_of_number status.queued) no_members)))))))))
 
--- an answer in JSON
+-- An answer in JSON.
 abbrev pub json_of_answer : Answer → Data
 json_of_answer (Number n) = json_of_number n
 json_of_answer (Found found) = json_of_found found
@@ -77,16 +77,16 @@ json_of_answer (Properties properties) = array_of json_of_property properties
 json_of_answer (Bindings bindings) = array_of json_of_named_property bindings
 json_of_answer (Binding term) = json_of_expression term
 
--- the session that a line names, in front of what it tells behind that
+-- The member for the session that a line names, before the other members.
 abbrev pub in_session : List ℕ → Members → Members
 in_session session later = member (codes "session") (string session) later
 
--- the object that a warning names, where it names one
+-- The member for the object that a warning names, if it names one.
 abbrev pub about : Option ℕ → Members → Members
 about None later = later
 about (Some n) later = member (codes "object") (json_of_number n) later
 
--- a line in JSON, its keys in byte order
+-- A line in JSON, its keys in byte order.
 abbrev pub said_in_json : List ℕ → Line → Data
 said_in_json session (Reply answer) = object (member (codes "reply") (json_of_answer answer) (in_session session no_members))
 said_in_json session (Error code) = object (member (codes "error") (string (code_text code)) (in_session session no_members))
@@ -101,18 +101,18 @@ said_in_json session (BindingWarning named property error) =
     member (codes "property") (string property) (
     in_session session (member (codes "warning") (string (error_name error)) no_members))))
 
--- the text of a line, with its line feed
+-- The text of a line, with its line feed.
 unfoldable pub text_of_line : List ℕ → Line → List ℕ
 text_of_line session line = compact_text (said_in_json session line) ++ 10 ∷ []
 
--- the session for which a fault is said: `-` where the line names none
+-- The session for which a fault is reported: `-` if the line names none.
 abbrev pub blamed : LineFault → List ℕ
 blamed fault = unwrap_or fault.session (codes "-")
 
--- what a line may name as its session: a name, or `-`
+-- Whether a line may name this as its session: a valid name, or `-`.
 abbrev pub is_session_text : List ℕ → Bool
 is_session_text text = is_name text || bytes_eq text (codes "-")
 
--- a byte that JSON does not escape
+-- A byte that JSON does not escape.
 abbrev pub is_plain_byte : ℕ → Bool
 is_plain_byte byte = nat_le 32 byte && not (byte == 34) && not (byte == 92)

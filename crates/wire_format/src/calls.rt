@@ -100,7 +100,7 @@ fn put_number(memory: &mut [u8], at: usize, number: u32) -> usize
     put(memory, at, Digits::new().format(number))
 }
 
-/// Puts a text behind the first bytes, and says where it ends.
+/// Copies a text into memory from `at` on, and returns where it ends.
 #[inline(always)]
 pub(crate) fn put(memory: &mut [u8], at: usize, text: &str) -> usize
     requires { at + length text.now ≤ length memory.old }

@@ -1,4 +1,4 @@
-//! Descriptions are written as objects, whose keys stand in byte order.
+//! Descriptions are written as JSON objects, with their keys in byte order.
 ghost use Rattle.std.specs.Prelude.{◌≡◌, ◌++◌, OnOk, codes, option_map, string_bytes};
 ghost use Rattle.serde_json.specs.Data.{boolean, string};
 ghost use Rattle.serde_json.specs.Written.{compact_text};
@@ -54,7 +54,7 @@ pub(crate) fn push_array<T: Written>(
     buffer.push_str("]")
 }
 
-/// Appends an array behind its key, which comes with what stands before it, as in what follows.
+/// Appends a key and an array. The key is JSON text, with its colon and with the comma or brace before it.
 fn put_array<T: Written>(
     alloc: Global,
     buffer: &mut String,

@@ -103,7 +103,7 @@ fn push_property(
     Ok(())
 }
 
-/// What stands before the operands of an operator.
+/// The JSON text before the operands of an operator.
 fn operator_opening(operator: Operator) -> &'static str
     ensures { result.now ≡ codes "{" ++ (compact_text (string (operator_key operator)) ++ codes ":[") }
 {

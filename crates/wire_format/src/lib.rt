@@ -1,6 +1,5 @@
-//! The lines of metad's protocol: what command a line is, and what is written for an answer. Beside them the
-//! readers and writers of bytes, which say which bytes they move, where these are known, and count how often
-//! they failed.
+//! The lines of metad's protocol: reading a line as a command, and writing an answer as a line. Also the readers
+//! and writers of bytes, which say which bytes they move, where these are known, and count how often they failed.
 #![tactic(auto)]
 
 ghost use Rattle.wire_format.specs.Output.{LeavingOutLines, LeavingOutStrangers};
@@ -31,8 +30,8 @@ pub use traits::{Failed, Sink, Source};
 pub use whole::write_all;
 pub use writing::{line_text, write_line};
 
-/// Sessions are isolated in inputs and in what is written for them: where the lines of sessions are left out
-/// that no kept session joins, each kept session is told the same, byte for byte.
+/// Sessions are isolated in inputs and in outputs: if the lines of sessions that no kept session joins are left
+/// out, each kept session receives the same output, byte for byte.
 ///
 /// There is nothing to run. The clauses are the laws.
 pub fn sessions_are_isolated()

@@ -23,7 +23,7 @@ pub struct Parts<'a> {
 }
 
 impl<'a> Parts<'a> {
-    /// The parts, one behind the other.
+    /// The parts in the order in which they are written.
     pub fn in_order(&self) -> [&'a str; 5]
         ensures { flat_map (λ part. part.now) result ≡ text_of_parts self.now }
     {

@@ -74,10 +74,10 @@ fn tagged_in(alloc: Global, members: &[Member<'_>]) -> Result<Tagged, ReadError>
     let Some(session) = session_of(alloc, members)? else {
         return Err(not_a_command(None));
     };
-    match command_in(alloc, members)? {
-        Some(command) => Ok(Tagged { session, command }),
-        None => Err(not_a_command(Some(session))),
-    }
+    let Some(command) = command_in(alloc, members)? else {
+        return Err(not_a_command(Some(session)));
+    };
+    Ok(Tagged { session, command })
 }
 
 fn unreadable() -> ReadError

@@ -21,9 +21,9 @@ use variant_value::Value;
 /// An answer is written as one of these.
 #[derive(Clone, Copy)]
 pub(crate) enum Shown<'a> {
-    /// The answer is written as it stands here.
+    /// This text, unchanged.
     Word(&'a str),
-    /// Between quotes, with what JSON escapes.
+    /// This text in quotes, with JSON escapes.
     Text(&'a str),
     Numbers(&'a [u32]),
     Names(&'a [Text]),
@@ -92,7 +92,7 @@ pub(crate) fn truth_word(truth: bool) -> &'static str
     if truth { "true" } else { "false" }
 }
 
-/// A number, or `null` where there is none.
+/// A number, or `null` for `None`.
 pub(crate) fn found_word<'a>(found: Option<u32>, digits: &'a mut Digits) -> &'a str
     ensures { result.now ≡ compact_text (json_of_found found) }
 {
@@ -102,7 +102,7 @@ pub(crate) fn found_word<'a>(found: Option<u32>, digits: &'a mut Digits) -> &'a 
     }
 }
 
-/// The name of an error, or `null` where there is none.
+/// The name of an error, or `null` for `None`.
 #[tactic(auto, using(crate::proofs::Plain::error_is_plain))]
 fn shown_error<'a>(error: Option<BindingError>) -> Shown<'a>
     ensures text { text_of_shown result ≡ compact_text (json_of_name (option_map error_name error)) }
@@ -114,7 +114,7 @@ fn shown_error<'a>(error: Option<BindingError>) -> Shown<'a>
     }
 }
 
-/// The name under which clients are told of an error.
+/// The name of an error in the protocol.
 pub(crate) fn error_name(error: BindingError) -> &'static str
     ensures { result.now ≡ error_name error }
 {

@@ -20,8 +20,7 @@ use std::alloc::{AllocError, Global};
 use std::mem;
 use variant_value::Value;
 
-/// The text of a line that a session is told, with its line feed: compact JSON, its keys in byte
-/// order.
+/// The text of a line for a session, with its line feed: compact JSON, its keys in byte order.
 pub fn line_text(alloc: Global, session: &str, line: &Line) -> Result<String, AllocError>
     ensures { IfOk result (λ text. string_bytes text ≡ text_of_line session.now line.now) }
 {
@@ -311,7 +310,7 @@ fn push_status(buffer: &mut String, status: &Status) -> Result<(), AllocError>
     Ok(())
 }
 
-/// Appends a number behind its key, which comes with what stands before it.
+/// Appends a key and a number. The key is JSON text, with its colon and with the comma or brace before it.
 pub(crate) fn push_count(buffer: &mut String, key: &str, number: u64) -> Result<(), AllocError>
     ensures { OnOk result (string_bytes buffer.new
         ≡ string_bytes buffer.old ++ (key.now ++ compact_text (json_of_number number))) }
@@ -343,7 +342,7 @@ fn push_numbers(buffer: &mut String, numbers: &[u32]) -> Result<(), AllocError>
     buffer.push_str("]")
 }
 
-/// Appends a name, or `null` where there is none.
+/// Appends a name, or `null` for `None`.
 pub(crate) fn push_name(
     alloc: Global,
     buffer: &mut String,

@@ -1,4 +1,4 @@
--- The slice of an input: the lines by which a session is told the same.
+-- The slice of an input: the lines that give a session the same answers.
 use Rattle.std.specs.Prelude.{◌≡◌, ◌≢◌, ◌⊎◌, ◌≤◌, ◌<◌, ◌^◌, ◌++◌, ℕ, Bool, true, false, List, [], ◌∷◌}
 use Rattle.std.specs.Prelude.{length, filter, take, Option, Some, Result, Err, IsOk, IfOk, IsFalse}
 use Rattle.std.specs.List.{flat_map}
@@ -23,33 +23,33 @@ abbrev pub is_given : Piece → Bool
 is_given (Given t) = true
 is_given (Faulty fault) = false
 
--- is the line a command
+-- Whether the line is a command.
 unfoldable pub is_command : List ℕ → Bool
 is_command line = option_map_or is_given (piece_of line) false
 
--- the lines of an input that are commands, without their line feeds
+-- The lines of an input that are commands, without their line feeds.
 abbrev pub command_lines : List ℕ → List (List ℕ)
 command_lines bytes = filter is_command (lines_of bytes)
 
--- those of them that the slice of s keeps
+-- The command lines in the slice of `s`.
 abbrev pub kept_lines : Settings → World → List ℕ → List ℕ → List (List ℕ)
 kept_lines settings world s bytes = kept (slice (machine settings) s world (commands_of (pieces_of bytes))).marks (command_lines bytes)
 
--- a line with its line feed
+-- A line with its line feed.
 abbrev pub ended : List ℕ → List ℕ
 ended line = line ++ 10 ∷ []
 
--- the slice of s as an input: these lines as they came
+-- The slice of `s` as an input: its lines, unchanged.
 unfoldable pub sliced : Settings → World → List ℕ → List ℕ → List ℕ
 sliced settings world s bytes = flat_map ended (kept_lines settings world s bytes)
 
--- in a run of its slice alone the commands of s are told what they are told in the run of all
+-- In a run of its slice the commands of `s` are answered as in the run of the whole input.
 abbrev pub IsToldAsSliced : Settings → World → List ℕ → List ℕ → Type 0
 IsToldAsSliced settings world s bytes =
     told (machine settings) s (answers_to settings world (sliced settings world s bytes))
     ≡ told (machine settings) s (answers_to settings world bytes)
 
--- some first commands of an input are done, one after another, and then at most memory was wanted and not found
+-- Some first commands of an input are done, one after another; after them at most memory ran out.
 pub record HasRun (bytes : List ℕ) (old new : Server) : Type 0 where
   pub count : ℕ
   pub between : Server
@@ -57,22 +57,22 @@ pub record HasRun (bytes : List ℕ) (old new : Server) : Type 0 where
   pub steps : AreSteps old (take count (commands_of (pieces_of bytes))) entries between
   pub left : (new ≡ between) ⊎ OnlyRefused between new
 
--- what a run for the slice of s over these bytes comes to
+-- The result of a run for the slice of `s` over these bytes.
 pub record SlicesOver (s bytes : List ℕ) (old new : Server)
     (held held_after left_after : Option (List ℕ)) (calls calls_after : Reads) (result : Result Summary RunFault) : Type 0 where
   pub runs : HasRun bytes old new
-  -- at its end it has written exactly the slice, where the sink failed a front of it, and after another fault nothing
+  -- After a good run the slice is written; if the sink failed a prefix of it, and after another fault nothing.
   pub written : IsOk result → Appends held held_after (sliced (settings old) (states old) s bytes)
   pub stopped : result ≡ Err Write → AppendsSome held held_after (sliced (settings old) (states old) s bytes)
   pub unwritten : (fault : RunFault) → result ≡ Err fault → fault ≢ Write → Appends held held_after []
-  -- before anything is written all commands are done, and no memory was ever wanted in vain
+  -- Before anything is written, all commands are done, and memory never ran out.
   pub behind : (IsOk result ⊎ (result ≡ Err Write)) → (states new ≡ world_of (settings old) (states old) bytes) × IsFalse (was_refused new)
-  -- the slice tells s the same, and so does every input between it and the whole
+  -- The slice gives `s` the same answers, and so does each input between the slice and the whole.
   pub same : IsToldAsSliced (settings old) (states old) s bytes
   pub between : IsToldBetween (settings old) (states old) bytes s
-  -- it finds no end only at a bound, and no command is done where not all of the input was read
+  -- It reports an endless input only at a bound, and does no command unless the whole input was read.
   pub endless : result ≡ Err Endless → (2 ^ 32 < length (lines_of bytes)) ⊎ (IsPastReads (2 ^ 40) bytes calls calls_after × (new ≡ old))
   pub unread : result ≡ Err Read → new ≡ old
-  -- all of the input is read, and its lines are counted
+  -- The whole input is read, and its lines are counted.
   pub all_read : IsOk result → left_after ≡ Some []
   pub counted : IfOk result (λ summary. (summary.lines ≡ length (lines_of bytes)) × (summary.lines ≤ 2 ^ 32))

@@ -1,4 +1,4 @@
--- What a run tells sessions when memory was refused in it or before it.
+-- What sessions receive in a run if memory was refused in it or before it.
 use Rattle.std.specs.Prelude.{◌≡◌, ◌≢◌, ℕ, Bool, true, false, List, [], ◌∷◌, ◌++◌, All, codes, length, map, take}
 use Rattle.std.specs.Prelude.{Option, Some, None}
 use Rattle.std.specs.Io.KnownBytes.{Appends}
@@ -19,21 +19,21 @@ use Rattle.wire_format.specs.Text.{blamed, text_of_line}
 use Rattle.wire_lines.specs.Isolation.{IsToldAlone, IsToldAsWithout, IsToldBetween, IsToldInterleaved}
 use Rattle.wire_lines.specs.Steps.{read_lines}
 
--- an input without the lines that were not read; the marks say of each line whether it was read
+-- An input without the lines that could not be read. There is a mark for each line: whether it was read.
 abbrev pub without_unread : List Bool → List ℕ → List ℕ
 without_unread read bytes = flat_map (λ line. line) (kept read (whole_lines bytes))
 
--- the first lines of an input
+-- The first lines of an input.
 abbrev pub first_lines : ℕ → List ℕ → List ℕ
 first_lines count bytes = flat_map (λ line. line) (take count (whole_lines bytes))
 
--- the lines that are written for the entry of a command
+-- The lines that are written for the entry of a command.
 abbrev pub said_by_entry : List ℕ → Entry → List Said
 said_by_entry session (Lines lines) = map (said_by session) lines
 said_by_entry session OutOfMemory = said_by session (Error code.OutOfMemory) ∷ []
 
--- the lines that are written for the lines of an input, where each command that was read has an entry. A line that was not
--- read is answered by one that names no session
+-- The lines that are written for an input, if each command that was read has an entry. A line that could not be read is
+-- answered by a line that names no session.
 abbrev pub said_for : List (Option Piece) → List Bool → List Entry → List Said
 said_for (None ∷ lines) (mark ∷ read) entries = said_for lines read entries
 said_for (Some piece ∷ lines) (false ∷ read) entries = said_by (codes "-") (Error code.OutOfMemory) ∷ said_for lines read entries
@@ -41,46 +41,47 @@ said_for (Some (Faulty fault) ∷ lines) (true ∷ read) entries = said_by (blam
 said_for (Some (Given t) ∷ lines) (true ∷ read) (entry ∷ entries) = said_by_entry t.session entry ++ said_for lines read entries
 said_for lines read entries = []
 
--- a line tells its session neither that memory ran out (`E21`) nor that it has failed (`E20`)
+-- A line reports neither that memory ran out (`E21`) nor that its session has failed (`E20`).
 pub record IsSparing (line : Said) : Type 0 where
   pub found : line.text ≢ text_of_line line.session (Error code.OutOfMemory)
   pub well : line.text ≢ text_of_line line.session (Error code.SessionFailed)
 
--- the sessions that pass the test were spared: no line that names one of them says that
+-- The sessions that pass the test were spared: no line that names one of them reports that.
 abbrev pub AreSpared : (List ℕ → Bool) → List Said → Type 0
 AreSpared keep said = All (λ line. keep line.session ≡ true → IsSparing line) said
 
--- the sessions that influence s in this input
+-- The sessions that influence `s` in this input.
 abbrev pub influencing : Server → List ℕ → List ℕ → List ℕ → Bool
 influencing server input s = influences (machine (settings server)) (states server) (names server) (commands_of (pieces_of input)) s
 
--- what these lines tell s, and how s ends, compared with a run of this input in which memory is found
+-- What `s` receives in these lines, and how it ends, compared with a run of this input in which memory is found.
 pub record IsApart (input : List ℕ) (old new : Server) (said : List Said) (s : List ℕ) : Type 0 where
-  -- the lines that name s are those that such a run writes for it,
+  -- The lines that name `s` are those that such a run writes for it.
   pub lines : lines_said_to s said ≡ lines_said_to s (said_all (settings old) (states old) input)
-  -- and s is in the state in which such a run leaves it, or has failed
+  -- `s` ends in the state in which such a run leaves it, or has failed.
   pub state : EndsIn new s (world_of (settings old) (states old) input s)
-  -- so s is told what it would be told alone,
+  -- `s` receives what it would receive alone.
   pub alone : IsToldAlone (settings old) (states old) input s
-  -- what it would be told without the commands of sessions from which no chain of joins leads to it,
+  -- It receives what it would without the commands of sessions to which no chain of joins leads from it.
   pub left_out : IsToldAsWithout (settings old) (states old) (names old) input s
-  -- by every input between its slice and the whole,
+  -- It receives what it would from each input between its slice and the whole.
   pub between : IsToldBetween (settings old) (states old) input s
-  -- and by every input that has the commands of closed sessions in the same order
+  -- It receives what it would from each input that has the commands of closed sessions in the same order.
   pub interleaved : IsToldInterleaved (settings old) (states old) input s
 
--- the lines of an input were answered by this text, whatever memory was refused
+-- This text answers the lines of an input, even if memory was refused.
 pub record Spares (input : List ℕ) (old new : Server) (text : List ℕ) : Type 0 where
-  -- a mark for each line, whether it was read, and an entry for each command that was read
+  -- A mark for each line, whether it was read, and an entry for each command that was read.
   pub read : List Bool
   pub entries : List Entry
   pub marked : length read ≡ length (whole_lines input)
   pub counted : length entries ≡ length (commands_of (pieces_of (without_unread read input)))
   pub says : text ≡ text_of_said (said_for (read_lines input) read entries)
-  -- a session is told what it would be told for the lines that were read, if all sessions that influence it were spared
+  -- A session receives what it would receive for the lines that were read, if all sessions that influence it were
+  -- spared.
   pub spared : (s : List ℕ) → AreSpared (influencing old (without_unread read input) s) (said_for (read_lines input) read entries)
       → IsApart (without_unread read input) old new (said_for (read_lines input) read entries) s
 
--- and the whole text is written
+-- The whole text is written.
 abbrev pub SparesAll : List ℕ → Option (List ℕ) → Server → Option (List ℕ) → Server → Type 0
 SparesAll input held old held_after new = (text : List ℕ) × Spares input old new text × Appends held held_after text

@@ -1,4 +1,4 @@
--- A run under way: what a server does with the lines of an input that comes in pieces.
+-- A run in progress: how a server answers the lines of an input that arrives in pieces.
 use Rattle.std.specs.Prelude.{◌≡◌, ℕ, ◌+◌, ◌<◌, false, List, [], ◌∷◌, ◌++◌, length, Option, Result, IsTrue, Ok, Err}
 use Rattle.std.specs.List.{All}
 use Rattle.plain_types.specs.Names.{is_name}
@@ -15,29 +15,29 @@ use Rattle.wire_lines.specs.declared.fault.RunFault.TheVariants.{Read, Write, En
 use Rattle.wire_lines.specs.Sending.{Out, Sent, SentFront}
 use Rattle.wire_lines.specs.Steps.{AreAnswered, IsAnswered, read_lines}
 
--- the sessions of a server are called by names
+-- All sessions of the server have names of sessions.
 abbrev pub HaveNames : Server → Type 0
 HaveNames server = All (λ name. IsTrue (is_name name)) (names server)
 
--- the settings of a server stay, and so does that it once found no memory, that its sessions are called by names, and
--- that what they hold is
+-- A later server: it has the same settings; memory that was refused stays noted; its sessions still have names of
+-- sessions, and so has what they hold.
 pub record Later (old new : Server) : Type 0 where
   pub settings : settings new ≡ settings old
   pub refused : IsTrue (was_refused old) → IsTrue (was_refused new)
   pub named : AllAreNamed (seen_by_name old) → AllAreNamed (seen_by_name new)
   pub sessions : HaveNames old → HaveNames new
 
--- where a run stands
+-- The point that a run has reached.
 pub record Point : Type 0 where
   pub server : Server
   pub out : Out
-  -- how many lines there were
+  -- How many lines there were.
   pub lines : ℕ
-  -- the bytes that are read and not yet answered
+  -- The bytes that are read and not answered yet.
   pub begun : List ℕ
 
--- from one point to another: these lines were answered and counted, what was said to them is sent, and whatever
--- follows, they are the first, and then come those behind the new point
+-- Between two points these lines were answered and counted, and their answers were sent. Whatever bytes follow, these
+-- lines are the first, and those after the new point come next.
 pub record Fed (old new : Point) : Type 0 where
   pub lines : List (Option Piece)
   pub text : List ℕ
@@ -46,22 +46,22 @@ pub record Fed (old new : Point) : Type 0 where
   pub sent : Sent old.out new.out text
   pub counted : new.lines ≡ old.lines + length lines
 
--- all bytes are answered, and there are no more
+-- All bytes are answered, and there are no more.
 pub record Done (old new : Point) : Type 0 where
   pub text : List ℕ
   pub answered : AreAnswered old.server (read_lines old.begun) text new.server
   pub sent : Sent old.out new.out text
   pub counted : new.lines ≡ old.lines + length (read_lines old.begun)
 
--- how much is sent of what was said until a run stops: a front where the sink failed or there was no memory for a text,
--- and else all of it
+-- How much of the answers is sent when a run stops: a prefix if the sink failed or a text found no memory, and otherwise
+-- all.
 abbrev pub SentUntil : RunFault → Out → Out → List ℕ → Type 0
 SentUntil Write old new text = SentFront old new text
 SentUntil Memory old new text = SentFront old new text
 SentUntil fault old new text = Sent old new text
 
--- these bytes are said and then those of a text, of which one line found no memory: all that comes before it is sent.
--- What is said in parts, as refusals are, takes no memory
+-- After these bytes comes a text with a line for which there is no memory: all that precedes this line is sent. Lines
+-- that are written in parts, such as refusals, take no memory.
 pub record IsStuckBy (said : List ℕ) (says : List ℕ → Type 0) (before after : Out) : Type 0 where
   pub told : List ℕ
   pub session : List ℕ
@@ -71,7 +71,7 @@ pub record IsStuckBy (said : List ℕ) (says : List ℕ → Type 0) (before afte
   pub long : has_parts line ≡ false
   pub sent : Sent before after (said ++ told)
 
--- these lines are answered, and what is said to the last of them found no memory
+-- These lines are answered, and there was no memory for a line of the last answer.
 pub record IsStuck (old : Server) (lines : List (Option Piece)) (new : Server) (before after : Out) : Type 0 where
   pub first : List (Option Piece)
   pub last : Option Piece
@@ -81,13 +81,13 @@ pub record IsStuck (old : Server) (lines : List (Option Piece)) (new : Server) (
   pub answered : AreAnswered old first said between
   pub stuck : IsStuckBy said (λ text. IsAnswered between last text new) before after
 
--- so it is where that is the fault
+-- The run is stuck in this way if memory is the fault.
 abbrev pub StuckIn : RunFault → Server → List (Option Piece) → Server → Out → Out → Type 0
 StuckIn Memory old lines new before after = IsStuck old lines new before after
 StuckIn fault old lines new before after = Unit {0}
 
--- the run stopped for this fault: where these bytes follow, some first lines were answered and counted, and what was
--- said to them is sent so far
+-- The run stopped with this fault. If these bytes follow, some first lines were answered and counted, and their answers
+-- were sent as far as the fault let them.
 pub record Cut (fault : RunFault) (old new : Point) (rest : List ℕ) : Type 0 where
   pub lines : List (Option Piece)
   pub behind : List (Option Piece)
@@ -98,37 +98,38 @@ pub record Cut (fault : RunFault) (old new : Point) (rest : List ℕ) : Type 0 w
   pub counted : new.lines ≡ old.lines + length lines
   pub stuck : StuckIn fault old.server lines new.server old.out new.out
 
--- so many lines were counted, and there are more
+-- This many lines were counted, and there are more.
 abbrev pub IsOver : ℕ → Point → Point → List ℕ → Type 0
 IsOver most old new rest = (new.lines ≡ most) × (most < old.lines + length (read_lines (old.begun ++ rest)))
 
--- the run stops for this fault, where these bytes follow
+-- The run stops with this fault, if these bytes follow.
 abbrev pub Stops : ℕ → RunFault → Point → Point → List ℕ → Type 0
 Stops most Endless old new rest = Cut Endless old new rest × IsOver most old new rest
 Stops most fault old new rest = Cut fault old new rest
 
--- the run goes on, or stops whatever follows
+-- The run goes on, or it stops, whatever follows.
 abbrev pub Feeds : {T : Type 0} → ℕ → Point → Point → Result T RunFault → Type 0
 Feeds most old new (Ok done) = Fed old new
 Feeds most old new (Err fault) = (rest : List ℕ) → Stops most fault old new rest
 
--- the same of what a run does with its last line
+-- How a run finishes with its last line: well, or with a fault.
 abbrev pub Finishes : {T : Type 0} → ℕ → Point → Point → Result T RunFault → Type 0
 Finishes most old new (Ok done) = Done old new
 Finishes most old new (Err fault) = Stops most fault old new []
 
--- the sink failed once where that is the fault, and else not; a failed read is no fault here
+-- The sink failed once if that is the fault, and otherwise never. A failed read cannot be the fault here.
 abbrev pub SinkFails : {T : Type 0} → ℕ → ℕ → Result T RunFault → Type 0
 SinkFails old new (Err Write) = FailsOnce old new
 SinkFails old new (Err Read) = ⊥
 SinkFails old new r = new ≡ old
 
--- nor is the number of lines
+-- The sink failed once if that is the fault, and otherwise never. Neither a failed read nor the number of lines can be
+-- the fault here.
 abbrev pub SendFails : {T : Type 0} → ℕ → ℕ → Result T RunFault → Type 0
 SendFails old new (Err Endless) = ⊥
 SendFails old new r = SinkFails old new r
 
--- what a run answers where only its sink may fail
+-- The result of a run in which only the sink may fail.
 abbrev pub by_sink : Result (Unit {0}) Failed → Result (Unit {0}) RunFault
 by_sink (Ok done) = Ok done
 by_sink (Err failed) = Err Write

@@ -1,4 +1,4 @@
--- What a run for a slice knows of its input, line by line. No public clause cites it.
+-- What a run for a slice knows about its input, line by line. No public clause cites it.
 use Rattle.std.specs.Prelude.{◌≡◌, ◌⊎◌, ◌<◌, ◌^◌, ◌==◌, ◌++◌, ℕ, List, [], ◌∷◌, All, drop, filter, length}
 use Rattle.std.specs.Prelude.{map, slice_index, if◌then◌else◌, IsFalse, Option, Some, None}
 use Rattle.std.specs.List.{filter_map}
@@ -16,30 +16,30 @@ use Rattle.wire_lines.specs.declared.fault.RunFault.TheVariants.{Read, Write, En
 use Rattle.wire_lines.specs.declared.stream.TheConstants.{MOST_LINES}
 use Rattle.wire_lines.specs.Slicing.{HasRun, ended, is_command}
 
--- the bytes up to the first line feed, or all of them
+-- The bytes up to the first line feed, or all bytes.
 unfoldable pub first_line : List ℕ → List ℕ
 first_line [] = []
 first_line (byte ∷ rest) = if byte == 10 then [] else byte ∷ first_line rest
 
--- the line that begins at this place of an input
+-- The line that begins at this offset of an input.
 abbrev pub line_at : List ℕ → ℕ → List ℕ
 line_at input start = first_line (drop start input)
 
--- the line of the command that has this number, with a line feed behind it, where these are the places at which the lines of commands begin
+-- The line of the command with this number, with a line feed. The lines of commands begin at these offsets.
 abbrev pub numbered : List ℕ → List ℕ → ℕ → List ℕ
 numbered input starts number = ended (line_at input (slice_index starts number))
 
--- the commands of some lines
+-- The commands in some lines.
 abbrev pub commands_in : List (List ℕ) → List (Tagged (List ℕ) Asked)
 commands_in lines = commands_of (filter_map piece_of lines)
 
--- a server, what is noted of the commands that it has done, and where the line of each begins
+-- A server, the notes about the commands that it has done, and the offset at which the line of each begins.
 pub record Noted : Type 0 where
   pub server : Server
   pub notes : List (Note ℕ)
   pub starts : List ℕ
 
--- a command is noted, with where its line begins, and is done
+-- A command is noted with the offset of its line, and is done.
 pub record DoesNoted (start : ℕ) (t : Tagged (List ℕ) Asked) (old new : Noted) : Type 0 where
   pub note : Note ℕ
   pub right : IsNoted old.server t note
@@ -48,37 +48,37 @@ pub record DoesNoted (start : ℕ) (t : Tagged (List ℕ) Asked) (old new : Note
   pub entry : Entry
   pub does : IsEntry old.server new.server t entry
 
--- a line that begins there is taken: its command is done, and one that is no command changes nothing
+-- The line at this offset is taken: its command is done. A line that is not a command changes nothing.
 abbrev pub Takes : ℕ → Option Piece → Noted → Noted → Type 0
 Takes start None old new = new ≡ old
 Takes start (Some (Given t)) old new = DoesNoted start t old new
 Takes start (Some (Faulty fault)) old new = new ≡ old
 
--- memory was wanted for a line and not found, before its command is done or for it
+-- Memory ran out for a line, before its command was done or for the command.
 abbrev pub RunsShort : Option Piece → Server → Server → Type 0
 RunsShort piece old new = OnlyRefused old new ⊎ (t : Tagged (List ℕ) Asked) × (entry : Entry) × (piece ≡ Some (Given t)) × IsEntry old new t entry
 
--- a line is not taken for this fault, where there were so many before it
+-- A line is not taken because of this fault. There were `count` lines before it.
 abbrev pub StopsAt : RunFault → ℕ → Option Piece → Server → Server → Type 0
 StopsAt Read count piece old new = ⊥
 StopsAt Write count piece old new = ⊥
 StopsAt Endless count piece old new = (count ≡ MOST_LINES) × (new ≡ old)
 StopsAt Memory count piece old new = RunsShort piece old new
 
--- the lines before these bytes are taken
+-- The lines before these bytes are taken.
 pub record HasTaken (input : List ℕ) (old : Server) (now : Noted) (count : ℕ) (rest : List ℕ) : Type 0 where
   pub lines : List (List ℕ)
   pub reads : lines_of input ≡ lines ++ lines_of rest
   pub counted : count ≡ length lines
-  -- the line of each noted command begins within the input
+  -- The line of each noted command begins within the input.
   pub within : All (λ start. start < length input) now.starts
   pub begins : map (line_at input) now.starts ≡ filter is_command lines
   pub entries : List Entry
   pub steps : AreSteps old (commands_in lines) entries now.server
-  -- and where memory was found, the notes are right
+  -- If memory was found, the notes are right.
   pub right : IsFalse (was_refused now.server) → AreNoted (states old) (commands_in lines) now.server now.notes
 
--- why not all lines of an input are taken
+-- Why not all lines of an input are taken.
 abbrev pub HasStopped : RunFault → List ℕ → Server → Server → Type 0
 HasStopped Read input old new = ⊥
 HasStopped Write input old new = ⊥

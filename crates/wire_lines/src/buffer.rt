@@ -64,7 +64,7 @@ impl Buffer {
         self.bytes.clear();
     }
 
-    /// Puts bytes behind the others. They have to fit.
+    /// Appends bytes. They have to fit.
     #[inline(always)]
     pub fn put(&mut self, bytes: &[u8])
         requires { length self.old + length bytes.now ≤ BUFFER_BYTES }
@@ -74,7 +74,7 @@ impl Buffer {
         prove!(put.is_ok());
     }
 
-    /// Puts as many of the bytes behind the others as there is room for, and passes over the rest.
+    /// Appends as many of the bytes as there is room for, and drops the rest.
     pub fn keep(&mut self, bytes: &[u8])
         ensures { self.new ≡ take BUFFER_BYTES (self.old ++ bytes.now) }
     {
@@ -82,8 +82,8 @@ impl Buffer {
         self.put(&bytes[..kept]);
     }
 
-    /// Writes all bytes to the sink. Afterwards there are none: where the sink fails, those that it
-    /// did not take are lost.
+    /// Writes all bytes to the sink, and empties the buffer. If the sink fails, the bytes that it did not take are
+    /// lost.
     pub fn flush<W: Sink>(&mut self, writer: &mut W) -> Result<(), Failed>
         ensures emptied { self.new ≡ [] }
         ensures bytes { AppendsAll (W.held writer.old) (W.held writer.new) result self.old }
@@ -94,8 +94,8 @@ impl Buffer {
         written
     }
 
-    /// Sends text to the sink, behind what is gathered here: the text is gathered too, or written
-    /// with the rest where there is no room for it.
+    /// Sends text to the sink after the buffered bytes: it is buffered too if there is room for it, and otherwise
+    /// the buffered bytes are written first.
     #[inline(always)]
     pub fn send<W: Sink>(&mut self, writer: &mut W, text: &[u8]) -> Result<(), Failed>
         ensures bytes { SentAll (out (W.held writer.old) self.old) (out (W.held writer.new) self.new) result text.now }

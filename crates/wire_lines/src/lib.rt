@@ -1,5 +1,5 @@
-//! Runs of a server over bytes: lines are read from a source, each is answered by the server, and
-//! what is said is written to a sink; and how the end of a run is told.
+//! Runs of a server over bytes: lines are read from a source, the server answers each, and the output is written to
+//! a sink. A run ends with an exit status and a message.
 #![tactic(auto)]
 
 mod buffer;

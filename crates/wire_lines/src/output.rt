@@ -86,7 +86,7 @@ impl Output {
         }
     }
 
-    /// Notes that memory was wanted outside the server and not found, and says so.
+    /// Notes that memory ran out outside the server, and outputs this.
     fn say_out_of_memory<W: Sink>(
         &mut self,
         session: &str,

@@ -128,7 +128,7 @@ impl Slicing {
         Ok(())
     }
 
-    /// Writes the lines of the commands that have these numbers, each with a line feed behind it.
+    /// Writes the lines of the commands that have these numbers, each followed by a line feed.
     fn write<W: Sink>(
         &self,
         input: &[u8],
@@ -151,7 +151,7 @@ impl Slicing {
     }
 }
 
-/// The first line, without its end, and what is behind it.
+/// The first line, without its end, and the bytes after it.
 fn first_line(bytes: &[u8]) -> (&[u8], &[u8])
     ensures line { result.0.now ≡ first_line bytes.now }
     ensures ends { NoEnd result.0.now }
@@ -164,7 +164,7 @@ fn first_line(bytes: &[u8]) -> (&[u8], &[u8])
     }
 }
 
-/// Sends a line, with a line feed behind it.
+/// Sends a line, followed by a line feed.
 fn send_line<W: Sink>(line: &[u8], buffer: &mut Buffer, writer: &mut W) -> Result<(), Failed>
     ensures sent { SentAll (out (W.held writer.old) buffer.old) (out (W.held writer.new) buffer.new) result (ended line.now) }
     ensures counted { CountsErrors (W.failures writer.old) (W.failures writer.new) result }
@@ -209,17 +209,16 @@ fn read_by<R: Source>(alloc: Global, chunk: &mut [u8], reader: &mut R) -> Result
     Err(RunFault::Endless)
 }
 
-/// Reads all of an input, lets the server do its commands, and writes those of its lines on which what
-/// one session is told depends: a run of these alone tells it the same. They are the commands of the
-/// session and of the sessions that it joined, while it did, and so on from these; found from the last
-/// line to the first. Each is written as it came, with a line feed behind it. Lines that are no command
-/// are never written.
+/// Reads all of an input, lets the server do its commands, and writes only the lines that can affect the output of
+/// one session: a run of these alone gives the session the same output. They are the commands of the session and of
+/// the sessions that it had joined at the time, and so on from these, found from the last line to the first. Each
+/// is written unchanged, followed by a line feed. Lines that are no command are never written.
 ///
 /// # Errors
 ///
-/// As those of [`run`](crate::run), at the same bounds. Where memory was wanted and not found, ever,
-/// it is `Memory`, as isolation says nothing of such a run. Nothing is written before all commands are
-/// done, so that only after `Write` a part of the lines may stand there.
+/// The errors of [`run`](crate::run), at the same bounds. `Memory` also if the server has ever run out of memory,
+/// as isolation says nothing of such a run. Nothing is written before all commands are done, so only `Write` can
+/// leave a part of the lines in the output.
 pub fn run_slice<R: Source, W: Sink>(
     alloc: Global,
     reader: &mut R,
@@ -243,7 +242,7 @@ pub fn run_slice<R: Source, W: Sink>(
     ended
 }
 
-/// The run itself, of which `run_slice` also says in what state it leaves the server.
+/// Does the run. `run_slice` adds what is known of the server afterwards.
 fn slice_input<R: Source, W: Sink>(
     alloc: Global,
     reader: &mut R,

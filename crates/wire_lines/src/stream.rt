@@ -187,7 +187,7 @@ impl Stream {
     }
 }
 
-/// The first line, without its end, and what is behind it, where a line ends.
+/// The first line, without its end, and the bytes after its end. `None` if no line ends.
 pub fn split_line(bytes: &[u8]) -> Option<(&[u8], &[u8])>
     ensures none { result ≡ None → NoEnd bytes.now }
     ensures whole { IfSome result (λ parts. bytes.now ≡ parts.0.now ++ 10 ∷ parts.1.now) }
@@ -198,22 +198,22 @@ pub fn split_line(bytes: &[u8]) -> Option<(&[u8], &[u8])>
     Some((line, &ended[1..]))
 }
 
-/// Reads lines to the end of the input, lets the server do each command, and writes what is told.
+/// Reads lines to the end of the input, lets the server do each command, and writes the answers.
 ///
-/// Lines end with a line feed, which the last may lack. A line of only spaces, tabs and carriage
-/// returns is skipped. A line of more than [`LINE_BYTES`](wire_format::LINE_BYTES) bytes, blank or
-/// not, is told as unreadable. What is said is gathered, and all of it is written before each read:
-/// whoever waits for an answer gets it before the run waits for more input.
+/// Lines end with a line feed, which the last may lack. A line of only spaces, tabs and carriage returns is
+/// skipped. A line of more than [`LINE_BYTES`](wire_format::LINE_BYTES) bytes, blank or not, is answered as
+/// unreadable. Output is buffered, and all of it is written before each read, so that clients get their answers
+/// before the run waits for more input.
 ///
-/// Where memory is wanted and not found, the line is answered by `E21`, which takes no memory: for the
-/// session of the command, or for `-` where memory was wanted while the line was read.
+/// If memory runs out, the line is answered with `E21`, which takes no memory: for the session of the command, or
+/// for `-` if memory ran out while the line was read.
 ///
 /// # Errors
 ///
-/// `Read` or `Write` where a device failed. `Endless` where the input goes on after 2^32 lines, or
-/// after 2^40 calls of `read`. `Memory` where there was none for the buffers of the run, which are
-/// made before the first read, or for the text of a line that is longer than a line of input may be.
-/// What was said before is written, but for `Write`.
+/// `Read` or `Write` if a device failed. `Endless` if the input goes on after 2^32 lines, or after 2^40 calls of
+/// `read`. `Memory` if there was no memory for the buffers of the run, which are made before the first read, or for
+/// the text of a line that is longer than a line of input may be. Earlier output has been written, except after
+/// `Write`.
 pub fn run<R: Source, W: Sink>(
     alloc: Global,
     reader: &mut R,

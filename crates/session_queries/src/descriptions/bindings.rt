@@ -57,7 +57,7 @@ fn listed_after(
     }
 }
 
-/// Whether a property is behind those that are passed over.
+/// Whether a property comes after those that are skipped.
 fn follows(passed: (u32, Option<usize>), at: Property) -> bool
     ensures { result ≡ follows passed at }
 {
@@ -70,7 +70,7 @@ fn follows(passed: (u32, Option<usize>), at: Property) -> bool
     }
 }
 
-/// Adds a bound property where it is behind those that are passed over.
+/// Adds a bound property if it comes after those that are skipped.
 fn add_following(
     caller: &SessionContext,
     tables: &Tables,

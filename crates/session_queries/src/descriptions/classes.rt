@@ -28,7 +28,7 @@ pub(crate) fn class_names(setup: &Setup) -> Result<Items<Text>, AllocError>
     Ok(names)
 }
 
-/// The name of the class at an index, which is empty where there is none.
+/// The name of the class at an index, or an empty text if there is no such class.
 pub(crate) fn named_class(setup: &Setup, index: u32) -> Result<Text, AllocError>
     ensures { IfOk result (λ name. name ≡ unwrap_or (class_name setup.now.classes index) []) }
 {
@@ -84,7 +84,7 @@ fn line_of(setup: &Setup, index: u32) -> Result<Vec<u32>, AllocError>
     Ok(reversed(found))
 }
 
-/// The same numbers, the last first.
+/// The numbers in reverse order.
 fn reversed(mut numbers: Vec<u32>) -> Vec<u32>
     ensures { result.items ≡ reverse numbers.items }
 {
@@ -92,7 +92,7 @@ fn reversed(mut numbers: Vec<u32>) -> Vec<u32>
     numbers
 }
 
-/// What these classes declare as properties, one class behind another.
+/// The properties that these classes declare, class by class.
 fn all_properties(setup: &Setup, line: &[u32]) -> Result<Items<DeclaredProperty>, AllocError>
     ensures { IfOk result (λ described. described ≡ flat_map (own_properties setup.now.classes) line.now) }
 {
@@ -103,7 +103,7 @@ fn all_properties(setup: &Setup, line: &[u32]) -> Result<Items<DeclaredProperty>
     Ok(described)
 }
 
-/// Adds what a class declares as properties.
+/// Adds the properties that a class declares.
 fn add_properties(
     setup: &Setup,
     index: u32,
@@ -137,7 +137,7 @@ fn declared_property(
     })
 }
 
-/// The text of the signal that tells of a property of a class, where there is one.
+/// The text of a property's notify signal, where it has one.
 pub(crate) fn notify_text(
     setup: &Setup,
     index: u32,
@@ -154,7 +154,7 @@ pub(crate) fn notify_text(
     }
 }
 
-/// What these classes declare as signals, or as slots, one class behind another.
+/// The signals that these classes declare, or the slots, class by class.
 fn all_methods(
     setup: &Setup,
     signals: bool,
@@ -169,7 +169,7 @@ fn all_methods(
     Ok(described)
 }
 
-/// Adds what a class declares as signals, or as slots.
+/// Adds the signals that a class declares, or the slots.
 fn add_methods(
     setup: &Setup,
     signals: bool,
@@ -187,7 +187,7 @@ fn add_methods(
     Ok(())
 }
 
-/// Adds a method where it is a signal, or a slot, as is wanted.
+/// Adds a method if it is a signal, or a slot, as `signals` says.
 fn add_method(
     alloc: Global,
     signals: bool,
@@ -204,7 +204,7 @@ fn add_method(
     Ok(())
 }
 
-/// Whether a method is a signal, or a slot, as is wanted.
+/// Whether a method is a signal, or a slot, as `signals` says.
 fn is_wanted(signals: bool, method: &Method) -> bool
     ensures { result ≡ is_wanted signals method.now }
 {

@@ -73,7 +73,7 @@ fn callee_description(
     })
 }
 
-/// The name of the functor with this index, which is empty where there is none.
+/// The name of the functor with this index, or an empty text if there is no such functor.
 fn functor_name(caller: &SessionContext, index: u32) -> Result<Text, AllocError>
     ensures { IfOk result (λ name. name ≡ option_map_or (λ functor. functor.name) (functor_at (settings_of caller.now.setup.now) index) []) }
 {

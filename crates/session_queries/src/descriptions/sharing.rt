@@ -12,7 +12,7 @@ use session_model::{JoinDescription, PublicationDescription};
 use session_tables::Tables;
 use std::alloc::AllocError;
 
-/// The text of the method of an object with this index, which is empty where there is none.
+/// The text of the method of an object with this index, or an empty text if there is no such method.
 pub(crate) fn text_at(
     caller: &SessionContext,
     tables: &Tables,

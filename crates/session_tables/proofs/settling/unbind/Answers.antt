@@ -1,47 +1,35 @@
 use Rattle.std.proofs.Common.{◌≡◌, ◌∙◌, Some, ap, filter, not, rules}
 use Rattle.property_store.specs.Table.{store_at}
-use Rattle.binding_graph.specs.Graph.{settled_changes, settled_graph, taken}
+use Rattle.binding_graph.specs.Graph.{settled_graph, taken}
 use Rattle.binding_graph.specs.Table.{graph_at, with_graph}
 use Rattle.binding_values.specs.declared.binding.Binding.{Binding}
 use Rattle.property_store.specs.Property.{is_property}
 use Rattle.session_tables.proofs.TakenLemmas.{took_at}
-use Rattle.session_tables.proofs.PlaceLemmas.{changed_at, changes_either, changes_thrice, if_ok_too, settled_after, told_after, where_ok_too}
+use Rattle.session_tables.proofs.PlaceLemmas.{changes_either, changes_thrice, if_ok_too, settled_after, told_settled, where_ok_too}
 use Rattle.session_tables.proofs.settling.unbind.Goals as goal
+
+-- the property keeps the value that it showed
+stored : (c : goal.After-settle) → store_at c.take.new.stores.shelves c.args.place
+    ≡ taken (store_at c.args.stores.now.shelves c.args.place) (graph_at c.args.bindings.now.graphs c.args.place) c.args.at
+stored c = took_at c.args.stores.now.shelves c.note.new.stores.shelves c.take.new.stores.shelves c.args.bindings.now.graphs c.note.new.bindings.graphs
+    c.args.place c.args.at c.requires.ready.store c.requires.ready.graph c.note.ensures.stores c.in_ok-note.ensures.ok c.in_ok-take.ensures.stored.shelves
 
 pub returns-clause-told : goal.returns-clause-told
 returns-clause-told c =
-    let stores = c.args.stores.now.shelves in
-    let place = c.args.place in
-    let old = c.args.bindings.now.graphs in
-    let store = store_at stores place in
-    let new = taken store (graph_at old place) c.args.at in
-    let after : store_at c.take.new.stores.shelves place ≡ new =
-    took_at stores c.note.new.stores.shelves c.take.new.stores.shelves old c.note.new.bindings.graphs place c.args.at c.requires.ready.store
-    c.requires.ready.graph c.note.ensures.stores c.in_ok-note.ensures.ok c.in_ok-take.ensures.stored.shelves in
-    let its : graph_at c.take.new.self.graphs place ≡ record (settled_graph store (graph_at old place))
-    { bindings = filter (λ (binding : Binding). not (is_property c.args.at binding.at)) (settled_graph store (graph_at old place)).bindings } =
-    changed_at store store old c.note.new.bindings.graphs c.take.new.self.graphs c.settle.new.bindings.graphs place
-    (filter (λ (binding : Binding). not (is_property c.args.at binding.at))) c.requires.ready.graph c.in_ok-note.ensures.ok c.in_ok-take.ensures.graph in
     if_ok_too _ _ c.settle.result
-    (λ told is. is ∙ (ap (λ store. settled_changes store (graph_at c.take.new.self.graphs place) (Some c.args.at)) after
-    ∙ (ap (λ graph. settled_changes new graph (Some c.args.at)) its
-    ∙ told_after store new (graph_at old place) (filter (λ (binding : Binding). not (is_property c.args.at binding.at))) (Some c.args.at))))
+    (λ told is. is ∙ told_settled (store_at c.args.stores.now.shelves c.args.place) _ _ c.args.bindings.now.graphs c.note.new.bindings.graphs
+    c.take.new.self.graphs c.args.place (filter (λ (binding : Binding). not (is_property c.args.at binding.at))) (Some c.args.at) c.requires.ready.graph
+    c.in_ok-note.ensures.ok c.in_ok-take.ensures.graph (stored c))
     c.settle.ensures.told
 
 pub returns-clause-ok : goal.returns-clause-ok
 returns-clause-ok c =
-    let stores = c.args.stores.now.shelves in
-    let place = c.args.place in
-    let old = c.args.bindings.now.graphs in
-    let store = store_at stores place in
-    let after : store_at c.take.new.stores.shelves place ≡ taken store (graph_at old place) c.args.at =
-    took_at stores c.note.new.stores.shelves c.take.new.stores.shelves old c.note.new.bindings.graphs place c.args.at c.requires.ready.store
-    c.requires.ready.graph c.note.ensures.stores c.in_ok-note.ensures.ok c.in_ok-take.ensures.stored.shelves in
     where_ok_too c.settle.result
-    (λ is. settled_after store (taken store (graph_at old place) c.args.at) old c.note.new.bindings.graphs c.take.new.self.graphs c.settle.new.bindings.graphs
-    place
+    (λ is. settled_after (store_at c.args.stores.now.shelves c.args.place)
+    (taken (store_at c.args.stores.now.shelves c.args.place) (graph_at c.args.bindings.now.graphs c.args.place) c.args.at)
+    c.args.bindings.now.graphs c.note.new.bindings.graphs c.take.new.self.graphs c.settle.new.bindings.graphs c.args.place
     (filter (λ (binding : Binding). not (is_property c.args.at binding.at))) c.requires.ready.graph c.in_ok-note.ensures.ok c.in_ok-take.ensures.graph
-    (is ∙ ap (λ store. with_graph c.take.new.self.graphs place (settled_graph store (graph_at c.take.new.self.graphs place))) after))
+    (is ∙ ap (λ store. with_graph c.take.new.self.graphs c.args.place (settled_graph store (graph_at c.take.new.self.graphs c.args.place))) (stored c)))
     c.settle.ensures.ok
 
 pub returns-clause-stays : goal.returns-clause-stays

@@ -18,16 +18,16 @@ loop-place-preserved c =
     let members = c.args.members.now in
     let room = c.loop-place.room in
     let place = c.loop-place.place in
-    let held = c.in-Some.held in
+    let held = c.hold.new.room in
     let test = c.loop-place-test.true in
     let within : place < length room = omega (arith, c.requires.room, c.loop-place.auto.room) in
     let enough : length keys ≤ length c.find_values.new.found = omega (arith, c.requires.few, c.find_values.auto.found) in
     let found = held_found (λ field. data_of field.now) keys members c.find_values.new.found place _ _ test enough (c.if-not-find_values.ensures.found refl) in
     rw (take_more_set room place held within)
-    (one_more (object (members_in members)) (take place room) held keys place _ test (c.in-Some.ensures ∙ found) ∙ c.loop-place.invariant)
+    (one_more (object (members_in members)) (take place room) held keys place _ test (c.if-not-hold.ensures ∙ found) ∙ c.loop-place.invariant)
 
-pub returns-in_default-clause-held : goal.returns-in_default-clause-held
-returns-in_default-clause-held c =
+pub returns-then-not-hold-clause-held : goal.returns-then-not-hold-clause-held
+returns-then-not-hold-clause-held c =
     let keys = c.args.keys.now in
     let members = c.args.members.now in
     let json = object (members_in members) in
@@ -36,7 +36,7 @@ returns-in_default-clause-held c =
     let enough : length keys ≤ length c.find_values.new.found = omega (arith, c.requires.few, c.find_values.auto.found) in
     let found = held_found (λ field. data_of field.now) keys members c.find_values.new.found place _ _ test enough (c.if-not-find_values.ensures.found refl) in
     are_held json
-    (none_read json keys (take place c.loop-place.room) place _ test (c.in_default.ensures ∙ found) c.if-not-find_values.ensures.known c.loop-place.invariant)
+    (none_read json keys (take place c.loop-place.room) place _ test (c.if-not-hold.ensures ∙ found) c.if-not-find_values.ensures.known c.loop-place.invariant)
 
 pub returns-clause-held : goal.returns-clause-held
 returns-clause-held c =

@@ -2,9 +2,6 @@ use Rattle.std.proofs.Common.{arith}
 use Rattle.std.proofs.lemmas.Grind.{common_steps}
 use Rattle.wire_format.proofs.writing.push_args.Goals as goal
 
-pub loop-place-init : goal.loop-place-init
-loop-place-init c = grind (arith, common_steps)
-
 pub loop-place-preserved : goal.loop-place-preserved
 loop-place-preserved c = grind (arith, common_steps)
 

@@ -3,7 +3,7 @@ use Rattle.std.proofs.lemmas.List.Folds.{list_any_at, list_any_none}
 use Rattle.shared_rows.specs.Rows.{Keyed, rows_at}
 use Rattle.connection_list.specs.declared.connection.Connection.{Connection}
 use Rattle.connection_list.specs.Ends.{same_ends}
-use Rattle.connection_list.specs.Routes.{links_of}
+use Rattle.connection_list.specs.Routes.{links_at}
 use Rattle.connection_list.proofs.KeyedLemmas.{stands_under}
 use Rattle.connection_list.proofs.WalkLemmas.{joins_group, led, left_first, left_front, linked_end, none_left}
 use Rattle.connection_list.proofs.routes.LazyRoutes.joins.Goals as goal
@@ -14,8 +14,9 @@ links-init c = left_first (λ keyed. same_ends c.args.new.now keyed.row) (rows_a
 
 pub get-requires-clause-stands : goal.get-requires-clause-stands
 get-requires-clause-stands c =
-    let its = led c.group-group.result.received (rows_at c.args.rows.now c.args.place) c.args.self.now c.links.at c.key_at-key.result c.requires.kept
-    (omega (arith, c.links.invariant.within, c.links-test.true)) c.key_at-key.ensures.key in
+    let its = led c.group-group.result.received (rows_at c.args.rows.now c.args.place) c.args.self.now c.group-group.result.object c.links.at
+    c.key_at-key.result c.requires.kept (omega (arith, c.links.invariant.within, c.links-test.true))
+    (λ d. c.links.invariant.inside c.links.at d (omega arith) c.links-test.true) c.key_at-key.ensures.key in
     rw its.under refl
 
 pub returns-then-same_ends : goal.returns-then-same_ends
@@ -28,16 +29,19 @@ returns-then-same_ends c =
 pub links-preserved : goal.links-preserved
 links-preserved c =
     let rows = rows_at c.args.rows.now c.args.place in
-    let its = led c.group-group.result.received rows c.args.self.now c.links.at c.key_at-key.result c.requires.kept
-    (omega (arith, c.links.invariant.within, c.links-test.true)) c.key_at-key.ensures.key in
-    left_front c.group-group.result.received (λ keyed. same_ends c.args.new.now keyed.row) rows
-    (links_of c.group-group.result.received c.args.self.now) c.links.at c.group-group.result.end c.key_at-key.result c.get.result.now c.requires.kept.apart
+    let its = led c.group-group.result.received rows c.args.self.now c.group-group.result.object c.links.at
+    c.key_at-key.result c.requires.kept (omega (arith, c.links.invariant.within, c.links-test.true))
+    (λ d. c.links.invariant.inside c.links.at d (omega arith) c.links-test.true) c.key_at-key.ensures.key in
+    left_front c.group-group.result.received c.group-group.result.object (λ keyed. same_ends c.args.new.now keyed.row) rows
+    (links_at c.group-group.result.received c.group-group.result.object c.args.self.now) c.links.at c.group-group.result.end c.key_at-key.result
+    c.get.result.now c.requires.kept.apart
     c.get.ensures.row its (sym c.same_ends.ensures ∙ c.if-same_ends.false) c.links.invariant
 
 pub returns : goal.returns
 returns c =
     let rows = rows_at c.args.rows.now c.args.place in
     let test = λ (keyed : Keyed Connection). same_ends c.args.new.now keyed.row in
-    sym (list_any_none test rows (none_left c.group-group.result.received test rows
-    (links_of c.group-group.result.received c.args.self.now) c.links.at c.group-group.result.end
-    (linked_end c.group-group.result.received rows c.args.self.now c.requires.kept.routed) c.links.invariant (omega (arith, c.links-test.false))))
+    sym (list_any_none test rows (none_left c.group-group.result.received c.group-group.result.object test rows
+    (links_at c.group-group.result.received c.group-group.result.object c.args.self.now) c.links.at c.group-group.result.end
+    (linked_end c.group-group.result.received rows c.args.self.now c.group-group.result.object c.requires.kept.routed)
+    (joins_group c.args.new.now c.args.self.now c.group-group.result c.group-group.ensures).others c.links.invariant (omega (arith, c.links-test.false))))

@@ -1,9 +1,8 @@
-use Rattle.std.proofs.Common.{◌≡◌, ◌∙◌, ◌<◌, Some, ap, rules, sym}
-use Rattle.shared_rows.specs.Links.{without_link}
+use Rattle.std.proofs.Common.{◌≡◌, ◌∙◌, ◌<◌, Some, ap, rules, subst, sym}
 use Rattle.shared_rows.specs.Rows.{Keyed, rows_at}
 use Rattle.connection_list.specs.declared.connection.Connection.{Connection}
 use Rattle.connection_list.specs.declared.routes.Routes.{Routes}
-use Rattle.connection_list.specs.Routes.{link_cmp, link_of, links_of, received_of, sent_of}
+use Rattle.connection_list.specs.Routes.{Loses, buckets_of, link_of, received_of, sent_of}
 use Rattle.connection_list.proofs.GoneLemmas.{links_without, one_gone, short_key}
 use Rattle.connection_list.proofs.LazyLemmas.{none_under, seen_made}
 use Rattle.connection_list.proofs.routes.LazyRoutes.take_out.Goals as goal
@@ -24,8 +23,8 @@ returns-clause-gone c =
     one_gone c.args.place c.args.key c.remove-row.result c.args.rows.now c.remove-row.new.self c.args.self.now c.unlink.new.self c.requires.place
     c.requires.kept c.remove-row.ensures.row c.remove-row.ensures.rest
     (c.unlink.ensures.number ∙ ap (λ (seen : Routes). seen.last_number) is)
-    (c.unlink.ensures.sent ∙ ap (λ (seen : Routes). without_link link_cmp seen.sent.links (sent_of keyed)) is)
-    (c.unlink.ensures.received ∙ ap (λ (seen : Routes). without_link link_cmp seen.received.links (received_of keyed)) is)
+    (subst (λ (seen : Routes). Loses (sent_of keyed) seen.sent c.unlink.new.self.sent) is c.unlink.ensures.sent)
+    (subst (λ (seen : Routes). Loses (received_of keyed) seen.received c.unlink.new.self.received) is c.unlink.ensures.received)
 
 pub returns-clause-links : goal.returns-clause-links
 returns-clause-links c = λ received row under.
@@ -33,8 +32,9 @@ returns-clause-links c = λ received row under.
     let found : Some row ≡ Some c.remove-row.result = sym under ∙ c.remove-row.ensures.row in
     let same : c.remove-row.result ≡ row = cc in
     let keyed : Keyed Connection = record { key = c.args.key; row = c.remove-row.result } in
-    links_without c.args.self.now c.unlink.new.self keyed
-    (c.unlink.ensures.sent ∙ ap (λ (seen : Routes). without_link link_cmp seen.sent.links (sent_of keyed)) is)
-    (c.unlink.ensures.received ∙ ap (λ (seen : Routes). without_link link_cmp seen.received.links (received_of keyed)) is)
-    received
-    ∙ ap (λ row. without_link link_cmp (links_of received c.args.self.now) (link_of received (record { key = c.args.key; row = row }))) same
+    subst (λ row. Loses (link_of received (record { key = c.args.key; row = row })) (buckets_of received c.args.self.now)
+    (buckets_of received c.unlink.new.self)) same
+    (links_without c.args.self.now c.unlink.new.self keyed
+    (subst (λ (seen : Routes). Loses (sent_of keyed) seen.sent c.unlink.new.self.sent) is c.unlink.ensures.sent)
+    (subst (λ (seen : Routes). Loses (received_of keyed) seen.received c.unlink.new.self.received) is c.unlink.ensures.received)
+    received)

@@ -1,10 +1,9 @@
-use Rattle.std.proofs.Common.{◌∙◌, ap}
-use Rattle.shared_rows.specs.Links.{with_link}
-use Rattle.connection_list.specs.Routes.{link_cmp}
+use Rattle.std.proofs.Common.{subst}
+use Rattle.connection_list.specs.Routes.{Gains}
 use Rattle.connection_list.proofs.routes.Routes.link.Goals as goal
 
 pub returns-clause-sent : goal.returns-clause-sent
-returns-clause-sent c = ap (λ list. list.links) c.insert_reserved.ensures ∙ ap (with_link link_cmp c.args.self.now.sent.links) c.sent_link.ensures
+returns-clause-sent c = subst (λ link. Gains link c.args.self.now.sent c.insert_reserved.new.self) c.sent_link.ensures c.insert_reserved.ensures
 
 pub returns-clause-received : goal.returns-clause-received
-returns-clause-received c = ap (λ list. list.links) c.insert_reserved-2.ensures ∙ ap (with_link link_cmp c.args.self.now.received.links) c.received_link.ensures
+returns-clause-received c = subst (λ link. Gains link c.args.self.now.received c.insert_reserved-2.new.self) c.received_link.ensures c.insert_reserved-2.ensures

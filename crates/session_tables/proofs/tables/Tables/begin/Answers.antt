@@ -1,24 +1,21 @@
-use Rattle.std.proofs.Common.{◌≡◌, ◌∙◌, [], suc, refl, sym, ap, arith}
+use Rattle.std.proofs.Common.{◌≡◌, ◌∙◌, suc, refl, sym, ap, arith}
 use Rattle.shared_rows.proofs.ForCallers as column
-use Rattle.property_store.specs.Table.{StoreTable, store_at}
+use Rattle.property_store.specs.Table.{store_at}
 use Rattle.binding_graph.specs.Graph.{Graph, begun, no_graph}
 use Rattle.binding_graph.specs.Table.{graph_at}
 use Rattle.session_tables.specs.Bound.{bound_at, seen_of, stored_at}
-use Rattle.session_tables.proofs.BoundLemmas.{graph_there, only_here, put_state}
+use Rattle.session_tables.proofs.HereLemmas.{bindings_change, graph_stands, state_put}
 use Rattle.session_tables.proofs.InvariantLemmas.{closed_begun}
 use Rattle.session_tables.proofs.PlaceLemmas.{changes_either, if_ok_with, where_ok_too}
 use Rattle.session_tables.proofs.SettledLemmas.{closed_at, depth_seen}
-use Rattle.session_tables.proofs.SeenLemmas.{changes_seen, put_seen, settled_store}
-use Rattle.session_tables.proofs.TablesLemmas.{of_columns}
+use Rattle.session_tables.proofs.SeenLemmas.{put_seen, settled_store}
 use Rattle.session_tables.proofs.tables.Tables.begin.Goals as goal
 
 pub returns-clause-depth : goal.returns-clause-depth
 returns-clause-depth c =
     let place = c.args.place in
     let old = c.self.inside.0.1.0.bindings.graphs in
-    let there = graph_there (of_columns c.self.inside.0.0 (seen_of c.self.inside.0.1.0.stores.shelves c.self.inside.0.1.0.bindings) c.self.inside.0.1.1.0
-    c.self.inside.0.1.1.1.0 c.self.inside.0.1.1.1.1.0 c.self.inside.0.1.1.1.1.1.0) place c.self.inside.0.1.0.stores.shelves c.self.inside.0.1.0.bindings
-    refl (rw (← c.self.view_is) at c.requires) in
+    let there = graph_stands c.self.inside.0.1.0.stores.shelves c.self.inside.0.1.0.bindings c.self.view_is c.requires in
     if_ok_with c.begin.result
     (λ is depth its.
     let now : (graph_at c.begin.new.self.graphs place).depth ≡ suc (graph_at old place).depth =
@@ -34,27 +31,18 @@ returns-clause-ok c =
     let stores = c.self.inside.0.1.0.stores.shelves in
     let bindings = c.self.inside.0.1.0.bindings in
     let store = store_at stores place in
-    rw (← c.self.view_is)
-    (where_ok_too c.begin.result
-    (λ is. put_state (of_columns c.self.inside.0.0 (seen_of c.self.inside.0.1.0.stores.shelves c.self.inside.0.1.0.bindings) c.self.inside.0.1.1.0
-    c.self.inside.0.1.1.1.0 c.self.inside.0.1.1.1.1.0 c.self.inside.0.1.1.1.1.1.0) place stores bindings refl (rw (← c.self.view_is) at c.requires)
-    (λ of. stored_at of place) (λ of. begun (stored_at of place) (bound_at of place)) (seen_of c.begin.new.stores.shelves c.begin.new.self)
+    where_ok_too c.begin.result
+    (λ is. state_put stores bindings c.self.view_is c.requires (λ of. stored_at of place)
+    (λ of. begun (stored_at of place) (bound_at of place)) (seen_of c.begin.new.stores.shelves c.begin.new.self)
     (put_seen stores c.begin.new.stores.shelves bindings c.begin.new.self place store (begun store (graph_at bindings.graphs place))
     (begun store (bound_at (seen_of stores bindings) place)) (settled_store stores c.begin.new.stores.shelves place c.begin.ensures.stores.shelves) is
     (closed_begun store (graph_at bindings.graphs place) ∙ ap (begun store) (sym (closed_at bindings.graphs place)))))
-    c.begin.ensures.ok)
+    c.begin.ensures.ok
 
 pub returns-clause-only : goal.returns-clause-only
 returns-clause-only c =
-    let tables = (of_columns c.self.inside.0.0 (seen_of c.self.inside.0.1.0.stores.shelves c.self.inside.0.1.0.bindings) c.self.inside.0.1.1.0
-    c.self.inside.0.1.1.1.0 c.self.inside.0.1.1.1.1.0 c.self.inside.0.1.1.1.1.1.0) in
-    let place = c.args.place in
     let stores = c.self.inside.0.1.0.stores.shelves in
     let bindings = c.self.inside.0.1.0.bindings in
-    let new = c.begin.new.stores.shelves in
-    rw (← c.self.view_is)
-    (only_here tables place stores bindings refl (rw (← c.self.view_is) at c.requires) (seen_of new c.begin.new.self)
-    (changes_seen stores new bindings c.begin.new.self place (ap (λ (shelves : StoreTable). shelves.layouts) c.begin.ensures.stores.shelves)
-    (column.changes_same [] stores.table new.table place (ap (λ (shelves : StoreTable). shelves.table) c.begin.ensures.stores.shelves))
-    (changes_either c.begin.result bindings.graphs c.begin.new.self.graphs place _
-    (graph_there tables place stores bindings refl (rw (← c.self.view_is) at c.requires)) c.begin.ensures.ok c.begin.ensures.err)))
+    bindings_change stores bindings c.self.view_is c.requires c.begin.new.stores.shelves c.begin.new.self c.begin.ensures.stores.shelves
+    (changes_either c.begin.result bindings.graphs c.begin.new.self.graphs c.args.place _
+    (graph_stands stores bindings c.self.view_is c.requires) c.begin.ensures.ok c.begin.ensures.err)

@@ -5,10 +5,8 @@ use Rattle.property_store.specs.Store.{changed, with_dynamic}
 use Rattle.property_store.specs.Table.{StoresView, store_at}
 use Rattle.binding_graph.specs.Step.{HasStore}
 use Rattle.session_tables.specs.Settled.{AllSettled}
-use Rattle.session_tables.specs.Bound.{seen_of}
-use Rattle.session_tables.proofs.BoundLemmas.{shelf_there}
+use Rattle.session_tables.proofs.HereLemmas.{shelf_stands}
 use Rattle.session_tables.proofs.InvariantLemmas.{settled_changed}
-use Rattle.session_tables.proofs.TablesLemmas.{of_columns}
 use Rattle.session_tables.proofs.tables.Tables.set_dynamic.Goals as goal
 
 pub invariant_of-self : goal.invariant_of-self
@@ -18,9 +16,7 @@ invariant_of-self c = by c.set_dynamic.result c.set_dynamic.ensures.ok c.set_dyn
     stores = c.self.inside.0.1.0.stores
 
     place : IsPlace stores.shelves.table c.args.place
-    place = shelf_there (of_columns c.self.inside.0.0 (seen_of c.self.inside.0.1.0.stores.shelves c.self.inside.0.1.0.bindings) c.self.inside.0.1.1.0
-        c.self.inside.0.1.1.1.0 c.self.inside.0.1.1.1.1.0 c.self.inside.0.1.1.1.1.1.0) c.args.place stores.shelves c.self.inside.0.1.0.bindings refl
-        (rw (← c.self.view_is) at c.requires.place)
+    place = shelf_stands stores.shelves c.self.inside.0.1.0.bindings c.self.view_is c.requires.place
 
     by : (result : Result (Unit {0}) Fault) →
         OnOk result (HasStore c.args.place (changed (with_dynamic c.args.name c.args.value) c.args.object (store_at stores.shelves c.args.place)) stores
