@@ -1,9 +1,9 @@
 #!/usr/bin/env python3
-"""Measures the front by ratios, each taken within one run: beside a loop over a pipe to the program, the program's own
-time, and a server that only sends back what it is sent.
+"""Measures the front by ratios, each within one run: to a loop over a pipe to the program, to the program's own time,
+and to a server that only sends back what it is sent.
 
-Usage: front.py PROGRAM. What loads the front is `metad-load`, which is built from front/ for this. What others do on the
-machine counts here: it is for people, and decides nothing.
+Usage: front.py PROGRAM. The load comes from `metad-load`, which is built from front/ for this. Other load on the machine
+affects the figures: they are for people, and decide nothing.
 """
 
 from __future__ import annotations
@@ -254,7 +254,7 @@ ROWS: Dict[str, Tuple[Callable[[Path, str], object], str]] = {
     f"front / server, time of a line, {BUSY} clients": (times, "3 or less"),
     f"lines a second of {MANY} clients, {AHEAD} under way / an echo server": (throughput, "0.4 or more"),
     f"rounds of {MANY} equal clients between two commands of one, with 1 and {AHEAD} under way": (rounds, "2.5 or less"),
-    f"99 of 100 waits of a quiet client beside {BUSY} busy ones / alone": (quiet, "1.5 or less"),
+    f"99 of 100 waits of a quiet client next to {BUSY} busy ones / alone": (quiet, "1.5 or less"),
     f"{LIVE} idle live clients, share of a processor; milliseconds until one is notified": (live, "0; 1 or less"),
     f"bringing back {RECORDED:,} commands / the program alone": (recovery, "1.5 or less"),
     "bytes of the front for a client": (memory, "2,048 or less"),

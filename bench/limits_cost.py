@@ -1,8 +1,9 @@
 #!/usr/bin/env python3
-"""Counts the instructions that a front takes per line, with and without limits, by valgrind's callgrind: of one client that
-waits for each answer, and of ten that write ahead.
+"""Counts the instructions of a front per line, with and without limits, by valgrind's callgrind: for one client that waits
+for each answer, and for ten that write ahead.
 
-Usage: limits_cost.py PROGRAM. It fails if limits cost more than 5 %. `make bin/own_name.so` builds what it preloads.
+Usage: limits_cost.py PROGRAM. It fails if limits add more than 5 % to what a line takes in the front and in PROGRAM together.
+`make bin/own_name.so` builds what it preloads.
 """
 
 from __future__ import annotations
@@ -99,14 +100,31 @@ def instructions(program: str, options: List[str], clients: int, ahead: int, cou
                 said = front.communicate(timeout=PATIENCE)[1]
             finally:
                 front.kill()
+    return collected(said)
+
+
+def collected(said: str) -> int:
+    """The instructions that callgrind says it has counted."""
     found = re.search(r"Collected : (\d+)", said)
     if found is None:
         raise Fault(f"callgrind does not say how many instructions it has collected: {said[-500:]}")
     return int(found[1])
 
 
+def of_server(program: str) -> float:
+    """The instructions per line of the server alone, without those of the start."""
+    counts = []
+    for count in (FEW, MANY):
+        lines = [NEW, *(LINES[at % len(LINES)] for at in range(count))]
+        given = b"".join(line.replace(b"{", b'{"session":"c1",', 1) for line in lines).decode()
+        words = ["valgrind", "--tool=callgrind", "--callgrind-out-file=/dev/null", program]
+        ran = subprocess.run(words, input=given, capture_output=True, text=True, timeout=PATIENCE)
+        counts.append(collected(ran.stderr))
+    return (counts[1] - counts[0]) / (MANY - FEW)
+
+
 def per_line(program: str, options: List[str], clients: int, ahead: int) -> float:
-    """The instructions per line, without those of the start."""
+    """The instructions per line of the front, without those of the start."""
     few, many = (instructions(program, options, clients, ahead, count // clients) for count in (FEW, MANY))
     return (many - few) / (MANY - FEW)
 
@@ -119,11 +137,17 @@ def main() -> int:
         print("usage: limits_cost.py PROGRAM", file=sys.stderr)
         return 2
     program, worst = str(Path(sys.argv[1]).resolve()), 0.0
+    if not PRELOADED.exists():
+        print("limits_cost.py: bin/own_name.so is missing; `make bin/own_name.so` builds it", file=sys.stderr)
+        return 1
     try:
+        server = of_server(program)
+        print(f"the server: {server:,.0f} instructions per line", flush=True)
         for what, clients, ahead in (("one client that waits", 1, 1), ("ten clients that write ahead", 10, 20)):
             without, limited = (per_line(program, options, clients, ahead) for options in ([], ["--limits", "FILE"]))
-            worst = max(worst, limited / without)
-            print(f"{what}: {without:,.0f} instructions per line, {limited:,.0f} with limits: {limited / without - 1:+.1%}", flush=True)
+            share, of_both = limited / without - 1, (limited - without) / (server + without)
+            worst = max(worst, 1 + of_both)
+            print(f"the front, {what}: {without:,.0f}, {limited:,.0f} with limits: {share:+.1%}, {of_both:+.1%} of both", flush=True)
     except (Fault, OSError, subprocess.TimeoutExpired) as fault:
         print(f"limits_cost.py: {fault}", file=sys.stderr)
         return 1

@@ -1,6 +1,6 @@
 #!/usr/bin/env python3
-"""Runs all attacks on a front with limits at once, next to 40 clients that mean well, and says what came of it; the first
-fault ends it with status 1.
+"""Runs all attacks on a front with limits at once, next to 40 honest clients, and prints the results; the first fault ends
+it with status 1.
 
 Usage: siege.py [--seconds N] PROGRAM
 
@@ -17,17 +17,18 @@ import multiprocessing
 import os
 import sys
 import time
+from collections import Counter
 from hashlib import blake2b
 from multiprocessing.queues import Queue
 from pathlib import Path
 from tempfile import TemporaryDirectory
-from typing import Dict, List, Optional
+from typing import Counter as Counts, Dict, List, Optional, Tuple
 
 BENCH = Path(__file__).resolve().parent
 sys.path[:0] = [str(BENCH), str(BENCH.parent / "clients" / "python")]
 
 from hard_clients import Failed, Front, Pump, Pumps, connected, group_hello  # noqa: E402
-from siege_attacks import ATTACKS  # noqa: E402
+from siege_attacks import ATTACKS, HEARD  # noqa: E402
 
 HONEST, GROUPS, WORKERS = 40, 10, 3
 FULL = "full"  # the group that fills its worker's memory: those that mean well are with other workers
@@ -79,7 +80,7 @@ def groups() -> List[str]:
     return list(itertools.islice((it for it in names if worker_of(it) != worker_of(FULL)), GROUPS))
 
 
-def attack(name: str, room: Path, faults: Queue[str], counts: Queue[str], until: float) -> None:
+def attack(name: str, room: Path, faults: Queue[str], counts: Queue[Tuple[str, Dict[str, int]]], until: float) -> None:
     """Repeats an attack until the time is over."""
     if os.geteuid() == 0:
         os.setgid(NOBODY)
@@ -87,7 +88,8 @@ def attack(name: str, room: Path, faults: Queue[str], counts: Queue[str], until:
     try:
         while time.monotonic() < until:
             ATTACKS[name](room)
-            counts.put(name)
+            counts.put((name, dict(HEARD)))
+            HEARD.clear()
     except (Failed, OSError, ValueError, KeyError) as fault:
         faults.put(f"{name}: {type(fault).__name__}: {fault}")
 
@@ -128,7 +130,8 @@ class Siege:
         more = ("--share", "team", "--mode", "666", "--health", str(room / "health"))
         self.front = Front(room, [program, "--turns", TURNS], *options, *more)
         self.faults: Queue[str] = FORKS.Queue()
-        self.counts: Queue[str] = FORKS.Queue()
+        self.counts: Queue[Tuple[str, Dict[str, int]]] = FORKS.Queue()
+        self.attacks: Dict[str, Counts[str]] = {}  # how often each was made, and what it was answered
         self.peaks = [[0, 0], [0, 0]]  # in the first quarter, and later
 
     def run(self) -> str:
@@ -148,12 +151,13 @@ class Siege:
             finally:
                 for process in attackers:
                     process.terminate()
+            self.count()
             done = sum(pump.answered for pump in pumps.all)
             waits = min(pump.answered for pump in pumps.all)
             pumps.close()
             self.check(waits)
             self.front.end()
-        return f"{done:,} commands of {HONEST} clients, each answered once; attacks: {self.told()}; memory: {self.memory()}"
+        return f"{done:,} commands of {HONEST} clients, each answered once; attacks: {json.dumps(self.attacks, sort_keys=True)}; memory: {self.memory()}"
 
     def hold(self, pumps: Pumps, begun: float, until: float) -> None:
         """Drives the clients, looks at the front's health and memory, and fails at the first fault."""
@@ -163,16 +167,15 @@ class Siege:
             is_late = time.monotonic() > begun + self.seconds / 4
             peaks = self.peaks[is_late]
             peaks[:] = map(max, peaks, memory_of(self.front))
+            self.count()
             if not self.faults.empty():
                 raise Failed(self.faults.get())
 
-    def told(self) -> str:
-        """How often each attack was made."""
-        found: Dict[str, int] = {}
+    def count(self) -> None:
+        """Counts attacks, and their answers."""
         while not self.counts.empty():
-            name = self.counts.get()
-            found[name] = found.get(name, 0) + 1
-        return json.dumps(found, sort_keys=True)
+            name, answers = self.counts.get()
+            self.attacks.setdefault(name, Counter()).update({"attacks": 1, **answers})
 
     def memory(self) -> str:
         (front, servers), (later, servers_later) = self.peaks

@@ -1,5 +1,5 @@
-"""The attacks of siege.py: each is a function of the front's folder that harms what it can, and fails if the front answers
-otherwise than its limits say. Each runs in a process of its own, again and again."""
+"""The attacks of siege.py. Each is a function of the front's folder, runs again and again in a process of its own, and fails
+if the front answers otherwise than its limits say."""
 
 from __future__ import annotations
 
@@ -7,22 +7,41 @@ import errno
 import json
 import socket
 import time
+from collections import Counter
 from contextlib import ExitStack, contextmanager, suppress
 from pathlib import Path
-from typing import Callable, Dict, Iterator, List
+from typing import Callable, Counter as Counts, Dict, Iterator, List, Tuple
 
-from hard_clients import Failed, ask
+from hard_clients import Failed, ask as answer_to
 
 STATUS = b'{"do":"status"}\n'
 CELL = b'{"class":"Cell","do":"new"}\n'
 PIECE = 1 << 16
+LONG = 4_000  # bytes of a value, so that the system soon takes no more of the answers to a client that does not read
 FLOOD_SECONDS, PATIENCE = 2.0, 60.0
-RING = 40  # cells of a chain, each of which sends its signal twice to the next
+RING = 40  # cells of a chain that each send their signal twice to the next
 STORM = 60
 NO_MEMORY = ("E20", "E21")  # which the attack that fills a server's memory may cause for others there
 NOTHING_HEARD = {"events": 0, "left": 0, "lost": 0, "mismatched": 0}
 NOT_SHARED = '{"error":"F02","session":"-"}'
 Line = Dict[str, object]
+HEARD: Counts[str] = Counter()
+"""What the attack of this process was answered: how often by `reply`, and by the code of each error."""
+
+
+def heard(line: Line) -> Line:
+    """Counts an answer."""
+    if "reply" in line or "error" in line:
+        HEARD[str(line.get("error", "reply"))] += 1
+    return line
+
+
+def ask(link: socket.socket, line: str) -> Line:
+    """The answer to a line. A client whose user has too many connections goes at once."""
+    found = heard(answer_to(link, line))
+    if found.get("error") == "F11":
+        raise ConnectionRefusedError
+    return found
 
 
 @contextmanager
@@ -39,16 +58,28 @@ def client(room: Path) -> Iterator[socket.socket]:
 
 
 def rest(link: socket.socket) -> List[Line]:
-    """The lines that come until the front closes the connection. A partial last one is left out."""
-    told, until = b"", time.monotonic() + PATIENCE
+    """The lines that come until the front closes the connection of a client that has exceeded its limit. A partial last one is
+    left out."""
+    lines, is_closed = lines_in_time(link, PATIENCE)
+    if not is_closed:
+        raise Failed(f"a client is not closed, which has exceeded its limit: {lines[-3:]!r}")
+    return lines
+
+
+def lines_in_time(link: socket.socket, seconds: float) -> Tuple[List[Line], bool]:
+    """The lines that come in so many seconds, or until the front closes the connection; and whether it does."""
+    told, until, is_closed = b"", time.monotonic() + seconds, False
     try:
-        while piece := link.recv(PIECE):
+        while not is_closed and time.monotonic() < until:
+            link.settimeout(max(until - time.monotonic(), 0.01))
+            piece = link.recv(PIECE)
             told += piece
-            if time.monotonic() > until:
-                raise Failed(f"a client is not closed, which has exceeded its limit: {told[-200:]!r}")
+            is_closed = not piece
     except ConnectionError:
+        is_closed = True
+    except socket.timeout:
         pass
-    return [json.loads(line) for line in told.split(b"\n")[:-1]]
+    return [heard(json.loads(line)) for line in told.split(b"\n")[:-1]], is_closed
 
 
 def check_end(lines: List[Line], *codes: str) -> None:
@@ -71,8 +102,8 @@ def flood(room: Path, data: bytes = STATUS * 400) -> None:
                 told = (told + link.recv(PIECE))[-1_000:]
             except BlockingIOError:
                 pass
-        for line in told.split(b"\n")[1:-1]:
-            if b'"reply"' not in line and b'"error":"F' not in line and json.loads(line).get("error") not in NO_MEMORY:
+        for line in map(json.loads, told.split(b"\n")[1:-1]):
+            if "reply" not in heard(line) and line["error"][0] != "F" and line["error"] not in NO_MEMORY:
                 raise Failed(f"a flood is answered {line!r}")
 
 
@@ -90,18 +121,19 @@ def half_line(room: Path) -> None:
 
 
 def slow_reader(room: Path) -> None:
-    """Writes and does not read, until the front takes nothing more."""
+    """Writes and does not read, until the front takes nothing more. Then it reads for a while, and leaves."""
     with client(room) as link:
         link.settimeout(0.5)
         until = time.monotonic() + FLOOD_SECONDS
         try:
+            link.sendall(CELL + b'{"do":"set","object":1,"property":"objectName","value":"%s"}\n' % (b"n" * LONG))
             while time.monotonic() < until:
-                link.sendall(b'{"do":"classes"}\n' * 100)
+                link.sendall(b'{"do":"get","object":1,"property":"objectName"}\n' * 100)
         except OSError:
             pass
-        link.settimeout(PATIENCE)
-        link.shutdown(socket.SHUT_WR)
-        rest(link)
+        lines, is_closed = lines_in_time(link, FLOOD_SECONDS)
+        if is_closed:
+            check_end(lines, "F13")
 
 
 def fill_memory(room: Path) -> None:
@@ -113,7 +145,7 @@ def fill_memory(room: Path) -> None:
             lines = [b'{"do":"set","object":%d,"property":"p%d","value":"%s"}\n' % (number, at, b"x" * 4_000) for at in range(50)]
             link.sendall(b'{"class":"Probe","do":"new"}\n' + b"".join(lines))
             for _ in range(51):
-                line = json.loads(reader.readline() or b'{"error":"closed"}')
+                line = heard(json.loads(reader.readline() or b'{"error":"closed"}'))
                 if line.get("error") in (*NO_MEMORY, "F04", "F19", "closed"):
                     return
                 if "reply" not in line:
@@ -132,8 +164,8 @@ def long_loop(room: Path) -> None:
         for _ in lines:
             reader.readline()
         link.sendall(b'{"do":"set","object":1,"property":"x","value":1}\n')
-        line = json.loads(reader.readline() or b'{"error":"F18"}')
-        if line.get("error") not in ("F18", None, *NO_MEMORY):
+        line = heard(json.loads(reader.readline() or b'{"error":"closed"}'))
+        if line.get("error") not in ("F18", "closed", None, *NO_MEMORY):
             raise Failed(f"a command that takes too long is answered {line}")
         time.sleep(1)
 
@@ -162,7 +194,7 @@ def share(room: Path) -> None:
     for name in ("team", "nobody"):
         with client(room) as link:
             found = json.dumps(ask(link, f'{{"front":"share","session":"{name}"}}'), separators=(",", ":"))
-            if found != NOT_SHARED and '"F11"' not in found:
+            if found != NOT_SHARED:
                 raise Failed(f"a session of others is answered {found}")
 
 

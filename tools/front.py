@@ -1,8 +1,8 @@
 #!/usr/bin/env python3
-"""Builds the front, front/, as bin/metad-front; or what loads it to measure it, as bin/metad-load; or
-runs the tests in its code; or installs what that needs.
+"""Builds the front (front/) as bin/metad-front, or its load generator as bin/metad-load; runs the tests in its code; or
+installs what these need.
 
-The crates that it uses are taken from Debian's packages where these are installed, and otherwise cargo fetches them.
+Crates come from Debian's packages where these are installed; otherwise cargo fetches them.
 Usage: front.py build|load|test|needs
 """
 
@@ -22,10 +22,10 @@ WORK = ROOT / "bin" / "build-front"
 VERSION = ROOT / "clients" / "python" / "metad" / "__init__.py"
 SYSTEM = Path("/usr/share/cargo/registry")
 PACKAGES = (
-    "cargo", "rustc", "librust-asn1-dev", "librust-blake2b-simd-dev", "librust-listenfd-dev", "librust-memchr-dev", "librust-mio-dev",
-    "librust-nix-dev", "librust-rustls-dev", "librust-rustls-pemfile-dev", "librust-sd-notify-dev", "librust-serde-derive-dev",
-    "librust-serde-dev", "librust-serde-json-dev", "librust-signal-hook-dev", "librust-slab-dev", "librust-socket2-dev",
-    "librust-toml-dev", "librust-webpki-dev",
+    "cargo", "rustc", "librust-asn1-dev", "librust-blake2b-simd-dev", "librust-listenfd-dev", "librust-memchr-dev",
+    "librust-mio-dev", "librust-nix-dev", "librust-ring-dev", "librust-rustls-dev", "librust-rustls-pemfile-dev",
+    "librust-sd-notify-dev", "librust-serde-derive-dev", "librust-serde-dev", "librust-serde-json-dev", "librust-signal-hook-dev",
+    "librust-slab-dev", "librust-socket2-dev", "librust-toml-dev", "librust-webpki-dev",
 )  # fmt: skip
 RELAY = "python3-websockets"
 RELAY_ADVICE = f"metad-web and its tests need a library: apt-get install {RELAY}"

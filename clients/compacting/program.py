@@ -16,6 +16,8 @@ sys.path.insert(0, str(PYTHON))  # where the client is, which reads and makes co
 
 from . import record  # noqa: E402
 from .contents import makings  # noqa: E402
+from .groups import holding_back  # noqa: E402
+from .leaving_out import without_ended  # noqa: E402
 from .serving import Kept, Server, Stop  # noqa: E402
 from .trying import has_events, state_of  # noqa: E402
 
@@ -23,6 +25,8 @@ NAME = "compact"
 USAGE = f"{NAME} [--bytes N] RECORD INTO PROGRAM [ARGS...]"
 NICE = 10
 EVENTS = "events wait"
+GROUPS = "an open group holds back changes"
+SOON = (EVENTS, GROUPS)
 """Why a record is kept that may be compacted soon."""
 HELP = """\
 RECORD is the record of a group, as metad-front keeps it with --workers and --record. PROGRAM with ARGS is the server of
@@ -30,8 +34,11 @@ the front. INTO becomes a record that makes the same sessions with the same obje
 publications and joins, by far fewer commands. A server is brought to the state of either record, and both servers are
 asked for everything that can be asked, and then changed in the same way: only if they answer the same, INTO is written.
 
-A record is kept if its sessions have events that wait, functors whose state has changed, or anything else that no
-command can make again. One line of standard output says what was done: {"outcome":"compacted"} or {"outcome":"kept"}.
+If the sessions have events that wait, changes that an open group holds back, functors whose state has changed, or
+anything else that no command can make again, then only commands of sessions that are over are left out, as far as no
+other session depends on them: PROGRAM --slice NAME finds these. If that does not halve the record, it is kept.
+
+One line of standard output says what was done: {"outcome":"compacted"} or {"outcome":"kept"}.
 
 Exit status: 0 if the record was compacted or is kept; 1 if something cannot be read, written or run; 2 after a mistake
 in the command line."""
@@ -70,17 +77,32 @@ def replay(server: Server, path: Path, bytes_read: int) -> None:
 
 
 def compacted(words: Sequence[str], path: Path, bytes_read: int) -> tuple[List[bytes], List[List[bytes]]]:
-    """The commands of the short record with their answers, after all checks."""
+    """The commands of the short record with their answers, after all checks. Where the contents of the sessions cannot be made
+    again, the commands of sessions that are over are left out."""
     sessions = record.sessions_in(path, bytes_read)
     with Server(words) as server:
         replay(server, path, bytes_read)
         before = state_of(server, sessions)
-    if any(has_events(it) for it in before["held"]):
-        raise Kept(EVENTS)
-    given = [line for it in before["held"] for line in makings(it, before["numbers"][it.session])]
+    try:
+        if any(has_events(it) for it in before["held"]):
+            raise Kept(EVENTS)
+        if any(it.shot.groups for it in before["held"]) and holding_back(path, bytes_read):
+            raise Kept(GROUPS)
+        return checked(words, before, [line for it in before["held"] for line in makings(it, before["numbers"][it.session])])
+    except Kept as why:
+        left = without_ended(words, list(record.given_in(path, bytes_read)))
+        if left is None:
+            raise
+        with suppress(Kept):
+            return checked(words, before, left)
+        raise why from None
+
+
+def checked(words: Sequence[str], before: Dict[str, Any], given: List[bytes]) -> tuple[List[bytes], List[List[bytes]]]:
+    """These commands with their answers, if they bring a server to the same state."""
     with Server(words) as server:
         answers = server.ask(given)
-        after = state_of(server, sessions)
+        after = state_of(server, [it.session for it in before["held"]])
     if [it.told for it in before["held"]] != [it.told for it in after["held"]]:
         raise Kept("the sessions hold something that no command makes again")
     if before["numbers"] != after["numbers"] or before["told"] != after["told"]:
@@ -95,7 +117,7 @@ def made(given: argparse.Namespace) -> Dict[str, Any]:
     try:
         lines, answers = compacted([given.program, *given.args], given.record, bytes_read)
     except Kept as why:
-        return {"outcome": "kept", "why": str(why), "soon": str(why) == EVENTS}
+        return {"outcome": "kept", "why": str(why), "soon": str(why) in SOON}
     if sum(map(len, lines)) >= bytes_read:
         return {"outcome": "kept", "why": "it would not be shorter"}
     if os.getppid() != parent:

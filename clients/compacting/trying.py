@@ -4,6 +4,7 @@ sessions hold. Nobody else uses these servers, so they may be changed."""
 from __future__ import annotations
 
 import json
+from itertools import islice
 from typing import Any, Dict, Iterator, List, Sequence
 
 from .contents import Contents, contents_of, line_of, numbers_of
@@ -32,16 +33,17 @@ def changes(held: Contents) -> Iterator[bytes]:
 
 
 def told_by(server: Server, all_held: Sequence[Contents]) -> List[bytes]:
-    """What a server writes for commands that deliver events, change properties, and delete all objects."""
-    names = [it.session for it in all_held]
-    spins = [line_of(name, "spin") for name in names]
-    lines = [*spins, *(line for held in all_held for line in changes(held))][:TRIED_MOST]
-    lines += spins
+    """What a server writes for commands that deliver events, end groups, change properties, and delete all objects.
+
+    Groups are ended before properties are changed, because an open group announces nothing."""
+    spins = [line_of(it.session, "spin") for it in all_held]
+    ends = [line_of(it.session, "end") for it in all_held for _ in range(it.shot.groups)]
+    lines = [*spins, *ends, *islice((line for held in all_held for line in changes(held)), TRIED_MOST), *spins]
     told = [line for answer in server.ask(lines) for line in answer]
     for held in all_held:
         deletions = [line_of(held.session, "delete", object=root) for root in held.shot.roots]
         told += [line for answer in server.ask([*deletions, *spins[:TRIED_MOST]]) for line in answer] if deletions else []
-    return told + [line for answer in server.ask([line_of(name, "status") for name in names]) for line in answer]
+    return told + [line for answer in server.ask([line_of(it.session, "status") for it in all_held]) for line in answer]
 
 
 def state_of(server: Server, sessions: Sequence[str]) -> Dict[str, Any]:

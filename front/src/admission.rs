@@ -1,7 +1,5 @@
 //! Clients that come and go: what is counted for their users and groups, and who is refused.
 
-use std::collections::HashMap;
-
 use crate::front::Front;
 use crate::groups::group_of;
 use crate::lines::NOBODY;
@@ -10,6 +8,7 @@ use crate::people::{ClientKey, GroupKey, Owner, SessionKey, SpeakerKey, Speech};
 use crate::quotas::{
     scope_over, who_is, Account, Held, Refusal, CONNECTIONS, GROUP, NO_RIGHT, SESSIONS, TIME_TO_TAKE, USER,
 };
+use crate::rights::Who;
 
 impl Front {
     /// Begins a client's account, and refuses a client that is one too many.
@@ -18,36 +17,19 @@ impl Front {
             Some(quotas) => quotas,
             None => return,
         };
-        let who = who_is(&self.clients[key].link);
+        let client = &mut self.clients[key];
+        let certificate = client.peer.as_ref().and_then(|peer| peer.certificate.clone());
+        let who = Who { certificate, ..who_is(&client.link) };
         let place = quotas.users.place(who.uid);
         let user = quotas.users.at(place, who.uid);
         user.connections += 1;
-        let is_over = quotas.limits.uid.connections.map_or(false, |most| user.connections > most);
+        let is_over = quotas.limits.of_user(who.uid).connections.map_or(false, |most| user.connections > most);
         let (is_in, may_be_in) = quotas.limits.rights.as_ref().map_or((true, true), |rights| rights.may_come(&who));
-        let client = &mut self.clients[key];
-        client.quota = Some(Box::new(Held {
-            who,
-            user: place,
-            granted: 0,
-            granted_until: None,
-            is_in,
-            own: Account::default(),
-            group: None,
-            is_counted: false,
-            has_session: false,
-            joins: HashMap::new(),
-            half_line_since: None,
-            traffic: 0,
-            active: self.now,
-            read_at: None,
-            last: None,
-            until: (!is_in).then(|| self.now + TIME_TO_TAKE),
-            holds: 0,
-        }));
         if let Speech::One(speaker) = &client.speech {
             let pace = &mut self.speakers[*speaker].pace;
-            (pace.who, pace.user) = (who, place);
+            (pace.who, pace.user) = (who.clone(), place);
         }
+        client.quota = Some(Box::new(Held::new(who, place, is_in, self.now)));
         if !may_be_in {
             self.refuse_entry(key);
         } else if is_over {
@@ -63,9 +45,10 @@ impl Front {
 
     /// Refuses a client at its beginning, and closes it.
     fn refuse_client(&mut self, key: ClientKey, refusal: Refusal) {
-        let link = &mut self.clients[key].link;
-        link.tell(&refusal.line(NOBODY));
+        let (link, line) = (&mut self.clients[key].link, refusal.line(NOBODY));
+        link.tell(&line);
         link.refuse(&format!("it exceeds {}", refusal.limit));
+        self.metrics.exceed(refusal, &line);
         self.close_in_time(key);
     }
 
@@ -105,7 +88,7 @@ impl Front {
         let name = group_of(&session.name);
         let group = self.pool.as_ref().and_then(|pool| pool.groups.get(name)).map(|group| &self.groups[*group]);
         let (clients, sessions) = group.map_or((0, 0), |group| (group.account.connections, group.sessions.len() as u64));
-        let [_, of_user, of_group] = quotas.quotas();
+        let [_, of_user, of_group] = quotas.limits.quotas(held.who.uid);
         if of_group.connections.map_or(false, |most| clients >= most) {
             return Some(Some(CONNECTIONS.refusal(GROUP)));
         }
@@ -206,13 +189,14 @@ impl Front {
             group.and_then(|(group, _)| voices.of_groups.get(&group)).and_then(|voice| self.speakers[*voice].more.as_ref());
         let is_known = session.map_or(false, |session| voice.map_or(false, |more| more.members.contains(session)));
         let is_new = u64::from(session.is_none());
-        let own = scope_over([quotas.limits.client.sessions, None, None], [held.own.sessions; 3], u64::from(!is_known));
+        let [of_client, of_user, of_group] = quotas.limits.quotas(held.who.uid);
+        let own = scope_over([of_client.sessions, None, None], [held.own.sessions; 3], u64::from(!is_known));
         let has = [
             0,
             quotas.account(held.who.uid).map_or(0, |user| user.sessions),
             group.map_or(0, |(_, it)| it.sessions.len() as u64),
         ];
-        let shared = scope_over([None, quotas.limits.uid.sessions, quotas.limits.group.sessions], has, is_new);
+        let shared = scope_over([None, of_user.sessions, of_group.sessions], has, is_new);
         own.filter(|_| !is_known).or_else(|| shared.filter(|_| is_new > 0))
     }
 

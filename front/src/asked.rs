@@ -1,7 +1,7 @@
 //! Requests of the page's process: each line has a number, the name of a session, and a command.
 //!
 //! Browsers talk to that process, so the front does not trust it. Whatever the process writes, a server is given only commands
-//! that are allowed here: the front reads each of them, writes it anew, and puts the session in by itself.
+//! that are allowed here: the front reads each of them, writes it again, and puts the session in itself.
 
 use std::collections::BTreeMap;
 
@@ -26,7 +26,7 @@ pub struct Leave {
 }
 
 impl Leave {
-    /// Reads a command and writes it anew; returns nothing if it is not allowed, or if the server could not read it. A key
+    /// Reads a command and writes it again; returns nothing if it is not allowed, or if the server could not read it. A key
     /// that is there twice is written once, with its last value. Values are written unchanged.
     pub fn command_in(self, text: &[u8]) -> Option<Vec<u8>> {
         object_of(text)?;

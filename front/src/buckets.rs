@@ -27,8 +27,8 @@ impl Bucket {
     /// How many units may be taken now without a wait.
     fn left(&self, rate: &Rate, now: Instant) -> u64 {
         let owed = self.due.map_or(Duration::ZERO, |due| due.saturating_duration_since(now));
-        let picoseconds = rate.ahead.saturating_sub(owed).as_nanos().saturating_mul(1_000) / u128::from(rate.each);
-        picoseconds.min(u128::from(u64::MAX)) as u64
+        let free = rate.ahead.saturating_sub(owed).as_nanos().min(u128::from(u64::MAX)) as u64;
+        free.saturating_mul(1_000) / rate.each // a unit takes picoseconds
     }
 
     /// Takes units.
@@ -43,21 +43,46 @@ impl Bucket {
     }
 }
 
+/// The accounts of a client, its user and its group, as far as there are any, with the rates that they may have.
+pub struct Accounts<'a> {
+    pub all: [Option<&'a mut Account>; 3],
+    pub rates: [Option<Rate>; 3],
+    /// The bucket that counts.
+    pub bucket: fn(&mut Account) -> &mut Bucket,
+}
+
+impl Accounts<'_> {
+    /// Calls `hear` with each bucket that has a rate, and whether it is that of the client, the user or the group.
+    fn each(&mut self, mut hear: impl FnMut(usize, &mut Bucket, &Rate)) {
+        for (scope, (account, rate)) in self.all.iter_mut().zip(&self.rates).enumerate() {
+            if let (Some(account), Some(rate)) = (account, rate) {
+                hear(scope, (self.bucket)(account), rate);
+            }
+        }
+    }
+
+    /// How long a unit has to wait now, and for which of the accounts.
+    pub fn wait(&mut self, now: Instant) -> (Duration, usize) {
+        let mut longest = (Duration::ZERO, 0);
+        self.each(|scope, bucket, rate| {
+            let wait = bucket.wait(rate, now);
+            longest = if wait > longest.0 { (wait, scope) } else { longest };
+        });
+        longest
+    }
+
+    /// Takes units, and some in advance, so that not each of them is looked at: at most so many, and a small part of what each of
+    /// the accounts has left. Returns how many these are.
+    pub fn take(&mut self, count: u64, most: u64, now: Instant) -> u64 {
+        let mut more = most;
+        self.each(|_, bucket, rate| more = more.min(bucket.left(rate, now) / PART));
+        self.each(|_, bucket, rate| bucket.take(count + more, rate, now));
+        more
+    }
+}
+
 /// How long units may be taken that are counted in advance.
 pub const AHEAD: Duration = Duration::from_millis(100);
-
-/// How many units may be counted in advance, so that not each of them is looked at: at most so many, and a small part of what
-/// each of the accounts has left.
-pub fn granted<T: std::ops::Deref<Target = Account>>(
-    accounts: &[Option<T>; 3],
-    rates: [Option<Rate>; 3],
-    bucket: impl Fn(&Account) -> &Bucket,
-    most: u64,
-    now: Instant,
-) -> u64 {
-    let pairs = accounts.iter().zip(&rates).filter_map(|(account, rate)| Some((account.as_ref()?, rate.as_ref()?)));
-    pairs.map(|(account, rate)| bucket(account).left(rate, now) / PART).min().unwrap_or(most).min(most)
-}
 
 #[cfg(test)]
 mod tests {
@@ -90,11 +115,28 @@ mod tests {
     fn little_is_counted_in_advance() {
         let (mut account, now) = (Account::default(), Instant::now());
         let rate = Rate { each: 1_000_000_000, ahead: Duration::from_millis(159) };
-        let found = |account: &Account, most| {
-            granted(&[Some(account), None, None], [Some(rate), None, Some(RATE)], |it| &it.commands, most, now)
+        let mut taken = |count, most| {
+            let (all, rates) = ([Some(&mut account), None, None], [Some(rate), None, Some(RATE)]);
+            Accounts { all, rates, bucket: |it| &mut it.commands }.take(count, most, now)
         };
-        assert_eq!((found(&account, 32), found(&account, 5)), (9, 5));
-        account.commands.take(150, &rate, now);
-        assert_eq!(found(&account, 32), 0);
+        assert_eq!((taken(1, 5), taken(1, 32)), (5, 9), "159 of 160 are left, and then 153");
+        assert_eq!((taken(125, 32), taken(1, 32)), (8, 0), "143 are left, and then 10");
+    }
+
+    #[test]
+    fn the_longest_wait_counts() {
+        let (mut own, mut group, now) = (Account::default(), Account::default(), Instant::now());
+        own.commands.take(6, &RATE, now);
+        group.commands.take(7, &RATE, now);
+        let mut both = Accounts {
+            all: [Some(&mut own), None, Some(&mut group)],
+            rates: [Some(RATE); 3],
+            bucket: |it| &mut it.commands,
+        };
+        assert_eq!(both.wait(now), (Duration::from_millis(30), 2));
+        both.rates[2] = None;
+        assert_eq!(both.wait(now), (Duration::from_millis(20), 0));
+        both.rates = [None; 3];
+        assert_eq!((both.wait(now), both.take(1, 8, now)), ((Duration::ZERO, 0), 8));
     }
 }

@@ -2,19 +2,17 @@
 
 use std::time::Duration;
 
-use serde_json::{json, Map, Value};
+use serde_json::json;
 
 use crate::front::Front;
-use crate::groups::{group_of, is_group, BETWEEN};
 use crate::joining::may_join;
-use crate::lines::{asked_of_front, has_only, is_name, line_of, refusal, RESET};
+use crate::lines::RESET;
 use crate::metrics::LEAVINGS;
 use crate::network::Peer;
 use crate::people::{
     Came, Client, ClientKey, Link, Owner, Session, SessionKey, Speaker, SpeakerKey, Speech, UNREAD_OF_ALL, UNREAD_SLOW,
 };
 use crate::quotas::State;
-use crate::rights::Right;
 use crate::tokens::{token, Kind};
 use crate::wire::Wire;
 
@@ -26,13 +24,6 @@ const HELD_LONGEST: Duration = Duration::from_millis(20);
 const LEFT_MOST: usize = 2_000;
 /// The most bytes of answers that wait.
 const HELD_MOST: usize = 4_096;
-/// The first line asks for something that the front does not do.
-pub const NOT_KNOWN: &str = "F01";
-/// The first line asks for a session that is not shared.
-const NOT_SHARED: &str = "F02";
-/// The first line asks for a group by a name that no group can have.
-const NO_GROUP: &str = "F03";
-pub const ASKS_NOTHING: &str = "its first line asks for nothing that there is";
 
 impl Front {
     /// Adds a new client.
@@ -268,44 +259,22 @@ impl Front {
 
     /// Reads what a client has written, and queues its lines for their turns.
     fn read_client(&mut self, key: ClientKey) {
-        let client = &mut self.clients[key];
-        let came = client.link.read(&mut self.chunk);
-        let (has_spoken, link) = (client.link.has_spoken, &mut client.link);
-        let mut has_join = false;
-        let queue = match &client.speech {
-            Speech::One(speaker) => &mut self.speakers[*speaker].waiting,
-            Speech::Named(_) => &mut self.sorted,
+        let has_lines = match self.queue_lines(key) {
+            Some(has_lines) => has_lines,
+            None => return,
         };
-        let (before, bytes) = (queue.count(), if let Came::Bytes(count) = came { count } else { 0 });
-        match came {
-            Came::Nothing => return,
-            Came::Bytes(count) if client.quota.is_some() => link.cutter.feed(&self.chunk[..count], |line| {
-                has_join |= may_join(line);
-                queue.push(line);
-            }),
-            Came::Bytes(count) => link.cutter.feed(&self.chunk[..count], |line| queue.push(line)),
-            Came::End => link.cutter.finish(|line| {
-                has_join |= may_join(line);
-                queue.push(line);
-            }),
-        }
-        self.metrics.receive(bytes, queue.count() - before);
-        let is_empty = queue.is_empty();
-        if let (false, Speech::One(speaker)) = (is_empty, &client.speech) {
-            self.speakers[*speaker].pace.may_join = has_join;
-        }
-        self.count_read(key, came.count());
-        if is_empty {
+        let client = &mut self.clients[key];
+        if !has_lines {
             return;
         }
-        let client = &mut self.clients[key];
-        client.link.has_spoken = true;
-        if let Speech::One(speaker) = client.speech {
-            self.speakers[speaker].came = self.metrics.now();
-        }
+        let has_spoken = std::mem::replace(&mut client.link.has_spoken, true);
         match client.speech {
-            Speech::One(speaker) if !has_spoken => self.hear_first(key, speaker),
-            Speech::One(_) => {}
+            Speech::One(speaker) => {
+                self.speakers[speaker].came = self.metrics.now();
+                if !has_spoken {
+                    self.hear_first(key, speaker);
+                }
+            }
             Speech::Named(_) => self.sort(key, has_spoken),
         }
         if !has_spoken {
@@ -313,118 +282,37 @@ impl Front {
         }
     }
 
-    /// Reads the first lines of a client.
-    fn hear_first(&mut self, key: ClientKey, speaker: SpeakerKey) {
-        let mut asked = self.speakers[speaker].waiting.first().and_then(asked_of_front);
-        if asked.is_some() {
-            self.speakers[speaker].waiting.pop();
-        }
-        if self.identify(key, &mut asked) {
-            if let Some(asked) = asked {
-                self.do_for(key, speaker, &asked);
+    /// Reads a client and queues the lines; returns whether there are any, or none if nothing was read.
+    fn queue_lines(&mut self, key: ClientKey) -> Option<bool> {
+        let client = &mut self.clients[key];
+        let came = client.link.read(&mut self.chunk);
+        let (link, is_limited) = (&mut client.link, client.quota.is_some());
+        let (queue, pace) = match &client.speech {
+            Speech::One(speaker) => {
+                let speaker = &mut self.speakers[*speaker];
+                (&mut speaker.waiting, Some(&mut speaker.pace))
             }
+            Speech::Named(_) => (&mut self.sorted, None),
+        };
+        let (before, count, mut has_join) = (queue.count(), came.count(), false);
+        let mut hear = |line: &[u8]| {
+            has_join |= is_limited && may_join(line);
+            queue.push(line);
+        };
+        match came {
+            Came::Nothing => return None,
+            Came::Bytes(count) => link.cutter.feed(&self.chunk[..count], &mut hear),
+            Came::End => link.cutter.finish(&mut hear),
         }
-        self.has_room(key, self.speakers[speaker].session);
-        if !self.clients[key].link.fault.is_empty() {
-            self.speakers[speaker].waiting.clear();
-            return;
+        let has_lines = !queue.is_empty();
+        self.metrics.receive(count, queue.count() - before);
+        if let Some(pace) = pace.filter(|_| has_lines) {
+            pace.may_join = has_join;
         }
-        if self.pool.is_some() {
-            let session = self.speakers[speaker].session;
-            let name = group_of(&self.sessions[session].name).to_string();
-            self.enter_group(session, &name, speaker);
-            self.count_in_group(key, self.sessions[session].group);
+        if is_limited {
+            self.count_read(key, count);
         }
-        self.spin_first(speaker);
-    }
-
-    /// Does what a client's first line asks the front for.
-    fn do_for(&mut self, key: ClientKey, speaker: SpeakerKey, asked: &Map<String, Value>) {
-        let is_live = asked.get("live").map_or(false, |live| *live == true);
-        let mut asked = asked.clone();
-        if is_live {
-            asked.remove("live");
-        }
-        if asked["front"] == "hello" && is_live && has_only(&asked, &["front"]) {
-            return self.answer_for(key, self.speakers[speaker].session, true);
-        }
-        if self.pool.is_some() && asked["front"] == "hello" {
-            return self.greet(key, speaker, &asked, is_live);
-        }
-        if !has_only(&asked, &["front", "session"]) || asked["front"] != "share" {
-            return self.refuse(key, NOT_KNOWN, ASKS_NOTHING);
-        }
-        let name = asked["session"].as_str().filter(|name| self.may_use(key, Right::Share, name));
-        match name.and_then(|name| self.shared.get(name)) {
-            Some(&session) => self.share(key, speaker, session, is_live),
-            None => self.refuse(key, NOT_SHARED, "it has asked for a session that is not shared"),
-        }
-    }
-
-    /// Puts a client's session into the group that the client asks for.
-    fn greet(&mut self, key: ClientKey, speaker: SpeakerKey, asked: &Map<String, Value>, is_live: bool) {
-        let session = self.speakers[speaker].session;
-        let group = asked
-            .get("group")
-            .and_then(Value::as_str)
-            .filter(|group| is_group(group) && self.may_use(key, Right::Hello, group));
-        let name = group.map(|group| format!("{group}{BETWEEN}{}", self.sessions[session].name));
-        match name.filter(|name| has_only(asked, &["front", "group"]) && is_name(name)) {
-            None => self.refuse(key, NO_GROUP, "its first line names no group"),
-            Some(name) => {
-                if let Some(inspector) = &mut self.inspector {
-                    inspector.sessions.remove(&self.sessions[session].name);
-                    inspector.sessions.insert(name.clone(), session);
-                }
-                let found = &mut self.sessions[session];
-                found.member = crate::lines::member_of(&name);
-                found.name = name;
-                self.answer_for(key, session, is_live);
-            }
-        }
-    }
-
-    /// Makes a client a member of a shared session.
-    fn share(&mut self, key: ClientKey, speaker: SpeakerKey, session: SessionKey, is_live: bool) {
-        let own = std::mem::replace(&mut self.speakers[speaker].session, session);
-        if let Some(inspector) = &mut self.inspector {
-            inspector.sessions.remove(&self.sessions[own].name);
-        }
-        let was_live = self.sessions[own].is_live;
-        self.end_live(own);
-        self.let_go_of(own);
-        self.sessions[session].members.push(key);
-        if was_live {
-            self.let_live(speaker);
-        }
-        self.answer_for(key, session, is_live);
-    }
-
-    /// Tells a client the name of its session, and makes the session live if the client asks for that.
-    pub fn answer_for(&mut self, key: ClientKey, session: SessionKey, is_live: bool) {
-        if !self.has_room(key, session) {
-            return;
-        }
-        if let (true, Speech::One(speaker)) = (is_live, &self.clients[key].speech) {
-            self.let_live(*speaker);
-        }
-        let (client, session) = (&mut self.clients[key], &self.sessions[session]);
-        let answer = json!({"reply": true, "session": session.name});
-        let live = json!({"live": true, "reply": true, "session": session.name});
-        let line = line_of(if is_live { &live } else { &answer });
-        client.link.tell(&line);
-        self.metrics.send(&line);
-        let fields = json!({"client": client.number, "session": session.name, "live": is_live});
-        self.log.note("client_named", fields, &format!("c{} speaks for {}", client.number, session.name));
-    }
-
-    /// Refuses a client's first line, and closes the client.
-    pub fn refuse(&mut self, key: ClientKey, code: &str, fault: &str) {
-        self.metrics.refuse(code);
-        let link = &mut self.clients[key].link;
-        link.tell(&refusal(code));
-        self.metrics.send(&refusal(code));
-        link.refuse(fault);
+        Some(has_lines)
     }
 
     /// Closes a client. Its commands under way are still done, and nobody receives their answers.

@@ -235,8 +235,8 @@ impl Front {
         }
     }
 
-    /// Compacts a record again only when it has twice the size that was needed, which is that of the new one if there is one;
-    /// or a quarter more, if it was only not the right moment.
+    /// Compacts a record again only when it has twice the size that was needed, which is that of the new one if there is one.
+    /// If it was only not the right moment, 5/4 of the size is enough.
     fn put_off(&mut self, compaction: &Compaction, needed: Option<u64>, is_soon: bool) {
         let group = self.groups.get_mut(compaction.group).filter(|group| group.number == compaction.number);
         if let Some(record) = group.and_then(|group| group.record.as_mut()) {

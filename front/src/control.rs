@@ -2,7 +2,7 @@
 
 use serde_json::{json, Map, Value};
 
-use crate::clients::NOT_KNOWN;
+use crate::first_lines::NOT_KNOWN;
 use crate::front::Front;
 use crate::guests::Errand;
 use crate::lines::{asked_of_front, has_only, line_of, NOBODY};

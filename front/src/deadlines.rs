@@ -60,6 +60,7 @@ impl Front {
             }
         }
         let line = COMMAND_TIME.line(&self.sessions[command.session].name);
+        self.metrics.errors.count(COMMAND_TIME.code.as_bytes());
         if command.is_spin {
             self.tell_spin(command.session, &line);
         } else if let Some(Owner::Client(client)) = self.speakers.get(command.speaker).map(|speaker| speaker.owner) {

@@ -2,8 +2,8 @@
 
 use serde_json::{Map, Value};
 
-use crate::clients::{ASKS_NOTHING, NOT_KNOWN};
 use crate::doors::Comers;
+use crate::first_lines::{ASKS_NOTHING, NOT_KNOWN};
 use crate::front::Front;
 use crate::guests::Errand;
 use crate::lines::{asked_of_front, error_line, has_only, is_name, line_of, refusal, NOBODY};
@@ -35,7 +35,7 @@ impl Front {
     /// connect. Returns whether it may go on.
     pub fn identify(&mut self, key: ClientKey, asked: &mut Option<Map<String, Value>>) -> bool {
         let mut who = match &self.clients[key].quota {
-            Some(held) => held.who,
+            Some(held) => held.who.clone(),
             None => return true,
         };
         let rights = match self.rights() {
@@ -45,7 +45,7 @@ impl Front {
         let has_token = asked.as_mut().map_or(false, |asked| take_token(asked, &mut who));
         let is_in = rights.allow(&who, Right::Connect);
         if let Some(held) = &mut self.clients[key].quota {
-            held.who = who;
+            held.who = who.clone();
             held.is_in = is_in;
             held.let_in();
         }
@@ -86,7 +86,7 @@ impl Front {
             _ => return,
         };
         if let Some(quotas) = &mut self.quotas {
-            quotas.guests.insert(key, who);
+            quotas.guests.insert(key, who.clone());
         }
         let (has_all, may_have_any) = match (self.rights(), comers) {
             (Some(rights), Comers::Monitors) => {
@@ -99,6 +99,7 @@ impl Front {
             if !may_have_any {
                 guest.link.tell(&error_line(NO_RIGHT, NOBODY));
                 guest.link.refuse(MAY_NOT);
+                self.metrics.refuse(NO_RIGHT);
             }
         }
     }
@@ -107,7 +108,7 @@ impl Front {
     /// one that is not there: the monitor receives nothing of it.
     pub fn choose_for(&mut self, key: usize, line: &[u8]) {
         let mut asked = asked_of_front(line).unwrap_or_default();
-        let mut who = self.quotas.as_ref().and_then(|quotas| quotas.guests.get(&key)).copied().unwrap_or_default();
+        let mut who = self.quotas.as_ref().and_then(|quotas| quotas.guests.get(&key)).cloned().unwrap_or_default();
         let has_token = self.rights().is_some() && take_token(&mut asked, &mut who);
         let is_monitor = asked.get("front").map_or(false, |front| front == "monitor");
         let name = asked.get("session").and_then(Value::as_str).filter(|name| *name == NOBODY || is_name(name));
@@ -134,6 +135,7 @@ impl Front {
             None => {
                 guest.link.tell(&refusal(NOT_KNOWN));
                 guest.link.refuse(ASKS_NOTHING);
+                self.metrics.refuse(NOT_KNOWN);
             }
         }
     }
@@ -147,7 +149,7 @@ impl Front {
 
     /// Takes the token out of an operator's request; returns whether the operator may ask.
     pub fn may_control(&self, key: usize, asked: &mut Map<String, Value>) -> bool {
-        let mut who = self.quotas.as_ref().and_then(|quotas| quotas.guests.get(&key)).copied().unwrap_or_default();
+        let mut who = self.quotas.as_ref().and_then(|quotas| quotas.guests.get(&key)).cloned().unwrap_or_default();
         match self.rights() {
             Some(rights) => {
                 take_token(asked, &mut who);

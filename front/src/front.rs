@@ -137,7 +137,7 @@ pub struct Front {
 }
 
 impl Front {
-    /// Makes a front with this many workers, none of which has a server yet.
+    /// Makes a front with this many workers. They have no servers yet.
     pub fn new(count: usize, server_words: (OsString, Vec<OsString>), log: Log) -> io::Result<Front> {
         let (mut speakers, mut sessions) = (Slab::new(), Slab::new());
         sessions.insert(Session::new("", true));
@@ -206,7 +206,7 @@ impl Front {
         loop {
             self.open_doors()?;
             let due = self.due().map(|time| time + MILLISECOND); // so that less than a millisecond does not count as no time
-            let timeout = if self.is_stirred() { Some(Duration::ZERO) } else { due };
+            let timeout = if self.is_stirred() { Some(Duration::ZERO) } else { self.until_look(due) };
             match self.wait(&mut events, timeout) {
                 Err(error) if error.kind() != io::ErrorKind::Interrupted => return Err(error.into()),
                 Err(_) => continue,

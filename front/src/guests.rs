@@ -8,8 +8,8 @@ use mio::net::UnixStream;
 use nix::poll::{poll, PollFd, PollFlags};
 use serde_json::json;
 
-use crate::clients::{ASKS_NOTHING, NOT_KNOWN};
 use crate::doors::Comers;
+use crate::first_lines::{ASKS_NOTHING, NOT_KNOWN};
 use crate::front::Front;
 use crate::health::Check;
 use crate::lines::{asked_of_front, has_only, is_name, refusal, NOBODY};

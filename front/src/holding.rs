@@ -3,12 +3,12 @@
 use std::cmp::Reverse;
 use std::time::{Duration, Instant};
 
-use crate::buckets::{granted, AHEAD};
+use crate::buckets::{Accounts, AHEAD};
 use crate::front::Front;
 use crate::lines::NOBODY;
-use crate::people::{ClientKey, Speech};
+use crate::people::{Client, ClientKey, Speech};
 use crate::quotas::{
-    scope_over, Account, Held, Refusal, State, Waiting, CLIENT, GROUP, HALF_LINE, HALF_LINE_TIME, IDLE, LOOK, MEMORY,
+    scope_over, Account, Held, Refusal, State, Waiting, CLIENT, HALF_LINE, HALF_LINE_TIME, IDLE, LOOK, MEMORY,
     OF_CONNECTION, UNREAD, USER,
 };
 
@@ -23,57 +23,64 @@ impl Front {
 
     /// Counts bytes that were read from a client.
     pub fn count_read(&mut self, key: ClientKey, count: usize) {
-        let (quotas, client) = match (&mut self.quotas, &mut self.clients[key]) {
-            (Some(quotas), client) if client.quota.is_some() => (quotas, client),
-            _ => return,
-        };
-        let half_line = client.link.cutter.half_line() as u64;
-        let held = match &mut client.quota {
-            Some(held) => held,
+        let client = &mut self.clients[key];
+        let (held, half_line) = match &mut client.quota {
+            Some(held) => (held, client.link.cutter.half_line() as u64),
             None => return,
         };
-        let before = std::mem::replace(&mut held.own.half_line, half_line);
-        let is_granted = count as u64 <= held.granted && held.granted_until.map_or(false, |until| self.now < until);
-        if is_granted && half_line == 0 && before == 0 {
-            held.granted -= count as u64;
-            return;
-        }
-        held.half_line_since = if half_line == 0 { None } else { held.half_line_since.or(Some(self.now)) };
-        let of = [&quotas.limits.client, &quotas.limits.uid, &quotas.limits.group];
-        let user = quotas.users.at(held.user, held.who.uid);
-        user.half_line = user.half_line + half_line - before;
-        let group = held.group.and_then(|group| self.groups.get_mut(group)).map(|group| &mut group.account);
-        let mut accounts = [Some(&mut held.own), Some(user), group];
-        if let Some(group) = &mut accounts[GROUP] {
-            group.half_line = (group.half_line + half_line).saturating_sub(before);
-        }
-        let more = if is_granted {
-            0
-        } else {
-            granted(&accounts, of.map(|of| of.input_bytes), |it| &it.bytes, BYTES_AHEAD, self.now)
-        };
-        let counted = if is_granted { 0 } else { count as u64 + more };
-        let mut wait = Duration::ZERO;
-        for scope in 0..3 {
-            if let (Some(account), Some(rate)) = (&mut accounts[scope], &of[scope].input_bytes) {
-                account.bytes.take(counted, rate, self.now);
-                wait = wait.max(account.bytes.wait(rate, self.now));
-            }
-        }
-        let has = accounts.map(|account| account.map_or(0, |account| account.half_line));
-        let over = scope_over(of.map(|quota| quota.half_line_bytes), has, 0).filter(|_| half_line > before);
+        let is_granted = count as u64 <= held.granted && self.now < held.granted_until;
         if is_granted {
             held.granted -= count as u64;
-        } else {
-            (held.granted, held.granted_until) = (more, Some(self.now + AHEAD));
         }
+        let has_half_line = half_line > 0 || held.own.half_line > 0;
+        if !is_granted {
+            self.count_bytes(key, count as u64);
+        }
+        if has_half_line {
+            self.count_half_line(key, half_line);
+        }
+    }
+
+    /// Counts bytes that a client has written, and some in advance if there is much room. If they are too many, it is read later.
+    fn count_bytes(&mut self, key: ClientKey, count: u64) {
+        let (quotas, held) = match (&mut self.quotas, &mut self.clients[key].quota) {
+            (Some(quotas), Some(held)) => (quotas, held),
+            _ => return,
+        };
+        let rates = quotas.limits.quotas(held.who.uid).map(|quota| quota.input_bytes);
+        let user = quotas.users.at(held.user, held.who.uid);
+        let group = held.group.and_then(|group| self.groups.get_mut(group)).map(|group| &mut group.account);
+        let mut accounts =
+            Accounts { all: [Some(&mut held.own), Some(user), group], rates, bucket: |account| &mut account.bytes };
+        let more = accounts.take(count, BYTES_AHEAD, self.now);
+        let (wait, _) = accounts.wait(self.now);
+        (held.granted, held.granted_until) = (more, self.now + AHEAD);
         if wait > Duration::ZERO {
             let at = self.now + wait;
             held.read_at = Some(at);
-            held.half_line_since = held.half_line_since.map(|_| at); // the client may have written the rest
             quotas.waiting.push(Reverse((at, Waiting::Reader(key))));
         }
-        if let Some(scope) = over {
+    }
+
+    /// Counts the bytes of a client's unfinished line, and ends a client that has too many.
+    fn count_half_line(&mut self, key: ClientKey, half_line: u64) {
+        let (quotas, held) = match (&mut self.quotas, &mut self.clients[key].quota) {
+            (Some(quotas), Some(held)) => (quotas, held),
+            _ => return,
+        };
+        let before = std::mem::replace(&mut held.own.half_line, half_line);
+        // while it is not read, it may have written the rest
+        let since = held.half_line_since.or(Some(self.now)).map(|since| held.read_at.map_or(since, |at| since.max(at)));
+        held.half_line_since = since.filter(|_| half_line > 0);
+        let change = |account: &mut Account| {
+            account.half_line = (account.half_line + half_line).saturating_sub(before);
+            account.half_line
+        };
+        let of_user = change(quotas.users.at(held.user, held.who.uid));
+        let group = held.group.and_then(|group| self.groups.get_mut(group));
+        let has = [half_line, of_user, group.map_or(0, |group| change(&mut group.account))];
+        let of = quotas.limits.quotas(held.who.uid).map(|quota| quota.half_line_bytes);
+        if let Some(scope) = scope_over(of, has, 0).filter(|_| half_line > before) {
             self.end_client(key, HALF_LINE.refusal(scope));
         }
     }
@@ -90,13 +97,14 @@ impl Front {
 
     /// Sends a client its last line, if all that it waits for is answered.
     pub fn say_last(&mut self, key: ClientKey, awaits: bool) {
-        let last = self.clients[key].quota.as_mut().filter(|_| !awaits).and_then(|held| held.last.take());
-        if let Some(refusal) = last {
-            let name = self.name_of(key);
+        let held = self.clients[key].quota.as_mut().filter(|held| held.last.is_some() && !awaits);
+        if let Some(refusal) = held.and_then(|held| held.last.take()) {
+            let line = refusal.line(&self.name_of(key));
             let link = &mut self.clients[key].link;
-            link.tell(&refusal.line(&name));
+            link.tell(&line);
             link.refuse(&format!("it exceeds {}", refusal.limit));
             link.write(self.poll.registry());
+            self.metrics.exceed(refusal, &line);
             self.close_in_time(key);
         }
     }
@@ -111,32 +119,33 @@ impl Front {
 
     // ---- what is unread, and what the front holds ----
 
-    /// Counts what a client makes the front hold, and closes clients if that is too much.
+    /// Counts what a client makes the front hold, if that has changed, and closes clients if it is too much.
     pub fn bound_client(&mut self, key: ClientKey) {
-        let (before, has) = match self.count_held(key) {
-            Some(found) => found,
+        let client = &self.clients[key];
+        let held = match &client.quota {
+            Some(held) => held,
             None => return,
         };
-        let of = self.quotas.as_ref().map_or([None; 3], |quotas| quotas.quotas().map(|quota| quota.unread_bytes));
-        if let Some(scope) = scope_over(of, has, 0).filter(|_| has[CLIENT] > before) {
-            let most = self.most_unread(key, scope);
-            most.into_iter().for_each(|most| self.cut_client(most, UNREAD.refusal(scope)));
+        let unread = client.link.unread.len() as u64;
+        let holds = self.bytes_of(client);
+        if holds == held.holds && unread == held.own.unread {
+            return; // as after most lines
+        }
+        let is_more = unread > held.own.unread;
+        let has = self.count_held(key, holds, unread);
+        if is_more {
+            self.bound_unread(key, has);
         }
         self.bound_memory();
     }
 
-    /// Counts what a client makes the front hold, if that has changed; returns how much it had unread when that was last counted, and how much it, its
-    /// user and its group have unread now.
-    fn count_held(&mut self, key: ClientKey) -> Option<(u64, [u64; 3])> {
-        let waiting = self.waiting_bytes(key);
-        let (quotas, client) = (self.quotas.as_mut()?, &mut self.clients[key]);
-        let (link, held) = (&client.link, client.quota.as_mut()?);
-        let holds = link.unread.capacity() + link.cutter.capacity() + waiting + OF_CONNECTION;
-        if holds == held.holds && link.unread.len() as u64 == held.own.unread {
-            return None;
-        }
+    /// Counts what a client makes the front hold; returns how much it, its user and its group have unread.
+    fn count_held(&mut self, key: ClientKey, holds: usize, unread: u64) -> [u64; 3] {
+        let (quotas, held) = match (&mut self.quotas, &mut self.clients[key].quota) {
+            (Some(quotas), Some(held)) => (quotas, held),
+            _ => return [0; 3],
+        };
         quotas.held = quotas.held + holds - std::mem::replace(&mut held.holds, holds);
-        let unread = link.unread.len() as u64;
         let before = std::mem::replace(&mut held.own.unread, unread);
         let change = |account: &mut Account| {
             account.unread = (account.unread + unread).saturating_sub(before);
@@ -144,7 +153,20 @@ impl Front {
         };
         let of_user = change(quotas.users.at(held.user, held.who.uid));
         let group = held.group.and_then(|group| self.groups.get_mut(group));
-        Some((before, [unread, of_user, group.map_or(0, |group| change(&mut group.account))]))
+        [unread, of_user, group.map_or(0, |group| change(&mut group.account))]
+    }
+
+    /// Closes the client that has most unread of those that share a limit, if they have too much.
+    fn bound_unread(&mut self, key: ClientKey, has: [u64; 3]) {
+        let (quotas, held) = match (&self.quotas, &self.clients[key].quota) {
+            (Some(quotas), Some(held)) => (quotas, held),
+            _ => return,
+        };
+        let of = quotas.limits.quotas(held.who.uid).map(|quota| quota.unread_bytes);
+        if let Some(scope) = scope_over(of, has, 0) {
+            let most = self.most_unread(key, scope);
+            most.into_iter().for_each(|most| self.cut_client(most, UNREAD.refusal(scope)));
+        }
     }
 
     /// The client that has most unread, of those that one belongs to.
@@ -163,15 +185,13 @@ impl Front {
             .map(|(_, other)| other)
     }
 
-    /// Bytes of lines of a client that wait for their turns.
-    fn waiting_bytes(&self, key: ClientKey) -> usize {
-        if self.quotas.is_none() {
-            return 0;
-        }
-        match &self.clients[key].speech {
+    /// The bytes that a client makes the front hold: those that it has not read, an unfinished line, and lines that wait.
+    fn bytes_of(&self, client: &Client) -> usize {
+        let waiting = match &client.speech {
             Speech::One(speaker) => self.speakers[*speaker].waiting.capacity(),
             Speech::Named(voices) => voices.busy.iter().map(|voice| self.speakers[*voice].waiting.capacity()).sum(),
-        }
+        };
+        client.link.unread.capacity() + client.link.cutter.capacity() + waiting + OF_CONNECTION
     }
 
     /// Closes those that make the front hold most, until the front holds no more than it may.
@@ -198,7 +218,7 @@ impl Front {
                 let link = &mut self.clients[client].link;
                 link.unread.clear();
                 link.give_up();
-                self.count_held(client);
+                self.recount(client);
                 self.touch(client);
             }
             (None, Some((_, guest))) => self.cut_guest(guest, MEMORY),
@@ -209,6 +229,7 @@ impl Front {
     fn cut_guest(&mut self, key: usize, refusal: Refusal) {
         if let Some(guest) = self.guests.get_mut(&key) {
             guest.link.cut(&refusal.line(NOBODY));
+            self.metrics.errors.count(refusal.code.as_bytes());
             self.touch_guest(key);
         }
     }
@@ -219,6 +240,7 @@ impl Front {
         let client = &mut self.clients[key];
         client.link.cut(&line);
         client.link.fault = format!("it exceeds {}", refusal.limit);
+        self.metrics.exceed(refusal, &line);
         let voices = match &client.speech {
             Speech::One(speaker) => vec![*speaker],
             Speech::Named(voices) => voices.busy.clone(),
@@ -231,34 +253,46 @@ impl Front {
                 more.named.clear();
             }
         }
-        self.count_held(key);
+        self.recount(key);
         self.close_in_time(key);
+    }
+
+    /// Counts what is left of what a client made the front hold.
+    fn recount(&mut self, key: ClientKey) {
+        let client = &self.clients[key];
+        self.count_held(key, self.bytes_of(client), client.link.unread.len() as u64);
     }
 
     // ---- time ----
 
-    /// Continues with those that have waited long enough, and closes clients that take too long; returns the time until more
-    /// is due.
+    /// Continues with those that have waited long enough, and now and then closes clients that take too long; returns the time
+    /// until others have waited long enough.
     pub fn look_at_quotas(&mut self) -> Option<Duration> {
-        self.quotas.as_ref()?;
+        let quotas = self.quotas.as_ref()?;
+        if quotas.waiting.is_empty() && self.now < quotas.look_at {
+            return None; // as after most lines
+        }
         let now = Instant::now();
         self.wake(now);
         let quotas = self.quotas.as_mut()?;
         let next = quotas.waiting.peek().map(|Reverse((at, _))| at.saturating_duration_since(now));
-        let is_timed = !self.clients.is_empty() || !quotas.users.is_empty() || !quotas.gone.is_empty();
-        if !is_timed {
-            return next;
-        }
-        if now >= quotas.looked + LOOK {
-            quotas.looked = now;
+        if now >= quotas.look_at {
+            quotas.look_at = now + LOOK;
             quotas.users.clear_void(now);
             quotas.gone.retain(|_, account| !account.is_void(now));
             let keys: Vec<ClientKey> = self.clients.iter().map(|(key, _)| key).collect();
             keys.into_iter().for_each(|key| self.look_at_client(key, now));
         }
-        let is_empty = self.clients.is_empty();
-        let looks = (!is_empty).then_some(LOOK);
-        next.into_iter().chain(looks).min()
+        next
+    }
+
+    /// The time to wait, if there is one: not so long that clients are looked at too late.
+    pub fn until_look(&self, due: Option<Duration>) -> Option<Duration> {
+        match due {
+            _ if self.quotas.is_none() || self.clients.is_empty() => due,
+            Some(due) => Some(due.min(LOOK)),
+            None => Some(LOOK),
+        }
     }
 
     fn wake(&mut self, now: Instant) {

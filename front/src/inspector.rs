@@ -4,7 +4,7 @@
 //! number if the process itself asked for it; a line that the server wrote is unchanged. `@` begins the time, in microseconds,
 //! of the lines after it, and `!` an object by the front itself: how the front begins, the session of a client that has left,
 //! what was refused, and how many lines were left out. The process writes requests: a number, a session and a
-//! command, each of which the front checks, as `asked` says.
+//! command. The front checks each of them, as `asked` says.
 
 use std::collections::{BTreeSet, HashMap};
 use std::time::Instant;
@@ -57,7 +57,7 @@ pub struct Inspector {
     held: usize,
     /// The log has said that it asks for something that is not allowed.
     has_warned: bool,
-    /// Why it was dropped, if it has not ended by itself.
+    /// Why it was dropped, if the front has ended it.
     fault: &'static str,
 }
 

@@ -1,5 +1,6 @@
 //! Joins: how many clients have, and which sessions they may join.
 
+use memchr::memmem::Finder;
 use serde_json::{json, Map, Value};
 
 use crate::front::Front;
@@ -13,9 +14,14 @@ use crate::ring::stranger;
 /// The fewest bytes of a `join` or a `leave`: each has the keys `do`, `from`, `name`, `object` and `method`.
 const LEAST: usize = 60;
 
+thread_local! {
+    /// Find the key `from`, and the beginning of an escape. They are made once, since making them takes longer than a search.
+    static FINDERS: [Finder<'static>; 2] = [Finder::new("from"), Finder::new("\\u")];
+}
+
 /// Whether a line may be a `join` or a `leave`, which have the key `from`, however it is written.
 pub fn may_join(line: &[u8]) -> bool {
-    line.len() >= LEAST && may_have(line, "from")
+    line.len() >= LEAST && FINDERS.with(|finders| finders.iter().any(|finder| finder.find(line).is_some()))
 }
 
 /// The word of a command, if it may be one of these.
@@ -44,7 +50,7 @@ impl Front {
         };
         let has = |account: Option<&Account>| account.map_or(0, |account| account.joins);
         let group = speaker.group.map(|group| &self.groups[group].account);
-        quotas.join_scope([held.own.joins, has(quotas.account(held.who.uid)), has(group)])
+        quotas.join_scope(held.who.uid, [held.own.joins, has(quotas.account(held.who.uid)), has(group)])
     }
 
     /// Counts a join that the server is given, or ends the count of those that a command ends.

@@ -1,5 +1,6 @@
 //! The file of `--limits`: quotas of clients, users and groups, and rights.
 
+use std::collections::BTreeMap;
 use std::fs;
 use std::path::Path;
 use std::time::Duration;
@@ -9,6 +10,7 @@ use serde::{Deserialize, Deserializer};
 
 use crate::log::{reason, Ended};
 use crate::rights::Rights;
+use crate::user_keys::UserKeys;
 
 /// The largest number that the file may have: more would mean no limit at all.
 const MOST: i64 = 1_000_000_000_000;
@@ -88,10 +90,25 @@ struct ClientKeys {
     joins: Option<u64>,
 }
 
-/// The keys of `[uid]` and `[group]`.
+impl Quota {
+    /// These limits, and for each that is missing the one of another quota.
+    fn or(&self, other: &Quota) -> Quota {
+        Quota {
+            connections: self.connections.or(other.connections),
+            commands: self.commands.or(other.commands),
+            input_bytes: self.input_bytes.or(other.input_bytes),
+            unread_bytes: self.unread_bytes.or(other.unread_bytes),
+            half_line_bytes: self.half_line_bytes.or(other.half_line_bytes),
+            sessions: self.sessions.or(other.sessions),
+            joins: self.joins.or(other.joins),
+        }
+    }
+}
+
+/// The keys of `[uid]`, of each `[uid.N]` and of `[group]`.
 #[derive(Clone, Debug, Default, Deserialize, PartialEq, Eq)]
 #[serde(deny_unknown_fields, default)]
-struct SharedKeys {
+pub struct SharedKeys {
     #[serde(deserialize_with = "some_count")]
     connections: Option<u64>,
     commands: Option<Rate>,
@@ -143,7 +160,7 @@ struct Keys {
     #[serde(deserialize_with = "some_count")]
     command_seconds: Option<u64>,
     client: ClientKeys,
-    uid: SharedKeys,
+    uid: UserKeys,
     group: SharedKeys,
     rights: Option<Rights>,
 }
@@ -158,6 +175,8 @@ pub struct Limits {
     pub command_time: Option<Duration>,
     pub client: Quota,
     pub uid: Quota,
+    /// The quotas of single users.
+    pub users: BTreeMap<u32, Quota>,
     pub group: Quota,
     /// The longest time that an unfinished line may take.
     pub half_line_time: Option<Duration>,
@@ -172,11 +191,15 @@ pub struct Limits {
 
 impl From<Keys> for Limits {
     fn from(keys: Keys) -> Limits {
-        let (client, uid, group) = (Quota::from(&keys.client), Quota::from(keys.uid), Quota::from(keys.group));
-        let all = [&client, &uid, &group];
+        let (client, uid, group) = (Quota::from(&keys.client), Quota::from(keys.uid.all), Quota::from(keys.group));
+        let users = keys.uid.users.into_iter().map(|(user, own)| (user, Quota::from(own).or(&uid)));
+        let users: BTreeMap<u32, Quota> = users.collect();
+        let all: Vec<&Quota> = [&client, &uid, &group].into_iter().chain(users.values()).collect();
+        let has_rates = all.iter().any(|quota| quota.commands.is_some());
+        let has_joins = all.iter().any(|quota| quota.joins.is_some());
         Limits {
-            has_rates: all.iter().any(|quota| quota.commands.is_some()),
-            has_joins: all.iter().any(|quota| quota.joins.is_some()),
+            has_rates,
+            has_joins,
             over: keys.over,
             front_memory: keys.front_memory,
             command_time: keys.command_seconds.map(Duration::from_secs),
@@ -184,9 +207,25 @@ impl From<Keys> for Limits {
             idle_time: keys.client.idle_seconds.map(Duration::from_secs),
             client,
             uid,
+            users,
             group,
             rights: keys.rights,
         }
+    }
+}
+
+impl Limits {
+    /// The quotas of a client of this user: its own, that of the user, and that of its group.
+    pub fn quotas(&self, uid: Option<u32>) -> [&Quota; 3] {
+        [&self.client, self.of_user(uid), &self.group]
+    }
+
+    /// The quota of a user.
+    pub fn of_user(&self, uid: Option<u32>) -> &Quota {
+        if self.users.is_empty() {
+            return &self.uid; // as for each line of most fronts
+        }
+        uid.and_then(|uid| self.users.get(&uid)).unwrap_or(&self.uid)
     }
 }
 
@@ -250,6 +289,21 @@ mod tests {
     }
 
     #[test]
+    fn a_user_may_have_other_limits() {
+        let text = "[uid]\nconnections = 3\njoins = 5\n[uid.1000]\nconnections = 9\n[uid.0]\nsessions = 1\n";
+        let found = read(text).unwrap();
+        let of = |uid| {
+            let quota = found.of_user(uid);
+            (quota.connections, quota.joins, quota.sessions)
+        };
+        assert_eq!(of(Some(1_000)), (Some(9), Some(5), None));
+        assert_eq!(of(Some(0)), (Some(3), Some(5), Some(1)));
+        assert_eq!((of(Some(7)), of(None)), ((Some(3), Some(5), None), (Some(3), Some(5), None)));
+        let found = read("[uid.7]\ncommands = { per_second = 5 }\njoins = 1\n").unwrap();
+        assert!(found.has_rates && found.has_joins && found.uid == Quota::default());
+    }
+
+    #[test]
     fn a_fault_says_where_it_is() {
         for (text, line) in [
             ("over = 'wait'\n", 1),
@@ -263,6 +317,13 @@ mod tests {
             ("[client]\ncommands = { per_second = 0 }\n", 2),
             ("[client]\ncommands = { burst = 5 }\n", 2),
             ("[users]\n", 1),
+            ("[uid.anna]\njoins = 1\n", 1),
+            ("\n[uid.01]\njoins = 1\n", 2),
+            ("[uid.4294967296]\njoins = 1\n", 1),
+            ("[uid]\n1000 = 5\n", 2),
+            ("\n[uid.1000]\nidle_seconds = 5\n", 2),
+            ("[uid.1000]\nconnections = 0\n", 1),
+            ("[uid.1000]\n[uid.1000]\n", 2),
         ] {
             let fault = read(text).unwrap_err();
             assert!(fault.contains(&format!("line {line}")), "{text:?}: {fault}");

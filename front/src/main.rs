@@ -31,6 +31,7 @@ mod deadlines;
 mod doors;
 mod eagerness;
 mod entry;
+mod first_lines;
 mod front;
 mod groups;
 mod guests;
@@ -68,6 +69,7 @@ mod subject;
 mod tls;
 mod tokens;
 mod turns;
+mod user_keys;
 mod wire;
 mod worker;
 

@@ -2,10 +2,12 @@
 //!
 //! Counting costs an addition. Times are taken, and lines that go to clients are counted, only if somebody may ask for them.
 
+use std::ops::RangeInclusive;
 use std::time::{Duration, Instant, SystemTime};
 
 use memchr::memchr_iter;
 
+use crate::quotas::Refusal;
 use crate::replaying::Purpose;
 use crate::turns::{Command, Turns};
 
@@ -16,6 +18,8 @@ pub const BOUNDS: [f64; 19] = [
 ];
 /// Codes are a letter and two digits.
 const CODES: usize = 100;
+/// The numbers of the codes by which the front enforces limits and rights: from `F11` on, up to `F20`.
+const OF_LIMITS: RangeInclusive<usize> = 11..=20;
 
 /// How many values there were up to each bound, and their sum.
 #[derive(Debug, Default, PartialEq)]
@@ -68,6 +72,11 @@ impl Codes {
         let of = |place: usize| self.counts[place].iter().enumerate().map(move |(number, count)| (place, number, *count));
         let found = (0..2).flat_map(of).filter(|(_, _, count)| *count > 0);
         found.map(|(place, number, count)| (format!("{}{number:02}", char::from(Codes::LETTERS[place])), count))
+    }
+
+    /// The codes of limits and rights, with how often each has occurred.
+    pub fn of_limits(&self) -> impl Iterator<Item = (String, u64)> + '_ {
+        OF_LIMITS.map(|number| (format!("F{number}"), self.counts[1][number]))
     }
 }
 
@@ -163,6 +172,12 @@ impl Metrics {
         self.errors.count(code.as_bytes());
     }
 
+    /// Counts an error of the front, by which it enforces a limit, and its line for a client.
+    pub fn exceed(&mut self, refusal: Refusal, line: &[u8]) {
+        self.errors.count(refusal.code.as_bytes());
+        self.send(line);
+    }
+
     /// Notes the times of the command that a server was just given: when it came from its client, and now.
     pub fn give(&self, turns: &mut Turns, came: Option<Instant>) {
         if let (true, Some(command)) = (self.is_on, turns.under_way.back_mut()) {
@@ -226,5 +241,8 @@ mod tests {
             codes.count(code.as_bytes());
         }
         assert_eq!(codes.all().collect::<Vec<_>>(), [("E04".to_string(), 2), ("F10".to_string(), 1)]);
+        codes.count(b"F19");
+        let counted: Vec<(String, u64)> = codes.of_limits().collect();
+        assert_eq!((counted.len(), counted[0].clone(), counted[8].clone()), (10, ("F11".into(), 0), ("F19".into(), 1)));
     }
 }

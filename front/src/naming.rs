@@ -4,7 +4,7 @@ use std::collections::HashSet;
 
 use serde_json::Value;
 
-use crate::clients::{ASKS_NOTHING, NOT_KNOWN};
+use crate::first_lines::{ASKS_NOTHING, NOT_KNOWN};
 use crate::front::{Front, NO_SESSION};
 use crate::groups::group_of;
 use crate::health::NOTHING;
@@ -105,7 +105,8 @@ impl Front {
             }
             let voice = self.speakers.insert(Speaker::new(Owner::Client(key), NO_SESSION));
             voices.of_groups.insert(group, voice);
-            self.speakers[voice].pace.who = self.clients[key].quota.as_ref().map_or_else(Default::default, |held| held.who);
+            self.speakers[voice].pace.who =
+                self.clients[key].quota.as_ref().map_or_else(Default::default, |held| held.who.clone());
             self.speakers[voice].is_slow = self.clients[key].link.unread.len() > UNREAD_SLOW;
             self.enter_speaker(group, voice);
             return voice;

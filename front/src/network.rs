@@ -6,6 +6,7 @@
 
 use std::collections::{BTreeMap, VecDeque};
 use std::io::{ErrorKind, Read};
+use std::rc::Rc;
 use std::sync::Arc;
 use std::time::{Duration, Instant};
 
@@ -18,6 +19,7 @@ use socket2::{SockRef, TcpKeepalive};
 use crate::doors::Comers;
 use crate::front::Front;
 use crate::log::{reason, Ended, Level};
+use crate::rights::Shown;
 use crate::tls::{settings, Files, Sealed};
 use crate::tokens::{token, Kind};
 use crate::wire::Wire;
@@ -42,28 +44,28 @@ const ASKED_TIMES: u32 = 4;
 #[derive(Debug, PartialEq, Eq)]
 pub struct Peer {
     pub address: String,
-    /// The subject of its certificate, by RFC 4514, if it was asked for one.
-    pub subject: Option<String>,
+    /// Its certificate, if it was asked for one.
+    pub certificate: Option<Rc<Shown>>,
     is_sealed: bool,
 }
 
 impl Peer {
     fn new(stream: &UnixStream, is_sealed: bool) -> Peer {
         let address = SockRef::from(stream).peer_addr().ok().and_then(|address| address.as_socket());
-        Peer { address: address.map_or_else(|| "nowhere".to_string(), |it| it.to_string()), subject: None, is_sealed }
+        Peer { address: address.map_or_else(|| "nowhere".to_string(), |it| it.to_string()), certificate: None, is_sealed }
     }
 
     /// How it has come, in words.
     pub fn how(&self) -> String {
-        let name = self.subject.as_ref().map_or_else(String::new, |subject| format!(" as {subject}"));
+        let name = self.certificate.as_ref().map_or_else(String::new, |shown| format!(" as {}", shown.subject));
         format!(" over {} from {}{name}", self.form(), self.address)
     }
 
     /// The same as parts of a line of the log, for the client of this number.
     pub fn fields(&self, client: u64) -> Value {
         let mut fields = json!({"client": client, "over": self.form(), "address": self.address});
-        if let Some(subject) = &self.subject {
-            fields["subject"] = subject.as_str().into();
+        if let Some(shown) = &self.certificate {
+            fields["subject"] = shown.subject.as_str().into();
         }
         fields
     }
@@ -178,7 +180,7 @@ impl Front {
         arrival.is_ready = false;
         match arrival.sealed.shake() {
             Ok(()) => {
-                arrival.peer.subject = arrival.sealed.subject();
+                arrival.peer.certificate = arrival.sealed.shown().map(Rc::new);
                 if self.poll.registry().deregister(arrival.sealed.stream()).is_ok() {
                     self.enter_client(Wire::Tls(Box::new(arrival.sealed)), Some(arrival.peer));
                 }

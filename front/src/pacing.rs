@@ -7,7 +7,7 @@
 use std::cmp::Reverse;
 use std::time::Duration;
 
-use crate::buckets::{granted, AHEAD};
+use crate::buckets::{Accounts, AHEAD};
 use crate::front::Front;
 use crate::limits::Over;
 use crate::lines::RESET;
@@ -73,35 +73,23 @@ impl Front {
             return Counted::Free;
         }
         let client = match speaker.owner {
-            Owner::Client(client) => self.clients[client].quota.as_mut(),
+            Owner::Client(client) => self.clients[client].quota.as_mut().map(|held| &mut held.own),
             _ => None,
         };
         let group = speaker.group.map(|group| &mut self.groups[group].account);
-        let user = quotas.users.at(speaker.pace.user, speaker.pace.who.uid);
-        let of = [&quotas.limits.client, &quotas.limits.uid, &quotas.limits.group].map(|quota| quota.commands);
-        let mut accounts = [client.map(|held| &mut held.own), Some(user), group];
-        let (mut wait, mut at) = (Duration::ZERO, CLIENT);
-        for scope in 0..3 {
-            if let (Some(account), Some(rate)) = (&accounts[scope], &of[scope]) {
-                let own = account.commands.wait(rate, self.now);
-                if own > wait {
-                    (wait, at) = (own, scope);
-                }
-            }
-        }
+        let pace = &mut speaker.pace;
+        let rates = quotas.limits.quotas(pace.who.uid).map(|quota| quota.commands);
+        let user = quotas.users.at(pace.user, pace.who.uid);
+        let mut accounts = Accounts { all: [client, Some(user), group], rates, bucket: |account| &mut account.commands };
+        let (wait, scope) = accounts.wait(self.now);
         if wait > Duration::ZERO && quotas.limits.over == Over::Refuse {
-            return Counted::Refused(COMMANDS.refusal(at));
+            return Counted::Refused(COMMANDS.refusal(scope));
         }
-        let more = granted(&accounts, of, |account| &account.commands, u64::from(COMMANDS_AHEAD), self.now);
-        for scope in 0..3 {
-            if let (Some(account), Some(rate)) = (&mut accounts[scope], &of[scope]) {
-                account.commands.take(1 + more, rate, self.now);
-            }
-        }
-        (speaker.pace.granted, speaker.pace.granted_until) = (more as u32, Some(self.now + AHEAD));
+        let more = accounts.take(1, u64::from(COMMANDS_AHEAD), self.now);
+        (pace.granted, pace.granted_until) = (more as u32, Some(self.now + AHEAD));
         if wait > Duration::ZERO {
             let until = self.now + wait;
-            speaker.pace.state = State::Waits(until);
+            pace.state = State::Waits(until);
             quotas.waiting.push(Reverse((until, Waiting::Speaker(key))));
             return Counted::Waits;
         }
@@ -143,6 +131,7 @@ impl Front {
                 false => self.sessions[session].name.clone(),
             };
             if let Owner::Client(client) = self.speakers[key].owner {
+                self.metrics.errors.count(refusal.code.as_bytes());
                 self.deliver(client, &refusal.line(&name));
             }
         }

@@ -326,7 +326,7 @@ pub struct Speaker {
     pub pace: Pace,
 }
 
-/// Further state of a speaker if its client names sessions by itself, or if it belongs to the page's process.
+/// Further state of a speaker if its client itself names sessions, or if it belongs to the page's process.
 #[derive(Default)]
 pub struct Voice {
     /// The session of each line that waits.

@@ -122,7 +122,7 @@ impl Front {
         }
     }
 
-    /// Drops a group of which nothing is left.
+    /// Drops a group when nothing is left in it.
     fn forget_group(&mut self, key: GroupKey) {
         self.leave_compaction(key);
         let mut group = self.groups.remove(key);
@@ -350,7 +350,7 @@ impl Front {
         worker.due = begun + EARLY;
         let seconds = worker.due.saturating_duration_since(now).as_secs_f64().round();
         let number = worker.number;
-        let words = format!("worker {number} has ended too often, and begins anew in {seconds} seconds");
+        let words = format!("worker {number} has ended too often, and restarts in {seconds} seconds");
         self.log.say(Level::Error, "worker_paused", json!({"worker": number, "seconds": seconds}), &words);
         groups.to_vec()
     }

@@ -9,7 +9,7 @@ use crate::lines::{is_blank, LINE_MOST, TOO_LONG};
 /// An empty buffer of at most this many bytes keeps its memory.
 const KEPT: usize = 1_024;
 
-/// Cuts bytes into lines, and keeps at most one byte more of a line than a line may have.
+/// Cuts bytes into lines. Of a line that is too long it keeps the longest allowed length and one further byte.
 #[derive(Default)]
 pub struct Cutter {
     begun: Vec<u8>,

@@ -15,7 +15,7 @@ use slab::Slab;
 
 use crate::buckets::Bucket;
 use crate::front::{Front, Stop};
-use crate::limits::{read_file, Limits, Quota};
+use crate::limits::{read_file, Limits};
 use crate::log::{Ended, Level};
 use crate::people::{ClientKey, GroupKey, Link, Session, SessionKey, SpeakerKey};
 use crate::rights::Who;
@@ -96,7 +96,7 @@ pub struct Users {
 }
 
 impl Users {
-    /// The place of a user's account, which is made if there is none.
+    /// The place of a user's account. The account is made if it is missing.
     pub fn place(&mut self, uid: Option<u32>) -> usize {
         let accounts = &mut self.accounts;
         *self.places.entry(uid).or_insert_with(|| accounts.insert((uid, Account::default())))
@@ -113,11 +113,7 @@ impl Users {
         self.places.get(&uid).map(|place| &self.accounts[*place].1)
     }
 
-    pub fn is_empty(&self) -> bool {
-        self.accounts.is_empty()
-    }
-
-    /// Drops accounts of which nothing has to be kept.
+    /// Drops accounts that need not be kept.
     pub fn clear_void(&mut self, now: Instant) {
         let places = &mut self.places;
         self.accounts.retain(|_, (uid, account)| {
@@ -182,7 +178,7 @@ pub struct Held {
     pub user: usize,
     /// Bytes that are counted in advance, and until when they may be read.
     pub granted: u64,
-    pub granted_until: Option<Instant>,
+    pub granted_until: Instant,
     /// It has the right to connect, or there are no rights.
     pub is_in: bool,
     pub own: Account,
@@ -208,6 +204,30 @@ pub struct Held {
 }
 
 impl Held {
+    /// A client that holds nothing, with the place of its user's account. One without the right to connect has a short time to
+    /// send a token.
+    pub fn new(who: Who, user: usize, is_in: bool, now: Instant) -> Held {
+        Held {
+            who,
+            user,
+            granted: 0,
+            granted_until: now,
+            is_in,
+            own: Account::default(),
+            group: None,
+            is_counted: false,
+            has_session: false,
+            joins: HashMap::new(),
+            half_line_since: None,
+            traffic: 0,
+            active: now,
+            read_at: None,
+            last: None,
+            until: (!is_in).then(|| now + TIME_TO_TAKE),
+            holds: 0,
+        }
+    }
+
     /// It has the right to connect, and so needs no token any more.
     pub fn let_in(&mut self) {
         if self.is_in {
@@ -235,7 +255,8 @@ pub struct Quotas {
     pub namers: HashMap<SessionKey, Option<u32>>,
     /// Stands for the session of a line that names one too many.
     pub beyond: SessionKey,
-    pub looked: Instant,
+    /// When the clients are looked at next.
+    pub look_at: Instant,
     /// Bytes that all clients together make the front hold.
     pub held: usize,
     /// Who the monitors and operators are.
@@ -252,7 +273,7 @@ impl Quotas {
             waiting: BinaryHeap::new(),
             namers: HashMap::new(),
             beyond,
-            looked: Instant::now(),
+            look_at: Instant::now(),
             held: 0,
             guests: HashMap::new(),
         }
@@ -268,12 +289,8 @@ impl Quotas {
     }
 
     /// The first scope that has as many joins as it may have.
-    pub fn join_scope(&self, has: [u64; 3]) -> Option<usize> {
-        scope_over(self.quotas().map(|quota| quota.joins), has, 1)
-    }
-
-    pub fn quotas(&self) -> [&Quota; 3] {
-        [&self.limits.client, &self.limits.uid, &self.limits.group]
+    pub fn join_scope(&self, uid: Option<u32>, has: [u64; 3]) -> Option<usize> {
+        scope_over(self.limits.quotas(uid).map(|quota| quota.joins), has, 1)
     }
 }
 
@@ -281,7 +298,7 @@ impl Quotas {
 pub fn who_is(link: &Link) -> Who {
     match getsockopt(link.stream.as_raw_fd(), PeerCredentials) {
         // the system gives no credentials of connections over a network
-        Ok(found) if found.pid() > 0 => Who { uid: Some(found.uid()), gid: Some(found.gid()), token: None },
+        Ok(found) if found.pid() > 0 => Who { uid: Some(found.uid()), gid: Some(found.gid()), ..Who::default() },
         _ => Who::default(),
     }
 }

@@ -169,7 +169,7 @@ impl Front {
         }
     }
 
-    /// Gives a server more lines of a record than the turns allow, as long as nobody else waits for it.
+    /// Gives more lines of a record to a server than the turns allow, as long as nobody else waits for it.
     pub fn give_replay(&mut self, at: usize) {
         let first = self.workers[at].replays.front().and_then(|key| self.replays.get(key));
         let speaker = match first.filter(|replay| replay.is_begun) {

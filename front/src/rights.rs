@@ -1,9 +1,10 @@
-//! Who may do what: rules by user, group of users and token.
+//! Who may do what: rules by user, group of users, token and certificate.
 //!
 //! The rules are tried in order. The first one that is for this client and speaks of this right decides; without one, the
 //! default of the file does.
 
 use std::fmt;
+use std::rc::Rc;
 
 use blake2b_simd::Params;
 use serde::de::{Error, SeqAccess, Visitor};
@@ -30,14 +31,24 @@ pub enum Right {
     Control,
 }
 
+/// A certificate that a client over TLS has shown, and that an authority of the front has signed.
+#[derive(Debug, PartialEq, Eq)]
+pub struct Shown {
+    /// Its subject, by RFC 4514.
+    pub subject: String,
+    /// The SHA-256 hash of the certificate.
+    pub fingerprint: [u8; HASH],
+}
+
 /// Who a connection comes from.
-#[derive(Clone, Copy, Debug, Default, PartialEq, Eq)]
+#[derive(Clone, Debug, Default, PartialEq, Eq)]
 pub struct Who {
     /// The user and the group of the process that has connected, if the system knows.
     pub uid: Option<u32>,
     pub gid: Option<u32>,
     /// The hash of the token that it has given.
     pub token: Option<[u8; HASH]>,
+    pub certificate: Option<Rc<Shown>>,
 }
 
 /// What is done if no rule decides.
@@ -62,7 +73,9 @@ pub struct Rights {
 struct Rule {
     uid: Option<Vec<u32>>,
     gid: Option<Vec<u32>>,
-    token: Option<Hash>,
+    token: Option<Token>,
+    subject: Option<Vec<String>>,
+    fingerprint: Option<Vec<Fingerprint>>,
     connect: Option<bool>,
     control: Option<bool>,
     hello: Option<Names>,
@@ -78,28 +91,47 @@ enum Names {
     These(Vec<String>),
 }
 
+/// The hash of a token.
 #[derive(Clone, Copy, PartialEq, Eq)]
-struct Hash([u8; HASH]);
+struct Token([u8; HASH]);
 
-impl fmt::Debug for Hash {
+impl fmt::Debug for Token {
     fn fmt(&self, to: &mut fmt::Formatter) -> fmt::Result {
         to.write_str("a hash")
     }
 }
 
-impl<'de> Deserialize<'de> for Hash {
-    fn deserialize<D: Deserializer<'de>>(from: D) -> Result<Hash, D::Error> {
-        let text = String::deserialize(from)?;
-        let mut bytes = [0; HASH];
-        let is_hash = text.len() == 2 * HASH && text.bytes().all(|sign| sign.is_ascii_hexdigit());
-        if !is_hash {
-            return Err(D::Error::custom("a token's hash has 64 hexadecimal digits, as `b2sum -l 256` writes them"));
-        }
-        for (at, byte) in bytes.iter_mut().enumerate() {
-            *byte = u8::from_str_radix(&text[2 * at..2 * at + 2], 16).map_err(D::Error::custom)?;
-        }
-        Ok(Hash(bytes))
+impl<'de> Deserialize<'de> for Token {
+    fn deserialize<D: Deserializer<'de>>(from: D) -> Result<Token, D::Error> {
+        let fault = || D::Error::custom("a token's hash has 64 hexadecimal digits, as `b2sum -l 256` writes them");
+        hash_in(&String::deserialize(from)?).map(Token).ok_or_else(fault)
     }
+}
+
+/// The SHA-256 hash of a certificate.
+#[derive(Clone, Copy, Debug, PartialEq, Eq)]
+struct Fingerprint([u8; HASH]);
+
+impl<'de> Deserialize<'de> for Fingerprint {
+    fn deserialize<D: Deserializer<'de>>(from: D) -> Result<Fingerprint, D::Error> {
+        let fault = || {
+            let words = "a fingerprint has 64 hexadecimal digits, as `openssl x509 -noout -fingerprint -sha256` writes them";
+            D::Error::custom(words)
+        };
+        hash_in(&String::deserialize(from)?.replace(':', "")).map(Fingerprint).ok_or_else(fault)
+    }
+}
+
+/// The hash that a text has as hexadecimal digits.
+fn hash_in(text: &str) -> Option<[u8; HASH]> {
+    let mut bytes = [0; HASH];
+    if text.len() != 2 * HASH || !text.bytes().all(|sign| sign.is_ascii_hexdigit()) {
+        return None;
+    }
+    for (at, byte) in bytes.iter_mut().enumerate() {
+        *byte = u8::from_str_radix(&text[2 * at..2 * at + 2], 16).ok()?;
+    }
+    Some(bytes)
 }
 
 /// Whether a text can be a pattern: a name, the beginning of names followed by `*`, or `*` alone.
@@ -173,7 +205,26 @@ impl Rule {
             wanted.as_ref().map_or(true, |wanted| own.map_or(false, |own| wanted.contains(&own)))
         };
         let has_token = self.token.map_or(true, |token| who.token.map_or(false, |own| is_same(&token.0, &own)));
-        has(&self.uid, who.uid) && has(&self.gid, who.gid) && has_token
+        has(&self.uid, who.uid)
+            && has(&self.gid, who.gid)
+            && has_token
+            && self.is_for_certificate(who.certificate.as_deref())
+    }
+
+    /// Whether the rule is for whoever has shown this certificate.
+    fn is_for_certificate(&self, shown: Option<&Shown>) -> bool {
+        let has_subject = |wanted: &Vec<String>| shown.map_or(false, |own| wanted.contains(&own.subject));
+        let has_fingerprint =
+            |wanted: &Vec<Fingerprint>| shown.map_or(false, |own| wanted.contains(&Fingerprint(own.fingerprint)));
+        self.subject.as_ref().map_or(true, has_subject) && self.fingerprint.as_ref().map_or(true, has_fingerprint)
+    }
+
+    /// Whether the rule is for this client if it has the right token.
+    fn might_be_for(&self, who: &Who) -> bool {
+        match self.token {
+            Some(Token(token)) => self.is_for(&Who { token: Some(token), ..who.clone() }),
+            None => self.is_for(who),
+        }
     }
 
     fn names(&self, right: Right) -> Option<&Names> {
@@ -226,11 +277,8 @@ impl Rights {
 
     /// Whether a client with some token might connect, or control the front.
     pub fn may_allow(&self, who: &Who, right: Right) -> bool {
-        let might = |rule: &&Rule| match rule.token {
-            Some(Hash(token)) => rule.is_for(&Who { token: Some(token), ..*who }),
-            None => rule.is_for(who),
-        };
-        self.rules.iter().filter(might).any(|rule| rule.flag(right) == Some(true)) || self.allow(who, right)
+        let mut those = self.rules.iter().filter(|rule| rule.might_be_for(who));
+        those.any(|rule| rule.flag(right) == Some(true)) || self.allow(who, right)
     }
 
     fn names(&self, who: &Who, right: Right) -> Option<&Names> {
@@ -249,12 +297,8 @@ impl Rights {
 
     /// Whether a client with some token might use any name.
     pub fn may_allow_any(&self, who: &Who, right: Right) -> bool {
-        let might = |rule: &&Rule| match rule.token {
-            Some(Hash(token)) => rule.is_for(&Who { token: Some(token), ..*who }),
-            None => rule.is_for(who),
-        };
-        let any = self.rules.iter().filter(might).any(|rule| rule.names(right).map_or(false, |names| !names.are_none()));
-        any || self.allow_all(who, right)
+        let mut those = self.rules.iter().filter(|rule| rule.might_be_for(who));
+        those.any(|rule| rule.names(right).map_or(false, |names| !names.are_none())) || self.allow_all(who, right)
     }
 
     /// Whether a rule speaks of joins, or the default refuses them.
@@ -272,7 +316,7 @@ mod tests {
     }
 
     fn user(uid: u32) -> Who {
-        Who { uid: Some(uid), gid: Some(50), token: None }
+        Who { uid: Some(uid), gid: Some(50), ..Who::default() }
     }
 
     #[test]
@@ -293,6 +337,26 @@ mod tests {
         let may = |name| rights.allow_name(&user(1), Right::Join, name, "own");
         assert!(["desk", "desk__c1", "a__b", "own__c2", "own"].iter().all(|name| may(name)));
         assert!(!["desks", "a", "a__c", "desk_", "c1"].iter().any(|name| may(name)));
+    }
+
+    #[test]
+    fn a_certificate_is_known_by_its_subject_and_its_hash() {
+        let (one, other) = ("ab".repeat(HASH), "AB:".repeat(HASH - 1) + "AC");
+        let rights = rights(&format!(
+            "default = 'refuse'\n[[rule]]\nsubject = ['CN=anna,O=Example']\nconnect = true\n\
+             [[rule]]\nfingerprint = ['{one}', '{other}']\ncontrol = true\n\
+             [[rule]]\nsubject = ['CN=ben']\nfingerprint = ['{other}']\nconnect = true\n",
+        ));
+        let shows = |subject: &str, last| {
+            let mut fingerprint = [0xab; HASH];
+            fingerprint[HASH - 1] = last;
+            Who { certificate: Some(Rc::new(Shown { subject: subject.to_string(), fingerprint })), ..user(1) }
+        };
+        let may = |who: &Who| [rights.allow(who, Right::Connect), rights.allow(who, Right::Control)];
+        assert_eq!(may(&shows("CN=anna,O=Example", 0)), [true, false]);
+        assert_eq!(may(&shows("CN=anna", 0xab)), [false, true]);
+        assert_eq!((may(&shows("CN=ben", 0xab)), may(&shows("CN=ben", 0xac))), ([false, true], [true, true]));
+        assert_eq!(may(&user(1)), [false, false]);
     }
 
     /// The hash is that of `printf %s "an example of a token" | b2sum -l 256`.

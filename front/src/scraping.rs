@@ -195,6 +195,8 @@ fn write_traffic(page: &mut Page, metrics: &Metrics) {
         "code",
         metrics.errors.all(),
     );
+    let help = "Errors by which the front has enforced limits and rights.";
+    page.each("refusals_total", "counter", help, "code", metrics.errors.of_limits());
     page.one("refused_requests_total", "counter", "Requests to the front itself that it refused.", metrics.refused);
     page.one("spins_total", "counter", "Commands spin that the front gave for live sessions.", metrics.spins);
     page.histogram(

@@ -47,7 +47,7 @@ impl Record {
         Ok(Record { path: path.to_path_buf(), file: Some(file) })
     }
 
-    /// Closes the file, and continues at the end of the one that now has its name, which is made if there is none. If it
+    /// Closes the file, and continues at the end of the one that now has its name. A missing file is made. If it
     /// cannot be opened, the record continues in the old file.
     pub fn open_again(&mut self, log: &mut Log) {
         let mut options = OpenOptions::new();
@@ -190,7 +190,7 @@ impl Server {
         line.len()
     }
 
-    /// Records the lines that are not recorded yet, all of which are at the end of those that it was given.
+    /// Records the lines that are not recorded yet. They are the last ones that the server was given.
     fn write_record(&mut self, log: &mut Log) {
         if self.unrecorded > 0 {
             if let Some(record) = &mut self.record {

@@ -7,6 +7,7 @@ use std::path::{Path, PathBuf};
 use std::sync::Arc;
 use std::time::SystemTime;
 
+use ::ring::digest::{digest, SHA256};
 use mio::net::UnixStream;
 use rustls::server::{AllowAnyAuthenticatedClient, ClientCertVerified, ClientCertVerifier, NoServerSessionStorage};
 use rustls::sign::any_supported_type;
@@ -15,6 +16,7 @@ use rustls_pemfile::Item;
 use webpki::{EndEntityCert, SignatureAlgorithm};
 
 use crate::log::{reason, Ended};
+use crate::rights::Shown;
 use crate::subject::subject_of;
 
 /// The most bytes that are sealed before the other side has taken them.
@@ -166,9 +168,11 @@ impl Sealed {
         Ok(())
     }
 
-    /// The subject of the client's certificate, once the handshake is done.
-    pub fn subject(&self) -> Option<String> {
-        self.session.peer_certificates().and_then(|all| all.first()).map(|own| subject_of(&own.0))
+    /// The client's certificate, once the handshake is done.
+    pub fn shown(&self) -> Option<Shown> {
+        let own = self.session.peer_certificates().and_then(|all| all.first())?;
+        let fingerprint = digest(&SHA256, &own.0).as_ref().try_into().ok()?;
+        Some(Shown { subject: subject_of(&own.0), fingerprint })
     }
 
     /// Reads sealed bytes and opens them; returns their number. What the protocol itself answers is sent.

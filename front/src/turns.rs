@@ -30,8 +30,8 @@ const EXPECTED_MOST: usize = 65_536;
 const COMMAND: usize = 512;
 /// The bytes of a turn: no more than a command counts for, so that each turn is one command.
 pub const TURN: u64 = COMMAND as u64;
-/// A client that begins to wait counts as at most this many bytes behind the others. With those of one turn its first command
-/// goes before all others, and then it takes turns with them.
+/// A client that begins to wait is credited with at most this many bytes over the others. With those of one turn its first
+/// command goes before all others, and then it takes turns with them.
 pub const CREDIT: u64 = TURN;
 /// The number of places that one server can give to speakers, before the range of the next server begins.
 const PLACES: u64 = 1 << 48;
@@ -160,7 +160,7 @@ impl Turns {
         None
     }
 
-    /// Whether so many commands may be under way of one speaker for which nobody waits.
+    /// Whether so many commands of one speaker may be under way while no other speaker waits.
     pub fn has_room(&self, most: usize) -> bool {
         self.waiting.len() <= 1 && self.under_way.len() < most
     }

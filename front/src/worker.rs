@@ -37,7 +37,7 @@ pub struct Worker {
     is_sifted: bool,
     /// The number of its last processes, one after another, that ended without having written anything.
     pub starts_in_vain: u32,
-    /// The ends before its groups were brought back: when, and at a command of which group.
+    /// The ends before its groups were brought back: when, and the group whose command was under way.
     pub early: VecDeque<(Instant, Option<u64>)>,
     /// When another process is to be started.
     pub due: Instant,

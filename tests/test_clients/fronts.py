@@ -6,6 +6,7 @@ import os
 import re
 import socket
 import subprocess
+import sys
 import threading
 import time
 from contextlib import contextmanager, suppress
@@ -16,6 +17,7 @@ from tests.support.cases import ProgramCases
 from tests.support.lines import text_of
 from tests.support.program import ROOT, SECONDS
 
+from . import PYTHON
 
 FRONT = Path(os.environ.get("METAD_FRONT") or ROOT / "bin" / "metad-front")  # the front that is tested
 PASSED = "-"  # stands for a socket that the front was passed
@@ -68,7 +70,7 @@ class Client:
         return self.hear()
 
     def name(self):
-        """The name that the front gave to the session of a client that nothing is told but answers."""
+        """The name that the front gave to the session of a client that receives nothing but answers."""
         return json.loads(self.ask(STATUS))["session"]
 
     def rest(self):
@@ -153,11 +155,23 @@ class ClientCases(ProgramCases):
         self.room = self.enterContext(TemporaryDirectory(prefix="metad-clients-"))
         self.enterContext(self.within(self.seconds))
 
+    def ran_example(self, path, *words):
+        """A run of an example in Python, which finds the client in this repository."""
+        own = {**os.environ, "PYTHONPATH": str(PYTHON), "PYTHONDONTWRITEBYTECODE": "1", "TMPDIR": self.room}
+        words = [sys.executable, "-W", "error", path, *words]
+        return subprocess.run(words, capture_output=True, text=True, timeout=SECONDS, env=own, stdin=subprocess.DEVNULL)
+
     def raised(self, what, kind, call, *args, **keys):
         """The exception of this kind that a call has to raise."""
         with self.assertRaises(kind, msg=what) as caught:
             call(*args, **keys)
         return caught.exception
+
+
+def whole_lines(path):
+    """The lines of a file that is being written, without a last line that is not complete yet."""
+    text = path.read_bytes().rpartition(b"\n")[0].decode()
+    return text.split("\n") if text else []
 
 
 class Log:
@@ -168,7 +182,7 @@ class Log:
         self.path.touch()
 
     def lines(self):
-        return self.path.read_text().splitlines()
+        return whole_lines(self.path)
 
     def wait_for(self, test, line, process=None):
         """Waits until a line is said."""

@@ -1,8 +1,7 @@
-"""Groups of sessions by chance, and clients that drive them over a front with several workers."""
+"""Random groups of sessions, and clients that drive them over a front with several workers."""
 
 import json
 import os
-import random
 import signal
 import subprocess
 import threading
@@ -19,7 +18,6 @@ from tests.support.lines import text_of
 
 from .fronts import FRONT, PATIENCE, Client, FrontCases, classes_in
 
-SEED = os.environ.get("SEED")
 TWICE_MOST = 3  # workers of one front that are killed while they are brought back
 ANSWERS = ('{"reply":', '{"error":')
 
@@ -28,15 +26,8 @@ def hello(group):
     return text_of({"front": "hello", "group": group})
 
 
-def seed_of(test):
-    """A seed, which is said."""
-    seed = int(SEED) if SEED else random.randrange(2**32)
-    test.tell(f"SEED={seed}")
-    return seed
-
-
 class Runs:
-    """Commands by chance of groups of sessions, where those of a group listen to each other, in one order."""
+    """Random commands of groups of sessions, in one order. The sessions of a group listen to each other."""
 
     def __init__(self, seed, groups, commands, room):
         made = mixed.Chance(seed)
@@ -52,7 +43,7 @@ class Runs:
             yield {**command, **{key: names.get(command[key], command[key]) for key in ("session", "from") if key in command}}
 
     def told_alone(self, program, names):
-        """What each session is told by one server that is given all commands."""
+        """What each session receives from one server that is given all commands."""
         given = "".join(text_of(command) + "\n" for command in self.known_as(names))
         ran = subprocess.run([program, *self.words], input=given, capture_output=True, text=True, check=True)
         return by_session(ran.stdout.splitlines())
@@ -78,7 +69,7 @@ class Greeted:
         self.told = defaultdict(list)
 
     def drive(self):
-        """Gives all commands, and hears all that is told."""
+        """Gives all commands, and hears all the output."""
         under_way = {}
         for own, command in zip(self.runs.steps, self.runs.known_as(self.names)):
             name, group = own["session"], self.runs.group_of[own["session"]]
@@ -90,7 +81,7 @@ class Greeted:
             self.hear(name)
 
     def hear(self, name):
-        """Hears what is told to a command, up to its answer."""
+        """Hears the output of a command, up to its answer."""
         line = ""
         while not line.startswith(ANSWERS):
             line = self.clients[name].hear()
@@ -99,7 +90,7 @@ class Greeted:
                 raise EOFError(f"{name} is closed")
 
     def leave(self):
-        """Nothing more is told, and all go."""
+        """Checks that nothing more comes, and closes all clients."""
         for name, client in self.clients.items():
             self.told[self.names[name]] += client.rest()
             client.leave()
@@ -119,7 +110,7 @@ class Named:
         self.told = defaultdict(list)
 
     def drive(self):
-        """Gives all commands, and hears all that is told."""
+        """Gives all commands, and hears all the output."""
         threads = [threading.Thread(target=self.live, args=(lines,)) for lines in self.lines.values()]
         for thread in threads:
             thread.start()
@@ -146,14 +137,30 @@ class Named:
         """All have gone already."""
 
 
-class Killer(threading.Thread):
+class Meddler(threading.Thread):
+    """Meddles with a front while a block runs, and ends with the block, also where that fails: a thread that went on would keep
+    the tests from ending."""
+
+    def __init__(self, chance):
+        super().__init__()
+        self.chance = chance
+        self.ended = threading.Event()
+
+    def __enter__(self):
+        self.start()
+        return self
+
+    def __exit__(self, *_error):
+        self.ended.set()
+        self.join()
+
+
+class Killer(Meddler):
     """Kills workers of a front, each at any moment, and now and then one that is brought back."""
 
     def __init__(self, chance, process):
-        super().__init__()
-        self.chance = chance
+        super().__init__(chance)
         self.process = process
-        self.ended = threading.Event()
         self.kills = self.twice = 0
 
     def run(self):
@@ -180,16 +187,14 @@ class Killer(threading.Thread):
             pass
 
 
-class Mover(threading.Thread):
-    """Moves groups by chance, one after the other, as long as there is something to be told."""
+class Mover(Meddler):
+    """Moves random groups, one after the other, as long as there is output to come."""
 
     def __init__(self, test, chance, groups, workers):
-        super().__init__()
+        super().__init__(chance)
         self.test = test
-        self.chance = chance
         self.groups = groups
         self.workers = workers
-        self.ended = threading.Event()
         self.answers = []
 
     def run(self):
@@ -230,10 +235,10 @@ class WorkerCases(FrontCases):
         return {row["group"]: row["worker"] for row in self.ask_front(front="groups")["reply"]}
 
     def check_told(self, runs, clients):
-        """Each session has been told what one server tells it that is given all commands."""
+        """Each session has received what one server that is given all commands sends it."""
         wanted = runs.told_alone(self.program, clients.names)
         for name in sorted(wanted.keys() | clients.told.keys()):
-            self.assertEqual(clients.told[name], wanted[name], f"what {name} is told")
+            self.assertEqual(clients.told[name], wanted[name], f"what {name} receives")
 
 
 def worker_of(group, count):
@@ -258,5 +263,5 @@ def wait_until(test, holds, what):
     until = time.monotonic() + PATIENCE
     while not holds():
         if time.monotonic() > until:
-            test.fail(f"it does not come to this: {what}")
+            test.fail(f"this does not happen: {what}")
         time.sleep(0.005)

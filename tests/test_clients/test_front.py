@@ -36,7 +36,7 @@ EAR = {"name": "Ear", "super": "QObject", "signals": ["told(QString)"], "slots":
 
 
 def live(path, commands):
-    """A client's name and all that it is told, where it writes all its commands and then reads."""
+    """The name of a client that writes all its commands and then reads, and all that it receives."""
     with Client(path) as client:
         name = json.loads(client.ask(STATUS))["session"]
         client.say(*map(text_of, commands))
@@ -44,7 +44,7 @@ def live(path, commands):
 
 
 def alone(words, name, commands):
-    """What a session of this name is told by a server of its own."""
+    """What a session of this name receives from a server of its own."""
     given = "".join(text_of({**command, "session": name}) + "\n" for command in commands)
     return subprocess.run(words, input=given, capture_output=True, check=True, text=True).stdout.splitlines()
 
@@ -76,7 +76,7 @@ RUBBISH = (
 
 
 def ask_long(path):
-    """Whether a client is told what it has to be where its lines and the answers are long."""
+    """Whether a client receives the right answers if its lines and the answers are long."""
     text, count = "n" * TEXT_MOST, 10
     get = text_of({"do": "get", "object": 1, "property": "objectName"})[:-1].ljust(LINE_MOST - 100) + "}"
     with Client(path) as client:
@@ -122,7 +122,7 @@ class Page(FrontCases):
                     process.terminate()
 
     def test_words(self):
-        """The page tells of each option that there is, and its line of usage is that of the help."""
+        """The page describes every option, and its line of usage is that of the help."""
         page = FRONT_PAGE.read_text()
         shown = subprocess.run([FRONT, "--help"], capture_output=True, text=True, timeout=PATIENCE).stdout
         options = re.findall(r"^  (?:-h, )?(--\S+(?: [A-Z]+)?)  ", shown, re.MULTILINE)
@@ -131,16 +131,16 @@ class Page(FrontCases):
 
 
 class Lines(FrontCases):
-    """What clients of a front are told to lines, in form and out of it."""
+    """What clients of a front receive for lines, well-formed or not."""
 
     def test_rubbish(self):
-        """Each line is answered in its turn, or by nothing where it is blank, and the next one is read as usual."""
+        """Each line is answered in order, blank ones not at all, and the next one is read as usual."""
         with self.front() as (path, _), Client(path) as client, Client(path) as other:
             name = json.loads(client.ask(STATUS))["session"]
             for number, (line, wanted) in enumerate(RUBBISH, 1):
                 client.say("", " \t\r", " " * LINE_MOST, line, NEW)
                 self.assertEqual(client.hear(), wanted, f"the answer to {line[:40]!r}")
-                self.assertEqual(client.hear(), reply(number, name), f"the line behind {line[:40]!r}")
+                self.assertEqual(client.hear(), reply(number, name), f"the line after {line[:40]!r}")
                 self.assertEqual(json.loads(other.ask(NEW))["reply"], number, "another client")
             client.link.sendall(b'{"do":"\xff"}\n')
             self.assertEqual(client.hear(), NO_JSON, "a line that is no UTF-8")
@@ -155,12 +155,12 @@ class Lines(FrontCases):
             line = NEW[:-1].ljust(room_left - 1) + "}"
             self.assertEqual(client.ask(line), reply(1, name), "the longest line")
             self.assertEqual(client.ask(" " + line), reply(2, name), "a line that is longer")
-            self.assertEqual(client.ask(line[:-1] + " }"), NO_JSON, "a line with one byte more within")
+            self.assertEqual(client.ask(line[:-1] + " }"), NO_JSON, "a line that is one byte too long")
 
     def test_both_ways(self):
         """Long lines and long answers at once: more than the pipes of the server hold, in both directions."""
         with self.front() as (path, _), ThreadPoolExecutor(CLIENTS) as pool:
-            self.assertEqual(list(pool.map(ask_long, [path] * CLIENTS)), [True] * CLIENTS, "whether all are told")
+            self.assertEqual(list(pool.map(ask_long, [path] * CLIENTS)), [True] * CLIENTS, "whether all receive the right answers")
 
     def test_memory(self):
         """A line without an end takes no memory of the front."""
@@ -177,7 +177,7 @@ class Clients(FrontCases):
     """Clients side by side, each with a session of its own."""
 
     def test_many(self):
-        """Many clients at once, each told what it is told alone. They name sessions as they like, also each other's."""
+        """Many clients at once, which receive the same as they would alone. They name any sessions, even each other's."""
         classes = classes_in(self.room, CLASSES)
         lives = [list(life_of(number)) for number in range(CLIENTS)]
         said = [[{**command, "session": f"c{at % 7}"} for at, command in enumerate(life)] for life in lives]
@@ -185,7 +185,7 @@ class Clients(FrontCases):
             told = list(pool.map(live, [path] * CLIENTS, said))
         self.assertEqual(len({name for name, _ in told}), CLIENTS, "how many names")
         for (name, lines), commands in zip(told, lives):
-            self.assertEqual(lines, alone([self.program, classes], name, commands), f"what {name} is told")
+            self.assertEqual(lines, alone([self.program, classes], name, commands), f"what {name} receives")
 
     def test_names(self):
         """Nobody reaches the session of another client, and a name is never given again."""
@@ -200,7 +200,7 @@ class Clients(FrontCases):
                 for key in ('"session"', '"\\u0073ession"'):
                     line = f'{{"do":"children",{key}:"{name}",{key}:"{name}"}}'
                     told = json.loads(other.ask(line))
-                    self.assertEqual((told["session"] != name, told["reply"]), (True, []), f"what is told to {line}")
+                    self.assertEqual((told["session"] != name, told["reply"]), (True, []), f"what answers {line}")
                 both = {name, told["session"]}
             with Client(path) as later:
                 told = json.loads(later.ask(STATUS))
@@ -237,7 +237,7 @@ class Clients(FrontCases):
             self.assertEqual(json.loads(one.ask(text_of({"do": "spin"})))["reply"]["events"], 0, "what the publisher hears")
 
     def test_by_client(self):
-        """The Python client over a front: calls and warnings come to its session, though the front names another one."""
+        """The Python client over a front: its session receives calls and warnings, though the front names another one."""
         heard = []
         with self.front() as (path, _), metad.connect(path) as one, metad.connect(path) as other:
             for server in (other, one):
@@ -261,7 +261,7 @@ class Clients(FrontCases):
                 for text in (NEW[:9], NEW + "\n" + NEW[:9], 50 * (NEW + "\n")):
                     with Client(path) as gone:
                         gone.link.sendall(text.encode())
-                self.assertEqual(other.ask(NEW), reply(number, name), "an answer beside those that go")
+                self.assertEqual(other.ask(NEW), reply(number, name), "an answer while others leave")
             with Client(path) as client:
                 client.link.sendall(f"{NEW}\n{NEW[:9]}".encode())
                 first, second = client.rest()
@@ -299,7 +299,7 @@ class Clients(FrontCases):
             client.say(text_of({"do": "invoke", "object": 1, "method": "told(QString)", "args": ["n" * TEXT_MOST]}))
             select.select([client.link], [], [], PATIENCE)  # so that the server is at it, and the other one waits for its end
             self.assertEqual(json.loads(other.ask(text_of({"do": "new", "class": "Ear"})))["reply"], 1, "another client")
-            self.assertNotIn(b'"reply"', client.until_closed(), "what it is told")
+            self.assertNotIn(b'"reply"', client.until_closed(), "what it receives")
             self.assertEqual(json.loads(other.ask(STATUS))["reply"]["objects"], 1, "the other client later")
 
     def test_full(self):

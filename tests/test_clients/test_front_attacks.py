@@ -37,7 +37,7 @@ share = ["team"]
 HARMLESS = LIMITS.replace("300, burst = 300", "100000").replace("200000, burst = 200000", "100000000")  # for who is not delayed
 FLOOD = f"{STATUS}\n".encode() * 500
 CELL = '{"class":"Cell","do":"new"}'
-RING = 40  # cells of a chain, each of which sends its signal twice to the next: more calls than anybody can wait for
+RING = 40  # cells of a chain; each sends its signal twice to the next: more calls than anybody can wait for
 
 
 def chain():

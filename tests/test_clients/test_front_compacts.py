@@ -12,23 +12,29 @@ from contextlib import contextmanager
 from pathlib import Path
 from tempfile import TemporaryDirectory
 
+from compacting.groups import CHANGING
 from compacting.program import compacted
 from compacting.record import write
 from compacting.serving import Kept, Server
 
 from tests.support.lines import text_of
 from tests.support.program import ROOT
+from tests.support.protocol import all_commands
+from tests.support.seeds import seed_of
 
 from .fronts import FRONT, PATIENCE, Client, Log, reply
-from .grouped import Greeted, Killer, Runs, WorkerCases, seed_of, servers_of, wait_until
+from .grouped import Greeted, Killer, Runs, WorkerCases, hello, servers_of, wait_until
 from .stand_servers import wait_until_true
 
 COMPACT = ROOT / "clients" / "compact"
 AT = 20_000
 SHARE = '{"front":"share","session":"desk__team"}'
 CELL = text_of({"do": "new", "class": "Cell"})
+TEN_CHANGES = [{"do": "set", "object": 1, "property": "x", "value": it} for it in range(10)]
 GROUPS, COMMANDS, ROUNDS, KILLS = 4, 80, 3, 10
+GUESTS, OF_GUEST = 12, 250  # clients that come and go, and the commands of each
 CUTS = int(os.environ.get("CUTS", "40"))  # random records that are cut
+SPINS = 6  # of each session, so that hardly any events wait
 STEPS = {
     "begun": "stop()",
     "half": "new = open(into, 'wb'); new.write(old[: len(old) // 2]); new.flush(); stop()",
@@ -78,7 +84,7 @@ class ServerKiller(Killer):
         if self.kills == KILLS:
             self.ended.set()
             return
-        before, servers = self.said("was ended by signal 9"), [it for it in servers_of(self.process) if not is_python(it)]
+        before, servers = self.said("was ended by signal 9"), [it for it in servers_of(self.process) if is_server(it)]
         if servers:
             os.kill(self.chance.choice(servers), signal.SIGKILL)
             self.kills += 1
@@ -86,11 +92,14 @@ class ServerKiller(Killer):
                 pass
 
 
-def is_python(number):
+def is_server(number):
+    """Whether a child of a front is a server. A child that has ended or is just becoming another program has no words, and one
+    that has not become one yet has those of the front."""
     try:
-        return b"compact" in Path(f"/proc/{number}/cmdline").read_bytes()
+        words = Path(f"/proc/{number}/cmdline").read_bytes()
     except OSError:
-        return True
+        return False
+    return words != b"" and b"compact" not in words
 
 
 class CompactCases(WorkerCases):
@@ -215,6 +224,31 @@ class Compacts(CompactCases):
         self.assertEqual(json.loads(answer_to(client))["reply"]["events"], 1, "the event")
         self.end(process)
 
+    def test_guests(self):
+        """Where events wait, which no command makes again, a record still loses the commands of sessions that are over: so the
+        time to restore a group does not grow with the clients that come and go."""
+        path, process = self.start()
+        client = self.member(path)
+        client.ask(CELL)
+        client.ask(text_of({"do": "invoke", "object": 1, "method": "setX(int)", "args": [5], "type": "queued"}))
+        for _ in range(GUESTS):
+            with Client(path) as guest:
+                name = json.loads(guest.ask(hello("desk")))["session"]
+                guest.say(CELL, *[setting(value) for value in range(OF_GUEST)])
+                self.assertEqual([answer_to(guest) for _ in range(OF_GUEST + 1)][-1], reply(True, name), "its last answer")
+        self.wait_for_words(process, "the record of desk is compacted: ")
+        few = GUESTS * OF_GUEST / 2
+        wait_until_true(self, lambda: self.record.read_text().count("\n> ") < few, "few commands restore the group")
+        wait_until_true(self, lambda: len(servers_of(process)) == 1, "no record is being shortened")
+        given = self.record.read_text().count("\n> ")
+        self.assertLess(given, few, "the commands that restore the group")
+        self.tell(f"{GUESTS * OF_GUEST} commands of guests; left: {given}")
+        os.kill(servers_of(process)[0], signal.SIGKILL)
+        client.say('{"do":"spin"}')
+        self.assertEqual(json.loads(answer_to(client))["reply"]["events"], 1, "the event")
+        self.assertEqual(client.ask(text_of({"do": "get", "object": 1, "property": "x"})), reply(5, "desk__team"), "its effect")
+        self.end(process)
+
     def test_reset_meanwhile(self):
         """A record that begins again while it is shortened is not replaced."""
         path, process = self.start()
@@ -241,12 +275,9 @@ class Compacts(CompactCases):
                 runs = Runs(f"{seed} {at}", GROUPS, COMMANDS, self.room)
                 options = ("--record", str(self.records), "--compact-at", "4096")
                 with self.workers(2, *runs.words, options=options) as (path, process):
-                    killer = ServerKiller(random.Random(f"{seed} {at}"), process)
                     clients = Greeted(path, runs)
-                    killer.start()
-                    clients.drive()
-                    killer.ended.set()
-                    killer.join()
+                    with ServerKiller(random.Random(f"{seed} {at}"), process):
+                        clients.drive()
                     wait_until_true(self, lambda: len(servers_of(process)) == 2, "the last one has ended")
                     clients.leave()
                     text = process.log.path.read_text()
@@ -254,6 +285,14 @@ class Compacts(CompactCases):
                     self.assertNotIn("cannot be", text)
                 self.check_told(runs, clients)
         self.tell(f"compacted: {compacted}")
+
+    def test_failing(self):
+        """What kills servers ends where a test fails meanwhile: otherwise the tests would never end."""
+        with self.workers(2) as (_, process):
+            with self.assertRaises(EOFError), ServerKiller(random.Random(seed_of(self)), process) as killer:
+                raise EOFError
+            killer.join(PATIENCE)
+            self.assertFalse(killer.is_alive())
 
     def test_words(self):
         """The option needs records and workers, and a size."""
@@ -332,38 +371,82 @@ class Tool(CompactCases):
 
     def test_random(self):
         """After a short record a server answers all further commands of random sessions as it does after the long one, byte for
-        byte, wherever the record was cut."""
+        byte, wherever the record was cut. Events are delivered before that, so that most records can be compacted."""
+        words = self.reasons(0)
+        self.assertGreater(words.count(""), CUTS // 20, words)
+
+    def test_random_ended(self):
+        """The same where most sessions are over, so that their commands are left out if the others cannot be made again."""
+        words = self.reasons(0.7)
+        self.assertGreater(words.count("left out"), 0, words)
+
+    def reasons(self, share):
+        """Why random records are kept, empty where they are not, if such a share of their sessions is reset in the end."""
         seed = seed_of(self)
-        came = self.check_each([(f"{seed} {at}", f"{seed} {at}") for at in range(CUTS)], self.cut_and_compare, lambda tried: tried[0])
+        tried = [(f"{seed} {at}", (f"{seed} {at}", share)) for at in range(CUTS)]
+        came = self.check_each(tried, lambda how: self.cut_and_compare(*how), lambda found: found[0])
         words = [why for _, why in came]
         self.tell(f"compacted: {words.count('')}, {Counter(filter(None, words))}")
-        self.assertGreater(words.count(""), CUTS // 10, words)
+        return words
 
-    def cut_and_compare(self, seed):
+    def cut_and_compare(self, seed, share):
         """What is wrong after a short record in place of the first part of a random one, or None; and why it was kept."""
         with TemporaryDirectory(prefix="metad-compacts-") as room:
             runs = Runs(seed, 1, 60, room)
             words = [self.program, *runs.words]
-            given = [text_of(command).encode() for command in runs.steps]
             chance = random.Random(seed)
-            cut = chance.randrange(len(given) // 4, len(given))
+            cut = chance.randrange(len(runs.steps) // 4, len(runs.steps))
+            names = sorted({it["session"] for it in runs.steps})
+            ended = {name for name in names if chance.random() < share}
+            given = [text_of(command).encode() for command in runs.steps[:cut]]
+            given += [text_of({"do": "reset", "session": name}).encode() for name in sorted(ended)]
+            if not ended:
+                given += [text_of({"do": "spin", "session": name}).encode() for _ in range(SPINS) for name in names]
+            more = [text_of(command).encode() for command in runs.steps[cut:] if command["session"] not in ended]
             with Server(words) as server:
-                answers = server.ask(given)
+                answers = server.ask([*given, *more])
             record = Path(room, "record")
             with record.open("wb") as file:
-                write(file, given[:cut], answers[:cut])
+                write(file, given, answers[: len(given)])
             try:
                 short, told = compacted(words, record, record.stat().st_size)
             except Kept as why:
                 return None, str(why)
             with Server(words) as server:
-                again = server.ask([*short, *given[cut:]])
+                again = server.ask([*short, *more])
         if again[: len(short)] != told:
             return f"{seed}: the short record is answered otherwise", ""
-        differs = next((at for at, pair in enumerate(zip(again[len(short) :], answers[cut:])) if pair[0] != pair[1]), None)
+        pairs = zip(again[len(short) :], answers[len(given) :])
+        differs = next((at for at, pair in enumerate(pairs) if pair[0] != pair[1]), None)
         if differs is None:
-            return None, ""
-        return f"{seed}: cut at {cut}, line {cut + differs}: {given[cut + differs]}: {again[len(short) + differs]}, {answers[cut + differs]}", ""
+            return None, "left out" if ended and set(short) <= set(given) else ""
+        return f"{seed}: cut at {cut}, line {cut + differs}: {more[differs]}: {again[len(short) + differs]}, {answers[len(given) + differs]}", ""
+
+    def test_open_group(self):
+        """Changes that an open group holds back keep a record; an open group that holds back none is made again."""
+        self.assertEqual(CHANGING, {it.word for it in all_commands() if it.effect == "calls"} - {"end"}, "commands that change properties")
+        begin, end, get = {"do": "begin"}, {"do": "end"}, {"do": "get", "object": 1, "property": "x"}
+        change, refused = ({"do": "set", "object": number, "property": "x", "value": 9} for number in (1, 2))
+        for what, commands, outcome in (
+            ("nothing", [begin], "compacted"),
+            ("reads", [begin, get], "compacted"),
+            ("a refused change", [begin, refused], "compacted"),
+            ("a change", [begin, change], "kept"),
+            ("a change in an inner group", [begin, begin, change, end], "kept"),
+            ("a change in an earlier group", [begin, change, end, begin], "compacted"),
+        ):
+            with self.subTest(what):
+                self.assertEqual(self.outcome([{"do": "new", "class": "Cell"}, *TEN_CHANGES, *commands]), outcome)
+
+    def outcome(self, commands):
+        """What is done with the record of a session that has given these commands."""
+        given = [text_of({**command, "session": "a"}).encode() for command in commands]
+        record = Path(self.room, "open")
+        with Server([self.program]) as server, record.open("wb") as file:
+            write(file, given, server.ask(given))
+        ran = self.ran(record, Path(self.room, "short"), self.program)
+        self.assertEqual((ran.returncode, ran.stderr), (0, ""))
+        return json.loads(ran.stdout)["outcome"]
 
     def test_another_server(self):
         """A record that the server answers otherwise is kept."""

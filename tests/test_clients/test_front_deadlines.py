@@ -1,13 +1,14 @@
 """Commands that take too long, and the memory of servers and of the front (docs/LIMITS.md)."""
 
 import json
+import select
 import sys
 import time
 from pathlib import Path
 
 from tests.support.lines import text_of
 
-from .fronts import NEW, Client, error, reply
+from .fronts import NEW, PATIENCE, Client, error, reply
 from .grouped import hello, worker_of
 from .limited import LimitedCases, exceeded
 
@@ -149,7 +150,7 @@ class Memory(LimitedCases):
             self.assertFalse(any("was ended" in line for line in process.log.lines()), process.log.lines())
 
     def test_words(self):
-        """Numbers that are none for --server-memory."""
+        """Words that --server-memory does not accept."""
         for word in ("0", "1M", "-5", "1048575", "99999999999999"):
             status, said = self.refused("", "--server-memory", word)
             self.assertEqual(status, 2, said)
@@ -164,8 +165,11 @@ class Memory(LimitedCases):
             slow = [self.enterContext(Client(path)) for _ in range(24)]
             for client in slow:
                 client.say(*[ONE] * count)
-            until = time.monotonic() + 1.5
-            while time.monotonic() < until:
+            ended, until = select.poll(), time.monotonic() + PATIENCE
+            for client in slow:
+                ended.register(client.link, 0)  # which is for the end of a connection alone
+            while not ended.poll(0):
+                self.assertLess(time.monotonic(), until, "nobody is closed")
                 self.assertEqual(honest.ask(ONE), reply(TEXT, name), "who reads")
             ends = [self.end_of(client, f"c{at}", count) for at, client in enumerate(slow, 2)]
             self.assertEqual(set(ends) - {"all", "F19", "cut"}, set(), "how they end")

@@ -74,7 +74,7 @@ class Ends(FrontCases):
         self.tell("cases: 2")
 
     def test_tied(self):
-        """A front that is tied ends with its standard input, and passes over what stands there; that can be no file."""
+        """A tied front ends when its standard input ends, and ignores what it reads there. The input cannot be a file."""
         path = Path(self.room, "socket")
         process = front_of("--quiet", "--tied", path, self.program, stdin=subprocess.PIPE)
         try:
@@ -199,7 +199,7 @@ class Ends(FrontCases):
                 self.assertIn(wanted or "", ran.stderr, "what it says")
 
     def test_what_cannot_be_had(self):
-        """What cannot be bound, started or opened, and a server that is none, end the front with status 1."""
+        """The front ends with status 1 if something cannot be bound, started or opened, or if the server is no server."""
         path, taken, room = Path(self.room, "socket"), Path(self.room, "taken"), self.room
         taken.write_text("")
         for given, wanted in (
@@ -220,7 +220,7 @@ class Ends(FrontCases):
                 wanted_lines = sorted((wanted or ran.stderr).splitlines())
                 self.assertEqual(sorted(ran.stderr.splitlines()), wanted_lines, "what it says")
                 self.assertTrue(ran.stderr, "it says nothing")
-        self.assertTrue(taken.exists(), "what stood there is gone")
+        self.assertTrue(taken.exists(), "the file there is gone")
 
     def test_not_served(self):
         """A server that refuses its class file or its words ends the front with the server's own message and status. The
@@ -262,7 +262,7 @@ class Ends(FrontCases):
                 process.communicate(timeout=PATIENCE)
 
     def test_help(self):
-        """The help comes on standard output, wherever it is asked for; where that cannot be written, it is told."""
+        """The help goes to standard output, wherever it is asked for. If that cannot be written, the front says so."""
         with open("/dev/full", "wb") as full:
             for words, where, wanted in (
                 (("--help",), subprocess.PIPE, (0, "")),
@@ -280,7 +280,7 @@ class Ends(FrontCases):
         self.assertEqual((ran.returncode, ran.stderr), (0, b""), "where nobody reads it")
 
     def test_words_of_the_server(self):
-        """Words behind PROGRAM are the server's, also those that the front has itself; it may have none."""
+        """Words after PROGRAM are the server's, even if they are options of the front. There may be no words."""
         path = Path(self.room, "socket")
         show = 'import json, sys; print(json.dumps({"reply": sys.argv[1:], "session": "c1"}, separators=(",", ":")), flush=True); input()'
         for words in ((), ("--quiet", "-h", "--", "x y", "--share", "")):

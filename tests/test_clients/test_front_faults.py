@@ -14,9 +14,9 @@ from pathlib import Path
 from tests.support.lines import text_of
 from tests.support.peaks import peak_of
 
-from .fronts import FRONT, GREETED_BY_PYTHON, NEW, PATIENCE, Client, FrontCases, error, reply
+from .fronts import FRONT, GREETED_BY_PYTHON, NEW, PATIENCE, Client, FrontCases, error, reply, whole_lines
 from .grouped import WorkerCases, hello, servers_of, wait_until
-from .stand_servers import UNDER_WAY, in_steps, make_gate, open_gate, stopped, wait_until_read, wait_until_true, whole_lines
+from .stand_servers import UNDER_WAY, in_steps, make_gate, open_gate, stopped, wait_until_read, wait_until_true
 
 WRITTEN = 100
 MEMBERS = 24
@@ -78,7 +78,7 @@ class Faults(FrontCases):
             os.close(number)
 
     def test_no_files(self):
-        """If the system lets no client in, and none is connected that could leave, the front tries again by itself."""
+        """If the system lets no client in, and none is connected that could leave, the front tries again on its own."""
         with self.front() as (path, process):
             limits = resource.prlimit(process.pid, resource.RLIMIT_NOFILE)
             resource.prlimit(process.pid, resource.RLIMIT_NOFILE, (3, limits[1]))
@@ -159,7 +159,7 @@ class WorkerFaults(WorkerCases):
         with self.workers(1, options=("--record", str(self.records))) as (path, process), Client(path) as client:
             self.assertEqual(client.ask(hello("desk")), reply(True, "desk__c1"), "a hello")
             self.assertEqual(client.ask(NEW), reply(1, "desk__c1"), "an object")
-            self.assertEqual(client.ask('{"do":NaN,"do":"reset"}'), error("E01", "-"), "a reset that is none")
+            self.assertEqual(client.ask('{"do":NaN,"do":"reset"}'), error("E01", "-"), "an invalid reset")
             for server in servers_of(process):
                 os.kill(server, 9)
             self.assertEqual(client.ask(NEW), reply(2, "desk__c1"), "the next object")

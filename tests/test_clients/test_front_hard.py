@@ -5,9 +5,9 @@ import sys
 
 from tests.support.cases import ProgramCases
 from tests.support.program import ROOT
+from tests.support.seeds import seed_of
 
 from .fronts import PATIENCE
-from .grouped import seed_of
 
 HARD_USE, ECHO = (ROOT / "bench" / name for name in ("hard_use.py", "hard_echo.py"))
 SECONDS = 200

@@ -150,7 +150,7 @@ class Health(WorkerCases):
                 line = f'{{"class":"Probe","do":"new","session":"{name}"}}'
                 wanted = error("E02", "-") if name == "-" else reply(1, name)
                 self.assertEqual(client.ask(line), wanted, name)
-            self.wait_for_health(ALIVE, "beside a client that names sessions")
+            self.wait_for_health(ALIVE, "while a client names sessions")
             self.assertEqual(client.ask('{"do":"status","session":"-"}'), error("E02", "-"), "what the client receives")
             client.say(STATUS)
             self.assertEqual(client.hear(), error("E02", "-"), "its own")

@@ -1,4 +1,4 @@
-"""Live sessions of a front: events come to their clients as they happen."""
+"""Live sessions of a front: their clients receive events as they happen."""
 
 import json
 import os
@@ -65,7 +65,7 @@ class Live(FrontCases):
             self.assertEqual([plain.ask(CELL), plain.ask(join("c1"))], [reply(1, "c3"), reply(True, "c3")], "another one")
             for value in range(1, ROUNDS):
                 self.assertEqual(host.ask(set_x(value)), reply(True, "c1"), "what the host receives")
-                self.assertEqual([guest.hear(), guest.hear()], [seen(value, "c2"), spun(1, "c2")], "what comes by itself")
+                self.assertEqual([guest.hear(), guest.hear()], [seen(value, "c2"), spun(1, "c2")], "what comes automatically")
             self.assertEqual(json.loads(guest.ask(STATUS))["reply"]["queued"], 0, "and nothing else")
             self.assertEqual(json.loads(plain.ask(STATUS))["reply"]["queued"], ROUNDS - 1, "what waits for the other one")
 
@@ -75,7 +75,7 @@ class Live(FrontCases):
         with self.front(options=("--quiet", "--live")) as (path, _), Client(path) as client:
             self.assertEqual(client.ask(CELL), reply(1, "c1"), "an object")
             self.assertEqual(client.ask(late), reply(True, "c1"), "a queued call")
-            self.assertEqual([client.hear(), client.hear()], [seen(5, "c1"), spun(1, "c1")], "what comes by itself")
+            self.assertEqual([client.hear(), client.hear()], [seen(5, "c1"), spun(1, "c1")], "what comes automatically")
 
     def test_merged(self):
         """Many causes make few spins: what the server is given is recorded, and each event comes once."""

@@ -5,6 +5,7 @@ import os
 import re
 import shutil
 import signal
+import socket
 import subprocess
 from contextlib import contextmanager
 from http.client import HTTPConnection
@@ -21,6 +22,7 @@ GET = "GET /metrics HTTP/1.0\r\n\r\n"
 SCRAPES_MOST = 4
 SAMPLE = re.compile(r'([a-z_]+)(?:\{([a-z]+)="([^"\\]*)"\})? ([-+0-9.eInf]+)')
 SECRET = "hunter2_of_a_client"
+CODES_OF_LIMITS = [f"F{number}" for number in range(11, 21)]
 LIVE = '{"front":"hello","live":true}'
 WORDS_OF_LABELS = {
     "version": r"\d+\.\d+\.\d+",
@@ -253,6 +255,70 @@ class Counts(MetricsCases):
             self.wait_for_value(2, "clients_disconnected_total", "left")
             self.wait_for_value(0, "clients")
             self.wait_for_value(0, "monitors")
+
+    @contextmanager
+    def bounded(self, text, *options, workers=None, **how):
+        """A measured front with limits."""
+        limits = Path(self.room, "limits.toml")
+        limits.write_text(text)
+        with self.measured("--limits", limits, *options, workers=workers, **how) as (path, process):
+            yield path, process
+
+    def refusals(self):
+        """How often the front has enforced limits and rights, by the codes that it has done so by; all of them are shown."""
+        found = {label: value for (name, label), value in self.samples().items() if name == "refusals_total"}
+        self.assertEqual(list(found), CODES_OF_LIMITS, "the codes")
+        return {code: value for code, value in found.items() if value}
+
+    def test_limits_of_commands(self):
+        """Refused commands, sessions and joins are counted by their codes, and among all errors."""
+        text = "over = 'refuse'\n[client]\nsessions = 1\njoins = 0\ncommands = { per_second = 1, burst = 3 }\n"
+        with self.bounded(text, "--group-from", "name", workers=1) as (path, _), Client(path) as client:
+            self.assertEqual(self.refusals(), {}, "at first")
+            join = {"do": "join", "from": "other", "name": "level", "object": 1, "method": "note()", "types": [], "session": "desk"}
+            made = NEW.replace("{", '{"session":"desk",')
+            told = [json.loads(client.ask(line)).get("error") for line in (made, text_of(join), made.replace("desk", "lamp"), made)]
+            self.assertEqual(told, [None, "F17", "F16", "F12"], "what is refused")
+            self.assertEqual(self.refusals(), {"F12": 1, "F16": 1, "F17": 1})
+            self.assertEqual([self.value("errors_total", code) for code in ("F12", "F16", "F17")], [1, 1, 1], "among the errors")
+
+    def test_limits_of_connections(self):
+        """Connections that are refused or closed are counted by the code of the last line."""
+        for text, code, given in (
+            ("[uid]\nconnections = 1\n", "F11", b""),
+            ("[client]\nhalf_line_bytes = 9\n", "F14", b" " * 10),
+            ("[client]\nhalf_line_seconds = 1\n", "F14", b" "),
+            ("[client]\nidle_seconds = 1\n", "F15", b""),
+            ("[rights]\ndefault = 'refuse'\n", "F20", b""),
+        ):
+            with self.bounded(text) as (path, _), Client(path) as other, Client(path) as client:
+                client.link.sendall(given)
+                self.assertEqual(json.loads(client.told()[-1])["error"], code, text)
+                other.told() if code in ("F15", "F20") else other.leave()
+                self.assertEqual(set(self.refusals()), {code}, text)
+                self.assertGreaterEqual(self.refusals()[code], 1, text)
+
+    def test_limits_of_memory(self):
+        """Clients that do not read are closed and counted, for their own limit and for that of the front."""
+        for text, code in (("[client]\nunread_bytes = 50000\n", "F13"), ("front_memory = 50000\n", "F19")):
+            with self.bounded(text) as (path, _), Client(path) as slow:
+                slow.link.setsockopt(socket.SOL_SOCKET, socket.SO_RCVBUF, 4_096)
+                slow.link.settimeout(2)
+                try:
+                    for _ in range(1_000):
+                        slow.say(*['{"do":"classes"}'] * 100)
+                except OSError:
+                    pass  # the front reads nothing more
+                wait_until(self, lambda: self.refusals() == {code: 1}, f"{text!r}: {code} is counted once")
+
+    def test_limit_of_time(self):
+        """A command that takes too long is counted."""
+        with self.bounded("command_seconds = 1\n", workers=1) as (path, process), Client(path) as client:
+            self.assertEqual(client.ask(NEW), reply(1, "c1"))
+            os.kill(servers_of(process)[0], signal.SIGSTOP)
+            client.say(NEW)
+            self.assertEqual([json.loads(line)["error"] for line in client.told()], ["F18", "F04"], "its answers")
+            self.assertEqual(self.refusals(), {"F18": 1})
 
     def test_workers(self):
         """Groups of each worker, their records, restarts, replays and moves; and what is lost."""

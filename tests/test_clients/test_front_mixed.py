@@ -11,9 +11,9 @@ from concurrent.futures import ThreadPoolExecutor
 
 from tests.generators.sessions import CLASSES, life_of
 from tests.support.lines import text_of
+from tests.support.seeds import seed_of
 
 from .fronts import STATUS, Client, classes_in
-from .grouped import seed_of
 from .networked import ANY_PORT, NetworkCases, NetworkClient, context_of, port_of
 from .test_front import alone
 from .test_front_rubbish import FORGERIES, hard_lines
@@ -64,8 +64,9 @@ class Mixed(NetworkCases):
             self.assertEqual(lines, [line.replace('"NAME"', f'"{name}"') for line in wanted[at % LIVES]], f"what {name} receives")
 
     def stream(self, chance):
-        """Random lines, among them blank ones, long ones, and those that ask for a session of others."""
-        lines = []
+        """Random lines, among them blank ones, long ones, and those that ask for a session of others. The first is a command: a
+        refused greeting would end the client at once."""
+        lines = [text_of({"do": "status"}).encode()]
         for _ in range(LINES):
             kind = chance.random()
             if kind < 0.5:

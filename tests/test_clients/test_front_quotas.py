@@ -5,12 +5,14 @@ import os
 import signal
 import socket
 import time
+from contextlib import suppress
 
 from tests.support.lines import text_of
 
 from .fronts import NEW, STATUS, Client, error, reply
 from .grouped import hello, wait_until
 from .limited import LimitedCases, exceeded
+from .stand_servers import wait_until_read
 
 UID = os.getuid()
 JOIN = {"do": "join", "name": "level", "object": 1, "method": "note()", "types": []}
@@ -30,6 +32,9 @@ class Files(LimitedCases):
             ("\n[client]\njoins = -1\n", "`client.joins` at or below line 2"),
             ("\n[clients]\n", "`clients`"),
             ("[uid]\nconnections = 'many'\n", "`uid.connections` at or below line 2"),
+            ("\n[uid.1000]\nidle_seconds = 1\n", "`idle_seconds`"),
+            ("[uid.anna]\njoins = 1\n", "`anna`"),
+            ("[rights]\ndefault = 'allow'\n[[rights.rule]]\nfingerprint = ['ab:cd']\n", "`rights.rule.fingerprint` at or below line"),
             ("[client\n", "line 1"),
             ("\n[rights]\ndefault = 'maybe'\n", "`rights.default` at or below line 2"),
             ("[rights]\ndefault = 'allow'\n[[rights.rule]]\ntoken = 'secret'\n", "`rights.rule.token` at or below line 3"),
@@ -67,6 +72,54 @@ class Files(LimitedCases):
             wait_until(self, lambda: any(line.endswith("is read again") for line in process.log.lines()), "the file is read")
             with Client(path) as fourth:
                 self.assertEqual(fourth.ask(NEW), reply(1, "c4"), "with other limits")
+
+
+class Users(LimitedCases):
+    """Quotas of single users."""
+
+    def count_let_in(self, text):
+        """How many of four connections the front lets in."""
+        with self.limited(text) as (path, _):
+            clients = [self.enterContext(Client(path)) for _ in range(4)]
+            for client in clients:
+                with suppress(ConnectionError):  # of one that is closed already
+                    client.say(NEW)
+            told = [client.hear() for client in clients]
+            wanted = [reply(1, f"c{at}") for at in range(1, 5)]
+            self.assertLessEqual(set(told), {*wanted, exceeded("F11", "uid.connections")}, text)
+            return sum(one == other for one, other in zip(told, wanted))
+
+    def test_connections(self):
+        """A table of a user replaces single limits for this user alone."""
+        for text, count in (
+            (f"[uid]\nconnections = 1\n[uid.{UID}]\nconnections = 3\n", 3),
+            (f"[uid.{UID}]\nconnections = 2\n[uid]\nconnections = 3\n", 2),
+            (f"[uid]\nconnections = 3\n[uid.{UID + 1}]\nconnections = 1\n", 3),
+            (f"[uid]\nconnections = 2\n[uid.{UID}]\njoins = 1\n", 2),
+            (f"[uid.{UID + 1}]\nconnections = 1\n", 4),
+        ):
+            self.assertEqual(self.count_let_in(text), count, text)
+
+    def test_others(self):
+        """The rate, the joins and the unfinished lines of a user."""
+        text = f"over = 'refuse'\n[uid]\njoins = 0\n[uid.{UID}]\njoins = 1\nhalf_line_bytes = 1000\n"
+        with self.limited(text + "commands = { per_second = 1, burst = 4 }\n") as (path, _), Client(path) as client:
+            told = [client.ask(line) for line in (NEW, join_of("c8"), join_of("c9"))]
+            self.assertEqual(told, [reply(1, "c1"), reply(True, "c1"), exceeded("F17", "uid.joins", "c1")], "joins")
+            told = [client.ask(STATUS) for _ in range(4)]
+            self.assertEqual(told[-1], exceeded("F12", "uid.commands", "c1"), "the rate")
+            client.link.sendall(b" " * 1_001)
+            self.assertEqual(self.closed_lines(client), [exceeded("F14", "uid.half_line_bytes", "c1")], "unfinished lines")
+
+    def test_hangup(self):
+        """After SIGHUP a user has what the file gives it then."""
+        with self.limited("[uid]\nconnections = 1\n") as (path, process), Client(path) as first:
+            self.assertEqual(first.ask(NEW), reply(1, "c1"), "the first")
+            self.limits.write_text(f"[uid]\nconnections = 1\n[uid.{UID}]\nconnections = 2\n")
+            process.send_signal(signal.SIGHUP)
+            wait_until(self, lambda: any(line.endswith("is read again") for line in process.log.lines()), "the file is read")
+            with Client(path) as second:
+                self.assertEqual(second.ask(NEW), reply(1, "c2"), "the second")
 
 
 class Rates(LimitedCases):
@@ -124,7 +177,7 @@ class Rates(LimitedCases):
             begun = time.monotonic()
             client.link.sendall(b" " * 43_999 + b"\n" + f"{NEW}\n".encode())
             self.assertEqual(client.hear(), reply(1, "c1"), "what comes after them")
-            self.assertGreaterEqual(time.monotonic() - begun, 0.5, "44,000 bytes, of which 4,000 and a piece come at once")
+            self.assertGreaterEqual(time.monotonic() - begun, 0.5, "44,000 bytes; 4,000 of them and a piece come at once")
 
 
 class Bounds(LimitedCases):
@@ -142,11 +195,11 @@ class Bounds(LimitedCases):
                 client.link.sendall(f'{NEW}\n{{"do":'.encode())
                 wanted = [reply(1, "c2"), exceeded("F14", "client.half_line_seconds", "c2")]
                 self.assertEqual(self.closed_lines(client), wanted, "one that does not end")
-            with Client(path) as client:
-                client.link.sendall(NEW.encode())
-                time.sleep(0.3)
-                client.link.sendall(b"\n")
-                self.assertEqual(client.hear(), reply(1, "c3"), "one that ends in time")
+        with self.limited(text.replace("seconds = 1", "seconds = 60")) as (path, _), Client(path) as client:
+            client.link.sendall(NEW.encode())
+            wait_until_read(self, client.link)
+            client.link.sendall(b"\n")
+            self.assertEqual(client.hear(), reply(1, "c1"), "one that ends in time")
 
     def test_half_lines_that_wait(self):
         """The time in which the front does not read a client is no time of its unfinished line."""
@@ -195,8 +248,10 @@ class Bounds(LimitedCases):
 
             def comes_in():
                 with Client(path) as again:
-                    again.say(NEW)
-                    return "reply" in again.hear()
+                    try:
+                        return "reply" in again.ask(NEW)
+                    except OSError:  # it was refused and closed before it said anything
+                        return False
 
             wait_until(self, comes_in, "another one comes in")
 

@@ -106,7 +106,7 @@ class Requests(LimitedCases):
     """What clients may ask for."""
 
     def test_hello_and_share(self):
-        """A name that a client may not use is refused like one that is none."""
+        """A name that a client may not use is refused like an invalid one."""
         text = rules("refuse", f"uid = [{UID}]\nconnect = true\nhello = ['desk', 'ha*']\nshare = ['desk__team']")
         options = ("--workers", "2", "--share", "desk__team", "--share", "lamp__team")
         with self.limited(text, *options) as (path, _):

@@ -7,9 +7,9 @@ import sys
 import threading
 
 from tests.support.program import ROOT
+from tests.support.seeds import seed_of
 
 from .fronts import NEW, STATUS, Client, FrontCases
-from .grouped import seed_of
 
 sys.path.append(str(ROOT / "bench"))
 import hard_lines  # noqa: E402

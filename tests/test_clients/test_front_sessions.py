@@ -38,7 +38,7 @@ class Departed(FrontCases):
             time.sleep(0.01)
 
     def test_reset(self):
-        """The session of a client that has gone is reset, once and as its last command, and nobody is told."""
+        """The session of a client that has gone is reset, once and as its last command. Nobody is notified."""
         given = Path(self.room, "given")
         names = [f"c{number}" for number in range(2, GONE + 2)]
         with self.front(server=self.through(given)) as (path, _), Client(path) as stays:
@@ -48,7 +48,7 @@ class Departed(FrontCases):
                     self.assertEqual(client.ask(NEW), reply(1, name), "one that goes")
                     client.say(*[NEW] * 40)
             self.wait_until_given(given, map(reset_of, names))
-            self.assertEqual(stays.ask(NEW), reply(2, "c1"), "what the one that stays is told")
+            self.assertEqual(stays.ask(NEW), reply(2, "c1"), "what the one that stays receives")
             lines = given.read_text().splitlines()
         for name in names:
             own = [line for line in lines if f'"{name}"' in line]
@@ -84,7 +84,7 @@ class Departed(FrontCases):
                 self.assertEqual(stays.ask(text_of({**join, "from": "c2"})), reply(True, "c1"), "the join that stays")
             self.wait_until_given(given, [reset_of("c2")])
             set_x = text_of({"do": "set", "object": 1, "property": "x", "value": 7})
-            self.assertEqual(stays.ask(set_x), reply(True, "c1"), "what is told to nobody")
+            self.assertEqual(stays.ask(set_x), reply(True, "c1"), "what nobody else receives")
             self.assertEqual(json.loads(stays.ask(STATUS))["reply"]["joins"], 1, "its joins")
             self.assertEqual(json.loads(stays.ask(SPIN))["reply"]["events"], 0, "what it hears")
 
@@ -93,7 +93,7 @@ class Shared(FrontCases):
     """Several clients that speak for one session."""
 
     def test_shared(self):
-        """Each is told the answers to its own commands, and all are told of calls and warnings; who has not asked is not."""
+        """Each client receives the answers to its own commands, and all receive calls and warnings. A client apart receives nothing."""
         with self.front(options=TEAM) as (path, _), Client(path) as one, Client(path) as two, Client(path) as apart:
             for client in (one, two):
                 self.assertEqual(client.ask(SHARE), SHARED, "whether it is shared")
@@ -112,14 +112,14 @@ class Shared(FrontCases):
             self.assertEqual(apart.ask(NEW), reply(2, "c3"), "one that does not share, later")
 
     def test_warnings(self):
-        """All are told of warnings."""
+        """All receive warnings."""
         bind = text_of({"do": "bind", "object": 1, "property": "x", "to": {"prop": "x"}})
         loop = text_of({"object": 1, "property": "x", "session": "team", "warning": "BindingLoop"})
         with self.front(options=TEAM) as (path, _), Client(path) as one, Client(path) as two:
             self.assertEqual([one.ask(SHARE), two.ask(SHARE)], [SHARED] * 2, "whether it is shared")
             self.assertEqual(one.ask(text_of({"do": "new", "class": "Cell"})), reply(1, "team"), "an object")
             one.say(bind)
-            self.assertEqual([one.hear(), one.hear(), two.hear()], [loop, reply(True, "team"), loop], "what is told")
+            self.assertEqual([one.hear(), one.hear(), two.hear()], [loop, reply(True, "team"), loop], "what they receive")
 
     def test_stays(self):
         """A shared session stays when all have gone, with what they left in it, and a reset is theirs to ask for."""
@@ -131,7 +131,7 @@ class Shared(FrontCases):
             with Client(path) as client, Client(path) as other:
                 client.say(SHARE, '{"do":"reset"}', NEW)
                 wanted = [SHARED, reply(True, "team"), reply(1, "team")]
-                self.assertEqual([client.hear() for _ in wanted], wanted, "behind a reset")
+                self.assertEqual([client.hear() for _ in wanted], wanted, "after a reset")
                 other.say('{"front":"share","session":"other"}', NEW)
                 self.assertEqual([other.hear(), other.hear()], [reply(True, "other"), reply(1, "other")], "another one")
 
@@ -151,7 +151,7 @@ class Shared(FrontCases):
             ):
                 with self.subTest(line=line), Client(path) as client:
                     client.say("", line, NEW)
-                    self.assertEqual(client.until_closed().decode(), f"{wanted}\n", "all that is told")
+                    self.assertEqual(client.until_closed().decode(), f"{wanted}\n", "all that it receives")
             for line in ('{"front":"share","do":"status"}', '["front"]', "front", '{"front":' * 5_000):
                 with self.subTest(line=line[:20]), Client(path) as client:
                     code = json.loads(client.ask(line))["error"]

@@ -31,7 +31,7 @@ SHOW_ENVIRONMENT = 'for it in LISTEN_PID LISTEN_FDS LISTEN_FDNAMES; do eval "tes
 
 
 def bound_at(path):
-    """A socket that stands at a path, where nobody listens yet."""
+    """A socket at a path, where nobody listens yet."""
     link = socket.socket(socket.AF_UNIX)
     link.bind(str(path))
     return link
@@ -81,7 +81,7 @@ class Sockets(FrontCases):
         for path in (file, link):
             said = self.refused(path, self.program)
             self.assertEqual(said, f"metad-front: {path} cannot be bound: Address already in use\n", "what it says")
-        self.assertEqual((file.read_text(), link.is_symlink(), left.is_socket()), ("kept", True, True), "what stands there")
+        self.assertEqual((file.read_text(), link.is_symlink(), left.is_socket()), ("kept", True, True), "what is there")
 
     def test_at_once(self):
         """Of fronts that begin at once over a socket that was left, one listens there, and the others end."""
@@ -105,7 +105,7 @@ class Sockets(FrontCases):
         return not said.startswith("metad-front: listening") and process.wait(PATIENCE) is not None
 
     def test_taken_away(self):
-        """A front that ends does not take away what stands at its path instead of its socket."""
+        """A front that ends does not remove a file that has replaced its socket."""
         path, log = Path(self.room, "socket"), Log(Path(self.room, "log"))
         with log.path.open("wb") as stderr, subprocess.Popen([FRONT, path, self.program], stderr=stderr) as process:
             try:
@@ -114,7 +114,7 @@ class Sockets(FrontCases):
                 path.write_text("of somebody else")
             finally:
                 process.terminate()
-            self.assertEqual((process.wait(PATIENCE), path.read_text()), (0, "of somebody else"), "what stands there")
+            self.assertEqual((process.wait(PATIENCE), path.read_text()), (0, "of somebody else"), "what is there")
 
     def test_mode(self):
         """The rights of the socket are those that `--mode` says, and else those that the umask leaves."""
@@ -138,8 +138,8 @@ class Sockets(FrontCases):
                 process.kill()
 
     def test_passed(self):
-        """A socket that is passed: clients that came before the front was there are served, the server is told nothing of
-        it, and it stays at the end."""
+        """A passed socket: clients that came before the front are served, the server does not learn of the socket, and it stays
+        when the front ends."""
         path = Path(self.room, "socket")
         with bound_at(path) as listener:
             listener.listen()

@@ -1,4 +1,4 @@
-"""What a front tells of what goes on: its log, the record of what the server is given, and monitors."""
+"""How a front reports what happens: its log, the record of what the server is given, and monitors."""
 
 import json
 import os
@@ -77,7 +77,7 @@ class Logging(FrontCases):
             process.log.wait_for(self, f"metad-front: c1 is closed: it has left more than {UNREAD_MOST} bytes unread")
 
     def test_nobody_reads(self):
-        """Nobody waits for whoever reads what the front says: lines are left out, and then it is said how many."""
+        """Whoever reads the log never blocks the front: lines are left out, and then the log says how many."""
         path, (reader, writer) = Path(self.room, "socket"), os.pipe()
         with subprocess.Popen([FRONT, path, self.program], stderr=writer) as process:
             os.close(writer)
@@ -121,7 +121,7 @@ class Recording(FrontCases):
             self.check_record(path, process, record, second)
 
     def check_record(self, path, process, record, second):
-        """What a monitor is told of several clients is what the server says to the record."""
+        """For several clients, a monitor receives what the server answers to the record."""
         with Client(second) as monitor:
             process.log.wait_for(self, "metad-front: monitor 1 has come")
             with Client(path) as one, Client(path) as other:
@@ -142,7 +142,7 @@ class Recording(FrontCases):
         self.assertEqual(said[: len(lines)], lines, "what the server says to the record")
         self.assertEqual(said[len(lines) :], [reply(True, "c3")][: len(said) - len(lines)], "what came when the last client had gone")
         resets = [reply(True, name) for name in ("c1", "c2")]
-        self.assertEqual((len(lines), sorted(set(lines) & set(resets))), (2 * 5 * 5 + 1 + 2 + 1, resets), "what a monitor is told")
+        self.assertEqual((len(lines), sorted(set(lines) & set(resets))), (2 * 5 * 5 + 1 + 2 + 1, resets), "what a monitor receives")
 
     def test_rights(self):
         """Nobody but its owner may read a record."""
@@ -172,7 +172,7 @@ class Monitors(FrontCases):
             yield path, second, process
 
     def test_all(self):
-        """A monitor is told all lines of all sessions, as they were written, from when it comes."""
+        """A monitor receives all lines of all sessions unchanged, from the moment it connects."""
         with self.monitored() as (path, second, process), Client(path) as one, Client(path) as other:
             names = [one.name(), other.name()]
             with Client(second) as monitor:
@@ -183,12 +183,12 @@ class Monitors(FrontCases):
                 invoke = text_of({"do": "invoke", "object": 1, "method": "note()", "args": []})
                 one.say(invoke)
                 lines += [one.hear(), one.hear()]
-                self.assertEqual([monitor.hear() for _ in lines], lines, "what a monitor is told")
+                self.assertEqual([monitor.hear() for _ in lines], lines, "what a monitor receives")
             whose = [json.loads(line)["session"] for line in lines[:7]]
             self.assertEqual(whose, [names[0], "-", names[0], names[1], "-", names[1], names[0]], "whose lines they are")
 
     def test_one(self):
-        """A monitor that names a session is told of it alone from its answer on, and one that names none of all."""
+        """A monitor that names a session receives only the lines of that one after its answer. Other monitors receive all lines."""
         with self.monitored() as (path, second, _), Client(path) as one, Client(path) as other:
             names = [one.name(), other.name()]
             with Client(second) as of_one, Client(second) as of_none:
@@ -199,16 +199,16 @@ class Monitors(FrontCases):
                 self.assertEqual([of_none.hear(), of_none.hear()], [lines[2], lines[3]], "lines of nobody's session")
 
     def test_refused(self):
-        """A first line that is none of a monitor's is refused, and ends the connection; later ones are passed over."""
+        """A first line that a monitor may not send is refused and ends the connection. Later lines are ignored."""
         with self.monitored() as (path, second, _), Client(path) as client:
             for line in ("hello", NEW, "{}", chosen("a b"), '{"front":"monitor"}', '{"front":"share","session":"c1"}', "x" * 70_000):
                 with self.subTest(line=line[:20]), Client(second) as monitor:
                     monitor.say(line)
-                    self.assertEqual(monitor.until_closed().decode(), error("F01", "-") + "\n", "all that is told")
+                    self.assertEqual(monitor.until_closed().decode(), error("F01", "-") + "\n", "all that it receives")
             with Client(second) as monitor:
                 self.assertEqual(monitor.ask(chosen("c1")), chosen("c1"), "its answer")
                 monitor.say(NEW, "hello", chosen("c2"))
-                self.assertEqual([client.ask(NEW), monitor.hear()], [reply(1, "c1")] * 2, "what it is told, and nothing done for it")
+                self.assertEqual([client.ask(NEW), monitor.hear()], [reply(1, "c1")] * 2, "what it receives, and nothing done for it")
 
     def test_rights(self):
         """The rights of the monitors' socket are its own."""
@@ -216,15 +216,15 @@ class Monitors(FrontCases):
             self.assertEqual([oct(it.stat().st_mode & 0o777) for it in (path, second)], ["0o600", "0o640"], "the rights")
 
     def test_slow(self):
-        """A monitor that does not read is closed in the end, and nobody waits for it."""
+        """A monitor that does not read is closed in the end, and it blocks nobody."""
         with self.monitored() as (path, second, process), Client(second) as slow, Client(path) as client:
             client.say(NEW, SET)
             self.assertEqual([client.hear(), client.hear()], [reply(1, "c1"), reply(True, "c1")], "a long text")
             count, line = 2 * UNREAD_MOST // len(TEXT), reply(TEXT, "c1")
             for _ in range(count // 32):
                 client.say(*[GET] * 32)
-                self.assertEqual([client.hear() for _ in range(32)], [line] * 32, "what the client is told")
+                self.assertEqual([client.hear() for _ in range(32)], [line] * 32, "what the client receives")
             process.log.wait_for(self, f"metad-front: monitor 1 is closed: it has left more than {UNREAD_MOST} bytes unread")
             told = slow.until_closed().decode().splitlines()
-            self.assertEqual(told[:3], [reply(1, "c1"), reply(True, "c1"), line], "what it had been told")
-            self.assertLess(len(told), count, "how much it is told")
+            self.assertEqual(told[:3], [reply(1, "c1"), reply(True, "c1"), line], "what it had received")
+            self.assertLess(len(told), count, "how much it receives")

@@ -18,10 +18,10 @@ WRONG = '{"front":"nothing"}'
 
 
 class Beside(FrontCases):
-    """Clients beside one that asks for much with each command."""
+    """Clients next to one whose commands ask for much."""
 
     def test_much(self):
-        """Who asks for little waits for one command at most of a client that asks for much, of which many wait."""
+        """A client that asks for little waits for at most one of the many waiting commands of a client that asks for much."""
         record = Path(self.room, "record")
         connect = {"do": "connect", "sender": 1, "signal": "told(QString)", "receiver": 1, "method": "hear(QString)"}
         options = ("--quiet", "--mode", "600", "--record", record)
@@ -45,8 +45,7 @@ class Beside(FrontCases):
             self.assertLessEqual(before, 1 + 5 * number + 2, f"how many commands of the other one were before it: {given}")
 
     def test_under_way(self):
-        """A server that does not answer is given 32 commands of a client that has it for itself, and beside another one 8
-        of each."""
+        """A server that does not answer is given 32 commands of a single client, and 8 of each if there are two."""
         for count, most in ((1, 32), (2, 16)):
             given = Path(self.room, f"given to {count}")
             with self.front(server=["sh", "-c", GREETED_BY_SHELL + 'cat > "$0"', given]) as (path, process):
@@ -83,7 +82,7 @@ class Beside(FrontCases):
             pass
 
     def test_many(self):
-        """Beside many that ask without end, each is answered."""
+        """A client is answered although many others ask without end."""
         with self.front() as (path, _), Client(path) as quiet:
             busy = [Client(path) for _ in range(20)]
             try:

@@ -18,10 +18,10 @@ from tests.generators.sessions import CLASSES, life_of
 from tests.support.documents import WEB_PAGE
 from tests.support.lines import text_of
 from tests.support.program import ROOT
+from tests.support.seeds import seed_of
 
 from .certificates import HAS_OPENSSL, Authority
 from .fronts import NEW, PATIENCE, STATUS, Client, classes_in, error, reply
-from .grouped import seed_of
 from .networked import context_of
 from .stand_servers import wait_until_true
 from .test_front import alone
@@ -78,7 +78,7 @@ class Lines(WebCases):
         seed = seed_of(self)
         commands = [command for number in range(LIVES) for command in life_of(number)]
         for number in range(STREAMS):
-            lines = list(self.stream(random.Random(f"{seed} {number}"), commands))
+            lines = [STATUS, *self.stream(random.Random(f"{seed} {number}"), commands)]  # a bad greeting would end it at once
             local = self.told_in(lines)
             self.assertGreater(len(local), LINES / 2, "lines that are answered")
             self.assertEqual(self.told_by_web(lines, len(local)), local, f"SEED={seed}")

@@ -1,6 +1,8 @@
-"""A front with several workers: what sessions are told there is what one server tells them, by chance."""
+"""A front with several workers: on random runs, its sessions receive the same as from one server."""
 
-from .grouped import Greeted, Named, Runs, WorkerCases, seed_of
+from tests.support.seeds import seed_of
+
+from .grouped import Greeted, Named, Runs, WorkerCases
 
 ROUNDS = 4  # of each kind and count of workers
 GROUPS = 9
@@ -9,7 +11,7 @@ COUNTS = (1, 2, 4)
 
 
 class Chance(WorkerCases):
-    """Groups by chance over one, two and four workers. In all there are more than two hundred."""
+    """Random groups over one, two and four workers. In all there are more than two hundred."""
 
     def run_each(self, kind, options):
         seed = seed_of(self)

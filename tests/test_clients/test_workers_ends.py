@@ -12,9 +12,10 @@ from pathlib import Path
 
 from tests.support.documents import WORKERS_PAGE
 from tests.support.lines import text_of
+from tests.support.seeds import seed_of
 
 from .fronts import NEW, Client, error, reply
-from .grouped import Greeted, Killer, Named, Runs, WorkerCases, hello, seed_of, servers_of, wait_until, worker_of
+from .grouped import Greeted, Killer, Named, Runs, WorkerCases, hello, servers_of, wait_until, worker_of
 
 KILLS = 100
 GROUPS, COMMANDS = 6, 60  # of a round
@@ -62,19 +63,16 @@ class Killed(WorkerCases):
                 runs = Runs(f"{seed} {at}", GROUPS, COMMANDS, self.room)
                 recorded = (*options, RECORDED, str(self.records))
                 with self.workers(2, *runs.words, options=recorded) as (path, process):
-                    killer = Killer(random.Random(f"{seed} {at}"), process)
                     clients = kind(path, runs)
-                    killer.start()
-                    clients.drive()
-                    killer.ended.set()
-                    killer.join()
+                    with Killer(random.Random(f"{seed} {at}"), process) as killer:
+                        clients.drive()
                     clients.leave()
                 self.check_told(runs, clients)
             kills += killer.kills
         self.tell(f"kills: {kills} in {at} rounds")
 
     def test_hello(self):
-        """Clients that say hello are told what one server tells, and nothing twice."""
+        """Clients that say hello receive what a single server sends, and nothing twice."""
         self.run_killed(Greeted, ())
 
     def test_names(self):
@@ -106,8 +104,8 @@ class Ends(WorkerCases):
         return self.workers(1, *words, options=options, server=[sys.executable])
 
     def test_lost(self):
-        """Without a record the clients of its groups are told so and closed, and the others go on. A later client has a new
-        session."""
+        """Without a record, the clients of a killed worker's groups are notified and closed. The others go on. A later client
+        has a new session."""
         with self.workers(2) as (path, process), Client(path) as one, Client(path) as mate:
             names = [json.loads(it.ask(hello("desk")))["session"] for it in (one, mate)]
             self.assertEqual([it.ask(NEW) for it in (one, mate)], [reply(1, name) for name in names], "their objects")
@@ -118,7 +116,7 @@ class Ends(WorkerCases):
             victims = {name for name, worker in places.items() if worker == places["desk"]}
             self.assertTrue({"desk"} < victims < places.keys(), f"groups of both workers: {places}")
             os.kill(servers_of(process)[places["desk"] - 1], signal.SIGKILL)
-            self.assertEqual([it.told() for it in (one, mate)], [[error("F04", name)] for name in names], "what they are told")
+            self.assertEqual([it.told() for it in (one, mate)], [[error("F04", name)] for name in names], "what they receive")
             for number, other in enumerate(others, 3):
                 name = f"c{number}"
                 if name in victims:
@@ -132,7 +130,7 @@ class Ends(WorkerCases):
                 self.assertEqual(later.ask(NEW), reply(1, name), "its object")
 
     def test_shared(self):
-        """All who speak for a shared session are told that it is lost, and a later client finds it empty."""
+        """All clients of a shared session are notified when it is lost. A later client finds it empty."""
         share = '{"front":"share","session":"desk__team"}'
         with self.workers(2, options=("--share", "desk__team")) as (path, process):
             with Client(path) as one, Client(path) as other:
@@ -140,13 +138,13 @@ class Ends(WorkerCases):
                     self.assertEqual(client.ask(share), reply(True, "desk__team"), "a share")
                     self.assertEqual(client.ask(NEW), reply(number, "desk__team"), "an object")
                 self.kill_all(process)
-                self.assertEqual([it.told() for it in (one, other)], [[error("F04", "desk__team")]] * 2, "what is told")
+                self.assertEqual([it.told() for it in (one, other)], [[error("F04", "desk__team")]] * 2, "what they receive")
             with Client(path) as later:
                 self.assertEqual(later.ask(share), reply(True, "desk__team"), "a later share")
                 self.assertEqual(later.ask(NEW), reply(1, "desk__team"), "its object")
 
     def test_under_way(self):
-        """What was under way is lost too, and its client is told nothing but that."""
+        """A command that was under way is lost too. Its client receives only the error that says so."""
         with self.half("") as (path, process), Client(path) as client:
             client.say(NEW, NEW)
             self.assertIn('"one()"', client.hear(), "the first half")
@@ -154,14 +152,14 @@ class Ends(WorkerCases):
             self.assertEqual(client.told(), [error("F04", "c1")], "the rest")
 
     def test_told_in_part(self):
-        """A command that was told in part is told to its end, and no part twice."""
+        """If the server ends in the middle of a command's output, the client receives the rest, and nothing twice."""
         with self.half("", RECORDED, str(self.records)) as (path, process), Client(path) as client:
             client.say(NEW, NEW)
             told = [client.hear()]
             self.kill_all(process)
             told += client.rest()
         calls = [text_of({"args": [], "call": f"{it}()", "object": 1, "sender": 0, "session": "c1"}) for it in ("one", "two")]
-        self.assertEqual(told, [*calls, reply(True, "c1")] * 2, "what is told")
+        self.assertEqual(told, [*calls, reply(True, "c1")] * 2, "what the client receives")
 
     def test_difference(self):
         """Where a record's answers are others the second time, that group is closed, and the others go on."""
@@ -185,16 +183,16 @@ class Ends(WorkerCases):
                 self.assertEqual(later.ask(NEW), reply(1, "odd__c3"), "its object")
 
     def test_difference_under_way(self):
-        """A command that was told in part, and is told otherwise, closes its client, and all behind it are not told."""
+        """If a command's output differs on replay from the part already sent, its client is closed. Later commands get no answer."""
         with self.half("9", RECORDED, str(self.records), together=5) as (path, process), Client(path) as client:
             client.say(*[NEW] * 5)
             self.assertEqual(json.loads(client.hear())["args"], [], "the first half")
             self.kill_all(process)
-            self.assertEqual(client.told(), [error("F04", "c1")], "what is told then")
+            self.assertEqual(client.told(), [error("F04", "c1")], "what the client receives then")
             wait_until(self, lambda: not self.places(), "the group has gone")
 
     def test_record_is_cut(self):
-        """A record that somebody has cut is told from a whole one, and its group is lost."""
+        """A record that somebody has cut is recognized, and its group is lost."""
         with self.workers(1, options=(RECORDED, str(self.records))) as (path, process), Client(path) as client:
             for number in range(1, 9):
                 self.assertEqual(client.ask(NEW), reply(number, "c1"), "an object")
@@ -202,7 +200,7 @@ class Ends(WorkerCases):
             wait_until(self, lambda: len(record.read_bytes().splitlines()) == 16, "all is written")
             os.truncate(record, record.stat().st_size // 2)
             self.kill_all(process)
-            self.assertEqual(client.told(), [error("F04", "c1")], "what is told")
+            self.assertEqual(client.told(), [error("F04", "c1")], "what the client receives")
 
     def test_again_and_again(self):
         """A group at whose command its worker ends five times is brought back no more, and all others are."""
@@ -237,10 +235,10 @@ class Ends(WorkerCases):
                 places = self.places()
                 flag.touch()
                 os.kill(servers_of(process)[places["desk"] - 1], signal.SIGKILL)
-                self.assertEqual([it.told() for it in (one, mate)], [[error("F04", name)] for name in names[:2]], "what is told")
+                self.assertEqual([it.told() for it in (one, mate)], [[error("F04", name)] for name in names[:2]], "what they receive")
                 told = self.ask_front(front="move", group=far, worker=places["desk"])
                 self.assertEqual((told["error"], self.places()), ("F08", {far: places[far]}), "a move")
-            said = f"metad-front: worker {places['desk']} has ended too often, and begins anew in "
+            said = f"metad-front: worker {places['desk']} has ended too often, and restarts in "
             self.assertEqual(sum(line.startswith(said) for line in process.log.lines()), 1, "what is said")
 
     def test_gone_meanwhile(self):
@@ -278,7 +276,7 @@ class Ends(WorkerCases):
         return select.select([client.link for client in clients], [], [], 0)[0]
 
     def test_monitors(self):
-        """A monitor is told what all workers tell, each line once, also where one is brought back."""
+        """A monitor receives the lines of all workers, each once, even when a worker is brought back."""
         monitors = str(Path(self.room, "monitors"))
         with self.workers(2, options=(RECORDED, str(self.records), "--monitor", monitors)) as (path, process):
             with Client(monitors) as monitor, Client(path) as one, Client(path) as other:
@@ -288,7 +286,7 @@ class Ends(WorkerCases):
                 self.assertEqual([monitor.hear() for _ in told], told, "what both workers tell")
                 self.kill_all(process)
                 for client, wanted in ((one, reply(3, names[0])), (other, reply(2, names[1]))):
-                    self.assertEqual((client.ask(NEW), monitor.hear()), (wanted, wanted), "what is told behind that")
+                    self.assertEqual((client.ask(NEW), monitor.hear()), (wanted, wanted), "what comes after that")
 
     def test_class_file(self):
         """A front whose servers cannot be started ends with status 1."""
@@ -299,7 +297,7 @@ class Ends(WorkerCases):
 
 
 class Records(WorkerCases):
-    """What stands in the records of groups."""
+    """What the records of groups contain."""
 
     def recorded(self, count=1, *options):
         return self.workers(count, options=(RECORDED, str(self.records), *options))
@@ -308,11 +306,11 @@ class Records(WorkerCases):
         return (self.records / f"{group}.lines").read_text().splitlines()
 
     def test_lines(self):
-        """Lines that were given stand behind a mark, and those that were told as they are. Nobody else may read them."""
+        """Input lines have a mark in front, and output lines are unchanged. Nobody else may read the record."""
         with self.recorded() as (path, _), Client(path) as client:
             client.ask(hello("desk"))
             client.ask(NEW)
-            self.assertEqual(client.ask("nonsense"), error("E01", "-"), "a line that is none")
+            self.assertEqual(client.ask("nonsense"), error("E01", "-"), "a line that is no command")
             given = '> {"class":"Probe","do":"new","session":"desk__c1"}'
             wait_until(self, lambda: len(self.lines_of("desk")) == 4, "all is written")
             self.assertEqual(self.lines_of("desk"), [given, reply(1, "desk__c1"), "> nonsense", error("E01", "-")], "the record")
@@ -320,7 +318,7 @@ class Records(WorkerCases):
             self.assertEqual(rights, [0o700, 0o600], "the rights")
 
     def test_replay(self):
-        """The page's command has a server tell what was told, byte for byte."""
+        """The page's command makes a server repeat the recorded output byte for byte."""
         command = "sed -n 's/^> //p' records/desk.lines | bin/metad"
         self.assertIn(command, WORKERS_PAGE.read_text(), "the page's command")
         seed = seed_of(self)
@@ -337,7 +335,7 @@ class Records(WorkerCases):
             clients.leave()
 
     def test_anew(self):
-        """A record begins anew where no session of its group holds anything, and its file goes with the last client."""
+        """A record starts again when no session of its group holds anything. Its file is removed with the last client."""
         reset = text_of({"do": "reset"})
         with self.recorded() as (path, _), Client(path) as one:
             one.ask(hello("desk"))
@@ -346,10 +344,10 @@ class Records(WorkerCases):
                 for client in (one, other, one):
                     client.ask(NEW)
                 self.assertEqual(one.ask(reset), reply(True, "desk__c1"), "one that is reset")
-                wait_until(self, lambda: len(self.lines_of("desk")) == 8, "all stands there, since the other one holds something")
-            wait_until(self, lambda: not self.lines_of("desk"), "nothing stands there")
+                wait_until(self, lambda: len(self.lines_of("desk")) == 8, "all is kept, since the other one holds something")
+            wait_until(self, lambda: not self.lines_of("desk"), "the record is empty")
             self.assertEqual(one.ask(NEW), reply(1, "desk__c1"), "one that stays")
-            wait_until(self, lambda: len(self.lines_of("desk")) == 2, "it begins anew")
+            wait_until(self, lambda: len(self.lines_of("desk")) == 2, "it starts again")
             one.leave()
             wait_until(self, lambda: not any(self.records.iterdir()), "no file is left")
 
@@ -362,4 +360,4 @@ class Records(WorkerCases):
             process.log.wait_for(self, wanted)
             for server in servers_of(process):
                 os.kill(server, signal.SIGKILL)
-            self.assertEqual(client.told(), [error("F04", "c1")], "what it is told")
+            self.assertEqual(client.told(), [error("F04", "c1")], "what it receives")

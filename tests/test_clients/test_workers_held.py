@@ -60,7 +60,7 @@ class Places(HeldCases):
 
 
 class Newcomers(HeldCases):
-    """New clients beside one that waits."""
+    """New clients next to one that waits."""
 
     def test_order(self):
         """However many new clients come, each for one command, one that has waited before them goes first."""

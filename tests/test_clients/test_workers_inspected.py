@@ -30,7 +30,7 @@ class Shown(InspectCases):
             one.say(*[NEW] * 200)
             os.kill(servers_of(process)[0], signal.SIGKILL)
             told = [one.hear() for _ in range(200)]
-            self.assertEqual(told, [reply(number, "desk__c1") for number in range(OBJECTS + 1, OBJECTS + 201)], "what is told")
+            self.assertEqual(told, [reply(number, "desk__c1") for number in range(OBJECTS + 1, OBJECTS + 201)], "what the client receives")
             self.assertEqual(other.ask(NEW), reply(2, "c2"), "the other group")
             self.wait_until_shown(asker, {"desk__c1": [OBJECTS + 200, True], "c2": [2, True]})
             said = asker.ask("c2", do="children")

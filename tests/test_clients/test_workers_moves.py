@@ -11,9 +11,10 @@ from pathlib import Path
 
 from tests.generators.sessions import CLASSES, life_of
 from tests.support.lines import text_of
+from tests.support.seeds import seed_of
 
 from .fronts import FRONT, NEW, PATIENCE, STATUS, Client, classes_in, error, reply
-from .grouped import Greeted, Killer, Mover, Named, Runs, WorkerCases, by_session, hello, seed_of, servers_of, wait_until
+from .grouped import Greeted, Killer, Mover, Named, Runs, WorkerCases, by_session, hello, servers_of, wait_until
 
 GROUPS, CLIENTS, WORKERS = 50, 200, 4
 LIFE = 100  # commands of a client that writes meanwhile
@@ -32,7 +33,7 @@ class Moves(WorkerCases):
         return self.workers(count, *words, options=(*options, "--record", str(self.records)), **how)
 
     def test_many(self):
-        """All of fifty groups move while 200 clients write, and each client is told what it is told alone."""
+        """All of fifty groups move while 200 clients write, and each client receives the same as it would alone."""
         classes = classes_in(self.room, CLASSES)
         lives = [list(life_of(number))[:LIFE] for number in range(CLIENTS)]
 
@@ -59,7 +60,7 @@ class Moves(WorkerCases):
             told = dict(told)
         given = "".join(text_of({**command, "session": name}) + "\n" for name, life in zip(told, lives) for command in life)
         ran = subprocess.run([self.program, classes], input=given, capture_output=True, text=True, check=True)
-        self.assertEqual(told, by_session(ran.stdout.splitlines()), "what the clients are told")
+        self.assertEqual(told, by_session(ran.stdout.splitlines()), "what the clients receive")
 
     def move_meanwhile(self, kind, options):
         seed = seed_of(self)
@@ -69,11 +70,8 @@ class Moves(WorkerCases):
                 runs = Runs(f"{seed} {at}", 4, 60, self.room)
                 with self.recorded(WORKERS, *runs.words, options=options) as (path, _):
                     clients = kind(path, runs)
-                    mover = Mover(self, random.Random(f"{seed} {at}"), sorted(set(runs.group_of.values())), WORKERS)
-                    mover.start()
-                    clients.drive()
-                    mover.ended.set()
-                    mover.join()
+                    with Mover(self, random.Random(f"{seed} {at}"), sorted(set(runs.group_of.values())), WORKERS) as mover:
+                        clients.drive()
                     clients.leave()
                 done = [answer for asked, answer in mover.answers if answer == {"reply": True, "group": asked["group"], "worker": asked["worker"]}]
                 failed = [answer for _, answer in mover.answers if answer not in done and answer.get("error") != "F05"]
@@ -84,7 +82,7 @@ class Moves(WorkerCases):
         self.tell(f"moves: {moves}")
 
     def test_hello(self):
-        """Sessions that listen to each other are told what one server tells, wherever their group is."""
+        """Sessions that listen to each other receive the same as from one server, wherever their group is."""
         self.move_meanwhile(Greeted, ())
 
     def test_names(self):
@@ -99,13 +97,9 @@ class Moves(WorkerCases):
                 runs, chance = Runs(f"{seed} {at}", 8, 60, self.room), random.Random(f"{seed} {at}")
                 with self.recorded(WORKERS, *runs.words) as (path, process):
                     clients = Greeted(path, runs)
-                    meddlers = (Killer(chance, process), Mover(self, chance, sorted(set(runs.group_of.values())), WORKERS))
-                    for meddler in meddlers:
-                        meddler.start()
-                    clients.drive()
-                    for meddler in meddlers:
-                        meddler.ended.set()
-                        meddler.join()
+                    groups = sorted(set(runs.group_of.values()))
+                    with Killer(chance, process), Mover(self, chance, groups, WORKERS):
+                        clients.drive()
                     clients.leave()
                 self.check_told(runs, clients)
 
@@ -232,7 +226,7 @@ class Unread(WorkerCases):
     """Commands that wait while their group moves."""
 
     def test_error(self):
-        """Also what a server refuses, and lines that are no commands, are told once and in their order."""
+        """Refusals and lines that are no commands are also answered once and in order."""
         with self.workers(2, options=("--record", str(self.records))) as (path, _), Client(path) as client:
             client.ask(hello("desk"))
             lines, wanted = ["nonsense", NEW, "{}"], [error("E01", "-"), None, error("E02", "desk__c1")]
@@ -241,4 +235,4 @@ class Unread(WorkerCases):
                 if at % 20 == 0:
                     self.ask_front(front="move", group="desk", worker=1 + at // 20 % 2)
                 told = [client.hear() for _ in lines]
-                self.assertEqual(told, [wanted[0], reply(at, "desk__c1"), wanted[2]], "what is told")
+                self.assertEqual(told, [wanted[0], reply(at, "desk__c1"), wanted[2]], "what the client receives")

@@ -1,4 +1,4 @@
-"""Who is of which group, on which worker that is, and what sessions of other groups have to do with it."""
+"""Which group a client belongs to, which worker runs that group, and how sessions of other groups relate to it."""
 
 import json
 import os
@@ -47,10 +47,10 @@ class Hello(WorkerCases):
         with self.workers(2) as (path, _), Client(path) as one, Client(path) as other, Client(path) as third:
             self.assertEqual(one.ask(hello("desk")), reply(True, "desk__c1"), "a hello")
             self.assertEqual(other.ask(NEW), reply(1, "c2"), "a client without one")
-            self.assertEqual(other.ask(hello("desk")), error("E02", "c2"), "a hello behind a command")
+            self.assertEqual(other.ask(hello("desk")), error("E02", "c2"), "a hello after a command")
             self.assertEqual(third.ask(hello("_d_9")), reply(True, "_d_9__c3"), "another name")
             with Client(path) as fourth:
-                self.assertEqual(fourth.ask(hello("c1a")), reply(True, "c1a__c4"), "a name that is none of a client")
+                self.assertEqual(fourth.ask(hello("c1a")), reply(True, "c1a__c4"), "a name that no client has")
             self.assertEqual(one.ask(text_of({**json.loads(NEW), "session": "c2"})), reply(1, "desk__c1"), "an object")
             self.assertEqual(one.ask(hello("desk")), error("E02", "desk__c1"), "a second hello")
 
@@ -79,7 +79,7 @@ class Hello(WorkerCases):
         """A front without workers knows no hello."""
         with self.front() as (path, _), Client(path) as client:
             client.say(hello("desk"))
-            self.assertEqual(client.told(), [NOT_KNOWN], "what it is told")
+            self.assertEqual(client.told(), [NOT_KNOWN], "what it receives")
 
     def test_shared(self):
         """A shared session is of the group that its name says, and can be joined there."""
@@ -134,19 +134,19 @@ class Named(WorkerCases):
     """Clients that name sessions by themselves."""
 
     def test_listeners(self):
-        """Calls come to all who have named that session and are there, answers to who has asked."""
+        """All connected clients that have named the session receive calls. Only the one that asked receives the answer."""
         call = text_of({"args": [], "call": "note()", "object": 1, "sender": 0, "session": "desk__a"})
         new = '{"class":"Probe","do":"new","session":"desk__a"}'
         note = '{"args":[],"do":"invoke","method":"note()","object":1,"session":"desk__a"}'
         with self.workers(4, options=NAMED) as (path, _), Client(path) as one, Client(path) as other, Client(path) as third:
             self.assertEqual(one.ask(new), reply(1, "desk__a"), "an object")
             self.assertEqual(third.ask(new.replace("desk__a", "lamp")), reply(1, "lamp"), "one of another session")
-            self.assertEqual([one.ask(note), one.hear()], [call, reply(True, "desk__a")], "what is told to one alone")
-            self.assertEqual([other.ask(note), other.hear()], [call, reply(True, "desk__a")], "what is told to who asks")
-            self.assertEqual(one.hear(), call, "what is told to who has named it")
+            self.assertEqual([one.ask(note), one.hear()], [call, reply(True, "desk__a")], "what one client alone receives")
+            self.assertEqual([other.ask(note), other.hear()], [call, reply(True, "desk__a")], "what the one that asks receives")
+            self.assertEqual(one.hear(), call, "what the one that has named it receives")
             with Client(path) as gone:
                 self.assertEqual([gone.ask(note), gone.hear()], [call, reply(True, "desk__a")], "one that goes")
-            self.assertEqual([one.ask(note), one.hear(), one.hear()], [call, call, reply(True, "desk__a")], "and behind that")
+            self.assertEqual([one.ask(note), one.hear(), one.hear()], [call, call, reply(True, "desk__a")], "and after that")
             self.assertEqual(third.ask(new.replace("desk__a", "lamp")), reply(2, "lamp"), "the third hears nothing of it")
             with Client(path) as later:
                 self.assertEqual(later.ask(new), reply(2, "desk__a"), "the session stays")
@@ -180,7 +180,7 @@ class Named(WorkerCases):
             self.assertEqual(Counter(told["-"]), Counter(wanted for _, wanted in forms if '"-"' in wanted), "of no session")
 
     def test_lost(self):
-        """A client is told of each session that it has named of a group that is lost, and goes on with them when it is back."""
+        """A client is notified for each session that it has named in a lost group, and can use them again when the group is back."""
         new = '{"class":"Probe","do":"new","session":"%s"}'
         with self.workers(1, options=NAMED) as (path, process):
             with Client(path) as client:
@@ -189,7 +189,7 @@ class Named(WorkerCases):
                 for server in servers_of(process):
                     os.kill(server, signal.SIGKILL)
                 told = client.told()
-            self.assertEqual(sorted(told), sorted(error("F04", name) for name in ("desk__a", "desk__b", "lamp")), "what it is told")
+            self.assertEqual(sorted(told), sorted(error("F04", name) for name in ("desk__a", "desk__b", "lamp")), "what it receives")
             with Client(path) as later:
                 self.assertEqual(later.ask(new % "desk__a"), reply(1, "desk__a"), "later")
 
@@ -201,7 +201,7 @@ class Named(WorkerCases):
                 self.assertEqual(client.told(), [NOT_KNOWN], line)
 
     def test_record(self):
-        """The record of a group begins anew when its sessions were reset, and stays when its clients have gone else."""
+        """The record of a group starts again when its sessions are reset. It stays when its clients only leave."""
         records = self.records
         new, reset = '{"class":"Probe","do":"new","session":"desk__a"}', '{"do":"reset","session":"desk__a"}'
         with self.workers(2, options=(*NAMED, "--record", str(records))) as (path, process):
@@ -215,6 +215,6 @@ class Named(WorkerCases):
                 client.ask("nonsense")
                 self.assertEqual([it.name for it in records.iterdir()], ["desk.lines"], "the files")
                 self.assertEqual(client.ask(reset), reply(True, "desk__a"), "a reset")
-                wait_until(self, lambda: not Path(records, "desk.lines").read_bytes(), "the record begins anew")
+                wait_until(self, lambda: not Path(records, "desk.lines").read_bytes(), "the record starts again")
             wait_until(self, lambda: not any(records.iterdir()), "no file is left")
             self.assertEqual(self.places(), {}, "no group is left")

@@ -77,7 +77,7 @@ fn round_trips(mut to: impl Write, from: impl Read, seconds: &str) -> io::Result
     Ok(())
 }
 
-/// Measures round trips over a pipe to the program, where each line names its session by itself.
+/// Measures round trips over a pipe to the program, where each line itself names its session.
 fn pipe(seconds: &str, program: &str, args: &[&str]) -> io::Result<()> {
     let mut child = Command::new(program).args(args).stdin(Stdio::piped()).stdout(Stdio::piped()).spawn()?;
     let pipes = child.stdin.take().zip(child.stdout.take());
