@@ -10,5 +10,5 @@ if [ "$(id -u)" != 0 ] || ! command -v apt-get > /dev/null 2>&1; then
     exit 0
 fi
 # a new machine may not have the lists of packages yet
-apt-get update -q > /dev/null
-apt-get install -y -q --no-install-recommends $packages > /dev/null || echo "Qt cannot be installed, so the tests of its client are skipped"
+apt-get -o DPkg::Lock::Timeout=300 update -q > /dev/null
+apt-get -o DPkg::Lock::Timeout=300 install -y -q --no-install-recommends $packages > /dev/null || echo "Qt cannot be installed, so the tests of its client are skipped"

@@ -51,7 +51,7 @@ export class Client {
   }
 
   /**
-   * Has a function called with errors that nobody waits for: the exception of a callback, or the refusal by which a
+   * Has a function called with errors that no caller waits for: the exception of a callback, or the refusal by which a
    * session stops being live. Without it, an exception of a callback is an uncaught one.
    * @param {"error"} what
    * @param {(error: unknown) => void} told

@@ -92,7 +92,7 @@ export class Connection {
     if (this.#fault) throw this.#fault();
   }
 
-  /** Has a function called with errors that nobody waits for; returns what ends that. */
+  /** Has a function called with errors that no caller waits for; returns what ends that. */
   onError(told) {
     const own = (error) => told(error);
     this.#listening.add(own);
@@ -152,7 +152,7 @@ export class Connection {
     }
   }
 
-  /** Takes the answer to a `spin` that the front has given by itself, which is that of no command here. */
+  /** Takes the answer to a `spin` that the front has given automatically: no command here has asked for it. */
   #takeSpun(line, bytes) {
     if ("error" in line) {
       this.isLive = false;
@@ -203,7 +203,7 @@ export class Connection {
     for (const told of [...this.#news]) told();
   }
 
-  /** Hands over an error that nobody waits for; where nobody takes it, it is an uncaught exception. */
+  /** Reports an error that no caller waits for; where no function takes it, it is an uncaught exception. */
   #report(error) {
     if (!this.#listening.size) throwLater(error);
     for (const told of [...this.#listening]) {

@@ -148,7 +148,7 @@ export class NotLive extends MetadError {}
 /** Objects of two sessions were to be connected; each session has its own numbers. */
 export class OtherSession extends MetadError {}
 
-/** A function cannot be called for a signal: the server has no slot that would tell of it, see `withRelay`. */
+/** A function cannot be called for a signal: the server has no slot that would report it, see `withRelay`. */
 export class NoRelay extends MetadError {}
 
 /** Commands of a dump were given to a session that has had objects or connections before. */

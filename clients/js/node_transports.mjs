@@ -175,7 +175,7 @@ export class ProgramTransport {
     });
   }
 
-  /** Takes away what the program needs to start: it has started, or has ended. */
+  /** Removes what the program needs to start: it has started, or has ended. */
   async started() {
     await removed(this.#folder).catch(() => {}); // it stays where the system keeps it
     this.#folder = null;

@@ -1,7 +1,7 @@
 /**
  * What a client writes to and reads from. A transport is an object with the words of a WebSocket:
  *
- * - `send(text)` writes one or more lines, each with its LF; `close()` says that nothing more will be sent.
+ * - `send(text)` writes at least one line, each with its LF; `close()` says that nothing more will be sent.
  * - The client sets `onmessage`, which is called with `{data}`: texts or bytes, cut anywhere; `onclose`, which is called
  *   once, when nothing more will come; and `onerror`. Where there is a `readyState` of 0, it waits for `onopen`.
  *

@@ -1,4 +1,4 @@
-"""Builds the package `metad` as a wheel, for use from where it stands too, or as a source archive. `pip` calls it, see
+"""Builds the package `metad` as a wheel, also for use from where it is, or as a source archive. `pip` calls it, see
 pyproject.toml. It needs nothing but Python's standard library, so that `pip install` needs no network."""
 
 from __future__ import annotations
@@ -32,7 +32,7 @@ def build_wheel(wheel_directory: str, config_settings: Settings = None, metadata
 
 
 def build_editable(wheel_directory: str, config_settings: Settings = None, metadata_directory: Optional[str] = None) -> str:
-    """Writes a wheel that has Python use the package from where it stands; answers its name."""
+    """Writes a wheel that has Python use the package from where it is; answers its name."""
     return write_wheel(Path(wheel_directory), {"metad.pth": f"{ROOT}\n".encode()})
 
 

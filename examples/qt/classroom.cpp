@@ -1,5 +1,7 @@
 /// A teacher and two pupils share one session, each by a connection of its own: classroom SOCKET
 /// The front has to be started with `--share classroom`.
+#include "example.h"
+
 #include <metad/remoteobject.h>
 #include <metad/session.h>
 
@@ -56,8 +58,9 @@ private:
     QStringList m_heard;
 };
 
-int run(const QString &socket)
+int run(const QStringList &words)
 {
+    const QString &socket = words[0];
     Person teacher("teacher", socket), ann("ann", socket), bob("bob", socket);
     RemoteObject *room = wait(teacher.session()->create("Classroom"));
     QObject::connect(room, SIGNAL(answered(QString,QString)), &teacher, SLOT(hear(QString,QString)));
@@ -72,19 +75,6 @@ int run(const QString &socket)
     return QCoreApplication::exec();
 }
 
-int main(int count, char **words)
-{
-    QCoreApplication app(count, words);
-    if (count != 2) {
-        qCritical("usage: classroom SOCKET");
-        return 2;
-    }
-    try {
-        return run(app.arguments()[1]);
-    } catch (const Error &error) {
-        qCritical("classroom: %s", error.what());
-        return 1;
-    }
-}
+int main(int count, char **words) { return runExample<QCoreApplication>(count, words, "classroom SOCKET", 1, run); }
 
 #include "classroom.moc"

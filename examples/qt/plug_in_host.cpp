@@ -1,5 +1,7 @@
 /// A host, and a plug-in in a second process: plug_in_host SOCKET
 /// Each has a session of its own. They hear what the other one publishes, and can do nothing else to it.
+#include "example.h"
+
 #include <metad/remoteobject.h>
 #include <metad/session.h>
 
@@ -63,24 +65,15 @@ private:
     QProcess m_process;
 };
 
-int main(int count, char **words)
+int run(const QStringList &words)
 {
-    QCoreApplication app(count, words);
-    if (count < 2 || count > 3) {
-        qCritical("usage: plug_in_host SOCKET");
-        return 2;
-    }
-    const QString socket = app.arguments()[1];
-    try {
-        Session *session = Connection::toFront(socket, {}, &app)->session();
-        if (count == 3)
-            return plugIn(session, app.arguments()[2]);
-        const Host host(session, socket);
-        return QCoreApplication::exec();
-    } catch (const Error &error) {
-        qCritical("plug_in_host: %s", error.what());
-        return 1;
-    }
+    Session *session = Connection::toFront(words[0], {}, qApp)->session();
+    if (words.size() > 1)
+        return plugIn(session, words[1]);
+    const Host host(session, words[0]);
+    return QCoreApplication::exec();
 }
+
+int main(int count, char **words) { return runExample<QCoreApplication>(count, words, "plug_in_host SOCKET", 2, run); }
 
 #include "plug_in_host.moc"

@@ -1,4 +1,4 @@
-"""The client in Python (clients/python/metad), and the page beside it.
+"""The client in Python (clients/python/metad), and its page.
 
 What has to come is taken from docs/PROTOCOL.md: its examples are run by the methods of the client, and its tables
 say which commands and codes there are.
@@ -75,7 +75,7 @@ class Unasked:
 
 
 class Talk:
-    """An example: its commands, and what is told of each: calls and warnings, and then a reply or an error."""
+    """An example: its commands, and the output of each: calls and warnings, and then a reply or an error."""
 
     def __init__(self, test, row):
         self.test, self.words = test, row.words
@@ -99,7 +99,7 @@ class Talk:
         return server.session(name, note_call, note_warning)
 
     def answer(self, name, call):
-        """Notes what a call comes to."""
+        """Notes the result of a call."""
         try:
             self.told.append({"reply": call(), "session": name})
         except metad.Refused as refused:
@@ -135,7 +135,7 @@ def is_talk(row):
 
 
 def connected(session, slot):
-    """Two objects, of which the first one's `ping()` calls a slot of the second one."""
+    """Two objects. The `ping()` of the first one calls a slot of the second one."""
     sender, receiver = session.new("Probe"), session.new("Probe")
     session.connect(sender, "ping()", receiver, slot)
     return sender, receiver
@@ -155,7 +155,7 @@ class Examples(ClientCases):
                 talk = Talk(self, row)
                 with metad.start(self.program, *talk.words) as server:
                     way(talk, server, methods)
-                self.assertEqual(talk.told, talk.wanted, f"what is told to {row.given.decode()}")
+                self.assertEqual(talk.told, talk.wanted, f"the output of {row.given.decode()}")
                 tried |= {command["do"] for command in talk.commands}
         self.assertEqual(sorted(methods - tried), [], "commands without an example")
         self.tell(f"cases: {len(talks)}")
@@ -170,7 +170,7 @@ class Examples(ClientCases):
 
 
 class Client(ClientCases):
-    """What the client does for whoever uses it, and the ends that a server can come to."""
+    """What the client does for its users, and how a server can end."""
 
     def test_keys_given(self):
         """Each key of the protocol's table is a word of the method, and written; one that is not given is not."""
@@ -199,8 +199,8 @@ class Client(ClientCases):
             self.assertEqual(str(refused), REFUSED, "its text")
             session.new("QObject")
             for what, call, code in (
-                ("a name that is none", strange.status, "E02"),
-                ("a word that is none", lambda: session.command("jump"), "E02"),
+                ("an invalid name", strange.status, "E02"),
+                ("an unknown word", lambda: session.command("jump"), "E02"),
                 ("a key that is missing", lambda: session.command("get", object=1), "E02"),
                 ("both forms of disconnect", lambda: session.disconnect(1, sender=1), "E02"),
                 ("a line that is too long", lambda: session.set(1, "objectName", LINE_MOST * "x"), "E01"),
@@ -214,7 +214,7 @@ class Client(ClientCases):
             self.assertEqual(session.status()["objects"], 1, "the object is still the only one")
 
     def test_callbacks(self):
-        """They are told before the call returns, may give commands, may raise, and may be absent."""
+        """They are called before the call returns. They may give commands, may raise, and may be absent."""
         heard = []
         with metad.start(self.program) as server:
             session = server.session("a")
@@ -239,12 +239,12 @@ class Client(ClientCases):
             session.on_call = fail
             pending = session.send("invoke", object=receiver, method="note()", args=[])
             self.raised("a callback that raises", KeyError, pending.result)
-            self.assertIs(pending.result(), True, "the answer behind it")
+            self.assertIs(pending.result(), True, "the answer after it")
             session.on_call = None
-            self.assertIs(session.invoke(receiver, "note()"), True, "a call that nobody is told of")
+            self.assertIs(session.invoke(receiver, "note()"), True, "a call without a callback")
 
     def test_side_by_side(self):
-        """Each session is told its own, whoever waits."""
+        """Each session receives its own lines, whoever waits."""
         heard = {"a": [], "b": []}
         with metad.start(self.program) as server:
             one, other = (server.session(name, on_call=heard[name].append) for name in heard)
@@ -255,11 +255,11 @@ class Client(ClientCases):
                 self.assertEqual(session.known_as, session.name, "what it is known as")
             first = one.send("invoke", object=1, method="note()", args=[])
             second = other.send("invoke", object=1, method="late()", args=[])
-            self.assertEqual(heard, {"a": [], "b": []}, "what is told before anybody waits")
+            self.assertEqual(heard, {"a": [], "b": []}, "what is delivered before anybody waits")
             self.assertIs(second.result(), True, "the later answer")
             self.assertEqual((first.done(), second.done()), (True, True), "what has come until then")
-            self.assertEqual(heard["a"], [metad.Call(1, "note()", [], 0)], "what one was told")
-            self.assertEqual(heard["b"], [metad.Call(1, "late()", [], 0)], "what the other was told")
+            self.assertEqual(heard["a"], [metad.Call(1, "note()", [], 0)], "what one received")
+            self.assertEqual(heard["b"], [metad.Call(1, "late()", [], 0)], "what the other received")
             self.assertIs(first.result(), True, "the earlier answer")
 
     def test_pipelining(self):
@@ -275,14 +275,14 @@ class Client(ClientCases):
             self.assertEqual([it.result() for it in named], [True] * PIPELINED, "the writes")
 
     def test_told_in_threads(self):
-        """Threads that wait at once: calls are told one at a time, each once, and before the method returns."""
+        """Threads that wait at once: calls are delivered one at a time, each once, and before the method returns."""
         heard, at_once, faults = [], [], []
 
         def tell(call):
             at_once.append(call)
             time.sleep(0.0005)
             heard.append(call.args[0])
-            faults.extend(["another call is told meanwhile"] * (len(at_once) > 1))
+            faults.extend(["another call is delivered meanwhile"] * (len(at_once) > 1))
             at_once.pop()
 
         def live(session, numbers):
@@ -298,7 +298,7 @@ class Client(ClientCases):
                 life.start()
             for life in lives:
                 life.join()
-        self.assertEqual((sorted(heard), faults), (list(range(200)), []), "what was told")
+        self.assertEqual((sorted(heard), faults), (list(range(200)), []), "what was delivered")
 
     def test_threads(self):
         """Sessions of several threads on one server."""
@@ -313,7 +313,7 @@ class Client(ClientCases):
                 life.start()
             for life in lives:
                 life.join()
-        self.assertEqual(answers, {f"s{number}": [*range(1, 201), 200] for number in range(4)}, "what each thread was told")
+        self.assertEqual(answers, {f"s{number}": [*range(1, 201), 200] for number in range(4)}, "what each thread received")
 
     def test_killed(self):
         """The server is killed while commands are under way: it was held up before they were sent."""
@@ -347,7 +347,7 @@ class Client(ClientCases):
                 self.assertEqual((type(gone), gone.status), (metad.ServerGone, -9), "how it ended")
 
     def test_ends(self):
-        """A server that ends by itself, is closed, or cannot be started."""
+        """A server that ends on its own, is closed, or cannot be started."""
         server = metad.start(self.program)
         pending = server.session("a").send("new", class_="QObject")
         self.assertEqual((server.close(), server.close()), (0, 0), "the status at the end of the input")

@@ -46,7 +46,7 @@ class Aio(FrontCases):
                 self.assertIs(server.session("a"), session, "the session of a name")
                 probe = await session.new("Probe")
                 self.assertIs(await session.invoke(probe, "note()"), True, "the reply of a call")
-                self.assertEqual(heard, [metad.Call(1, "note()", [], 0)], "what is told before")
+                self.assertEqual(heard, [metad.Call(1, "note()", [], 0)], "what was received before")
                 with self.assertRaises(metad.Refused) as refused:
                     await session.delete(7)
                 self.assertEqual(refused.exception.code, "E04", "the code")
@@ -70,7 +70,7 @@ class Aio(FrontCases):
             async with await aio.start(self.program) as server:
                 return await asyncio.gather(*(life(server.session(f"s{it % 3}"), it) for it in range(SIDE_BY_SIDE)))
 
-        self.assertEqual(asyncio.run(live()), [f"name {it}" for it in range(SIDE_BY_SIDE)], "what each was told")
+        self.assertEqual(asyncio.run(live()), [f"name {it}" for it in range(SIDE_BY_SIDE)], "what each received")
 
     def test_cancelled(self):
         """A wait that is cancelled leaves the command under way, and its answer can be had later."""
@@ -93,7 +93,7 @@ class Aio(FrontCases):
         self.assertEqual(asyncio.run(live()), [2, 1], "the answers")
 
     def test_callbacks(self):
-        """What one raises comes out of what is awaited; they are told of slots, and of what is posted."""
+        """What a callback raises comes out of what is awaited. Callbacks receive calls of slots and of posted events."""
         heard = []
 
         def fail(_call):
@@ -106,7 +106,7 @@ class Aio(FrontCases):
                 pending = session.send("invoke", object=probe, method="note()", args=[])
                 with self.assertRaises(KeyError):
                     await pending
-                self.assertIs(await pending, True, "the answer behind it")
+                self.assertIs(await pending, True, "the answer after it")
                 session.on_call = None
                 session.on(probe, "late()", heard.append)
                 session.auto_spin = True
@@ -115,7 +115,7 @@ class Aio(FrontCases):
                 await session.reset()
                 await session.new("Probe")
                 await session.invoke(1, "late()")
-                self.assertEqual(len(heard), 1, "what is told of another object")
+                self.assertEqual(len(heard), 1, "what is received of another object")
 
         asyncio.run(live())
 

@@ -54,9 +54,13 @@ class AioLive(FrontCases):
 
     def test_waits(self):
         """Waits for predicates, signals and calls give no command."""
-        async def later(host, value):
-            await asyncio.sleep(0.1)
+        async def later(host, value, ready=lambda: True):
+            while not ready():
+                await asyncio.sleep(0.01)
             await host.set(1, "x", value)
+
+        def is_connected():
+            return "connect" in given_in(Path(self.room, "record"), "c2")
 
         async def work(host, guest):
             heard, calls = [], guest.calls(PATIENCE)
@@ -70,12 +74,12 @@ class AioLive(FrontCases):
             self.assertEqual([it async for it in guest.calls(0.1)], [], "what is not received again")
             ear, own = await guest.proxy(1, "Cell"), await guest.create("Cell")
             await guest.join(host.known_as, "level", ["int"], 1, "setX(int)")
-            task = asyncio.ensure_future(later(host, 2))
+            task = asyncio.ensure_future(later(host, 2, is_connected))
             self.assertEqual(await aio.wait_for(ear.xChanged, PATIENCE, via=own.seen), [2], "what the signal was sent with")
             await task
 
         given = self.run_pair(work)
-        self.assertLess(given.count("spin"), 8, "the spins, of which the front gives some for each event")
+        self.assertLess(given.count("spin"), 8, "the spins, some of them given by the front for each event")
 
     def test_raising(self):
         """An exception of a callback that is called unasked goes to the loop's exception handler. Nothing is lost by it."""
@@ -112,16 +116,20 @@ class AioStandIns(FrontCases):
     """Fronts, played by the test."""
 
     def test_connecting(self):
-        """The event loop runs while a front is slow to answer, and a connection that nobody waits for is closed."""
+        """The event loop runs while a front is slow to answer, and a connection that is no longer awaited is closed."""
 
-        async def live(path):
-            with self.assertRaises(asyncio.TimeoutError):
-                await asyncio.wait_for(aio.connect(path), 0.2)
+        async def live(talker):
+            connecting = asyncio.ensure_future(aio.connect(talker.path))
+            while not talker.so_far():
+                await asyncio.sleep(0.01)
+            connecting.cancel()
+            with self.assertRaises(asyncio.CancelledError):
+                await connecting
 
         with Talker(self.room) as talker:
             began = time.monotonic()
             talker.play([(LIVE, None)], [(LIVE, [GREETED]), (NEW, [{"reply": 1, "session": "c1"}])])
-            asyncio.run(live(talker.path))
+            asyncio.run(live(talker))
             self.assertLess(time.monotonic() - began, PATIENCE, "how long it takes")
             asyncio.run(self.one_object(talker.path))
             self.assertEqual(talker.heard(), [LIVE, "", LIVE, NEW], "its lines")
@@ -129,6 +137,25 @@ class AioStandIns(FrontCases):
     async def one_object(self, path):
         async with await aio.connect(path) as server:
             self.assertEqual((server.is_live, await server.session("a").new("Cell")), (True, 1), "an object")
+
+    def test_sent_at_once(self):
+        """A wait for a signal also ends when the signal is sent as soon as it is connected."""
+        seen, set_x = ({"class": "Cell", "signature": it, "types": ["int"]} for it in ("seen(int)", "setX(int)"))
+        changed = {"class": "Cell", "signature": "xChanged(int)", "types": ["int"]}
+        cell = {"class": "Cell", "properties": [], "signals": [changed], "slots": [seen, set_x], "super": "QObject"}
+        call = {"args": [5], "call": "seen(int)", "object": 2, "sender": 1}
+
+        async def live(path):
+            async with await aio.connect(path) as server:
+                session = server.session("a")
+                one, own = await session.create("Cell"), await session.create("Cell")
+                return await aio.wait_for(one.xChanged, PATIENCE / 3, via=own.seen)
+
+        with Talker(self.room) as talker:
+            earlier = {**call, "call": "setX(int)", "object": 1}  # has callbacks called before the connection is known
+            told = ([{"reply": cell}], [{"reply": 1}], [{"reply": 2}], [earlier, {"reply": 1}, call], [{"reply": True}])
+            talker.play([(LIVE, [GREETED]), *(("any", [{**it, "session": "c1"} for it in lines]) for lines in told)])
+            self.assertEqual(asyncio.run(live(talker.path)), [5], "what it was sent with")
 
     def test_failed(self):
         """If the front's own spin fails, the loop's exception handler receives the refusal."""

@@ -86,7 +86,7 @@ class AioProxies(ClientCases):
             await one.title.set("Aria")
             await one.play(3)
             self.assertEqual((await other.title, heard), ("Aria", [("Aria", 3)]), "what is called")
-            self.assertEqual([await calling.disconnect(), await calling.disconnect()], [True, False], "whether it stood")
+            self.assertEqual([await calling.disconnect(), await calling.disconnect()], [True, False], "whether it was connected")
             self.assertEqual([await connected.disconnect(), await connected.disconnect()], [True, False], "whether this did")
             await one.finished.emit("x", 1)
             self.assertEqual(len(heard), 1, "what is called then")

@@ -1,4 +1,4 @@
-"""What the client in Python tells of objects that it did not make, dumps of sessions, and what makes a session again.
+"""What the client in Python says about objects that it did not make, dumps of sessions, and what makes a session again.
 
 What has to come is taken from docs/PROTOCOL.md and worked out by hand, and for random sessions it is what the plain program
 knows of them.
@@ -68,7 +68,7 @@ joins:
 
 
 def held_by(session):
-    """What the plain program knows a session to hold, but for events and states of functors."""
+    """What the plain program knows a session to hold, except events and states of functors."""
     rows = {it.number: it for it in session.rows}
     return {
         "objects": {number: (it.class_name, it.blocked, list(it.dynamic.items())) for number, it in rows.items()},
@@ -92,7 +92,7 @@ class Random(ClientCases):
         return mixed.run_of(made, Server(Classes(declared), TURNS), 2), declared
 
     def fault_of(self, seed):
-        """What is wrong with the dumps of a run's sessions, or None, how many there were, and of which commands they are."""
+        """What is wrong with the dumps of a run's sessions, or None, how many there were, and which commands they contain."""
         (run, declared), words = self.run_of(seed), Counter()
         with TemporaryDirectory(prefix="metad-dumps-") as room:
             path = Path(room, "classes.json")

@@ -45,7 +45,7 @@ class Ends(ClientCases):
         return f'"{self.program}"; echo $? > "{note}.new"; mv "{note}.new" "{note}"', note
 
     def test_class_files(self):
-        """A class file that is refused is told when the server is started."""
+        """A refused class file is reported when the server is started."""
         refused = self.raised("no JSON", metad.ClassFileRefused, metad.start, self.program, "/dev/null")
         said = "metad: class file refused: C01 at class 0\n"
         self.assertEqual((refused.status, refused.stderr), (1, said), "how it ended")
@@ -113,7 +113,7 @@ class Ends(ClientCases):
         """What is given to a server that was closed, and a close that takes too long."""
         with metad.start(self.program) as server:
             session = server.session("a")
-        gone = self.raised("behind the end", metad.ServerGone, session.status)
+        gone = self.raised("after the end", metad.ServerGone, session.status)
         self.assertEqual(gone.status, 0, "its status")
         server = metad.start(sys.executable, "-uc", LINGERS)
         self.raised("a server that does not end", metad.NotAnswered, server.close, timeout=0.05)

@@ -42,7 +42,7 @@ class StartedFronts(FrontCases):
         self.assertEqual((front.close(), os.listdir(self.room)), (0, []), "the status, and what is left")
 
     def test_monitors(self):
-        """A monitor is told all lines, or those of one session, up to the front's end."""
+        """A monitor receives all lines, or those of one session, up to the front's end."""
         started = metad.start_front(self.program, classes=LAMP, timeout=PATIENCE, monitor=True)
         with started as front, front.monitor() as all_lines:
             with front.connect(live=False) as one, front.connect(live=False) as other:
@@ -55,10 +55,10 @@ class StartedFronts(FrontCases):
             front.close()
             heard = list(all_lines)
         call, reply = {"args": [], "call": "press()", "object": 1, "sender": 0}, {"reply": True}
-        self.assertEqual(told, [{**it, "session": "c2"} for it in (call, reply)], "what the one is told")
+        self.assertEqual(told, [{**it, "session": "c2"} for it in (call, reply)], "what the one receives")
         wanted = [{"reply": 1, "session": "c1"}, {"reply": 1, "session": "c2"}]
         wanted += [{**it, "session": name} for name in ("c1", "c2") for it in (call, reply)]
-        self.assertEqual(heard[:6], wanted, "what the other is told")
+        self.assertEqual(heard[:6], wanted, "what the other receives")
         self.assertLessEqual({it["session"] for it in heard[6:]}, {"c1", "c2"}, "the rest, which are resets")
         self.assertEqual([it["reply"] for it in heard[6:]], [True] * len(heard[6:]), "the rest")
 
@@ -71,7 +71,7 @@ class StartedFronts(FrontCases):
         self.raised("a front that has ended", OSError, metad.monitor, path)
 
     def test_options(self):
-        """Options are the front's, and words behind the program the server's."""
+        """Options are the front's. Words after the program are the server's."""
         record = Path(self.room, "record")
         with metad.start_front(self.program, "--turns", "1", options=("--record", record), timeout=PATIENCE) as front:
             with front.connect() as server:
@@ -81,25 +81,25 @@ class StartedFronts(FrontCases):
                 session.connect(probe, "ping()", probe, "note()")
                 session.connect(probe, "ping()", probe, "late()")
                 session.invoke(probe, "ping()")
-        self.assertEqual(warned, ["E23"], "what a command with one turn is told")
+        self.assertEqual(warned, ["E23"], "the warnings of a command with one turn")
         self.assertEqual(record.read_text().splitlines()[0], '{"class":"Probe","do":"new","session":"a","session":"c1"}')
 
     def test_shared(self):
-        """Clients that speak for one session have its objects, and are told what the others cause there."""
+        """Clients of one shared session have its objects, and receive the calls that the others cause there."""
         with metad.start_front(self.program, options=["--share", "team"], timeout=PATIENCE) as front:
             with front.connect(share="team") as one, metad.connect(front.path, share="team") as other:
                 told = []
                 probe = one.session("mine", on_call=told.append).new("Probe")
                 other.session("mine").invoke(probe, "note()")
-                self.assertEqual(told, [], "what is told of it before a wait")
+                self.assertEqual(told, [], "what it receives before a wait")
                 self.assertEqual(one.session("mine").children(), [probe], "the objects")
-                self.assertEqual(told, [metad.Call(probe, "note()", [], 0)], "what is told of it")
+                self.assertEqual(told, [metad.Call(probe, "note()", [], 0)], "what it receives")
                 self.assertEqual({it.session("mine").known_as for it in (one, other)}, {"team"}, "its name")
             refused = self.raised("another name", metad.Refused, front.connect, share="crew")
             self.assertEqual((refused.do, refused.code, refused.keys), ("share", "F02", {"session": "crew"}), "the refusal")
 
     def test_groups(self):
-        """Clients of one group can join each other, and are told where what they hold is lost."""
+        """Clients of one group can join each other. They are notified when their objects are lost."""
         with metad.start_front(self.program, options=["--workers", "2"], timeout=PATIENCE) as front:
             with front.connect(group="desk") as one, metad.connect(front.path, group="desk") as other:
                 told = []
@@ -154,7 +154,7 @@ class StartedFronts(FrontCases):
             self.assertEqual(fronts.front_words(), [str(ROOT / "bin" / "metad-front")], "where it is")
 
     def test_not_started(self):
-        """What does not start is told, and leaves nothing."""
+        """A failed start is reported, and leaves nothing."""
         nothing = Path(self.room, "nothing")
         self.raised("no program", FileNotFoundError, metad.start_front, nothing)
         refused = self.raised("classes that are refused", metad.ClassFileRefused, metad.start_front, self.program, classes=WRONG)

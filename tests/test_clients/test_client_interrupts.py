@@ -1,4 +1,4 @@
-"""Interrupts of the client in Python, at moments by chance: none takes an answer or a call from anybody.
+"""Interrupts of the client in Python, at random moments: none takes an answer or a call from anybody.
 
 A thread sends signals to the main one, whose handler raises an exception while the main thread does something that may
 be interrupted. Each signal waits for the one before to be handled, so that none comes where nobody expects it.
@@ -17,6 +17,8 @@ from pathlib import Path
 
 import metad
 
+from tests.support.seeds import SEED
+
 from . import PYTHON
 from .fronts import ClientCases
 
@@ -24,7 +26,6 @@ OBJECTS = 50
 INTERRUPTS = 150  # that have to come
 BEHIND = 200  # commands that are given while the server is held up: more than fits into a pipe
 TEXT_MOST = 4_096
-SEED = int(os.environ.get("SEED", "1"))
 STAYS = """
 import metad, sys, time
 with metad.start(sys.argv[1]) as server:
@@ -92,7 +93,7 @@ class Interrupts(ClientCases):
             thread.join()
 
     def tried(self, call):
-        """What a call comes to, or None where it was interrupted."""
+        """The result of a call, or None if it was interrupted."""
         try:
             self.is_armed = True
             came = call()
@@ -103,7 +104,7 @@ class Interrupts(ClientCases):
 
     @contextmanager
     def named_objects(self):
-        """A session of objects that have names, of which the caller is interrupted."""
+        """A session with named objects, whose caller is interrupted."""
         with metad.start(self.program) as server, self.storm(0.002):
             session = server.session("a")
             for at in range(1, OBJECTS + 1):
@@ -129,7 +130,7 @@ class Interrupts(ClientCases):
                 self.assertEqual(session.get(at, "objectName"), f"name {at}", "the answer of another one")
 
     def test_calls(self):
-        """Each call is told once, in its order, though what waits is interrupted."""
+        """Each call is delivered once and in order, though the waiting thread is interrupted."""
         heard, sure = [], []
         with metad.start(self.program) as server, self.storm(0.002):
             session = server.session("a", on_call=heard.append)
@@ -141,7 +142,7 @@ class Interrupts(ClientCases):
                     self.tried(pending.result)
             session.status()
         numbers = [call.args[0] for call in heard]
-        self.assertEqual(numbers, sorted({*numbers, *sure}), "what was told")
+        self.assertEqual(numbers, sorted({*numbers, *sure}), "what was delivered")
 
     def test_writing(self):
         """An interrupt while the server takes nothing leaves no half of a line."""
@@ -159,8 +160,11 @@ class Interrupts(ClientCases):
                     self.assertIsNone(self.tried(given[-1].result), "a wait that is interrupted")
             finally:
                 os.kill(number, signal.SIGCONT)
-            wanted = [True] + [text] * BEHIND + [True] * BEHIND
-            self.assertEqual([it.result() for it in given if it], wanted if given[0] else wanted[1:], "the answers")
+            answers = [it.result() for it in given if it]
+            # a first command that was interrupted may have been written before that, or not
+            possible = [text] if given[0] else [text, ""]
+            wanted = [[True] * bool(given[0]) + [it] * BEHIND + [True] * BEHIND for it in possible]
+            self.assertIn(answers, wanted, "the answers")
 
     def test_keyboard(self):
         """An interrupt from the keyboard while an answer is waited for leaves the command under way."""

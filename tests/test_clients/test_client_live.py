@@ -3,14 +3,17 @@
 import json
 import os
 import signal
+import sys
 import threading
 from contextlib import contextmanager
+from functools import partial
 from pathlib import Path
+from unittest import mock
 
 import metad
 
-from .fronts import PATIENCE, FrontCases
-from .grouped import WorkerCases, servers_of
+from .fronts import PATIENCE, FrontCases, whole_lines
+from .grouped import WorkerCases, servers_of, wait_until
 from .talking import Talker
 
 ROUNDS, IDLE = 30, 1.0
@@ -32,11 +35,36 @@ def listening(host, guest):
 
 def given_in(record, session):
     """The words of the commands that a session was given."""
-    return [it["do"] for it in map(json.loads, record.read_text().splitlines()) if it["session"] == session]
+    return [it["do"] for it in map(json.loads, whole_lines(record)) if it["session"] == session]
+
+
+def waits(thread):
+    """Whether a thread waits for news of a live session."""
+    frame, names = sys._current_frames().get(thread), []
+    while frame is not None:
+        names.append(frame.f_code.co_name)
+        frame = frame.f_back
+    return names[:2] == ["wait", "wait_until"]
 
 
 class Live(FrontCases):
     """Sessions of a front that offers live ones."""
+
+    @contextmanager
+    def later(self, work):
+        """Has another thread do something as soon as this one waits for news."""
+        waiting = threading.get_ident()
+
+        def run():
+            wait_until(self, lambda: waits(waiting), "somebody waits")
+            work()
+
+        thread = threading.Thread(target=run)
+        thread.start()
+        try:
+            yield
+        finally:
+            thread.join()
 
     @contextmanager
     def pair(self, *options, **how):
@@ -80,17 +108,13 @@ class Live(FrontCases):
                 self.assertIs(guest.wait_for(lambda: spy), spy, "what the predicate returned")
                 before = given_in(self.record, guest.known_as)
                 self.assertFalse(spy.wait(IDLE), "whether it is sent again")
-                late = threading.Timer(0.1, lambda: host.set(1, "x", 6))
-                late.start()
-                self.assertTrue(spy.wait(PATIENCE), "whether it is sent then")
-                late.join()
+                with self.later(lambda: host.set(1, "x", 6)):
+                    self.assertTrue(spy.wait(PATIENCE), "whether it is sent then")
                 self.assertEqual(spy, [[5], [6]], "what it was sent with")
             spins = given_in(self.record, guest.known_as)[len(before) :].count("spin")
-            self.assertLessEqual(spins, 4, "the spins, of which the front gives some after a set by the event itself")
-            late = threading.Timer(0.2, lambda: host.set(1, "x", 7))
-            late.start()
-            self.assertEqual(metad.wait_for(ear.xChanged, PATIENCE, via=guest.create("Cell").seen), [7], "its arguments")
-            late.join()
+            self.assertLessEqual(spins, 4, "the spins, some of them given by the front after a set by the event itself")
+            with self.later(lambda: host.set(1, "x", 7)):
+                self.assertEqual(metad.wait_for(ear.xChanged, PATIENCE, via=guest.create("Cell").seen), [7], "its arguments")
 
     def test_relay(self):
         """A session waits for a signal by a relay, and a function is called for what is published, as it comes."""
@@ -102,10 +126,8 @@ class Live(FrontCases):
                 bell.rung.publish("bell")
                 guest.listen(host.known_as, "bell", ["int"], heard.append)
                 ear.rung.join(host.known_as, "bell")
-                late = threading.Timer(0.2, bell.rung, (7,))
-                late.start()
-                self.assertEqual(guest.wait_for(ear.rung, PATIENCE), [7], "what it was sent with")
-                late.join()
+                with self.later(lambda: bell.rung(7)):
+                    self.assertEqual(guest.wait_for(ear.rung, PATIENCE), [7], "what it was sent with")
                 self.assertEqual(guest.wait_for(lambda: heard, PATIENCE), [7], "what the function receives")
                 self.raised("nothing more", metad.NotAnswered, guest.wait_for, ear.rung, 0.1)
 
@@ -151,7 +173,7 @@ class Live(FrontCases):
             guest.wait_for(lambda: len(heard) == 2, PATIENCE)
             host.set(1, "x", 3)
             self.assertEqual(next(guest.calls(PATIENCE)), seen(3), "what is iterated")
-            self.assertNotIn("spin", given_in(self.record, host.known_as), "what the front gives by itself")
+            self.assertNotIn("spin", given_in(self.record, host.known_as), "what the front gives on its own")
 
     def test_made_live(self):
         """If a front makes all sessions live, a client that did not ask still receives the right answers."""
@@ -187,20 +209,22 @@ class Live(FrontCases):
         heard = []
         with self.pair() as (host, guest, _):
             guest.on_call = heard.append
-            threading.Timer(0.2, signal.pthread_kill, (threading.main_thread().ident, signal.SIGINT)).start()
-            self.raised("an interrupt", KeyboardInterrupt, guest.wait_for, lambda: False, PATIENCE)
+            interrupt = partial(signal.pthread_kill, threading.main_thread().ident, signal.SIGINT)
+            with self.later(interrupt):
+                self.raised("an interrupt", KeyboardInterrupt, guest.wait_for, lambda: False, PATIENCE)
             host.set(1, "x", 1)
             self.assertEqual(guest.wait_for(lambda: heard, PATIENCE), [seen(1)], "what is heard then")
 
     def test_closed(self):
         """A wait ends with the connection, and so does one of another thread that closes it."""
         with self.pair() as (_, guest, process):
-            threading.Timer(0.1, process.terminate).start()
-            self.raised("a front that ends", metad.ConnectionClosed, guest.wait_for, lambda: False, PATIENCE)
+            with self.later(process.terminate):
+                self.raised("a front that ends", metad.ConnectionClosed, guest.wait_for, lambda: False, PATIENCE)
             self.raised("and later", metad.ConnectionClosed, next, guest.calls(PATIENCE))
         with self.front() as (path, _), metad.connect(path) as server:
-            threading.Timer(0.1, server.close).start()
-            self.raised("a client that closes", metad.ConnectionClosed, next, server.session("a").calls(PATIENCE))
+            calls = server.session("a").calls(PATIENCE)
+            with self.later(server.close):
+                self.raised("a client that closes", metad.ConnectionClosed, next, calls)
 
 
 class LiveWorkers(WorkerCases):
@@ -293,6 +317,12 @@ class StandIns(FrontCases):
                 self.assertEqual((sent[1].result(), heard), (2, [1, 2, 3]), "the second answer")
                 session.wait_for(lambda: len(events) == 4, PATIENCE)
                 self.assertEqual(events, [1, 1, 1, 5], "the result of each spin")
+
+    def test_sent_at_once(self):
+        """A wait for a signal also ends when another thread has delivered the signal before the wait begins."""
+        sent = mock.MagicMock()
+        sent.connect.side_effect = lambda told, via: told(5) or mock.MagicMock()
+        self.assertEqual(metad.wait_for(sent, 0.5), [5], "what it was sent with")
 
     def test_failed(self):
         """If the front's own spin fails, its error answers no command; the session is not live any more, and waits spin."""

@@ -1,4 +1,4 @@
-"""Monitors of the client in Python: how they end, what they tell of lines that were lost, and for which fronts there are any."""
+"""Monitors of the client in Python: how they end, how they report lost lines, and for which fronts there are any."""
 
 import json
 import os
@@ -71,11 +71,11 @@ class Monitors(ClientCases):
             self.assertFalse(closing.is_alive(), "whether closing waits")
             reading.join(PATIENCE / 3)
             self.assertTrue(ended.is_set(), "whether the iteration has ended as usual")
-            self.assertEqual(heard, [{"reply": 1, "session": "c1"}], "what was told before")
-            self.assertEqual(list(monitor), [], "what is told after it was closed")
+            self.assertEqual(heard, [{"reply": 1, "session": "c1"}], "what was received before")
+            self.assertEqual(list(monitor), [], "what is received after it was closed")
 
     def test_front_ends(self):
-        """Lines that a monitor has not read when the front ends are told before its end."""
+        """Lines that a monitor has not read when the front ends are delivered before its end."""
         count = UNREAD_MOST * 3 // 4 // SIZE
         with self.talking() as front, front.monitor() as monitor:
             with front.connect() as server:
@@ -84,10 +84,10 @@ class Monitors(ClientCases):
                 told = list(monitor)
                 ending.join(PATIENCE)
         self.assertEqual(told[:count], count * [{**CALL, "session": "c1"}], "the calls")
-        self.assertEqual(told[count], {"reply": True, "session": "c1"}, "the answer behind them")
+        self.assertEqual(told[count], {"reply": True, "session": "c1"}, "the answer after them")
 
     def test_lines_lost(self):
-        """A monitor that was closed since it left too much unread says so, behind all that has arrived."""
+        """A monitor that was closed because it left too much unread says so, after all lines that have arrived."""
         each, times = 500, 2 * UNREAD_MOST // SIZE // 500
         count = each * times
         with self.talking() as front, front.monitor() as monitor, front.monitor() as other, Client(front.monitor_path) as other_raw:
@@ -109,7 +109,7 @@ class Monitors(ClientCases):
         self.assertTrue(0 < len(told) < count, f"how many lines have arrived: {len(told)}")
         strange = [it for it in told if it not in ({**CALL, "session": "c1"}, {"reply": True, "session": "c1"})]
         self.assertEqual(strange, [], "which have arrived")
-        self.assertEqual(others.count({**CALL, "session": "c1"}), count, "what a monitor is told that reads")
+        self.assertEqual(others.count({**CALL, "session": "c1"}), count, "what a monitor that reads receives")
 
     def test_half_a_line(self):
         """A front that is gone in the middle of a line has not told all."""
@@ -122,7 +122,7 @@ class Monitors(ClientCases):
         asked = '{"front":"monitor","session":"c1"}'
         before = '{"error":"E04","session":"c2"}'
         with self.written(f"{before}\n{asked}\n{WHOLE}\n") as path, metad.monitor(path, "c1") as monitor:
-            self.assertEqual(list(monitor), [{"reply": 1, "session": "c1"}], "what it is told")
+            self.assertEqual(list(monitor), [{"reply": 1, "session": "c1"}], "what it receives")
         with self.written(f"{before}\n") as path:
             self.raised("no answer", metad.ConnectionClosed, metad.monitor, path, "c1")
 
@@ -139,7 +139,7 @@ class Monitors(ClientCases):
                 self.assertEqual(front.monitor_path, str(path), "where monitors connect")
                 with metad.monitor(path) as monitor, front.monitor() as other, front.connect() as server:
                     server.session("a").new("Probe")
-                    self.assertEqual([next(it)["reply"] for it in (monitor, other)], [1, 1], "what they are told")
+                    self.assertEqual([next(it)["reply"] for it in (monitor, other)], [1, 1], "what they receive")
 
     def test_rights(self):
         """The socket of monitors has the rights of the clients' socket, unless the options say others."""

@@ -62,7 +62,7 @@ class Package(ClientCases):
     def test_names(self):
         """Its public names are there, and no other name is exported."""
         self.assertEqual([it for it in metad.__all__ if not hasattr(metad, it)], [], "names that are not there")
-        self.assertEqual(sorted(set(metad.__all__)), sorted(metad.__all__), "names that stand twice")
+        self.assertEqual(sorted(set(metad.__all__)), sorted(metad.__all__), "names that occur twice")
 
     def copied(self):
         """The package's sources in a folder of their own."""
@@ -71,7 +71,7 @@ class Package(ClientCases):
         return source
 
     def installed(self, target, *words):
-        """Has pip install something into a folder, without a network, and with the settings that it has by itself."""
+        """Has pip install something into a folder, without a network, and with pip's default settings."""
         python = python_with_pip()
         if python is None:
             self.skipTest("no Python here has pip")
@@ -127,13 +127,13 @@ class Package(ClientCases):
         self.check_installed(target, source)
 
     def test_editable(self):
-        """A wheel for use from where the package stands leads Python there."""
+        """An editable wheel leads Python to the folder of the package."""
         source = self.copied()
         build = "import build_package, sys; print(build_package.build_editable(sys.argv[1]))"
         made = subprocess.run([sys.executable, "-c", build, self.room], cwd=source, capture_output=True, text=True)
         with zipfile.ZipFile(Path(self.room, made.stdout.strip())) as wheel:
             self.assertEqual(wheel.read("metad.pth").decode(), f"{source}\n", "what leads there")
-            self.assertEqual(len(wheel.namelist()), 4, "its files, of which three are about it")
+            self.assertEqual(len(wheel.namelist()), 4, "its files; three are about the wheel")
 
     def test_types(self):
         """mypy finds no fault in its types and those of the tools, and knows those of replies where it is used."""

@@ -54,7 +54,7 @@ class Proxies(ClientCases):
         self.assertEqual((player.property("class").value, player.property("delete").value), (3, 4), "names that are taken")
         for name in ("tempo", "number", "shape", "property", "delete", "play"):
             self.raised(f"a write of {name}", AttributeError, setattr, player, name, 1)
-        self.raised("an attribute that is none", AttributeError, getattr, player, "tempo")
+        self.raised("an unknown attribute", AttributeError, getattr, player, "tempo")
         player.property("tempo").value = 120
         self.assertEqual(self.session.dynamic_names(player.number), ["tempo"], "a dynamic property")
         self.assertEqual(player.property("tempo").value, 120, "its value")
@@ -102,7 +102,7 @@ class Proxies(ClientCases):
         one.title = "Aria"
         one.play(3)
         self.assertEqual(other.title, "Aria", "what the slot has done")
-        self.assertEqual((connected.disconnect(), connected.disconnect()), (True, False), "whether it stood")
+        self.assertEqual((connected.disconnect(), connected.disconnect()), (True, False), "whether it was connected")
         one.titleChanged.connect(other.titleChanged, single=True)
         self.raised("a slot that does not fit", metad.Ambiguous, one.titleChanged.connect, other.play)
         refused = self.raised("a slot as a signal", metad.Refused, one.take.connect, other.take)
@@ -125,7 +125,7 @@ class Proxies(ClientCases):
         one.method("both(QString)").emit("eight")
         other.play(4)
         self.assertEqual(heard, [("Aria", 3), 8, ("other", "", 4)], "what is called")
-        self.assertEqual((connected.disconnect(), connected.disconnect()), (True, False), "whether it stood")
+        self.assertEqual((connected.disconnect(), connected.disconnect()), (True, False), "whether it was connected")
         one.play(3)
         self.assertEqual(len(heard), 3, "what is called when it is disconnected")
         one.delete()
@@ -197,7 +197,7 @@ class Proxies(ClientCases):
         heard = []
         self.session.on(player, "number()", heard.append)
         player.method("number()")()
-        self.assertEqual([call.object for call in heard], [player.number], "what is told of it")
+        self.assertEqual([call.object for call in heard], [player.number], "what is received of it")
 
 
 class WithoutRelay(ClientCases):
@@ -216,7 +216,7 @@ class WithoutRelay(ClientCases):
             ear.seen(5)
             self.assertEqual(heard, [4], "what is heard")
             cell.x = 4
-            self.assertEqual(heard, [4], "what is heard of a value that stands already")
+            self.assertEqual(heard, [4], "what is heard of an unchanged value")
 
     def test_spelling(self):
         """A relay for signals that are not written in their normal text."""

@@ -3,8 +3,12 @@
 The tests play the server at two pipes, so that they decide what comes when.
 """
 
+import fcntl
 import os
 import signal
+import struct
+import sys
+import termios
 import threading
 import time
 from contextlib import contextmanager
@@ -51,6 +55,10 @@ class Played:
     def say(self, *lines):
         os.write(self.told, b"".join(lines))
 
+    def is_read(self):
+        """Whether the client has read all that was said."""
+        return struct.unpack("i", fcntl.ioctl(self.reader, termios.FIONREAD, struct.pack("i", 0))) == (0,)
+
     def end(self):
         os.close(self.told)
         os.close(self.given)
@@ -61,6 +69,14 @@ class Played:
 def threads():
     """The names of the threads that the client has started."""
     return sorted(it.name for it in threading.enumerate() if it.name.startswith("metad "))
+
+
+def reads(thread):
+    """Whether a thread reads until its answer has come."""
+    frame = sys._current_frames().get(thread)
+    while frame is not None and frame.f_code.co_name not in ("_read_until", "_take_first"):
+        frame = frame.f_back
+    return frame is not None
 
 
 class Reading(ClientCases):
@@ -75,16 +91,21 @@ class Reading(ClientCases):
             played.end()
 
     @contextmanager
-    def handled(self, handler, after=0.2):
-        """A signal comes after so many seconds, and is handled so."""
+    def handled(self, handler, played):
+        """A signal comes when the main thread reads and has read all that was said, and is handled so."""
         before = signal.signal(signal.SIGUSR1, handler)
         main = threading.main_thread().ident
-        timer = threading.Timer(after, signal.pthread_kill, (main, signal.SIGUSR1))
-        timer.start()
+
+        def send():
+            self.wait_until("nobody reads", lambda: reads(main) and played.is_read())
+            signal.pthread_kill(main, signal.SIGUSR1)
+
+        sender = threading.Thread(target=send)
+        sender.start()
         try:
             yield
         finally:
-            timer.join()
+            sender.join()
             signal.signal(signal.SIGUSR1, before)
 
     def wait_until(self, what, holds):
@@ -149,7 +170,7 @@ class Reading(ClientCases):
             ends = [5, len(call(1)) + 3, len(whole) - 4]
             for begin, end in zip([0, *ends], ends):
                 played.say(whole[begin:end])
-                with self.handled(interrupt):
+                with self.handled(interrupt, played):
                     self.raised("a wait in the middle of a line", Interrupted, pending.result)
             played.say(whole[ends[-1] :])
             self.assertEqual((pending.result(), heard), (7, [1, 2]), "the answer and the calls")
@@ -159,16 +180,112 @@ class Reading(ClientCases):
         came = []
 
         def ask(_number, _frame):
-            threading.Timer(0.1, played.say, (reply(1), reply(2))).start()
             came.append(played.session.send("status").result(timeout=PATIENCE))
 
+        def answer():
+            played.hear(2)
+            played.say(reply(1), reply(2))
+            played.hear(1)  # by which what was interrupted looks again
+            played.say(b'{"error":"E02","session":"-"}\n')
+
         for timeout in (None, PATIENCE):
-            with self.played() as played, self.handled(ask):
-                answerer = threading.Timer(0.5, lambda: played.say(b'{"error":"E02","session":"-"}\n'))
+            with self.played() as played, self.handled(ask, played):
+                answerer = threading.Thread(target=answer)
                 answerer.start()
                 self.assertEqual(played.session.send("status").result(timeout), 1, "the answer that was waited for first")
                 answerer.join()
                 self.assertEqual(came.pop(), 2, "the answer in the handler")
+
+    def test_handler_times_out(self):
+        """A handler whose exception is a `TimeoutError` ends the wait of a method; the answer that comes later is of no other command."""
+
+        def time_out(_number, _frame):
+            raise TimeoutError("the time of the program is over")
+
+        with self.played() as played, self.handled(time_out, played):
+            answerer = threading.Timer(2, played.say, (reply(1),))
+            answerer.start()
+            late = self.raised("a method that waits", TimeoutError, played.session.status)
+            self.assertEqual(str(late), "the time of the program is over", "what is raised")
+            pending = played.session.send("status")
+            answerer.join()
+            self.assertFalse(pending.done(), "whether a later command has the answer")
+            played.say(reply(2))
+            self.assertEqual(pending.result(PATIENCE), 2, "the answer to the later command")
+
+    def test_answer_taken(self):
+        """A method returns the answer that another thread has read just before it was to read."""
+        with self.played() as played:
+            connection = played.server.connection
+            give = connection.give_all
+
+            def give_all(answers, parts):
+                give(answers, parts)
+                played.say(reply(5))
+                thread = threading.Thread(target=connection.wait, args=(answers[0], PATIENCE))
+                thread.start()
+                thread.join()
+
+            connection.give_all = give_all
+            self.assertEqual([played.session.status() for _ in range(3)], [5, 5, 5], "the answers")
+
+    def test_handler_takes(self):
+        """A signal handler that gives commands after an answer was read, and before it is taken, disturbs nobody."""
+        with self.played() as played:
+            session, files, sent = played.session, played.server.connection._files, []
+            first_text = files.first_text
+            played.say(reply(0))
+            self.assertEqual(session.status(), 0, "the first answer")
+
+            def interrupted():
+                text = first_text()
+                files.first_text = first_text
+                played.say(reply(2))
+                self.assertEqual(session.send("status").result(PATIENCE), 2, "the answer in the handler")
+                sent.append(session.send("status"))
+                return text
+
+            for at in range(2):
+                files.first_text = interrupted
+                played.say(reply(1))
+                self.assertEqual(session.status(), 1, "the answer of what was interrupted")
+                played.say(b'{"error":"E02","session":"-"}\n', reply(3))
+                self.assertEqual(sent.pop().result(PATIENCE), 3, "the answer to what the handler has sent")
+
+    def test_reads_while_another_writes(self):
+        """A thread that reads does not wait for one that writes, whose signal handler may wait for what is read."""
+        came = []
+        with self.played() as played:
+            connection, pending = played.server.connection, played.session.send("status")
+            thread = threading.Thread(target=lambda: came.append(pending.result(PATIENCE)))
+            with connection._writing:
+                connection._unwritten.append(b"")
+                thread.start()
+                time.sleep(0.1)
+                played.say(reply(1))
+                thread.join(3)
+                connection._unwritten.clear()
+                self.assertEqual(came, [1], "the answer")
+            thread.join()
+
+    def test_forms(self):
+        """Replies are understood however their JSON is written, and name the session; several lines are no reply."""
+        with self.played() as played:
+            session = played.session
+            for text, value, name in (
+                (reply("[1,{\"a\":null}]"), [1, {"a": None}], "a"),
+                (b'{"session":"a","reply":2}\n', 2, "a"),
+                (b'{"reply" : "x" , "session": "a"}\n', "x", "a"),
+                (b'{"reply":3,"session":"other"}\n', 3, "other"),
+                (b'{"reply":4,"session":"a","more":5}\n', 4, "a"),
+                (b'{"reply":1,"reply":"\xc3\xa4\\n","session":"a"}\n', "\u00e4\n", "a"),
+            ):
+                with self.subTest(text=text):
+                    played.say(text)
+                    self.assertEqual((session.status(), session.known_as), (value, name))
+            played.say(b'{"reply":[1,\n2],"session":"a"}\n')
+            strange = self.raised("a reply in two lines", metad.StrangeLine, session.status)
+            self.assertEqual(strange.line, b'{"reply":[1,\n')
 
     def test_ahead(self):
         """Commands without a wait are done all the same, also where pipes are full; then no thread is left."""

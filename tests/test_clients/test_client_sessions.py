@@ -1,10 +1,10 @@
-"""Which session of the client in Python is told of what: behind a front, by slot, and with spins of its own."""
+"""Which session of the client in Python receives what: behind a front, by slot, and with spins of its own."""
 
 import metad
 
 from .fronts import ClientCases, FrontCases
 
-RING = 300  # queued calls, each of which the callback of the one before asks for
+RING = 300  # queued calls, each asked for by the callback of the one before
 
 
 def probes(session, count=1):
@@ -16,7 +16,7 @@ class BehindAFront(FrontCases):
     """Several names for the one session of a connection."""
 
     def test_names(self):
-        """A call is told to the session that asked, also where another one was called by the name that the front gave."""
+        """The session that asked receives the call, even if another session has the name that the front gave."""
         heard = {"mine": [], "given": []}
         with self.front() as (path, _):
             with metad.connect(path) as server:
@@ -25,10 +25,10 @@ class BehindAFront(FrontCases):
                 given = server.session(mine.known_as, on_call=heard["given"].append)
                 self.assertIsNot(given, mine, "the session of another name")
                 mine.invoke(probe, "note()")
-                self.assertEqual(heard, {"mine": [metad.Call(probe, "note()", [], 0)], "given": []}, "what is told")
+                self.assertEqual(heard, {"mine": [metad.Call(probe, "note()", [], 0)], "given": []}, "what they receive")
                 given.invoke(probe, "late()")
-                self.assertEqual(heard["given"], [metad.Call(probe, "late()", [], 0)], "what the other one is told")
-                self.assertEqual(len(heard["mine"]), 1, "what is told then to the first")
+                self.assertEqual(heard["given"], [metad.Call(probe, "late()", [], 0)], "what the other one receives")
+                self.assertEqual(len(heard["mine"]), 1, "what the first one has received then")
 
     def test_ahead(self):
         """So it is where both have given commands before the first answer."""
@@ -39,14 +39,14 @@ class BehindAFront(FrontCases):
                 (probe,) = probes(sessions[0])
                 sent = [it.send("invoke", object=probe, method="note()", args=[]) for it in sessions]
                 self.assertEqual([it.result() for it in sent], [True] * 3, "the answers")
-        self.assertEqual([len(told) for told in heard.values()], [1, 1, 1], "how many calls each is told")
+        self.assertEqual([len(told) for told in heard.values()], [1, 1, 1], "how many calls each receives")
 
 
 class Listening(ClientCases):
-    """Functions that are told of the calls of one slot."""
+    """Functions that receive the calls of one slot."""
 
     def test_on(self):
-        """They are told of their slot of their object, in order, behind `on_call`, until they are stopped."""
+        """They receive the calls of one slot of one object, in order and after `on_call`, until they are stopped."""
         heard = []
         with metad.start(self.program) as server:
             session = server.session("a", on_call=lambda call: heard.append(("all", call.object, call.method)))
@@ -56,20 +56,20 @@ class Listening(ClientCases):
             for number, slot in ((one, "late()"), (other, "note()"), (one, "note()")):
                 session.invoke(number, slot)
             wanted = [("all", one, "late()"), ("all", other, "note()"), *((it, one, "note()") for it in ("all", "first", "second"))]
-            self.assertEqual(heard, wanted, "what is told")
+            self.assertEqual(heard, wanted, "what is received")
             first.stop()
             first.stop()
             heard.clear()
             session.invoke(one, "note()")
-            self.assertEqual([it[0] for it in heard], ["all", "second"], "who is told then")
+            self.assertEqual([it[0] for it in heard], ["all", "second"], "who receives it then")
             session.reset()
             heard.clear()
             self.assertEqual(probes(session), [one], "an object of the same number")
             session.invoke(one, "note()")
-            self.assertEqual([it[0] for it in heard], ["all"], "who is told of another object")
+            self.assertEqual([it[0] for it in heard], ["all"], "who receives a call of another object")
 
     def test_raising(self):
-        """What one raises comes out of the wait, and the others are told at the next one."""
+        """What one raises comes out of the wait. The others receive the call in the next wait."""
         heard = []
 
         def fail(_call):
@@ -83,9 +83,9 @@ class Listening(ClientCases):
             pending = session.send("invoke", object=probe, method="note()", args=[])
             behind = session.send("children")
             self.raised("a callback that raises", KeyError, behind.result)
-            self.assertEqual(heard, [], "who is told by then")
+            self.assertEqual(heard, [], "who has received it by then")
             self.assertEqual((behind.result(), pending.result()), ([probe], True), "the answers")
-            self.assertEqual(heard, [metad.Call(probe, "note()", [], 0)], "who is told then")
+            self.assertEqual(heard, [metad.Call(probe, "note()", [], 0)], "who receives it then")
 
 
 class Spinning(ClientCases):
@@ -108,7 +108,7 @@ class Spinning(ClientCases):
             self.assertEqual(heard[2:], ["late()"], "what it posts")
             self.raised("a refusal", metad.Refused, session.delete, 7)
             session.delete_later(other)
-            self.assertEqual(session.children(), [one], "what is left behind a deletion that was posted")
+            self.assertEqual(session.children(), [one], "what is left after a posted deletion")
 
     def test_ring(self):
         """A callback that posts the next call does not go deeper with each."""
@@ -137,6 +137,6 @@ class Spinning(ClientCases):
             host.publish(bell, "ping()", "bell")
             guest.join("host", "bell", [], ear, "late()")
             host.invoke(bell, "ping()")
-            self.assertEqual(heard, [], "what is told unasked")
+            self.assertEqual(heard, [], "what is received unasked")
             guest.status()
-            self.assertEqual(heard, [metad.Call(ear, "late()", [], 0)], "what is told then")
+            self.assertEqual(heard, [metad.Call(ear, "late()", [], 0)], "what is received then")

@@ -98,7 +98,7 @@ class JavaScript(ClientCases):
         return subprocess.run(given, capture_output=True, text=True, timeout=4 * SECONDS, env=own, stdin=subprocess.DEVNULL)
 
     def test_tests(self):
-        """The tests in JavaScript pass, and leave nothing behind."""
+        """The tests in JavaScript pass, and leave no files."""
         cases = [(path.name, path) for path in sorted(TESTS.glob("*.test.mjs"))]
         self.check_each(cases, lambda path: self.ran("--test", path), self.fault_of, at_once=AT_ONCE)
         self.assertEqual(os.listdir(self.room), [], "what they leave")
@@ -111,7 +111,7 @@ class JavaScript(ClientCases):
         return f"status {ran.returncode}\n{ran.stdout[-8_000:]}{ran.stderr[-2_000:]}"
 
     def test_examples(self):
-        """Each example prints what the protocol has it print, and leaves nothing behind."""
+        """Each example prints what the protocol has it print, and leaves no files."""
         self.assertEqual({path.stem for path in EXAMPLES.glob("*.mjs")}, set(SAID))
         for name, said in SAID.items():
             with self.subTest(example=name):

@@ -113,6 +113,9 @@ class QtClient(FrontCases):
     def test_connections(self) -> None:
         self.suite("connections")
 
+    def test_expressions(self) -> None:
+        self.suite("expressions")
+
     def test_failures(self) -> None:
         self.suite("failures")
 
@@ -121,6 +124,14 @@ class QtClient(FrontCases):
 
     def test_sessions(self) -> None:
         self.suite("sessions")
+
+    def test_inside(self) -> None:
+        if "Total Tests: 0" in run("ctest", "--test-dir", BUILD, "-N", "-R", "^inside$").stdout:
+            self.skipTest("libmetad is not there: make library builds it")
+        self.suite("inside")
+        ran = run(BUILD / "examples" / "inside", EXAMPLES / "classes.json")
+        self.assertEqual((ran.stdout, ran.stderr, ran.returncode), ("name: 'ann'\nenabled: yes\nname: ''\nenabled: no\n", "", 0))
+        self.assertEqual(run(BUILD / "examples" / "inside", Path(self.room, "nothing")).returncode, 1)
 
     def test_qml(self) -> None:
         listed = run("ctest", "--test-dir", BUILD, "-N", "-R", "^qml$").stdout

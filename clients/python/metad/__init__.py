@@ -8,9 +8,9 @@
         session.connect(sender, "ping()", receiver, "note()")
         session.invoke(sender, "ping()")
 
-`start` starts a server, `connect` reaches one through a front's socket, and `Server` takes two streams. `start_front`
-starts a front with its server, and `monitor` reads all that the server of a front writes. A method of a `Session` is a
-command of the protocol: it returns the value of the reply, or raises `Refused` with the code. The commands, with
+`start` starts a server, `inside` opens one in this program by the library libmetad, `connect` reaches one through a front's
+socket, and `Server` takes two streams. `start_front` starts a front with its server, and `monitor` reads all that the server of
+a front writes. A method of a `Session` is a command of the protocol: it returns the value of the reply, or raises `Refused` with the code. The commands, with
 every code and limit, are in docs/PROTOCOL.md. The server checks commands: it refuses an invalid name, the number of an
 object that is not there, and a line that is too long. Values that no command can take, as bytes and
 NaN, raise `NoValue`, and are not sent.
@@ -45,6 +45,7 @@ from .errors import (
     Ambiguous,
     ClassFileRefused,
     ConnectionClosed,
+    LibraryMissing,
     LinesLost,
     MetadError,
     NoMonitors,
@@ -60,8 +61,10 @@ from .errors import (
     SessionLost,
     StrangeLine,
 )
+from .expressions import Expression, choose, concat, constant, prop
 from .fronts import Front, start_front
 from .hearing import Listener, OnCall, OnSpun, OnWarning
+from .inside import inside
 from .lines import NOBODY, Call, Meta, Spun, Status, Value, Warned
 from .monitors import Monitor, monitor
 from .programs import Word
@@ -86,10 +89,12 @@ __all__ = [
     "ConnectionClosed",
     "ConnectionInfo",
     "DeclaredInfo",
+    "Expression",
     "Front",
     "FunctorInfo",
     "Heard",
     "JoinInfo",
+    "LibraryMissing",
     "LinesLost",
     "Listener",
     "MEANINGS",
@@ -131,9 +136,14 @@ __all__ = [
     "Warned",
     "Word",
     "advice_on",
+    "choose",
+    "concat",
     "connect",
+    "constant",
+    "inside",
     "meaning_of",
     "monitor",
+    "prop",
     "start",
     "start_front",
     "wait_for",

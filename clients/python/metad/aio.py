@@ -13,7 +13,7 @@
 
 Callbacks are plain functions. They are called in the thread of the event loop, by the task that waits for an answer,
 before it gets that; they may `send` commands and make tasks, and cannot wait for answers. In a live session, which a
-front offers, a task of the server calls them as lines come, also while nobody waits. A task that is cancelled while it
+front offers, a task of the server calls them as lines come, also while no task waits. A task that is cancelled while it
 waits leaves its command under way. Objects by their names are in `aio_proxies`, and reached from here too.
 """
 
@@ -38,9 +38,10 @@ from .errors import ClassFileRefused, NotAnswered, OtherSession, Refused
 from .finding import proxies_of
 from .hearing import Hearing, OnCall, OnWarning
 from .holding import START_SECONDS, Holder, class_words
-from .lines import Value, command_line
-from .pairing import Answer
-from .pending import BasePending, reply_of
+from .inside import TURNS, opened
+from .lines import Value
+from .pairing import Answer, reply_of
+from .pending import BasePending
 from .programs import ProgramConnection, Word
 from .reaching import Making
 from .session_commands import Awaiting
@@ -64,6 +65,7 @@ __all__ = [
     "Session",
     "SignalSpy",
     "connect",
+    "inside",
     "monitor",
     "start",
     "wait_for",
@@ -77,11 +79,12 @@ class Pending(BasePending["Session"]):
     async def result(self) -> Value:
         """Waits for the answer; returns the value of the reply, or raises `Refused`.
 
-        All that came before the answer is told to callbacks first. It can be asked for again, after a wait that was
+        Callbacks first receive all that came before the answer. It can be asked for again, after a wait that was
         cancelled too, and says the same however often it is asked.
         """
         await came(self._answer)
-        return reply_of(self._asked, self._session.server.connection.settled(self._answer))
+        line = self._session.server.connection.settled(self._answer)
+        return reply_of(line, self._asked.do, self._asked.keys)
 
     def __await__(self) -> Generator[Any, None, Value]:
         return self.result().__await__()
@@ -117,7 +120,7 @@ class Session(Awaiting, Hearing):
         """Gives a command that was built by `metad.commands`, and waits for the reply."""
         pending = self._give(asked)
         if self.auto_spin and asked.do != "spin":
-            with suppress(Refused):  # the session has failed, which the command itself is told
+            with suppress(Refused):  # the session has failed, and the answer to the command itself says so
                 await self._give(commands.spin())
         return cast(Replied, await pending)
 
@@ -220,15 +223,11 @@ class Session(Awaiting, Hearing):
         self.server.connection.tell_before(answer)
 
     def _give(self, asked: Asked[Any]) -> Pending:
-        line = command_line(self.name, asked.do, asked.keys)
-        answer = Answer(self)
-        pending = Pending(self, asked, answer)
-        self.server.connection.give(answer, line)
-        return pending
+        return Pending.given(self, asked)
 
 
 class Server(Holder):
-    """A server, which belongs to one event loop. It is made by `start` and `connect`.
+    """A server, which belongs to one event loop. It is made by `start`, `inside` and `connect`.
 
     As an asynchronous context manager, a server is closed at the end. One that is not closed warns of that by a
     `ResourceWarning` when nobody holds it any more, and its input is ended then.
@@ -265,7 +264,7 @@ class Server(Holder):
         return session
 
     async def close(self) -> Optional[int]:
-        """Ends the server's input behind all that was given, and waits for its end where that can be seen; returns its
+        """Ends the server's input after all that was given, and waits for its end where that can be seen; returns its
         exit status where it was started here. Closing again does nothing more."""
         self._hang_up()
         await came(self.connection.closed())
@@ -305,13 +304,15 @@ async def _started(connection: ProgramConnection, answer: Answer, given: Sequenc
         raise
 
 
+async def inside(library: Optional[Word] = None, *, classes: Optional[Dict[str, Value]] = None, turns: int = TURNS) -> Server:
+    """Opens a server inside this program, as `metad.inside` does. The event loop waits while a command is done."""
+    connection = opened(library, classes, turns)
+    connection.open(is_heard=True)
+    return Server(connection)
+
+
 async def connect(
-    path: Word,
-    share: Optional[str] = None,
-    group: Optional[str] = None,
-    *,
-    live: Optional[bool] = None,
-    tls: Optional[Tls] = None,
+    path: Word, share: Optional[str] = None, group: Optional[str] = None, *, live: Optional[bool] = None, tls: Optional[Tls] = None
 ) -> Server:
     """Connects with a front, as `metad.connect` does. The event loop runs meanwhile."""
     making = Making(path, share, group, live, tls)

@@ -92,7 +92,7 @@ class Property:
 
     @property
     def value(self) -> Awaitable[Value]:
-        """Its value; None where there is none of this name."""
+        """Its value; None where no property has this name."""
         return self.get()
 
     async def get(self) -> Value:
@@ -126,7 +126,7 @@ class Connected:
         """The connection's number."""
 
     async def disconnect(self) -> bool:
-        """Breaks it; says whether it stood."""
+        """Breaks it; says whether it was still connected."""
         return bool(await self.session.disconnect(self.number))
 
 
@@ -139,7 +139,7 @@ class Heard(Connected):
         self._relay = relay
 
     async def disconnect(self) -> bool:
-        """Has the function called no more, and deletes its relay; says whether the connection stood."""
+        """Has the function called no more, and deletes its relay; says whether it was still connected."""
         self._listener.stop()
         stood = await super().disconnect() if self.number else True
         return await _deleted(self._relay) and stood
@@ -156,24 +156,13 @@ class Method(BaseMethod[Proxy]):
         """Sends the signal or calls the slot; with the type `queued` it is posted as an event, with a priority if one is given."""
         await self.owner.session.invoke(self.owner.number, self._of_count(len(args)), args, type=type, priority=priority)
 
-    async def emit(self, *args: Value, type: Optional[str] = None, priority: Optional[int] = None) -> None:
-        """Sends the signal, as a call does."""
-        await self(*args, type=type, priority=priority)
+    emit = __call__
+    """Sends the signal, as a call does."""
 
     async def connect(
-        self,
-        to: Any,
-        *,
-        via: Optional[Method] = None,
-        type: Optional[str] = None,
-        unique: Optional[bool] = None,
-        single: Optional[bool] = None,
+        self, to: Any, *, via: Optional[Method] = None, type: Optional[str] = None, unique: Optional[bool] = None, single: Optional[bool] = None
     ) -> Connected:
-        """Connects the signal to a method of an object, or has a function called with its arguments.
-
-        A function needs a slot whose calls are told: that of `Relay`, of which an object is made as a child of the
-        sender, or `via`. It is called for what this object sends through `via`, whichever of its signals that was.
-        """
+        """Connects the signal to a method of an object, or has a function called, as `metad.proxies.Method.connect` does."""
         how: Dict[str, Any] = {"type": type, "unique": unique, "single": single}
         if isinstance(to, Method):
             return Connected(self.owner.session, await self._connect(self._fit(to), how))
@@ -251,7 +240,7 @@ async def wait_for(signal: Method, timeout: Optional[float] = 5.0, via: Optional
     In a live session it waits for the line that reports the signal; in any other one it spins.
     """
     async with SignalSpy(signal, via) as spy:
-        if not await spy.wait(timeout):
+        if not spy and not await spy.wait(timeout):  # it may have been sent before the wait begins
             raise NotAnswered(f"{signal.name} was not sent in {timeout} seconds")
         return spy[0]
 

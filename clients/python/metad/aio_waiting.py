@@ -11,7 +11,7 @@ from .errors import Refused
 from .hearing import Follower
 from .lines import Call
 from .once import Once
-from .waiting import Patience
+from .waiting import Patience, news_of
 
 if TYPE_CHECKING:
     from .aio import Session
@@ -29,7 +29,7 @@ async def came(once: Once) -> None:
             future.set_result(None)
 
     def bell() -> None:
-        with suppress(RuntimeError):  # the loop was closed, and nobody waits any more
+        with suppress(RuntimeError):  # the loop was closed, and no task waits any more
             loop.call_soon_threadsafe(wake)
 
     once.ring(bell)
@@ -43,7 +43,7 @@ async def tell_on(connection: Connection) -> None:
     """Calls the callbacks of a live session as lines come, up to its end.
 
     An exception of a callback is given to the loop's exception handler, and so is the refusal by which a session stops being
-    live: nobody waits who could receive it.
+    live: no task is waiting that could receive it.
     """
     loop = asyncio.get_running_loop()
     while True:
@@ -62,16 +62,11 @@ async def tell_on(connection: Connection) -> None:
 
 
 async def wait_until(session: Session, is_done: Callable[[], Done], timeout: Optional[float]) -> Done:
-    """Waits until a function returns something true, and returns that; returns its last result if the time is over.
-
-    The function is called whenever the session may have received something. `ConnectionClosed` if nothing more can come.
-    """
+    """Awaits what `waiting.wait_until` waits for."""
     connection, patience = session.server.connection, Patience(timeout)
     while True:
-        news = connection.news()
-        if connection.is_live:
-            connection.tell()
-        else:
+        news, is_live = news_of(connection)
+        if not is_live:
             await session.spin()
         done = is_done()
         if done or patience.is_over():

@@ -7,13 +7,12 @@
 
 from __future__ import annotations
 
-from typing import TYPE_CHECKING, Any, Generic, Iterator, List, Optional, TypeVar, cast
+from typing import TYPE_CHECKING, Any, Generic, Iterator, List, Optional, TypeVar
 
 from .asking import Asked
 from .errors import MetadError, NotAnswered
 from .lines import Value, command_line
-from .pairing import Answer
-from .pending import reply_of
+from .pairing import Answer, reply_of
 from .session_commands import Batching
 from .streams import AT_ONCE
 
@@ -31,25 +30,25 @@ else:
 Replied = TypeVar("Replied")
 
 
-class Promised(Generic[Replied]):
+class Promised(Answer, Generic[Replied]):
     """The answer to a command of a batch. It is there when the block of the batch has ended."""
 
-    __slots__ = ("_batch", "_asked", "_answer")
-
-    def __init__(self, batch: BaseBatch[Any], asked: Asked[Replied], answer: Answer) -> None:
+    def __init__(self, batch: BaseBatch[Any], asked: Asked[Replied]) -> None:
+        self.asking = batch.session.receivers
         self._batch = batch
-        self._asked = asked
-        self._answer = answer
+        self._do, self._keys = asked.do, asked.keys
 
     def done(self) -> bool:
         """Whether the answer is there, or will not come any more."""
-        return self._batch.has_ended and self._answer.has_come()
+        return self._batch.has_ended and self._has_come
 
     def result(self) -> Replied:
         """The value of the reply, or raises `Refused`. `NotAnswered` before the block has ended."""
-        if not self.done():
-            raise NotAnswered(f"no answer to {self._asked.do} yet: a batch has its answers when its block has ended")
-        return cast(Replied, reply_of(self._asked, self._batch.session.server.connection.settled(self._answer)))
+        if not (self._batch.has_ended and self._has_come):
+            raise NotAnswered(f"no answer to {self._do} yet: a batch has its answers when its block has ended")
+        line = self._batch.session.server.connection.settled(self)
+        replied: Replied = reply_of(line, self._do, self._keys)
+        return replied
 
     def error(self) -> Optional[MetadError]:
         """What `result` raises; None where it returns a value."""
@@ -74,8 +73,7 @@ class BaseBatch(Batching, Generic[Sessions]):
         """Whether the block has ended."""
         self._timeout = timeout
         self._promised: List[Promised[Any]] = []
-        self._answers: List[Answer] = []  # of lines that were not given yet
-        self._lines: List[bytes] = []
+        self._lines: List[bytes] = []  # of the last commands, that were not given yet
         self._size = 0
 
     def __iter__(self) -> Iterator[Promised[Any]]:
@@ -93,9 +91,7 @@ class BaseBatch(Batching, Generic[Sessions]):
         line = command_line(self.session.name, asked.do, asked.keys)
         if self._size + len(line) > AT_ONCE:
             self._send()
-        answer = Answer(self.session)
-        promised = Promised(self, asked, answer)
-        self._answers.append(answer)
+        promised = Promised(self, asked)
         self._lines.append(line)
         self._size += len(line)
         self._promised.append(promised)
@@ -104,17 +100,17 @@ class BaseBatch(Batching, Generic[Sessions]):
     def _send(self) -> None:
         """Sends what was added, and takes what has come."""
         connection = self.session.server.connection
-        answers, text = tuple(self._answers), b"".join(self._lines)
-        self._answers, self._lines, self._size = [], [], 0
+        answers, text = tuple(self._promised[-len(self._lines) :]), b"".join(self._lines)
+        self._lines, self._size = [], 0
         connection.give_lines(answers, text)
         connection.look()
 
     def _end(self, error: Optional[BaseException]) -> Optional[Answer]:
         """Sends the rest; the answer that has to be waited for, if any."""
-        if self._answers:
+        if self._lines:
             self._send()
         self.has_ended = True
-        return self._promised[-1]._answer if self._promised and error is None else None
+        return self._promised[-1] if self._promised and error is None else None
 
 
 class Batch(BaseBatch["Session"]):

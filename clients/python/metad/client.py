@@ -19,8 +19,8 @@ from .finding import proxies_of
 from .hearing import Hearing, OnCall, OnWarning
 from .holding import START_SECONDS, Holder, class_words
 from .lines import Value, command_line
-from .pairing import Answer
-from .pending import BasePending, reply_of
+from .pairing import reply_of
+from .pending import BasePending
 from .programs import ProgramConnection, Word
 from .proxies import Heard, Method, Proxy, hear_post, wait_for
 from .reaching import SocketConnection
@@ -40,13 +40,13 @@ class Pending(BasePending["Session"]):
     def result(self, timeout: Optional[float] = None) -> Value:
         """Waits for the answer; returns the value of the reply, or raises `Refused`.
 
-        All that came before the answer is told to callbacks first. Where the answer does not come in so many seconds,
+        Callbacks first receive all that came before the answer. Where the answer does not come in so many seconds,
         it raises `NotAnswered`. After that, after an interrupt and after the exception of a callback the answer can be
         asked for again, and it says the same however often it is asked.
         """
         connection = self._session.server.connection
         line = connection.settle(self._answer, timeout, self._asked.do)
-        return reply_of(self._asked, line)
+        return reply_of(line, self._asked.do, self._asked.keys)
 
 
 class Session(Waiting, Hearing):
@@ -58,7 +58,7 @@ class Session(Waiting, Hearing):
 
     `on_call` and `on_warning` are called with a `Call` and a `Warned`, those that `on` was given with a `Call`, in the
     order of the server's lines. They are called by the thread that waits for an answer, before it gets that: so
-    what comes while nobody waits is delivered at the next wait. They may give commands themselves, and what comes before
+    what comes while no thread waits is delivered at the next wait. They may give commands themselves, and what comes before
     the answers to these is delivered within. An exception of a callback comes out of the call or `result` that was waiting;
     nothing else is lost by that.
 
@@ -66,8 +66,8 @@ class Session(Waiting, Hearing):
     asked receives it, whatever name a front has given to it. Behind a front all names of a connection are one session
     of the server: take one `Session` of it.
 
-    With `auto_spin` each command that waits, but for `spin`, is followed by one, which the server is given at once
-    behind it; the method returns when both are answered. So what the command has posted, and what other sessions have
+    With `auto_spin` each command that waits, except `spin`, is followed by one. The client sends it right after the
+    command, and the method returns when both are answered. So what the command has posted, and what other sessions have
     posted by then, is called before it returns. Commands of callbacks are followed by a spin when the callback has
     returned. It costs a line and no further wait. What other sessions post later waits for the next command, as the
     server tells nothing unasked. `send` spins nothing.
@@ -82,14 +82,14 @@ class Session(Waiting, Hearing):
         """The server that it is of."""
         self.auto_spin = False
         """Whether each command is followed by a `spin`; may be set at any time."""
-        self._spinning: Set[int] = set()  # the threads in which it spins by itself
+        self._spinning: Set[int] = set()  # the threads in which it spins automatically
         self._is_due = False
 
     def send(self, do: str, **keys: Value) -> Pending:
         """Sends a command by its word and its keys, and does not wait for the answer.
 
-        A key that is a word of Python has an underscore behind it, as in `send("new", class_="Probe")`. None is
-        JSON's null. A proxy stands for the number of its object. The server may be far behind: what was not written
+        A key that is a word of Python ends with an underscore, as in `send("new", class_="Probe")`. None is
+        JSON's null. A proxy stands for the number of its object. The server may lag far: what was not written
         yet, and what is not asked for yet, is kept in memory.
         """
         return self._give(Asked(do, **keys))
@@ -109,8 +109,8 @@ class Session(Waiting, Hearing):
             pending = self._give(asked)
             self._spin_on()
             return cast(Replied, pending.result())
-        line = command_line(self.name, asked.do, asked.keys)
-        replied: Replied = reply_of(asked, self.server.connection.ask(Answer(self), line, asked.do))
+        do, keys = asked.do, asked.keys
+        replied: Replied = self.server.connection.ask(self, command_line(self.name, do, keys), do, keys)
         return replied
 
     def reset(self) -> bool:
@@ -221,11 +221,7 @@ class Session(Waiting, Hearing):
             return cast(Result, stop.value)
 
     def _give(self, asked: Asked[Any]) -> Pending:
-        line = command_line(self.name, asked.do, asked.keys)
-        answer = Answer(self)
-        pending = Pending(self, asked, answer)
-        self.server.connection.give(answer, line)
-        return pending
+        return Pending.given(self, asked)
 
     def _spin_on(self) -> None:
         """Spins, and again for the commands that callbacks give meanwhile; within a callback, when that has ended."""
@@ -245,14 +241,14 @@ class Session(Waiting, Hearing):
         try:
             pending.result()
         except Refused:
-            pass  # the session has failed, which the command itself is told
+            pass  # the session has failed, and the answer to the command itself says so
 
 
 class Server(Holder):
     """A server, reached by a stream of its output and a stream to its input.
 
-    It may be used from several threads, which wait side by side. Callbacks are told one at a time over all threads: one
-    that is told may give commands, and must not wait for another thread that waits for an answer.
+    It may be used from several threads, which wait side by side. Callbacks run one at a time over all threads: one
+    that runs may give commands, and must not wait for another thread that waits for an answer.
 
     Whoever waits for an answer reads what the server writes, also for others that wait. Commands never wait for answers that
     nobody has asked for yet: where the server does not take a command at once, threads write and read until all is
@@ -270,7 +266,7 @@ class Server(Holder):
 
     @classmethod
     def of(cls, connection: Connection) -> Server:
-        """The server behind a connection that is open."""
+        """The server at the other end of an open connection."""
         server = cls.__new__(cls)
         server._begin(connection)
         return server
@@ -303,7 +299,7 @@ class Server(Holder):
         return session
 
     def close(self, timeout: Optional[float] = None) -> Optional[int]:
-        """Ends the server's input behind all that was given, and waits for its end where that can be seen; returns its
+        """Ends the server's input after all that was given, and waits for its end where that can be seen; returns its
         exit status where it was started here.
 
         Answers that have come by then can still be asked for. Closing again does nothing more. Where the end does not
@@ -343,12 +339,7 @@ def start(
 
 
 def connect(
-    path: Word,
-    share: Optional[str] = None,
-    group: Optional[str] = None,
-    *,
-    live: Optional[bool] = None,
-    tls: Optional[Tls] = None,
+    path: Word, share: Optional[str] = None, group: Optional[str] = None, *, live: Optional[bool] = None, tls: Optional[Tls] = None
 ) -> Server:
     """Connects with a front: with the path of its Unix-domain socket, with `tls://HOST:PORT`, or with `tcp://HOST:PORT` on the
     same machine. It raises `OSError` if nobody listens there, or if a certificate is not accepted. `tls` has the files that

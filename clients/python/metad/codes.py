@@ -46,7 +46,7 @@ BINDING_ERRORS = {
     "BindingLoop": "the value of the property depends on itself",
     "EvaluationError": "the binding of the property has no value",
 }
-"""What the errors of properties mean, of which warnings tell."""
+"""What the errors of properties mean. Warnings report them."""
 
 
 def meaning_of(code: str) -> str:

@@ -53,10 +53,7 @@ def children(object: Optional[int] = None) -> Asked[List[int]]:
 
 
 def find(object: int, name: Optional[str] = None, class_: Optional[str] = None) -> Asked[Optional[int]]:
-    """Finds the first object below another one with this `objectName` and class.
-
-    Returns the number of the object that is found, or None.
-    """
+    """Finds the first object below another one by `objectName` and class. Returns the number, or None."""
     return Asked("find", object=object, **given(name=name, class_=class_))
 
 
@@ -86,10 +83,7 @@ def unbind(object: int, property: str) -> Asked[bool]:
 
 
 def binding_error(object: int, property: str) -> Asked[Optional[str]]:
-    """Shows whether a property is in error.
-
-    Returns `BindingLoop`, `EvaluationError`, or None if the property is not in error.
-    """
+    """Shows whether a property is in error. Returns `BindingLoop`, `EvaluationError` or None."""
     return Asked("bindingError", object=object, property=property)
 
 
@@ -207,10 +201,7 @@ def parent(object: int) -> Asked[Optional[int]]:
 
 
 def find_all(object: int, name: Optional[str] = None, class_: Optional[str] = None) -> Asked[List[int]]:
-    """Lists all objects below another one with this `objectName` and class, by depth.
-
-    Returns a list of object numbers.
-    """
+    """Lists all objects below another one by `objectName` and class, by depth. Returns a list of object numbers."""
     return Asked("findAll", object=object, **given(name=name, class_=class_))
 
 
@@ -244,10 +235,7 @@ def bindings(after: Optional[BindingInfo] = None) -> Asked[List[BindingInfo]]:
 
 
 def binding(object: int, property: str) -> Asked[Value]:
-    """Shows the expression that a property is bound to.
-
-    Returns the expression that the property is bound to; None if it is not bound.
-    """
+    """Shows the expression that a property is bound to. Returns the expression as bound; None if not bound."""
     return Asked("binding", object=object, property=property)
 
 

@@ -2,7 +2,7 @@
 
 Whoever waits for an answer reads: it takes what comes for others too, and they wait meanwhile. Nothing is read or written in
 the background, unless lines come unasked, as in a live session and with asyncio, or the streams are no files. Then one
-thread writes what is given, and another one reads. Two threads also do so while a server is far behind.
+thread writes what is given, and another one reads. Two threads also do so while a server lags far.
 
 Only the main thread of a program is interrupted by signals. What it changes here are calls that happen as a whole or not at
 all, see `pairing` and `streams`. So an interrupt may come at any moment, and takes no line and no answer from anybody.
@@ -18,16 +18,17 @@ from collections import deque
 from contextlib import suppress
 from functools import partial
 from itertools import chain
-from typing import IO, Callable, Deque, Dict, Optional, Sequence, Set
+from typing import IO, Callable, Deque, Dict, Optional, Sequence, Set, Tuple
 
 from .errors import ConnectionClosed, NotAnswered, SessionLost, StrangeLine
-from .lines import NO_COMMAND, Value, line_of
+from .hearing import Hearing
+from .lines import NO_COMMAND, Value, plain_reply
 from .once import Bell, Once
-from .pairing import COME, TRUE, Answer, Fault, Pairing
+from .pairing import Answer, Fault, Pairing, reply_of
 from .streams import AT_ONCE, SINK, Files, parts_of
 
 LOOK_SECONDS = 0.25
-"""After so long a thread that waits looks again. An interrupt may have come just before it was told to read."""
+"""After so long a thread that waits looks again. An interrupt may have come just before it was to read."""
 
 
 OPEN: Set[Connection] = set()
@@ -42,8 +43,8 @@ def start(name: str, work: Callable[[], object]) -> None:
 class Connection(Pairing):
     """Two streams, from a server and to it.
 
-    Where they are of a live session, a front gives `spin` by itself, and what comes of it comes unasked: `news` says
-    when, and `tell` tells it.
+    Where they are of a live session, a front gives `spin` automatically, and its results come unasked: `news` says
+    when, and `tell` tells them.
     """
 
     _ends_when_hung_up = False
@@ -54,6 +55,7 @@ class Connection(Pairing):
         self._reader = reader
         self._writer = writer
         self._files: Optional[Files] = None  # None where threads read and write all the time
+        self._at_once: Optional[Files] = None  # what is written by whoever gives a command, if no other one is under way
         self._unwritten: Deque[bytes] = deque()
         self._ticks: queue.SimpleQueue[bool] = queue.SimpleQueue()  # wakes the thread that writes; False at the end
         self._turns: Deque[Bell] = deque()  # of those that wait while another thread reads
@@ -70,57 +72,65 @@ class Connection(Pairing):
 
     def open(self, is_heard: bool = False) -> None:
         """Begins to write and to read: in the background where lines are heard as they come."""
+        self._at_once = Files.below(self._reader, self._writer)
         if not is_heard and not self.is_live:
-            self._files = Files.below(self._reader, self._writer)
+            self._files = self._at_once
         OPEN.add(self)
         if self._files is None:
             start("writer", self._write)
             start("reader", self._read)
 
     def give(self, answer: Answer, line: bytes) -> None:
-        """Has a line written behind those that were given before; its answer will come."""
+        """Has a line written after those that were given before; its answer will come."""
         self.give_lines((answer,), line)
 
     def give_lines(self, answers: Sequence[Answer], text: bytes) -> None:
         """Has several lines written, which a pipe takes at once, unless it is a single one."""
-        self.give_all(answers, (text,) if len(text) <= AT_ONCE or self._files is None else parts_of(text))
+        self.give_all(answers, (text,) if len(text) <= AT_ONCE or self._at_once is None else parts_of(text))
 
     def give_all(self, answers: Sequence[Answer], parts: Sequence[bytes]) -> None:
-        """Has the lines of commands written, in parts that a pipe takes at once."""
+        """Has the lines of commands written, in parts that a pipe takes at once. A single part is written at once if no other
+        command is under way, because the server takes it then."""
         if self._is_hung_up:
             self._refuse(answers)
             return
-        files = self._files
+        files = self._at_once
         with self._writing:
-            if files is not None and not self._under_way and not self._unwritten and not self._is_shut and len(parts) == 1:
-                self._write_first(files, answers, parts[0])
+            if files is not None and len(parts) == 1 and not (self._under_way or self._unwritten or self._is_shut):
+                try:
+                    SINK.extend(chain(map(self._under_way.extend, (answers,)), files.writing(parts[0])))
+                except OSError as error:
+                    self._give_up(error)
             else:
                 SINK.extend(chain(map(self._under_way.extend, (answers,)), map(self._unwritten.extend, (parts,))))
-                if files is None:
+                if self._files is None:
                     self._ticks.put(True)
                 else:
-                    self._write_on(files)
+                    self._write_on(self._files)
         if self._is_shut or self._fault is not None:
             self._refuse(answers)
 
-    def ask(self, answer: Answer, line: bytes, what: str) -> Dict[str, Value]:
-        """Has a line written and waits for its answer; the answer's line, or an exception where there is none.
+    def ask(self, session: Hearing, line: bytes, do: str, keys: Dict[str, Value]) -> Value:
+        """Gives the line of a session's command and waits; returns the value of the reply, or raises `Refused` or why no answer
+        comes.
 
-        It does what `give` and `settle` do, and in fewer steps where no other command is under way.
+        Where no other command is under way it takes a shorter way than `give` and `settle`: it writes the line, and reads one that
+        is a plain reply.
         """
-        files = self._files
+        files, answer = self._files, Answer(session)
         if files is None or self._under_way or len(line) > AT_ONCE:
             self.give(answer, line)
         else:
             self.give_all((answer,), (line,))
-            if not answer._has_come:
-                self._as_reader(files, answer, None, True)
-            if answer._has_come and answer.line is not None and not self._heard:
-                return answer.line
-        return self.settle(answer, None, what)
+            found = self._read_first(files, answer, session._ending)
+            if found is not None:
+                if self._heard:
+                    self.tell_before(answer)
+                return found[0]
+        return reply_of(self.settle(answer, None, do), do, keys)
 
     def settle(self, answer: Answer, timeout: Optional[float], what: str) -> Dict[str, Value]:
-        """Waits for an answer, and tells all that came before it; the line, or an exception where there is none."""
+        """Waits for an answer, and tells all that came before it; returns the line, or raises why no answer comes."""
         if not answer._has_come and not self.wait(answer, timeout):
             raise NotAnswered(f"no answer to {what} in {timeout} seconds")
         return self.settled(answer)
@@ -132,14 +142,14 @@ class Connection(Pairing):
         self.tell_before(answer)
 
     def hang_up(self) -> None:
-        """Ends the server's input behind all that was given. It does not wait for that."""
+        """Ends the server's input after all that was given. It does not wait for that."""
         self._is_hung_up = True
         self._ticks.put(False)
         if self._files is not None:
             self._write_on(self._files)
 
     def abandon(self) -> None:
-        """Hangs up where nobody waits for the end."""
+        """Hangs up where no caller waits for the end."""
         self.hang_up()
         if self._files is not None and not sys.is_finalizing():
             start("end", partial(self.wait, self.closed()))
@@ -175,18 +185,14 @@ class Connection(Pairing):
         if self._files is not None and not self._is_ending:
             self._as_reader(self._files, Once(), 0)
 
-    def _as_reader(self, files: Files, once: Once, until: Optional[float], is_first: bool = False) -> bool:
-        """Reads until something has come or the time is over, unless another thread reads; whether this one did. It reads only
-        one line if the answer to the first command is wanted."""
+    def _as_reader(self, files: Files, once: Once, until: Optional[float]) -> bool:
+        """Reads until something has come or the time is over, unless another thread reads; whether this one did."""
         is_mine = was_blocked = False
         try:
             is_mine = self._reading.acquire(False)
             if is_mine:
                 was_blocked, self._is_blocked = self._is_blocked, True
-                if is_first:
-                    self._read_reply(files, once)
-                else:
-                    self._read_until(files, once, until)
+                self._read_until(files, once, until)
         finally:
             if is_mine:
                 self._is_blocked = was_blocked
@@ -198,42 +204,57 @@ class Connection(Pairing):
             self.give(Answer(), NO_COMMAND)  # by a signal handler: what it has interrupted reads the answer, and looks again
         return is_mine
 
-    def _read_reply(self, files: Files, once: Once) -> None:
-        """Reads the answer to the only command under way, and takes it if it is a plain reply. The rest is left to
-        `_read_until`."""
-        if once._has_come or self._came or self._is_ending:
-            return
+    def _read_first(self, files: Files, answer: Answer, ending: Optional[str]) -> Optional[Tuple[Value, int]]:
+        """Reads the answer to the only command under way, without a limit. If it is a plain reply with this ending and nothing
+        else has come, it is taken, and its value returned. All else is left to `wait`."""
+        if self._is_blocked:
+            return None  # another thread reads, or a signal handler has interrupted this one while it reads
+        is_mine, found = False, None
         try:
-            text = files.only_line()
-            line = {} if text is None else line_of(text)
-            if text is None or "reply" not in line or "front" in line or self._since:
-                return
-            answer = self._under_way[0]
-        except (IndexError, OSError, StrangeLine):
-            return  # a signal handler has taken it, or it is read again
-        answer.line, answer.mark = line, next(self._numbers)
-        answer.name_session(line)
-        changes = map(self._under_way.remove, (answer,)), files.taking(text), map(setattr, (answer,), COME, TRUE)
-        try:
-            SINK.extend(chain(*changes))
-        except ValueError:
-            pass  # a signal handler has taken it meanwhile
-        if answer._bells:
-            answer.ring_all()
+            is_mine = self._reading.acquire(False)
+            if is_mine:
+                self._is_blocked = True  # from here on a signal handler that takes the answer writes something to be read
+                if not (answer._has_come or self._is_ending or self._since):
+                    found = self._take_first(files, answer, ending)
+        finally:
+            if is_mine:
+                self._is_blocked = False
+            try:
+                self._reading.release()
+            except RuntimeError:
+                pass  # another thread reads
+        return found
+
+    def _take_first(self, files: Files, answer: Answer, ending: Optional[str]) -> Optional[Tuple[Value, int]]:
+        """Takes the answer to the only command under way if it is a plain reply with this ending and nothing else has come; returns
+        its value. A signal handler may have taken the answer; it has told so by then, or the lines it has read are there."""
+        if self._came:
+            return None
+        text = files.first_text()
+        found = None if answer._has_come or self._came else plain_reply(text, ending)
+        if found is not None:
+            answer.mark, answer._has_come = next(self._numbers), True
+            try:
+                SINK.extend(chain(files.taking(text), map(self._under_way.remove, (answer,))))
+            except ValueError:
+                pass  # it was taken meanwhile
+            if answer._bells:
+                answer.ring_all()
+        return found
 
     def _read_until(self, files: Files, once: Once, until: Optional[float]) -> None:
         """Reads, and writes what could not be written at once, until something has come or the time is over."""
         if self._came:
             self._take_read(None)
+        is_kept = False  # whether another thread writes
         while not once._has_come and not self._is_ending:
             seconds = LOOK_SECONDS if until is None else min(until - time.monotonic(), LOOK_SECONDS)
-            is_writing = bool(self._unwritten) and not self._is_behind
+            is_writing = bool(self._unwritten) and not self._is_behind and not is_kept
             if files.wait(max(seconds, 0), is_writing):
                 self._take_read(files)
             elif seconds <= 0:
                 return
-            if is_writing:
-                self._write_on(files)
+            is_kept = is_writing and not self._write_as_reader(files)
 
     def _take_read(self, files: Optional[Files]) -> None:
         """Reads, if there is something to read, and takes what was read. At the end, and after a strange line, a thread ends the
@@ -277,14 +298,12 @@ class Connection(Pairing):
 
     # Writing.
 
-    def _write_first(self, files: Files, answers: Sequence[Answer], part: bytes) -> None:
-        """Gives a line, or some in one part, where no other is under way, so that the server takes it at once."""
-        try:
-            SINK.extend(chain(map(self._under_way.extend, (answers,)), files.writing(part)))
-        except OSError as error:
-            if error.errno is None:
-                raise  # by a signal handler
-            self._shut_down()  # the other side has gone, which the end of what it writes tells
+    def _give_up(self, error: OSError) -> None:
+        """Ends the input if the other side has gone, which the end of what it writes tells; raises what a signal handler has
+        raised."""
+        if error.errno is None:
+            raise error
+        self._shut_down()
 
     def _write_on(self, files: Files) -> None:
         """Writes what the server takes at once; threads do the rest."""
@@ -300,11 +319,24 @@ class Connection(Pairing):
             except IndexError:
                 pass  # a signal handler has written it
             except OSError as error:
-                if error.errno is None:
-                    raise  # by a signal handler
-                self._shut_down()  # the other side has gone, which the end of what it writes tells
+                self._give_up(error)
             if self._is_hung_up and not self._unwritten:
                 self._shut_down()
+
+    def _write_as_reader(self, files: Files) -> bool:
+        """Writes what the server takes at once, unless another thread writes; whether this one did. It waits for no other thread,
+        whose signal handler may wait for what this one reads."""
+        is_mine = False
+        try:
+            is_mine = self._writing.acquire(False)
+            if is_mine:
+                self._write_on(files)
+        finally:
+            try:
+                self._writing.release()
+            except RuntimeError:
+                pass  # another thread writes
+        return is_mine
 
     def _catch_up(self, files: Files) -> None:
         """Writes all that was given, while another thread reads until all is answered."""
@@ -379,7 +411,7 @@ class Connection(Pairing):
     # The end.
 
     def _read(self) -> None:
-        """Reads all that the server writes, and its end; a line without an end is none."""
+        """Reads all that the server writes, and its end; text after the last end of a line is dropped."""
         strange: Optional[Fault] = None
         try:
             for text in self._reader:

@@ -1,8 +1,8 @@
 """The contents of a session, as a text for people and as commands that make them in another session.
 
-`snapshot` reads the contents by commands that only read. It yields lists of them, each of which may be given at once, and is
-sent their replies. A snapshot leaves out the events in the queue and the number of lost ones, which no command replies, and
-the states of functors, which no command sets.
+`snapshot` reads the contents by commands that only read. It yields lists of them, and is sent their replies. The commands
+of a list may be given all at once. A snapshot leaves out the events in the queue, the number of lost ones and the changes that
+an open group holds back, which no command replies, and the states of functors, which no command sets.
 """
 
 from __future__ import annotations
@@ -218,8 +218,8 @@ def makings(shot: Snapshot, placed: Dict[int, Optional[int]]) -> Iterator[Dict[s
 
 
 def moves(shot: Snapshot, placed: Dict[int, Optional[int]]) -> Iterator[Dict[str, Value]]:
-    """Moves the other objects to their places: first the roots, each of which becomes the last one, then the objects below
-    them."""
+    """Moves the other objects to their places: first the roots, by making each the last one in order, then the objects
+    below them."""
     for number in shot.roots:
         if number not in placed:
             yield {"do": "setParent", "object": number, "parent": shot.roots[0]}

@@ -18,7 +18,7 @@ class MetadError(Exception):
 
 
 class Refused(MetadError):
-    """A command was refused, and has changed nothing (but for `E21`, see the protocol)."""
+    """A command was refused, and has changed nothing (except with `E21`, see the protocol)."""
 
     def __init__(self, do: str, code: str, keys: Optional[Dict[str, Any]] = None) -> None:
         super().__init__(do, code, keys)
@@ -27,7 +27,7 @@ class Refused(MetadError):
         self.code = code
         """The code of the refusal, as `E04`."""
         self.keys = {} if keys is None else keys
-        """The keys of the command, beside `do` and `session`."""
+        """The keys of the command, without `do` and `session`."""
         self.meaning = meaning_of(code)
         """What the code means."""
         self.advice = advice_on(code)
@@ -124,8 +124,12 @@ class ClassFileRefused(NotStarted):
         return printable(f"{super().__str__()}: {self.fault}" if self.fault else super().__str__())
 
 
+class LibraryMissing(MetadError, FileNotFoundError):
+    """There is no library by which a server can be opened in this program. Its text says where it was looked for."""
+
+
 class StrangeLine(MetadError):
-    """A line came that no server of this protocol writes. Nothing can be told from what comes behind it.
+    """A line came that no server of this protocol writes. What comes after it cannot be relied on.
 
     Commands that are under way, and later ones, end with it, and the server's input is ended.
     """
@@ -156,11 +160,11 @@ class NoMonitors(MetadError):
 
 
 class OtherSession(MetadError, ValueError):
-    """Objects of two sessions were to be tied to each other, of which each has numbers of its own."""
+    """Objects of two sessions were to be tied to each other, but each session has numbers of its own."""
 
 
 class NoRelay(MetadError):
-    """A function cannot be called for a signal: the server has no slot that would tell of it, see `with_relay`."""
+    """A function cannot be called for a signal: the server has no slot that would report it, see `with_relay`."""
 
 
 def printable(text: str) -> str:

@@ -125,14 +125,14 @@ class Front:
         return os.pread(self._errors.fileno(), SAID_MOST, 0)
 
     def _leave(self) -> None:
-        """Leaves nothing behind."""
+        """Removes all that it has made."""
         self._errors.close()
         self._room.cleanup()
 
 
 def front_words() -> List[Word]:
     """The words that start a front: one that is built or installed next to this package, or the one on the path."""
-    above = list(Path(__file__).resolve().parents)  # which Python 3.8 cannot cut by itself
+    above = list(Path(__file__).resolve().parents)  # a list, because Python 3.8 cannot slice `parents`
     beside = (folder / "bin" / "metad-front" for folder in above[3:5])
     return [next((str(it) for it in beside if it.is_file()), "metad-front")]
 

@@ -1,4 +1,4 @@
-"""What a session hears: calls of slots and functors, and warnings; and who is told of them."""
+"""What a session hears: calls of slots and functors, and warnings; and who receives them."""
 
 from __future__ import annotations
 
@@ -10,10 +10,10 @@ from weakref import ref
 from .lines import Call, Spun, Told, Warned
 
 OnCall = Callable[[Call], object]
-"""Is told of calls."""
+"""Receives calls."""
 
 OnWarning = Callable[[Warned], object]
-"""Is told of warnings."""
+"""Receives warnings."""
 
 OnSpun = Callable[[Spun], object]
 """Is called with the result of a `spin` of the front."""
@@ -23,7 +23,7 @@ Listening = Callable[..., object]
 
 
 class Listener:
-    """A function that is told of the calls of one slot of one object. It is made by `on` of a session."""
+    """A function that receives the calls of one slot of one object. It is made by `on` of a session."""
 
     def __init__(self, listeners: Listeners, object: int, method: str, told: OnCall) -> None:
         self._listeners = listeners
@@ -31,7 +31,7 @@ class Listener:
         self.told = told
 
     def stop(self) -> None:
-        """It is told no more. Stopping again does nothing."""
+        """It receives no more. Stopping again does nothing."""
         left = [it for it in self._listeners.get(self._of, []) if it is not self]
         if left:
             self._listeners[self._of] = left
@@ -60,7 +60,7 @@ class Follower:
 
 
 class Hearing:
-    """A session by its name, as far as it is told of something."""
+    """A session by its name, as a receiver of calls and warnings."""
 
     def __init__(self, name: str) -> None:
         self.name = name
@@ -73,17 +73,18 @@ class Hearing:
         self.on_warning: Optional[OnWarning] = None
         """Told of the session's warnings; may be set at any time."""
         self.on_spun: Optional[OnSpun] = None
-        """Is called, in a live session, with the result of each `spin` that the front gave by itself and that delivered
-        events; may be set at any time."""
+        """Is called, in a live session, with the result of each `spin` that the front gave automatically and that
+        delivered events; may be set at any time."""
         self.receivers: Tuple[ref[Hearing], ...] = (ref(self),)
         """This session, as the receiver of what its commands cause."""
+        self._ending: Optional[str] = None  # how replies to it end, once `known_as` is known
         self._listeners: Listeners = {}
         self._followers: Tuple[ref[Follower], ...] = ()
 
     def on(self, object: int, method: str, told: OnCall) -> Listener:
         """Has a function told of the calls of a slot of an object, or of a functor for it, until that is stopped.
 
-        The method is given as `meta` writes it, in its normal text. The function is told after `on_call`, and after
+        The method is given as `meta` writes it, in its normal text. The function is called after `on_call`, and after
         those that have listened for longer.
         """
         listener = Listener(self._listeners, index(object), method, told)
@@ -92,7 +93,7 @@ class Hearing:
         return listener
 
     def listening_to(self, what: Told) -> Sequence[Listening]:
-        """Who is to be told of a call or a warning, in this order."""
+        """Who receives a call or a warning, in this order."""
         if isinstance(what, Warned):
             return () if self.on_warning is None else (self.on_warning,)
         if not isinstance(what, Call):

@@ -41,7 +41,7 @@ class Holder:
         return self.connection.is_live
 
     def _hang_up(self) -> None:
-        """Ends the server's input behind all that was given."""
+        """Ends the server's input after all that was given."""
         self._is_closed = True
         self.connection.hang_up()
 

@@ -4,20 +4,19 @@ from __future__ import annotations
 
 import json
 from dataclasses import dataclass
-from operator import index
 from typing import Any, Callable, Dict, List, Optional, Tuple, TypedDict, Union, cast
 
 from .codes import meaning_of
 from .errors import StrangeLine
-from .values import LEAST, MOST, check_values
+from .values import LEAST, MOST, as_json, check_values
 
 Value = Any
 """Whatever JSON can say."""
 
 NOBODY = "-"
-"""The session of the answer to a line of which nobody can say whose it was."""
+"""The session of the answer to a line that cannot be attributed to any session."""
 
-ENCODER = json.JSONEncoder(ensure_ascii=False, separators=(",", ":"), default=index, allow_nan=False)
+ENCODER = json.JSONEncoder(ensure_ascii=False, separators=(",", ":"), default=as_json, allow_nan=False)
 scan = json.JSONDecoder().scan_once
 
 FORMS: Dict[Tuple[str, ...], str] = {}
@@ -73,7 +72,7 @@ class Spun(TypedDict):
 
 
 Told = Union[Call, Warned, Spun]
-"""The lines that a session receives besides answers: `Spun` for each `spin` that a front has given by itself."""
+"""The lines that a session receives besides answers: `Spun` for each `spin` that a front has given automatically."""
 
 
 class Status(TypedDict):
@@ -105,8 +104,8 @@ Meta = TypedDict(
 
 
 def named(keys: Dict[str, Value]) -> Dict[str, Value]:
-    """The keys of a command by their names in the protocol: those that are words of Python have an underscore behind
-    them in Python."""
+    """The keys of a command by their names in the protocol: in Python, those that are words of Python end with an
+    underscore."""
     if "_" not in "".join(keys):
         return keys
     return {key[:-1] if key[-1:] == "_" else key: value for key, value in keys.items()}
@@ -114,22 +113,23 @@ def named(keys: Dict[str, Value]) -> Dict[str, Value]:
 
 def command_line(session: str, do: str, keys: Dict[str, Value]) -> bytes:
     """The line of a command, in which a value that is no JSON and has an `__index__`, as a proxy, is that number.
-    `NoValue` where a value is none that a command can take."""
+    `NoValue` where a command cannot take a value."""
     if type(do) is not str:
         return any_command_line(session, do, keys)
-    written = []
+    written: List[Value] = []
     for value in keys.values():
         kind = type(value)
         if kind is str:
             written.append(quoted(value))
         elif kind is int and LEAST <= value <= MOST:
-            written.append(str(value))
+            written.append(value)
         else:
             return any_command_line(session, do, keys)
     form = FORMS.get((session, do, *keys))
     if form is None:
         form = form_of(session, do, keys)
-    return (form % (*written,)).encode("utf-8", "surrogatepass")
+    line = form % tuple(written)
+    return line.encode() if line.isascii() else line.encode("utf-8", "surrogatepass")
 
 
 def form_of(session: str, do: str, keys: Dict[str, Value]) -> str:
@@ -159,7 +159,7 @@ def encoder() -> Callable[[Value], str]:
     make = getattr(json.encoder, "c_make_encoder", None)
     if make is None:
         return ENCODER.encode
-    encode = make(None, index, json.encoder.encode_basestring, None, ":", ",", False, False, False)
+    encode = make(None, as_json, json.encoder.encode_basestring, None, ":", ",", False, False, False)
     return lambda value: "".join(encode(value, 0))
 
 
@@ -179,6 +179,30 @@ def line_of(text: bytes) -> Dict[str, Value]:
     return line
 
 
+REPLY = b'{"reply":'
+
+
+def ending_of(name: str) -> str:
+    """How a reply to the session of this name ends, after its value."""
+    return f',"session":{quoted(name)}}}\n'
+
+
+def plain_reply(text: bytes, ending: Optional[str]) -> Optional[Tuple[Value, int]]:
+    """The value of a reply, and where it ends, if a text is one reply with this ending and nothing else. Only the value is read,
+    because a server writes all replies in the same form."""
+    if text[:9] != REPLY:
+        return None
+    try:
+        whole = text.decode()
+        found: Tuple[Value, int] = scan(whole, 9)
+    except (ValueError, RecursionError, StopIteration):
+        return None
+    value, end = found
+    if whole[end:] != ending or (isinstance(value, (list, dict)) and "\n" in whole[:end]):
+        return None
+    return found
+
+
 def is_answer(line: Dict[str, Value]) -> bool:
     """Whether a line answers a command."""
     return "reply" in line or "error" in line
@@ -190,7 +214,7 @@ def is_of_front(line: Dict[str, Value]) -> bool:
 
 
 def spun_by(line: Dict[str, Value], text: bytes) -> Spun:
-    """The result of a `spin` that the front has given by itself."""
+    """The result of a `spin` that the front has given automatically."""
     spun = line.get("reply")
     if line["front"] != "spin" or not isinstance(spun, dict):
         raise StrangeLine(text)
@@ -198,7 +222,7 @@ def spun_by(line: Dict[str, Value], text: bytes) -> Spun:
 
 
 def told_by(line: Dict[str, Value], text: bytes) -> Optional[Told]:
-    """The call or warning that a line tells of; None of a line that is of another kind than these. A line that is a command
+    """The call or warning that a line reports; None for a line of another kind. A line that is a command
     comes from a program that repeats its input."""
     if "do" in line:
         raise StrangeLine(text)

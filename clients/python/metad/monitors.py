@@ -132,7 +132,7 @@ class Monitor:
             return line
 
     def _take_next(self) -> Optional[Dict[str, Value]]:
-        """The next line; None when there is none any more."""
+        """The next line; None when no more will come."""
         while True:
             line = self._arrived.take()
             if line is not None:
@@ -153,5 +153,5 @@ class Monitor:
 
 def monitor(path: Word, session: Optional[str] = None) -> Monitor:
     """Reads what is written by the server of a front whose `--monitor` is this path: for all sessions, or for one.
-    `OSError` where nobody listens there, and `Refused` where the name is none that a session has."""
+    `OSError` where nobody listens there, and `Refused` where no session can have this name."""
     return Monitor(path, session)

@@ -17,9 +17,9 @@ from sys import maxsize
 from typing import Callable, Deque, Dict, Iterable, List, Optional, Sequence, Tuple
 from weakref import ref
 
-from .errors import ConnectionClosed, MetadError, SessionLost, StrangeLine
+from .errors import ConnectionClosed, MetadError, Refused, SessionLost, StrangeLine
 from .hearing import Hearing, Listening
-from .lines import NOBODY, Told, Value, is_answer, is_of_front, line_of, scan, spun_by, told_by
+from .lines import NOBODY, Told, Value, ending_of, is_answer, is_of_front, line_of, named, scan, spun_by, told_by
 from .once import Once
 from .streams import SINK
 
@@ -38,6 +38,13 @@ Numbered = Tuple[int, bytes]
 """A line or a part of one that was read, with a number that grows."""
 
 
+def reply_of(line: Dict[str, Value], do: str, keys: Dict[str, Value]) -> Value:
+    """The value of a reply to a command; `Refused` where the line is an error."""
+    if "error" in line:
+        raise Refused(do, line["error"], named(keys))
+    return line["reply"]
+
+
 class Answer(Once):
     """The result of a command: a line, or a fault."""
 
@@ -52,9 +59,9 @@ class Answer(Once):
 
     def name_session(self, line: Dict[str, Value]) -> None:
         """Notes the name that a line has for the session that gave the command."""
-        session = self.asking[0]() if self.asking else None
-        if session is not None and line["session"] != NOBODY:
-            session.known_as = line["session"]
+        session, name = self.asking[0]() if self.asking else None, line["session"]
+        if session is not None and name != NOBODY and name != session.known_as:
+            session.known_as, session._ending = name, ending_of(name)
 
     def fail(self, fault: Fault) -> None:
         """Ends the command without an answer."""
@@ -91,11 +98,12 @@ class Event:
         listening(what)
 
 
-def is_plain(line: Value) -> bool:
-    """Whether this is a line that answers a command, and says nothing else."""
-    if type(line) is not dict or type(line.get("session")) is not str or "front" in line:
+def are_plain(lines: Sequence[Value]) -> bool:
+    """Whether all these lines answer commands, and say nothing else."""
+    try:
+        return all([len(it) == 2 and type(it["session"]) is str and ("reply" in it or it["error"] != LOST) for it in lines])
+    except (LookupError, TypeError):
         return False
-    return "reply" in line or line.get("error", LOST) != LOST
 
 
 class Pairing:
@@ -146,10 +154,12 @@ class Pairing:
 
     def settled(self, answer: Answer) -> Dict[str, Value]:
         """The line of an answer that has come, once all that came before it was delivered."""
-        self.tell_before(answer)
-        if answer.line is None:
+        if self._heard:
+            self.tell_before(answer)
+        line = answer.line
+        if line is None:
             raise answer.fault()
-        return answer.line
+        return line
 
     def tell_before(self, answer: Answer) -> None:
         """Tells all that came before an answer."""
@@ -200,11 +210,14 @@ class Pairing:
             read = scan((b"[" + b",".join([text for _, text in lines]) + b"]").decode(), 0)[0]
         except (ValueError, RecursionError, StopIteration, TypeError):
             return False
-        if len(read) != len(lines) or not all(map(is_plain, read)):
+        if len(read) != len(lines) or not are_plain(read):
             return False
+        asking, name = None, NOBODY
         for answer, line, (number, _) in zip(answers, read, lines):
             answer.line, answer.mark = line, number
-            answer.name_session(line)
+            if answer.asking is not asking or line["session"] != name:
+                asking, name = answer.asking, line["session"]
+                answer.name_session(line)
         taken = map(self._came.remove, lines), map(self._under_way.remove, answers)
         self._commit(*taken, map(setattr, answers, repeat("_has_come"), repeat(True)))
         for answer in answers:
@@ -259,7 +272,8 @@ class Pairing:
                 self._ring()
         else:
             self._commit(*taken, done)
-        answer.ring_all()
+        if answer._bells:
+            answer.ring_all()
 
     def _take_spun(self, came: Numbered, line: Dict[str, Value]) -> None:
         """Takes the answer to a `spin` of the front, which answers no command of this client. The lines before

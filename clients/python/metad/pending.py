@@ -2,21 +2,14 @@
 
 from __future__ import annotations
 
-from typing import Any, Dict, Generic, TypeVar
+from typing import Any, Generic, Type, TypeVar
 
 from .asking import Asked
-from .errors import Refused
-from .lines import Value, named
+from .lines import command_line
 from .pairing import Answer
 
 SessionKind = TypeVar("SessionKind")
-
-
-def reply_of(asked: Asked[Any], line: Dict[str, Value]) -> Value:
-    """The value of a reply; `Refused` where the line is an error."""
-    if "error" in line:
-        raise Refused(asked.do, line["error"], named(asked.keys))
-    return line["reply"]
+PendingKind = TypeVar("PendingKind", bound="BasePending[Any]")
 
 
 class BasePending(Generic[SessionKind]):
@@ -26,6 +19,14 @@ class BasePending(Generic[SessionKind]):
         self._session: Any = session
         self._asked = asked
         self._answer = answer
+
+    @classmethod
+    def given(cls: Type[PendingKind], session: Any, asked: Asked[Any]) -> PendingKind:
+        """Gives a command of a session; returns what will have its answer."""
+        line, answer = command_line(session.name, asked.do, asked.keys), Answer(session)
+        pending = cls(session, asked, answer)
+        session.server.connection.give(answer, line)
+        return pending
 
     def done(self) -> bool:
         """Whether the answer has come, or will not come any more. It does not wait, and tells nothing."""

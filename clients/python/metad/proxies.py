@@ -95,7 +95,7 @@ class Property:
 
     @property
     def value(self) -> Value:
-        """Its value; None where there is none of this name. Written, None takes a dynamic property away."""
+        """Its value; None where no property has this name. Writing None removes a dynamic property."""
         return self.get()
 
     @value.setter
@@ -133,7 +133,7 @@ class Connected:
         """The connection's number."""
 
     def disconnect(self) -> bool:
-        """Breaks it; says whether it stood."""
+        """Breaks it; says whether it was still connected."""
         return bool(self.session.disconnect(self.number))
 
 
@@ -146,7 +146,7 @@ class Heard(Connected):
         self._relay = relay
 
     def disconnect(self) -> bool:
-        """Has the function called no more, and deletes its relay; says whether the connection stood."""
+        """Has the function called no more, and deletes its relay; says whether it was still connected."""
         self._listener.stop()
         stood = super().disconnect() if self.number else True
         return _deleted(self._relay) and stood
@@ -163,23 +163,16 @@ class Method(BaseMethod[Proxy]):
         """Sends the signal or calls the slot; with the type `queued` it is posted as an event, with a priority if one is given."""
         self.owner.session.invoke(self.owner.number, self._of_count(len(args)), args, type=type, priority=priority)
 
-    def emit(self, *args: Value, type: Optional[str] = None, priority: Optional[int] = None) -> None:
-        """Sends the signal, as a call does."""
-        self(*args, type=type, priority=priority)
+    emit = __call__
+    """Sends the signal, as a call does."""
 
     def connect(
-        self,
-        to: Any,
-        *,
-        via: Optional[Method] = None,
-        type: Optional[str] = None,
-        unique: Optional[bool] = None,
-        single: Optional[bool] = None,
+        self, to: Any, *, via: Optional[Method] = None, type: Optional[str] = None, unique: Optional[bool] = None, single: Optional[bool] = None
     ) -> Connected:
         """Connects the signal to a method of an object, or has a function called with its arguments.
 
-        A function needs a slot whose calls are told: that of `Relay`, of which an object is made as a child of the
-        sender, or `via`. It is called for what this object sends through `via`, whichever of its signals that was.
+        A function needs a slot whose calls are reported: that of a `Relay`, made as a child of the sender, or `via`.
+        It is called for what this object sends through `via`, whichever of its signals that was.
         """
         how: Dict[str, Any] = {"type": type, "unique": unique, "single": single}
         if isinstance(to, Method):
@@ -248,7 +241,7 @@ def wait_for(signal: Method, timeout: Optional[float] = 5.0, via: Optional[Metho
     In a live session it waits for the line that reports the signal; in any other one it spins.
     """
     with SignalSpy(signal, via) as spy:
-        if not spy.wait(timeout):
+        if not spy and not spy.wait(timeout):  # it may have been sent before the wait begins
             raise NotAnswered(f"{signal.name} was not sent in {timeout} seconds")
         return spy[0]
 

@@ -1,7 +1,7 @@
 """Connections through the sockets of a front, and the requests to it before any command is given.
 
-The client asks a front for a live session: the front then gives `spin` by itself, and events come unasked. A front without
-live sessions refuses that and closes the connection, so the client makes a second one, which does not ask.
+The client asks a front for a live session: the front then gives `spin` automatically, and events come unasked. A front
+without live sessions refuses that and closes the connection, so the client makes a second one, which does not ask.
 """
 
 from __future__ import annotations
@@ -41,11 +41,7 @@ class Reached(NamedTuple):
 
 
 def reach(
-    connect: Connect,
-    share: Optional[str] = None,
-    group: Optional[str] = None,
-    live: Optional[bool] = None,
-    timeout: Optional[float] = None,
+    connect: Connect, share: Optional[str] = None, group: Optional[str] = None, live: Optional[bool] = None, timeout: Optional[float] = None
 ) -> Reached:
     """Connects with a front, and asks for a shared session or one of a group, if one is named, and for its events.
 
@@ -175,7 +171,7 @@ class Making(Once):
         return self._link
 
     def made(self) -> SocketConnection:
-        """The connection, once it has been made; or raises the reason why there is none."""
+        """The connection, once it has been made; or raises the reason why it could not be made."""
         if self._made is None:
             assert self._fault is not None
             raise self._fault

@@ -19,7 +19,7 @@ RELAY = "Relay"
 """The name of the class whose slots tell functions of signals."""
 
 HEAR = "hear"
-"""The name of its slots, of which there is one for each list of parameters."""
+"""The name of its slots. There is one slot for each list of parameters."""
 
 NO_COMMAND = "E02"
 """The code of a word that is no command of the server."""
@@ -46,7 +46,7 @@ def name_of(signature: str) -> str:
 
 
 def with_relay(classes: Dict[str, Value]) -> Dict[str, Value]:
-    """What a class file holds, and the class `Relay` behind it, by which functions are called for all its signals."""
+    """What a class file holds, followed by the class `Relay`, by which functions are called for all its signals."""
     signals = [it for described in classes["classes"] for it in described.get("signals", [])]
     lists = dict.fromkeys(_normal_types(it) for it in [*OF_QOBJECT, *signals])
     slots = [{"sig": f"{HEAR}({types})", "body": []} for types in lists]
@@ -81,7 +81,7 @@ class Shape:
         return cls(cast(Meta, {"class": described["class"], "properties": names, "methods": methods}))
 
     def fitting(self, which: str) -> Tuple[str, ...]:
-        """The signatures of the methods of a name, or of a signature; `Ambiguous` where there is none."""
+        """The signatures of the methods of a name, or of a signature; `Ambiguous` where no method fits."""
         fitting = tuple(it for it in self.methods.get(name_of(which), ()) if which in (it, name_of(it)))
         if not fitting:
             raise Ambiguous(f"{self.name} has no method {which}{meant(name_of(which), self.methods)}")
@@ -203,7 +203,7 @@ class BaseMethod(Generic[OwnerKind]):
 
 
 def calls_of(sender: int, told: Callable[..., object]) -> OnCall:
-    """What is told of the calls of a slot, and has a function called with the arguments of those that this sender sends."""
+    """A callback for the calls of a slot, which has a function called with the arguments of those that this sender sends."""
 
     def tell(call: Call) -> None:
         if call.sender == sender:

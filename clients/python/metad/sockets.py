@@ -24,11 +24,11 @@ ADVICE = {
     errno.EACCES: "the rights of the socket, or of its folder, keep this user out: see `--mode` of the front",
     errno.ENAMETOOLONG: "the path of a socket has at most 107 bytes: take a shorter one, or a relative one",
 }
-"""What to do where a socket cannot be reached, behind what the system says."""
+"""What to do where a socket cannot be reached, in addition to what the system says."""
 
 
 def connected(place: Union[str, PathLike[str]], tls: Optional[Tls] = None) -> Link:
-    """A connection with the socket at a path, or with `tls://HOST:PORT` or `tcp://HOST:PORT`. `OSError` where there is none,
+    """A connection with the socket at a path, or with `tls://HOST:PORT` or `tcp://HOST:PORT`. Where it fails, `OSError`
     with the path and advice."""
     name = fspath(place)
     found = ADDRESS.fullmatch(name)

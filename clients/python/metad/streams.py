@@ -94,7 +94,7 @@ class Files:
         end of the file."""
         try:
             if not self._read:
-                self._read.extend(map(*self._receive))
+                self._read.extend(self._receiving())
             if not self._read[0]:
                 return False
             came.extend(zip(numbers, chain.from_iterable(map(PARTS, map(POPLEFT, (self._read,))))))
@@ -102,17 +102,27 @@ class Files:
             pass  # a signal handler has read it
         return True
 
-    def only_line(self) -> Optional[bytes]:
-        """The line that has come, if it is all that has come; it waits for that without a limit. The line stays until
-        `taking` is gone through."""
-        if not self._read:
-            self._read.extend(map(*self._receive))
-        text = self._read[0]
-        return text if text.find(b"\n") == len(text) - 1 and text else None
+    def _receiving(self) -> Iterator[bytes]:
+        """What is read next, when it is gone through."""
+        return map(*self._receive)
 
-    def taking(self, line: bytes) -> Iterator[None]:
-        """Takes the only line that has come away, when it is gone through."""
-        return map(self._read.remove, (line,))
+    def first_text(self) -> bytes:
+        """What has come and was not taken yet; it waits for that without a limit. It is empty where it has to be read again. The
+        text stays until `taking` is gone through."""
+        try:
+            if not self._read:
+                self._read.extend(self._receiving())
+            return self._read[0]
+        except IndexError:
+            return b""  # a signal handler has taken it
+        except OSError as error:
+            if error.errno is None:
+                raise  # by a signal handler
+            return b""
+
+    def taking(self, text: bytes) -> Iterator[None]:
+        """Removes a text that has come, when it is gone through."""
+        return map(self._read.remove, (text,))
 
     def can_write(self) -> bool:
         """Whether `AT_ONCE` bytes can be written without waiting."""

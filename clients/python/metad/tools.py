@@ -18,14 +18,14 @@ CHECK_SECONDS = 10.0  # in which a class file has to be checked, else it is not 
 
 
 def tool_beside(name: str) -> Optional[str]:
-    """The tool of this name beside this package, as in a clone of the repository and where all is installed; None where
+    """The tool of this name next to this package, as in a clone of the repository and where all is installed; None where
     the package is alone."""
     beside = Path(__file__).resolve().parents[2] / name
     return str(beside) if beside.is_file() else None
 
 
 def check_words() -> Optional[List[str]]:
-    """The words that start the tool that checks class files; None where there is none."""
+    """The words that start the tool that checks class files; None where it is not found."""
     beside, on_path = tool_beside("check"), shutil.which("metad-check")
     if beside is not None and sys.executable:
         return [sys.executable, beside]

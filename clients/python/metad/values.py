@@ -7,6 +7,7 @@ from operator import index
 from typing import Any, Dict
 
 from .errors import SHOWN_MOST, NoValue
+from .expressions import Expression
 
 LEAST, MOST = -(2**63), 2**64 - 1  # of whole numbers
 LEVELS = 126  # of lists and dicts in one another: metad reads no more
@@ -34,6 +35,8 @@ def _check(do: str, key: str, value: Any, levels: int) -> None:
     elif isinstance(value, float):
         if not isfinite(value):
             raise refusal(do, key, f"{value} is no number of JSON")
+    elif isinstance(value, Expression):
+        _check(do, key, value.form, levels)
     elif isinstance(value, (list, tuple, dict)):
         if not levels:
             raise refusal(do, key, f"it has more than {LEVELS} levels of lists and dicts in one another")
@@ -65,6 +68,11 @@ def _check_held(do: str, key: str, value: Any, levels: int) -> None:
 def refusal(do: str, key: str, why: str) -> NoValue:
     """What is raised for a value at a key of a command."""
     return NoValue(f"{do} was not sent, because of the value of `{key}`: {why}; {ALLOWED}")
+
+
+def as_json(value: Any) -> Any:
+    """What JSON writes for a value that it does not know: the form of an expression, or the number of an object."""
+    return value.form if isinstance(value, Expression) else index(value)
 
 
 def shown(value: Any) -> str:

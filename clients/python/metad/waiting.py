@@ -7,11 +7,13 @@ server tells nothing unasked, so they spin, again and again, with pauses that gr
 from __future__ import annotations
 
 import time
-from typing import TYPE_CHECKING, Callable, Iterator, Optional, TypeVar
+from typing import TYPE_CHECKING, Callable, Iterator, Optional, Tuple, TypeVar
 
+from .connection import Connection
 from .errors import NotAnswered
 from .hearing import Follower
 from .lines import Call
+from .once import Once
 
 if TYPE_CHECKING:
     from .client import Session
@@ -44,6 +46,14 @@ class Patience:
         return pause if left is None else max(0, min(pause, left))
 
 
+def news_of(connection: Connection) -> Tuple[Once, bool]:
+    """What happens with the next news, and whether the session is live: then callbacks receive what has come by now."""
+    news, is_live = connection.news(), connection.is_live
+    if is_live:
+        connection.tell()
+    return news, is_live
+
+
 def wait_until(session: Session, is_done: Callable[[], Done], timeout: Optional[float]) -> Done:
     """Waits until a function returns something true, and returns that; returns its last result if the time is over.
 
@@ -51,10 +61,8 @@ def wait_until(session: Session, is_done: Callable[[], Done], timeout: Optional[
     """
     connection, patience = session.server.connection, Patience(timeout)
     while True:
-        news = connection.news()
-        if connection.is_live:
-            connection.tell()
-        else:
+        news, is_live = news_of(connection)
+        if not is_live:
             session.spin()
         done = is_done()
         if done or patience.is_over():

@@ -115,7 +115,7 @@ void ClassInfo::addMethods(const QVariantList &described, bool areSignals)
     }
 }
 
-/// Declares inherited signals again that tell of changes of the class's own properties: Qt 6.4 finds the NOTIFY signal of a
+/// Declares inherited signals again that report changes of the class's own properties: Qt 6.4 finds the NOTIFY signal of a
 /// property in the same class only, where that signal has a parameter.
 void ClassInfo::addNotifySignals(const QVariantList &described)
 {
@@ -203,7 +203,7 @@ void ClassInfo::build()
     m_built.d.extradata = nullptr;
 }
 
-/// Writes the rows of the methods, and behind these the types and the names of their parameters.
+/// Writes the rows of the methods, and after these the types and the names of their parameters.
 void ClassInfo::buildMethods(const QList<MethodInfo> &methods, Texts &texts)
 {
     uint parameters = headerSize + uint(methods.size()) * methodSize;

@@ -41,7 +41,7 @@ struct PropertyInfo {
 /// programs that were compiled with 6.4 keep running. `QMetaObjectBuilder` is private, and its binary interface changes.
 class ClassInfo {
 public:
-    /// Builds a class from the reply to `describe`, and its superclass, which is none for a direct subclass of QObject.
+    /// Builds a class from the reply to `describe`, and its superclass, which is null for a direct subclass of QObject.
     ClassInfo(const QVariantMap &described, std::shared_ptr<const ClassInfo> super);
 
     QByteArray name() const { return m_name; }
@@ -56,7 +56,7 @@ public:
     /// How many signals of one list of types there are at most: so many relays tell them apart.
     int relaysNeeded() const { return m_relaysNeeded; }
 
-    /// The number of a signal by its types and by how many earlier ones have these types; -1 where there is none.
+    /// The number of a signal by its types and by how many earlier ones have these types; -1 where no signal fits.
     int signalOf(const QByteArray &types, int relay) const { return m_signals.value({types, relay}, -1); }
 
     int methodOf(const QByteArray &signature) const;
@@ -84,7 +84,7 @@ private:
     std::vector<const QtPrivate::QMetaTypeInterface *> m_types;
 };
 
-/// The classes of a server, each of which is asked for once.
+/// The classes of a server. Each is asked for once.
 class Classes {
 public:
     using Ready = std::function<void(const std::shared_ptr<const ClassInfo> &info, const Error *error)>;

@@ -120,7 +120,7 @@ public:
     /// Replies an array of object numbers. It also takes `object`.
     Reply children(const QVariantMap &more = {}) const { return give("children", {}, more); }
 
-    /// Replies the number of the object that is found, or null. It also takes `name`, `class`.
+    /// Replies the number, or null. It also takes `name`, `class`.
     Reply find(Number object, const QVariantMap &more = {}) const { return give("find", {{QStringLiteral("object"), object}}, more); }
 
     /// Replies `true`; `false` if the class declares no such property or the value is null.
@@ -138,7 +138,7 @@ public:
     /// Replies whether it was bound.
     Reply unbind(Number object, const QString &property) const { return give("unbind", {{QStringLiteral("object"), object}, {QStringLiteral("property"), property}}); }
 
-    /// Replies `"BindingLoop"`, `"EvaluationError"`, or null if the property is not in error.
+    /// Replies `"BindingLoop"`, `"EvaluationError"` or null.
     Reply bindingError(Number object, const QString &property) const { return give("bindingError", {{QStringLiteral("object"), object}, {QStringLiteral("property"), property}}); }
 
     /// Replies how many groups are open now.
@@ -204,7 +204,7 @@ public:
     /// Replies an array of at most 1,000 bound properties. It also takes `after`.
     Reply bindings(const QVariantMap &more = {}) const { return give("bindings", {}, more); }
 
-    /// Replies the expression that the property is bound to; null if it is not bound.
+    /// Replies the expression as bound; null if not bound.
     Reply binding(Number object, const QString &property) const { return give("binding", {{QStringLiteral("object"), object}, {QStringLiteral("property"), property}}); }
 
     /// Replies an array of publications.

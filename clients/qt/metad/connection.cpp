@@ -186,7 +186,7 @@ void Connection::write(const QByteArray &line, const Answered &answered)
         arm();
 }
 
-/// Tells of a refusal as answers are told: after the caller has returned.
+/// Reports a refusal in the same way as answers: after the caller has returned.
 void Connection::refuse(const Answered &answered, const Error &error)
 {
     QMetaObject::invokeMethod(this, [answered, error] { answered(nullptr, &error); }, Qt::QueuedConnection);
@@ -287,7 +287,7 @@ Session *Connection::sessionOf(const QVariantMap &line) const
     return m_sessions.value(m_isFront ? QString() : line.value(QStringLiteral("session")).toString());
 }
 
-/// What a connection that ended is told as: by the front's own error, or by how the server ended.
+/// The error that reports the end of a connection: the front's own error, or how the server ended.
 Error Connection::gone() const
 {
     if (!m_fault.code().isEmpty())
@@ -302,7 +302,7 @@ Error Connection::gone() const
     return {QStringLiteral("ServerGone"), text};
 }
 
-/// Lets go of the device. A server ends by itself at the end of its input, so nobody waits for it.
+/// Drops the device. A server ends at the end of its input, so there is no need to wait for it.
 void Connection::leave()
 {
     if (!m_device)

@@ -3,9 +3,11 @@
 #include "relays.h"
 #include "session.h"
 
+#include <QCoreApplication>
 #include <QDynamicPropertyChangeEvent>
 #include <QMetaMethod>
 #include <QScopedValueRollback>
+#include <QSet>
 
 namespace Metad {
 
@@ -13,6 +15,8 @@ namespace {
 
 constexpr int ofQObjectMethods = 3; // destroyed(), objectNameChanged(QString) and deleteLater(), which QObject has here too
 constexpr int ofQObjectProperties = 1; // objectName
+
+const auto disconnected = QEvent::Type(QEvent::registerEventType()); // something no longer hears a signal
 
 int firstMethod()
 {
@@ -117,7 +121,7 @@ void DynamicObject::invoke(int method, void **argv)
     });
 }
 
-/// Sends a value of a property. Where no signal will tell of the change it is read back; a property of -1 is dynamic.
+/// Sends a value of a property. Where no signal will report the change it is read back; a property of -1 is dynamic.
 void DynamicObject::write(int property, const QString &name, const QVariant &value)
 {
     ask(text("set"), {{text("property"), name}, {text("value"), value}}, [this, property](const QVariant *, const Error *error) {
@@ -229,11 +233,25 @@ void DynamicObject::connectNotify(const QMetaMethod &signal)
                 + tr(" cannot be heard: the server has no class Relay with a slot for its types")});
 }
 
-void DynamicObject::disconnectNotify(const QMetaMethod &signal)
+/// Qt may call this with a lock held that its own functions take, as `isSignalConnected` does. So an event does the rest.
+void DynamicObject::disconnectNotify(const QMetaMethod &)
 {
-    const int method = signal.isValid() ? methodOf(signal) : -1;
-    if (method >= 0 && m_heard.value(method) && !isNotify(method) && !isSignalConnected(signal))
-        stop(method);
+    QCoreApplication::postEvent(this, new QEvent(disconnected));
+}
+
+/// Stops listening to the signals of the class that nobody hears any more.
+void DynamicObject::stopUnheard()
+{
+    QSet<int> heard;
+    for (int at = ofQObjectMethods; at < m_info->methods().size(); ++at) {
+        if (m_info->methods()[at].isSignal && isSignalConnected(metaObject()->method(at - ofQObjectMethods + firstMethod())))
+            heard.insert(m_info->methods()[at].sentAs);
+    }
+    for (int at = ofQObjectMethods; at < m_info->methods().size(); ++at) {
+        const int method = m_info->methods()[at].sentAs;
+        if (method >= 0 && m_heard.value(method) && !isNotify(method) && !heard.contains(method))
+            stop(method);
+    }
 }
 
 /// Connects a signal to a relay, where that is not done already; false where no relay takes its types.
@@ -256,6 +274,7 @@ bool DynamicObject::listen(int method)
             self->tell(*error);
         } else if (self && self->m_heard.contains(method)) {
             self->m_heard[method] = value->toUInt();
+            self->stopUnheard(); // whoever wanted to hear it may have gone meanwhile
         } else if (session && value) {
             session->ask(text("disconnect"), {{text("connection"), *value}}, [](const QVariant *, const Error *) {});
         }
@@ -276,6 +295,8 @@ bool DynamicObject::event(QEvent *event)
         const QByteArray name = static_cast<QDynamicPropertyChangeEvent *>(event)->propertyName();
         if (!name.startsWith("_q_"))
             write(-1, QString::fromUtf8(name), property(name.constData()));
+    } else if (event->type() == disconnected) {
+        stopUnheard();
     }
     return RemoteObject::event(event);
 }

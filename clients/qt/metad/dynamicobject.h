@@ -24,7 +24,7 @@ public:
     int qt_metacall(QMetaObject::Call call, int id, void **argv) override;
     Reply refresh() override;
 
-    /// Listens to the signals that tell of changes and of the end, and reads all values.
+    /// Listens to the signals that report changes and the end, and reads all values.
     void begin(const Ready &ready);
 
     /// A signal of these types has called a relay.
@@ -45,6 +45,7 @@ private:
     bool isNotify(int method) const;
     bool listen(int method);
     void stop(int method);
+    void stopUnheard();
     void load(const Ready &ready);
     void fill(const QVariantList &values);
     void apply(int property, const QVariant &value);

@@ -14,7 +14,7 @@ struct Emission {
     int waitsFor; // how many values of properties have to be there before
 };
 
-/// The signals of a session. One that tells of a property's change waits for the property's value, and those behind it wait too:
+/// The signals of a session. One that reports a property's change waits for the property's value, and later ones wait too:
 /// so a receiver that reads the property finds the value of now, and signals keep their order.
 class Emissions {
 public:

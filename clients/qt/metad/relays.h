@@ -1,8 +1,8 @@
 /// The objects of the server by whose slots the client hears signals. Not part of the public interface.
 ///
-/// A server tells of calls of slots, and of no signals. So each signal that is to be heard is connected to a slot `hear` that does
-/// nothing, of an object of the class `Relay`, as the Python client does it. A call has the sender's number; signals of one sender
-/// that have the same types are told apart by the relay that is called.
+/// A server reports calls of slots, but no signals. So each signal that is to be heard is connected to a slot `hear` that does
+/// nothing, of an object of the class `Relay`, as the Python client does it. A call has the sender's number; the relay that is
+/// called tells signals of one sender with the same types apart.
 #pragma once
 
 #include "error.h"
@@ -29,7 +29,7 @@ public:
     /// The number of a relay; 0 where the server has none that takes these types.
     quint32 numberOf(int relay, const QByteArray &types) const;
 
-    /// Which relay an object is; -1 where it is none.
+    /// Which relay an object is; -1 where it is not a relay.
     int relayOf(quint32 number) const { return int(m_numbers.indexOf(number)); }
 
     /// No object of the session is there any more.

@@ -14,8 +14,8 @@ class Session;
 /// Stands for an object of a server. It is made by `Session::create` and `Session::object`, as a child of the session.
 ///
 /// `metaObject()` has the members of the object's class, so `QObject::connect`, `QSignalSpy`, `QMetaObject::invokeMethod`,
-/// `property` and `setProperty` work with it. Calling a slot and setting a property send a command and return at once; what is
-/// refused is told by `refused`. A value is known here as the server has last told it.
+/// `property` and `setProperty` work with it. Calling a slot and setting a property send a command and return at once;
+/// `refused` reports what is refused. A value is known here as the server has last told it.
 ///
 /// `objectName` is that of the server, both ways. Deleting this object leaves the one of the server: `remove` deletes that.
 class RemoteObject : public QObject {
@@ -36,7 +36,7 @@ public:
     /// Sets a property, like `setProperty`, and tells what came of it. The value is not converted before.
     Reply set(const QString &property, const QVariant &value);
 
-    /// Reads all properties from the server again, for those that do not tell of their changes.
+    /// Reads all properties from the server again, for those without a signal for their changes.
     virtual Reply refresh() = 0;
 
     /// Deletes the object in the server, and all below it.

@@ -42,7 +42,7 @@ Reply Session::command(const QString &word, const QVariantMap &keys)
     return promise->future();
 }
 
-/// Gives a command. Its answer is told unless the session is destroyed before.
+/// Gives a command. The caller receives its answer unless the session is destroyed before.
 void Session::ask(const QString &word, const QVariantMap &keys, const Answered &answered)
 {
     QVariantMap line = keys;

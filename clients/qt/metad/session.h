@@ -72,7 +72,7 @@ signals:
     /// The front has given `spin` for this session, with this reply.
     void spun(const QVariantMap &reply);
 
-    /// Something failed that nobody waits for, such as the writing of a property, or the front's own `spin`.
+    /// Something failed that no caller waits for, such as the writing of a property, or the front's own `spin`.
     void failed(const Metad::Error &error);
 
 private:

@@ -9,8 +9,8 @@
 int main(int count, char **words)
 {
     QCoreApplication app(count, words);
-    const QMap<QString, QObject *(*)()> suites{{QStringLiteral("connections"), connectionTests}, {QStringLiteral("failures"), failureTests},
-        {QStringLiteral("json"), jsonTests}, {QStringLiteral("objects"), objectTests}, {QStringLiteral("sessions"), sessionTests}};
+    const QMap<QString, QObject *(*)()> suites{{QStringLiteral("connections"), connectionTests}, {QStringLiteral("expressions"), expressionTests},
+        {QStringLiteral("failures"), failureTests}, {QStringLiteral("json"), jsonTests}, {QStringLiteral("objects"), objectTests}, {QStringLiteral("sessions"), sessionTests}};
     QStringList given = app.arguments();
     const auto suite = suites.value(given.value(1));
     if (!suite) {

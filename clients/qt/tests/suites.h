@@ -4,6 +4,7 @@
 class QObject;
 
 QObject *connectionTests();
+QObject *expressionTests();
 QObject *failureTests();
 QObject *jsonTests();
 QObject *objectTests();

@@ -59,7 +59,7 @@ void ConnectionTests::givesEveryCommand_data()
         QTest::addRow("%s %s", row.word, row.required) << QString::fromLatin1(row.word) << bool(*row.required);
 }
 
-/// A command that lacks its keys is none; one that needs no keys is done.
+/// A command that lacks its keys is refused; one that needs no keys is done.
 void ConnectionTests::givesEveryCommand()
 {
     QFETCH(QString, word);

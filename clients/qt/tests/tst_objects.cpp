@@ -45,12 +45,14 @@ private slots:
     void hasOneName();
     void hasDynamicProperties();
     void tellsOfItsEnd();
+    void listenersMayGo();
     void leavesNoConnections();
     void mayBeDestroyedWhileSignalsWait();
     void connectsWithLocalObjects();
 
 private:
     RemoteObject *create(const char *className) { return wait(m_session->create(className)); }
+    int connections() { return wait(m_session->give().status()).toMap().value("connections").toInt(); }
 
     std::unique_ptr<Front> m_front;
     std::unique_ptr<Connection> m_client;
@@ -305,9 +307,20 @@ void ObjectTests::tellsOfItsEnd()
     QTRY_COMPARE_WITH_TIMEOUT(changed.size(), 1, patience);
 }
 
+/// Whoever hears a signal may be destroyed. Qt holds a lock of each meanwhile, one of 131, so some share that of the lamp.
+void ObjectTests::listenersMayGo()
+{
+    RemoteObject *lamp = create("Lamp");
+    const int first = connections();
+    std::vector<std::unique_ptr<QSignalSpy>> spies;
+    for (int it = 0; it < 300; ++it)
+        spies.push_back(std::make_unique<QSignalSpy>(lamp, SIGNAL(closed(int))));
+    spies.clear();
+    QTRY_COMPARE_WITH_TIMEOUT(connections(), first, patience);
+}
+
 void ObjectTests::leavesNoConnections()
 {
-    const auto connections = [this] { return wait(m_session->give().status()).toMap().value("connections").toInt(); };
     RemoteObject *lamp = create("Lamp");
     const quint32 number = lamp->number();
     const int first = connections();
@@ -316,7 +329,7 @@ void ObjectTests::leavesNoConnections()
     QSignalSpy closed(lamp, SIGNAL(closed(int)));
     QCOMPARE(connections(), first + 2);
     disconnect(lamp, SIGNAL(opened(int)), &order, nullptr);
-    QCOMPARE(connections(), first + 1);
+    QTRY_COMPARE_WITH_TIMEOUT(connections(), first + 1, patience);
     delete lamp;
     QCOMPARE(connections(), 0);
     RemoteObject *again = wait(m_session->object(number));
