@@ -2,6 +2,7 @@
 
 from __future__ import annotations
 
+from common.kinds import RANGES
 
 from .declaring import Declared
 from .findings import Findings, Mistake
@@ -10,13 +11,7 @@ from .signatures import Signature
 from .words import quoted
 
 TRUTH, NUMBER, TEXT = "truth", "number", "text"
-SORTS = {"bool": TRUTH, "QString": TEXT, **dict.fromkeys(("int", "uint", "qlonglong", "qulonglong"), NUMBER)}
-RANGES = {
-    "int": (-(2**31), 2**31 - 1),
-    "uint": (0, 2**32 - 1),
-    "qlonglong": (-(2**63), 2**63 - 1),
-    "qulonglong": (0, 2**64 - 1),
-}
+SORTS = {"bool": TRUTH, "QString": TEXT, **dict.fromkeys(RANGES, NUMBER)}
 TAKES = {"+": NUMBER, "-": NUMBER, "<": NUMBER, "cat": TEXT}
 GIVES = {"+": NUMBER, "-": NUMBER, "<": TRUTH, "=": TRUTH, "cat": TEXT}
 

@@ -2,15 +2,16 @@
 
 from __future__ import annotations
 
+import re
 from dataclasses import dataclass, field
 from typing import Any, Callable, Iterable, Iterator, Mapping
 
+from common.asked import Asked, all_named_in, word_of
+
 from . import reads
 from . import replies as said
-from .expressions import objects_of
 from .held import Holds, are, has, is_any, is_list, is_number, is_priority, is_text, is_true, is_truth, is_whole, json_object, or_null
-from .known_commands import KNOWN, LINE_BYTES, NAMES
-from .replies import Asked
+from .known_commands import KNOWN, LINE_BYTES
 from .words import ERRORS, misfit
 
 
@@ -160,7 +161,7 @@ REFUSED: dict[str, dict[str, str]] = {
 
 def form_of(word: str, required: Mapping[str, str], optional: Mapping[str, str], reply: str, codes: Iterable[str]) -> Form:
     """A form of a command, of whose keys and reply the kinds are given, and the codes for which it may be refused."""
-    name = f"said_of_{NAMES[word]}"
+    name = "said_of_" + re.sub("(?=[A-Z])", "_", word).lower()
     said_of = getattr(reads, name, None) or getattr(said, name)
     words = {**NO_CLASS, **(NO_PROPERTY if "property" in required else {}), **REFUSED.get(word, {})}
     keys = [{key: HOLDS[kind] for key, kind in kinds.items()} for kinds in (required, optional)]
@@ -184,8 +185,7 @@ class Command:
 
     @property
     def word(self) -> str:
-        word = self.asked.get("do")
-        return word if isinstance(word, str) else ""
+        return word_of(self.asked)
 
     def form(self) -> Form | None:
         """The form of it, or None where its word is not known here."""
@@ -194,14 +194,9 @@ class Command:
         fitting = [form for form in FORMS[self.word] if form.is_of(self.asked)]
         return fitting[0] if fitting else misfit()
 
-    def own_objects(self) -> list[int]:
-        """The numbers of the objects that it names, each once, except those that an expression reads."""
-        named = (self.asked.get(key, 0) for key in ("object", "parent", "sender", "receiver", "context"))
-        return sorted({it for it in named if is_number(it)})
-
     def objects(self) -> list[int]:
         """The numbers of all objects that it names, each once."""
-        return sorted({*self.own_objects(), *objects_of(self.asked.get("to"))})
+        return all_named_in(self.asked)
 
 
 def commands_in(file: Iterable[bytes]) -> Iterator[Command]:

@@ -4,20 +4,10 @@ from __future__ import annotations
 
 from typing import Any
 
-from .held import is_list, is_number, is_text
+from .held import is_number, is_text
 from .words import misfit, plain, shown
 
 OPERATORS = {"+": "+", "-": "-", "<": "<", "=": "=", "cat": "followed by"}
-
-
-def objects_of(form: Any) -> set[int]:
-    """The numbers of the objects that an expression reads, whatever else it is."""
-    if is_list(form):
-        return set().union(*map(objects_of, form))
-    if not isinstance(form, dict):
-        return set()
-    own: set[int] = {form["of"]} if "prop" in form and is_number(form.get("of")) else set()
-    return own.union(*(objects_of(form[key]) for key in (*OPERATORS, "if") if key in form))
 
 
 def spelled(form: Any) -> str:

@@ -7,7 +7,9 @@ import json
 import re
 from typing import Any, Callable, Dict, List, Mapping, Set, Tuple
 
+from . import held
 from .commands import FORMS
+from .held import are, is_list, is_priority, is_text, is_truth
 
 NAME = re.compile(r"[A-Za-z_][A-Za-z0-9_]{0,63}")
 NUMBER_MOST = 2**32 - 1
@@ -22,23 +24,7 @@ def is_name(value: Any) -> bool:
 
 
 def is_number(value: Any) -> bool:
-    return isinstance(value, int) and not isinstance(value, bool) and 1 <= value <= NUMBER_MOST
-
-
-def is_text(value: Any) -> bool:
-    return isinstance(value, str)
-
-
-def is_truth(value: Any) -> bool:
-    return isinstance(value, bool)
-
-
-def is_priority(value: Any) -> bool:
-    return isinstance(value, int) and not isinstance(value, bool) and -1 <= value <= 1
-
-
-def are_texts(value: Any) -> bool:
-    return isinstance(value, list) and all(map(is_text, value))
+    return held.is_number(value) and bool(value <= NUMBER_MOST)
 
 
 def is_place(value: Any) -> bool:
@@ -55,8 +41,8 @@ CHECKS: Dict[str, Check] = {
     **dict.fromkeys(("object", "parent", "sender", "receiver", "context", "connection"), A_NUMBER),
     **dict.fromkeys(("signal", "method"), A_TEXT),
     **dict.fromkeys(("on", "unique", "single"), A_TRUTH),
-    "args": ("an array", lambda value: isinstance(value, list)),
-    "types": ("an array of texts", are_texts),
+    "args": ("an array", is_list),
+    "types": ("an array of texts", are(is_text)),
     "type": ('"auto", "direct" or "queued"', lambda value: value in WAYS),
     "priority": ("-1, 0 or 1", is_priority),
 }

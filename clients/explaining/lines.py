@@ -5,11 +5,13 @@ from __future__ import annotations
 from dataclasses import dataclass
 from typing import Any, Callable, Collection, Dict, NoReturn
 
+from common.changes import LINE_CODES
+
 from . import replies
 from .commands import IS_META, IS_SPIN, IS_STATUS, Command
 from .faults import faults_in
 from .held import Holds, has, is_any, is_list, is_number, is_text, is_whole, json_object
-from .words import LINE_CODES, Misfit, arguments, coded, in_error, listed, misfit, plain, shown
+from .words import Misfit, arguments, coded, in_error, listed, misfit, plain, shown
 
 NO_SESSION = "-"  # what a line names where its command names no session
 NO_COMMAND, NO_OBJECT = "E02", "E04"
@@ -119,10 +121,7 @@ class Warned(Line):
         if self.warning == NO_TURNS:
             return f"{coded(self.warning)}, so what is still to be called is not called, and events stay where they are"
         refused = f"object {self.object}: an action of its slot or functor is refused, {coded(self.warning)}"
-        if self.warning == "E14":
-            nested = "or its signal is nested too deep and calls nothing"
-            return f"{refused}, {nested}"
-        return refused
+        return f"{refused}, or its signal is nested too deep and calls nothing" if self.warning == "E14" else refused
 
 
 @dataclass(frozen=True)

@@ -2,12 +2,12 @@
 
 from __future__ import annotations
 
-from typing import Any, Dict
+from typing import Any
+
+from common.asked import Asked
 
 from .expressions import spelled
 from .words import counted, listed, plain, shown
-
-Asked = Dict[str, Any]  # what a command holds at its keys
 
 
 def sought_by(asked: Asked) -> str:
@@ -50,7 +50,7 @@ def join_of(joined: Asked) -> str:
     return f"{plain(joined['name'])} of session {plain(joined['from'])}, {types}, by {plain(joined['method'])} of object {joined['object']}"
 
 
-def said_of_object_info(asked: Asked, reply: Any) -> str:
+def said_of_object(asked: Asked, reply: Any) -> str:
     place = "a root" if reply["parent"] is None else f"a child of object {reply['parent']}, on level {reply['level']}"
     children = f"{reply['children'] or 'no'} {'child' if reply['children'] == 1 else 'children'}"
     ways = f"{counted(reply['connectionsFrom'], 'connection')} from it and {counted(reply['connectionsTo'], 'connection')} to it"

@@ -4,11 +4,11 @@ from __future__ import annotations
 
 from typing import Any, Dict, Sequence
 
-from .expressions import spelled
-from .reads import Asked, sought_by
-from .words import arguments, counted, in_error, listed, misfit, plain, shown
+from common.asked import OBJECT_NAME, Asked
 
-OBJECT_NAME = "objectName"  # the property that every class declares
+from .expressions import spelled
+from .reads import sought_by
+from .words import arguments, counted, in_error, listed, misfit, plain, shown
 
 
 def said_of_new(asked: Asked, reply: Any) -> str:
@@ -39,9 +39,8 @@ def said_of_children(asked: Asked, reply: Any) -> str:
 
 
 def said_of_find(asked: Asked, reply: Any) -> str:
-    if reply is None:
-        return f"there is no object{sought_by(asked)} below object {asked['object']}"
-    return f"object {reply} is the first{sought_by(asked)} below object {asked['object']}"
+    first = "there is no object" if reply is None else f"object {reply} is the first"
+    return f"{first}{sought_by(asked)} below object {asked['object']}"
 
 
 # ---- properties ----
@@ -97,11 +96,11 @@ def said_of_binding_error(asked: Asked, reply: Any) -> str:
 
 
 def said_of_begin(asked: Asked, reply: Any) -> str:
-    return f"{groups(reply)}; no change of a property is told before the outermost ends"
+    return f"{groups(reply)}; changes of properties are announced when the outermost one ends"
 
 
 def said_of_end(asked: Asked, reply: Any) -> str:
-    return f"{groups(reply)}; {'what has changed is not told yet' if reply else 'what has changed within was told'}"
+    return f"{groups(reply)}; {'what has changed is announced when the outermost one ends' if reply else 'what had changed has been announced'}"
 
 
 def groups(number: int) -> str:

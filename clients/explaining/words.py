@@ -5,6 +5,8 @@ from __future__ import annotations
 import json
 from typing import Any, Iterable, NoReturn
 
+from common.objects import Misfit
+
 CODES = {
     "E01": "the line is no JSON, no UTF-8, or too long",
     "E02": "the line is JSON but no command: a key or a word is missing, unknown or not what it may be",
@@ -34,11 +36,6 @@ ERRORS = {
     "BindingLoop": "its value depends on itself, or on another one that does",
     "EvaluationError": "its binding has no value of its type, since what it reads is gone, does not fit or is in such an error",
 }
-LINE_CODES = ("E01", "E02", "E20", "E21")  # which say nothing of the objects that a command names
-
-
-class Misfit(Exception):
-    """A line that is no answer to the command that it stands for."""
 
 
 def misfit() -> NoReturn:

@@ -3,14 +3,13 @@
 from __future__ import annotations
 
 import json
-import re
 from typing import Any, Dict, FrozenSet
 
+from explaining.faults import is_name
 from explaining.held import is_deep
 from explaining.known_commands import LINE_BYTES as LINE_MOST
 from explaining.known_commands import READING
 
-NAME = re.compile(r"[A-Za-z_][A-Za-z0-9_]{0,63}")
 WRITING: Dict[str, FrozenSet[str]] = {
     "invoke": frozenset(("object", "method", "args", "type")),
     "set": frozenset(("object", "property", "value")),
@@ -20,7 +19,7 @@ ALL = {**READING, **WRITING}
 
 def is_session(name: object) -> bool:
     """Whether this is the name of a session."""
-    return isinstance(name, str) and NAME.fullmatch(name) is not None
+    return is_name(name)
 
 
 def is_allowed(command: object, may_ask: bool, may_write: bool) -> bool:

@@ -1,8 +1,8 @@
 """What has led to each call: the calls of a command within one another, and events with what has posted them.
 
 No line says why a call was made but by its sender. So the cause of a call is the innermost call before it, of those not
-known to have ended, that may have sent a signal of this sender which leads to the call by a connection; it is told by
-the bodies of the class file. An event is the first that is known to wait and to fit.
+known to have ended, that may have sent a signal of this sender which leads to the call by a connection. The bodies of
+the class file show which signals it may send. An event is the first that is known to wait and to fit.
 """
 
 from __future__ import annotations
@@ -10,10 +10,13 @@ from __future__ import annotations
 from itertools import islice
 from typing import Any, Dict, Iterable, Iterator, List, Optional, Set, Tuple
 
-from .classes import Classes, normal
+from common.asked import normal
+from common.values import UNKNOWN, Spot
+
+from .classes import Classes
 from .effects import Effect, Sending, Sent, count_of, of_call, of_command
 from .entries import Call, Emission, Entry
-from .session import UNKNOWN, Posting, Session, Spot
+from .session import Posting, Session
 
 LOOKED_AT = 2_000  # postings that are looked at for an event
 
@@ -104,7 +107,7 @@ class Trace:
 
     def candidates(self, frame: Frame, at: int, keys: Iterable[int]) -> Iterator[Tuple[int, int, Sent, bool]]:
         """The connections by which a call or the command may have made a call, one of each signal, with what was sent, and
-        whether the call stands where it would by the order of connections."""
+        whether the call is where the order of connections puts it."""
         signals = frame.signals(self.sending)
         late: Dict[Spot, int] = {}
         met: Set[Spot] = set()

@@ -4,11 +4,10 @@ from __future__ import annotations
 
 import json
 from dataclasses import dataclass, field
-from functools import lru_cache
 from pathlib import Path
 from typing import Any, Dict, List, Optional, Sequence, Tuple
 
-from checking.signatures import NoSignature, signature_of
+from common.asked import normal
 from explaining.slots import Refused, Slots
 
 DEMONSTRATION = Path(__file__).with_name("demonstration.json")
@@ -22,18 +21,9 @@ TURNS = "--turns"
 Body = List[Dict[str, Any]]
 
 
-@lru_cache(maxsize=4_096)
-def normal(text: str) -> str:
-    """The normal text of a signature; a text that is none as it is."""
-    try:
-        return signature_of(text).text()
-    except NoSignature:
-        return text
-
-
 @dataclass(frozen=True)
 class Property:
-    """A declared property, and the signal that tells of its changes."""
+    """A declared property, and the signal that reports its changes."""
 
     name: str
     kind: str
@@ -46,7 +36,7 @@ class Property:
 
 @dataclass
 class Class:
-    """What a class declares by itself."""
+    """What a class itself declares."""
 
     name: str
     above: Optional[str]

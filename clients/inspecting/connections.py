@@ -17,7 +17,7 @@ PASSED_MOST = 4 * 1024 * 1024
 
 
 class Connections:
-    """Counts the connections, of which there may be only so many."""
+    """Counts the connections, and allows only so many."""
 
     def __init__(self, most: int) -> None:
         self.places = threading.BoundedSemaphore(most)
@@ -31,7 +31,7 @@ class Connections:
         self.places.release()
 
     def refuse(self, link: socket.socket) -> None:
-        """Says that there is no room, and closes. Nobody waits for whoever is refused."""
+        """Says that there is no room, and closes. It never blocks on a browser that is refused."""
         with suppress(OSError):
             link.setblocking(False)
             with suppress(BlockingIOError):

@@ -4,12 +4,17 @@ from __future__ import annotations
 
 from typing import Any, Dict, Iterable, Iterator, List, NamedTuple, Optional, Set, Tuple
 
-from .classes import DELETE_LATER, DESTROYED, Body, Classes, normal
+from common.asked import normal
+from common.connections import Connection
+from common.following import target_of
+from common.values import UNKNOWN, Cell, Spot
+
+from .classes import DELETE_LATER, DESTROYED, Body, Classes
 from .entries import Call, Step
-from .session import UNKNOWN, Cell, Connection, Session, Spot
+from .session import Session
 
 DEPTH_MOST = 64  # of signals that call signals
-TELLING = ("bind", "unbind", "end")  # commands that tell of changes of properties
+TELLING = ("bind", "unbind", "end")  # commands that report changes of properties
 
 
 class Effect(NamedTuple):
@@ -31,7 +36,7 @@ class Sent(NamedTuple):
     args: Any
     is_sure: bool
     path: Tuple[Step, ...]
-    of: Optional[Spot] = None  # the property whose change it tells of, where it is sent by that alone
+    of: Optional[Spot] = None  # the property whose change it reports, where it is sent by that alone
 
 
 def value_of(form: Any, args: List[Any]) -> Any:
@@ -43,17 +48,6 @@ def value_of(form: Any, args: List[Any]) -> Any:
         if isinstance(at, int) and 0 <= at < len(args):
             return args[at]
     return UNKNOWN
-
-
-def target_of(target: Any, call: Call, session: Session) -> Optional[int]:
-    """The object that a target means, or None where it is not known."""
-    if target == "self":
-        return call.object
-    if target == "sender":
-        return call.sender or None
-    if isinstance(target, dict):
-        return session.objects.child(call.object, target.get("child", ""))
-    return target if isinstance(target, int) else None
 
 
 def effects_in(body: Body, call: Call, session: Session, is_sure: bool = True) -> Iterator[Effect]:
@@ -68,7 +62,7 @@ def effects_in(body: Body, call: Call, session: Session, is_sure: bool = True) -
 
 def effect_of(action: Dict[str, Any], call: Call, session: Session, is_sure: bool) -> Effect:
     """What one action does that is no choice."""
-    of = target_of(action.get("of", "self"), call, session)
+    of = target_of(action.get("of", "self"), call, session.objects)
     if "set" in action:
         return Effect("set", of, action["set"], value_of(action["to"], call.args), is_sure)
     if "emit" in action:
@@ -76,12 +70,12 @@ def effect_of(action: Dict[str, Any], call: Call, session: Session, is_sure: boo
         return Effect("emit", of, normal(action["emit"]), args, is_sure)
     for word in ("delete", "deleteLater"):
         if word in action:
-            return Effect(word, target_of(action[word], call, session), is_sure=is_sure)
+            return Effect(word, target_of(action[word], call, session.objects), is_sure=is_sure)
     if "connect" in action:
-        other = target_of(action.get("to"), call, session)
+        other = target_of(action.get("to"), call, session.objects)
         return Effect("connect", of, normal(action["connect"]), is_sure=is_sure, other=other, more=action)
     if "disconnect" in action:
-        other = target_of(action["to"], call, session) if "to" in action else None
+        other = target_of(action["to"], call, session.objects) if "to" in action else None
         return Effect("disconnect", of, is_sure=is_sure, other=other, more=action)
     if "block" in action:
         return Effect("block", of, value=action["block"], is_sure=is_sure)
@@ -97,7 +91,7 @@ def of_call(classes: Classes, session: Session, call: Call) -> Optional[List[Eff
 
 
 def of_command(classes: Classes, session: Session, asked: Dict[str, Any], is_done: bool) -> List[Effect]:
-    """What a command does by itself, beside the slots that it calls."""
+    """What a command itself does, without the slots that it calls."""
     word, number = asked.get("do"), asked.get("object")
     if not is_done or not isinstance(word, str):
         return []
@@ -114,7 +108,7 @@ def of_command(classes: Classes, session: Session, asked: Dict[str, Any], is_don
     return []
 
 
-Told = Tuple[Spot, Any, bool, Optional[Spot]]  # a signal, its arguments, whether it is sure, and of which property it tells
+Told = Tuple[Spot, Any, bool, Optional[Spot]]  # a signal, its arguments, whether it is sure, and the property it reports
 
 
 class Sending:
@@ -172,7 +166,7 @@ class Sending:
         return self.session.blocked.get(number, False) is not False
 
     def of_change(self, it: Effect) -> Iterator[Told]:
-        """What tells of a change of a property, and of those that are bound to it."""
+        """The signals that report a change of a property, and changes of those that are bound to it."""
         objects = [it.object] if it.object is not None else list(self.session.objects.classes)
         changed = [(number, it.name) for number in objects]
         for spot in changed:
@@ -182,20 +176,20 @@ class Sending:
             yield from self.notify(spot, UNKNOWN, False)
 
     def is_change(self, spot: Spot, value: Any) -> bool:
-        """Whether it is known that a value is another one than before, and that this is told."""
+        """Whether it is known that a value is another one than before, and that a signal reports it."""
         cell = cell_of(self.classes, self.session, spot)
         is_told = not self.session.groups and not self.is_held(spot[0])
         return is_told and value is not UNKNOWN and cell.is_sure and cell.value != value
 
     def notify(self, spot: Spot, value: Any, is_sure: bool) -> Iterator[Told]:
-        """The signal that tells of a property's change."""
+        """The signal that reports a property's change."""
         declared = self.classes.property(self.session.objects.classes.get(spot[0]), spot[1])
         if declared is not None and declared.notify is not None:
             args = [] if declared.notify.endswith("()") else [value]
             yield (spot[0], declared.notify), args, is_sure, spot
 
     def of_all(self) -> Iterator[Told]:
-        """What may tell of any property, as the end of a group does."""
+        """The signals that may report any property, as at the end of a group."""
         for number, class_name in self.session.objects.classes.items():
             for declared in self.classes.properties(class_name):
                 yield from self.notify((number, declared.name), UNKNOWN, False)

@@ -1,10 +1,12 @@
-"""Commands with what was told to them, as they are kept for the page."""
+"""Commands with their calls, warnings and replies, as they are kept for the page."""
 
 from __future__ import annotations
 
 from collections import deque
 from dataclasses import dataclass, field
 from typing import Any, Deque, Dict, List, Optional, Tuple
+
+from common.asked import word_of
 
 CALLS_MOST = 2_000  # calls of a command that are kept
 TEXT_MOST = 65_536  # bytes of a line that are kept
@@ -33,7 +35,7 @@ class Call:
 
 @dataclass(eq=False)
 class Warned:
-    """A warning, and behind how many calls it came."""
+    """A warning, and after how many calls it came."""
 
     code: str
     object: int
@@ -54,7 +56,7 @@ class Emission:
 
 @dataclass(eq=False)
 class Entry:
-    """A command, and what was told to it."""
+    """A command, and its calls, warnings and reply."""
 
     number: int
     session: str
@@ -77,8 +79,7 @@ class Entry:
     word: str = ""  # what it asks to do
 
     def __post_init__(self) -> None:
-        word = self.asked.get("do")
-        self.word = word if isinstance(word, str) else ""
+        self.word = word_of(self.asked)
 
     def emission_of(self, number: int, signal: str, call: int) -> Emission:
         """The newest emission of a signal by a call, or by the command; one that nothing was known of is known now."""
@@ -110,7 +111,7 @@ class Entries:
         return self.kept[0].number if self.kept else self.count + 1
 
     def get(self, number: int) -> Optional[Entry]:
-        """The command of this number, where it is kept. Numbers that were left out stand between those of others."""
+        """The command of this number, where it is kept. Between the kept numbers there are some that were left out."""
         low, high = 0, len(self.kept)
         while low < high:
             middle = (low + high) // 2

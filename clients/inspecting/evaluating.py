@@ -1,16 +1,18 @@
-"""What bindings come to, as far as that follows from values that are known for certain."""
+"""The values of bindings, as far as they follow from values that are known for certain."""
 
 from __future__ import annotations
 
 from typing import Any, Dict, List, Sequence, Tuple
 
+from common.kinds import RANGES
+from common.values import UNKNOWN, Cell, Spot
+
 from .classes import Classes, Property
 from .effects import cell_of
-from .session import UNKNOWN, Cell, Session, Spot
+from .session import Session
 
 LOOP, FAULT = "BindingLoop", "EvaluationError"
 TEXT_MOST = 4_096  # bytes of a text
-INTEGERS = {"int": (-(2**31), 2**31 - 1), "uint": (0, 2**32 - 1), "qlonglong": (-(2**63), 2**63 - 1), "qulonglong": (0, 2**64 - 1)}
 WHOLE = (-(2**63), 2**64 - 1)  # between which expressions are computed
 STEPS = 2_000  # expressions that are computed for a command
 STEPS_FOR_PAGE = 20_000  # and for one look at a session
@@ -35,8 +37,8 @@ def is_long(text: str) -> bool:
 
 def is_of_kind(value: Any, kind: str) -> bool:
     """Whether a property of this type may have a value."""
-    if kind in INTEGERS:
-        least, most = INTEGERS[kind]
+    if kind in RANGES:
+        least, most = RANGES[kind]
         return is_whole(value) and bool(least <= value <= most)
     return isinstance(value, bool) if kind == "bool" else isinstance(value, str) and not is_long(value)
 
@@ -127,7 +129,7 @@ def settle_doubted(classes: Classes, session: Session, entry: int) -> None:
 
 
 def settle_errors(classes: Classes, session: Session, entry: int) -> None:
-    """Finds out about all errors that may be over, also those of which more has become known since they were in doubt."""
+    """Finds out about all errors that may be over, also where more has become known since an error was in doubt."""
     settle(classes, session, entry, [spot for spot, cell in session.errors.items() if not cell.is_sure], STEPS_FOR_PAGE)
 
 

@@ -20,7 +20,7 @@ Ended = Callable[[Entry], None]
 
 
 class Asking:
-    """The commands that the inspector has asked for, each of which waits for its answer."""
+    """The commands that the inspector has asked for. Each waits for its answer."""
 
     def __init__(self, link: Optional[socket.socket]) -> None:
         self.link = link
@@ -30,7 +30,7 @@ class Asking:
         self.answers: Dict[int, Entry] = {}
 
     def ask(self, session: str, command: bytes) -> Optional[Entry]:
-        """Asks for a command in the name of a session; answers it with what was told to it, or None where that did not come.
+        """Asks for a command in the name of a session; answers it with the lines it received, or None where these did not come.
         The name is one of a session, and the command one line without its end."""
         if self.link is None:
             return None
@@ -104,7 +104,7 @@ class Feed:
             self.asking.answer(self.asked.pop(entry.number, 0), entry)
 
     def note(self, said: Dict[str, Any]) -> None:
-        """Takes what the front says by itself."""
+        """Takes what the front says unasked."""
         if "gone" in said:
             self.world.go(said["gone"])
         for number in said.get("refused", ()):

@@ -3,27 +3,13 @@
 from __future__ import annotations
 
 import json
-from typing import Any, Tuple
+from typing import Any
 
-from .session import Spot
+from common.values import reads_of
+
+__all__ = ["formula", "reads_of"]
 
 SIGNS = {"+": "+", "-": "−", "<": "<", "=": "=", "cat": "&"}
-
-
-def reads_of(form: Any, own: int) -> Tuple[Spot, ...]:
-    """The properties that an expression reads, each once, in the order in which they are written."""
-    found = {}
-    waiting = [form]
-    while waiting:
-        it = waiting.pop(0)
-        if isinstance(it, list):
-            waiting = it + waiting
-        elif isinstance(it, dict) and isinstance(it.get("prop"), str):
-            of = it.get("of", "self")
-            found[own if of == "self" else of, it["prop"]] = True
-        elif isinstance(it, dict) and "const" not in it:
-            waiting = list(it.values()) + waiting
-    return tuple(spot for spot in found if isinstance(spot[0], int))
 
 
 def formula(form: Any, own: int) -> str:

@@ -4,9 +4,11 @@ from __future__ import annotations
 
 from typing import Any, Dict, Hashable, Iterable, List, Mapping, Optional, Sequence, Set, Tuple, TypeVar
 
+from common.values import Spot
+
 from .forms import formula
 from .naming import label
-from .session import Session, Spot
+from .session import Session
 from .world import World
 
 NODES_MOST = 400  # that are drawn
@@ -16,15 +18,15 @@ Json = Dict[str, Any]
 
 
 def in_loops(reads: Mapping[Node, Sequence[Node]]) -> Set[Node]:
-    """The nodes that lead to themselves: what is left where those are taken away again and again that lead nowhere, or
-    that nothing leads to, and what lies between loops is sorted out by a walk from each."""
+    """The nodes that lead to themselves. Nodes that lead nowhere, or that nothing leads to, are removed until there are no
+    more; a walk from each node left sorts out what lies between loops."""
     left = {node: {it for it in ends if it in reads} for node, ends in reads.items()}
     left = without_ends(left)
     return {node for node in left if node in reached(left, left[node])}
 
 
 def without_ends(left: Dict[Node, Set[Node]]) -> Dict[Node, Set[Node]]:
-    """Takes away the nodes that lead nowhere, until there is none."""
+    """Removes the nodes that lead nowhere, until every node leads somewhere."""
     into: Dict[Node, List[Node]] = {}
     for node, ends in left.items():
         for it in ends:

@@ -1,4 +1,4 @@
-"""What the page is told of what has happened: commands, their calls within one another, emissions, and slots."""
+"""What the page receives about what has happened: commands, their calls within one another, emissions, and slots."""
 
 from __future__ import annotations
 
@@ -6,18 +6,18 @@ import json
 from dataclasses import dataclass
 from typing import Any, Dict, FrozenSet, Iterator, List, Optional
 
+from common.asked import OBJECT_KEYS
+from common.objects import Misfit
 from explaining.commands import Command
-from explaining.words import Misfit
+from explaining.lines import Error, Reply
 
 from .entries import Call, Entry
-from .learning import answer_of
 from .views import told
 from .world import NOBODY, World
 
 COUNT_MOST = 300
 LOOKED_AT = 20_000  # commands that are looked at for one answer
 TEXT_SHOWN = 200
-OBJECT_KEYS = ("object", "sender", "receiver", "context", "parent")
 
 Json = Dict[str, Any]
 
@@ -65,8 +65,9 @@ def meaning(entry: Entry) -> Optional[str]:
     """What the answer means, in words."""
     if entry.session == NOBODY or not entry.word:
         return None
+    answer = Reply(entry.session, entry.reply) if entry.error is None else Error(entry.session, entry.error)
     try:
-        said = answer_of(entry.session, entry).said_to(Command(entry.number, entry.raw, entry.asked))
+        said = answer.said_to(Command(entry.number, entry.raw, entry.asked))
     except (Misfit, KeyError, TypeError, ValueError, AttributeError):
         return None
     return said if len(said) <= TEXT_SHOWN else said[:TEXT_SHOWN] + " …"
@@ -90,7 +91,7 @@ def row(entry: Entry) -> Json:
 
 
 def newest(world: World, sought: Sought, before: Optional[int]) -> Iterator[Entry]:
-    """The commands that are sought, the newest first, behind which none is looked at any more."""
+    """The commands that are sought, the newest first; it looks at `LOOKED_AT` commands at most."""
     looked_at = 0
     for entry in reversed(world.entries.kept):
         if before is not None and entry.number >= before:
@@ -132,7 +133,7 @@ def call_row(number: int, call: Call) -> Json:
 
 
 def whole(world: World, number: int) -> Optional[Json]:
-    """A command with all that was told to it."""
+    """A command with all its calls, warnings and its reply."""
     entry = world.entries.get(number)
     if entry is None:
         return None

@@ -2,27 +2,22 @@
 
 from __future__ import annotations
 
-from typing import Any, Callable, Dict, Iterator, List, Set, Tuple
+from typing import Any, Dict, Iterator, List, Set, Tuple
 
-from explaining.commands import Command
-from explaining.held import is_number
-from explaining.knowledge import Knowledge
-from explaining.known_commands import NAMES
-from explaining.lines import Call as CallLine
-from explaining.lines import Error, Line, Reply
-from explaining.words import Misfit
+from common.asked import OBJECT_NAME, is_number, normal
+from common.changes import FAILING, Done, change
+from common.connections import Connection
+from common.heeding import Heeding
+from common.objects import Living, Misfit
+from common.values import UNKNOWN, Cell, Spot
+from explaining.known_commands import KNOWN
 
 from .chains import Trace
-from .classes import Classes, normal
+from .classes import Classes
 from .effects import Effect
 from .entries import Call, Entry
 from .evaluating import settle_doubted
-from .forms import reads_of
-from .session import UNKNOWN, Binding, Cell, Connection, Join, Living, Session, Spot
-from .told import BY_NAME
-
-FAILING = ("E20", "E21")
-OBJECT_NAME = "objectName"
+from .session import Session
 
 
 class Learning:
@@ -30,20 +25,12 @@ class Learning:
 
     def __init__(self, classes: Classes) -> None:
         self.classes = classes
-        self.knowledge = Knowledge(classes.slots)
-        self.by_name: Dict[str, Callable[[Session, Entry], None]] = {
-            "set": self.do_set, "get": self.do_get, "dynamic_names": self.do_dynamic_names, "bind": self.do_bind,
-            "unbind": self.do_unbind, "binding_error": self.do_binding_error, "connect": self.do_connect,
-            "connect_functor": self.do_connect, "disconnect": self.do_disconnect, "block": self.do_block,
-            "publish": self.do_publish, "unpublish": self.do_unpublish, "join": self.do_join, "leave": self.do_leave,
-            "status": self.do_status, "begin": self.do_group, "end": self.do_group,
-            **BY_NAME,
-        }  # fmt: skip
+        self.heeding = Heeding(classes)
 
     # ---- the command as a whole ----
 
     def trace(self, session: Session, entry: Entry) -> Trace:
-        """How the calls of a command have come about, as its session stood before it."""
+        """How the calls of a command have come about, by the state of its session before it."""
         trace = Trace(self.classes, session, entry)
         trace.run()
         if entry.error is None:
@@ -59,35 +46,26 @@ class Learning:
         if session.queued and (entry.calls or len(session.objects.classes) < had):
             session.is_queue_sure = False  # events go with the objects that they are for
         if entry.error in FAILING:
-            fail(session)
+            session.fail()
         elif entry.error is None and entry.word != "reset":
             self.know_rest(session, entry, trace)
         session.version += 1
 
     def know_objects(self, session: Session, entry: Entry) -> None:
-        """Learns which objects there are, and where they stand."""
-        know = self.knowledge
-        know.sessions[session.name] = session.objects
-        know.calls = [CallLine(session.name, it.call, it.object, it.sender, it.args) for it in entry.calls]
-        know.warned = {it.object for it in entry.warnings if it.object and not it.property}
-        command, line = Command(entry.number, entry.raw, entry.asked), answer_of(session.name, entry)
+        """Learns which objects there are, and their places."""
         try:
-            know.end(command, line)
+            change(session.objects, done_of(entry), self.classes.slots)
         except (Misfit, KeyError, TypeError, ValueError, AttributeError):
             session.objects = Living()
             session.objects.has_earlier, session.is_known = True, False
-            know.calls, know.warned = [], set()
-        know.sessions.pop(session.name, None)  # the session keeps what is known of its objects
         session.forget_gone()
 
     def know_rest(self, session: Session, entry: Entry, trace: Trace) -> None:
-        """Learns what the command has done beside that, and then what its calls have."""
-        learn = self.by_name.get(NAMES.get(entry.word, ""))
-        if learn:
-            try:
-                learn(session, entry)
-            except (KeyError, TypeError, ValueError, AttributeError):
-                session.is_known = False  # it was answered as a command, and is none that is known here
+        """Learns what else the command has done, and then what its calls have done."""
+        try:
+            self.heeding.heed(session, done_of(entry))
+        except (KeyError, TypeError, ValueError, AttributeError):
+            session.is_known = False  # it was answered as a command, but is not known here
         self.know_calls(session, entry, trace)
         settle_doubted(self.classes, session, entry.number)
         broken, are_all = trace.breaks()
@@ -119,12 +97,12 @@ class Learning:
             session.errors.pop(spot, None)
         for warning in entry.warnings:
             if warning.property:
-                is_one = entry.word not in ("spin", "delete")  # change, behind which no other one may have ended the error
+                is_one = entry.word not in ("spin", "delete")  # change, so no later one of this command has ended the error
                 is_sure = is_one and all(frame.effects == [] for frame in trace.frames[1:])
                 self.know_error(session, entry.number, (warning.object, warning.property), warning.code, is_sure)
 
     def know_error(self, session: Session, number: int, spot: Spot, code: str, is_sure: bool) -> None:
-        """A bound property is in an error, and has its default, at least when that is told. Its object may have gone since."""
+        """A bound property is in an error, and has its default, at least at the warning. Its object may have gone since."""
         if spot[0] not in session.objects.classes and not session.objects.has_earlier:
             return
         declared = self.classes.property(session.objects.classes.get(spot[0]), spot[1])
@@ -166,7 +144,7 @@ class Learning:
         return told
 
     def changed(self, entry: Entry, trace: Trace) -> Set[Spot]:
-        """The properties that certainly have another value now. One that was in error before is in none behind that:
+        """The properties that certainly have another value now. One that was in error before no longer is:
         otherwise it would have kept its default, or a warning of another error comes."""
         return {spot for call, spot in self.tellings(entry, trace) if call.is_only and call.is_traced}
 
@@ -189,152 +167,11 @@ class Learning:
             if spot[1] == OBJECT_NAME and is_sure and spot[0] in session.objects.classes:
                 session.objects.name(spot[0], known[-1])
 
-    # ---- properties and bindings ----
 
-    def do_set(self, session: Session, entry: Entry) -> None:
-        asked = entry.asked
-        spot, value = (asked["object"], asked["property"]), asked["value"]
-        if value is not None:
-            if entry.reply is True:
-                session.unbind(spot)
-            session.put(spot, value, entry.number)
-        elif self.classes.property(session.objects.classes.get(spot[0]), spot[1]) is None:
-            if session.objects.classes.get(spot[0]) in self.classes:
-                session.cells.pop(spot, None)
-            else:
-                session.doubt(spot)
-
-    def do_get(self, session: Session, entry: Entry) -> None:
-        spot = (entry.asked["object"], entry.asked["property"])
-        if entry.reply is None:
-            session.cells.pop(spot, None)
-        else:
-            session.put(spot, entry.reply, entry.number)
-        if entry.reply:
-            session.errors.pop(spot, None)  # in an error it would have the default of its type: 0, false or an empty text
-
-    def do_dynamic_names(self, session: Session, entry: Entry) -> None:
-        number, class_name = entry.asked["object"], session.objects.classes.get(entry.asked["object"])
-        for name in list(session.of_object.get(number, ())):
-            is_dynamic = class_name in self.classes and self.classes.property(class_name, name) is None
-            if is_dynamic and name not in entry.reply:
-                session.cells.pop((number, name), None)
-        for name in entry.reply:
-            if (number, name) not in session.cells:
-                session.put((number, name), UNKNOWN, entry.number, False)
-
-    def do_bind(self, session: Session, entry: Entry) -> None:
-        spot = (entry.asked["object"], entry.asked["property"])
-        session.bind(spot, Binding(entry.asked["to"], reads_of(entry.asked["to"], spot[0]), entry.number))
-        session.doubt(spot)
-        for it in session.depending([spot]):
-            session.doubt(it)
-
-    def do_unbind(self, session: Session, entry: Entry) -> None:
-        spot = (entry.asked["object"], entry.asked["property"])
-        for it in session.depending([spot]) - {spot} if entry.reply else ():
-            session.doubt(it)  # an error of it ends with its binding
-        session.unbind(spot)  # its value stays
-
-    def do_binding_error(self, session: Session, entry: Entry) -> None:
-        spot = (entry.asked["object"], entry.asked["property"])
-        if entry.reply is None:
-            session.errors.pop(spot, None)
-        else:
-            session.errors[spot] = Cell(entry.reply, entry.number, True)
-
-    def do_group(self, session: Session, entry: Entry) -> None:
-        session.groups = entry.reply
-        if entry.word == "begin" and entry.reply == 1:
-            session.errors_before = dict(session.errors)
-        if entry.word == "end" and not entry.reply:
-            session.bring_back_errors()
-            for spot in session.bindings:
-                session.doubt(spot)
-
-    # ---- connections ----
-
-    def do_connect(self, session: Session, entry: Entry) -> None:
-        asked, is_functor = entry.asked, entry.word == "connectFunctor"
-        receiver = asked["context"] if is_functor else asked["receiver"]
-        method = asked["functor"] if is_functor else normal(asked["method"])
-        how = (asked.get("type") == "queued", asked.get("single", False), is_functor)
-        session.add(Connection(entry.reply, asked["sender"], normal(asked["signal"]), receiver, method, *how, entry.number))
-        session.last_connection = entry.reply
-
-    def do_disconnect(self, session: Session, entry: Entry) -> None:
-        asked = entry.asked
-        if "connection" in asked:
-            key = session.by_number.get(asked["connection"])
-            if key is not None:
-                session.drop([key])
-            elif entry.reply:
-                session.are_connections_sure = False
-            return
-        signal, method = (None if key not in asked else normal(asked[key]) for key in ("signal", "method"))
-        found = session.matching(asked["sender"], signal, asked.get("receiver"), method)
-        session.are_connections_sure = session.are_connections_sure and len(found) == entry.reply
-        session.drop(found)
-
-    def do_block(self, session: Session, entry: Entry) -> None:
-        session.blocked[entry.asked["object"]] = entry.asked["on"]
-
-    def do_publish(self, session: Session, entry: Entry) -> None:
-        session.publications[entry.asked["name"]] = (entry.asked["object"], normal(entry.asked["signal"]))
-
-    def do_unpublish(self, session: Session, entry: Entry) -> None:
-        session.publications.pop(entry.asked["name"], None)
-
-    def do_join(self, session: Session, entry: Entry) -> None:
-        asked = entry.asked
-        types = tuple("".join(it.split()) for it in asked["types"])
-        session.joins.append(Join(asked["from"], asked["name"], types, asked["object"], normal(asked["method"])))
-
-    def do_leave(self, session: Session, entry: Entry) -> None:
-        asked = entry.asked
-        left = (asked["from"], asked["name"], asked["object"], normal(asked["method"]))
-        session.joins = [it for it in session.joins if (it.source, it.name, it.object, it.method) != left]
-
-    # ---- events and counts ----
-
-    def do_status(self, session: Session, entry: Entry) -> None:
-        counts = entry.reply
-        session.counts = {**counts, "entry": entry.number}
-        session.groups = counts.get("group", session.groups)
-        if not counts["connections"]:
-            session.drop(list(session.connections))
-            session.are_connections_sure = True
-        elif counts["connections"] != len(session.connections):
-            session.are_connections_sure = False
-
-
-def settle_queue(session: Session, entry: Entry) -> None:
-    """Learns how many events wait, where that is told."""
-    held = entry.reply if isinstance(entry.reply, dict) else {}
-    left = held.get("left" if entry.word == "spin" else "queued")
-    if entry.word in ("spin", "status") and isinstance(left, int):
-        session.queued, session.is_queue_sure = left, True
-        if not left:
-            session.postings.clear()
-
-
-def answer_of(name: str, entry: Entry) -> Line:
-    """The line that has ended a command, as what explains lines has it."""
-    return Reply(name, entry.reply) if entry.error is None else Error(name, entry.error)
-
-
-def fail(session: Session) -> None:
-    """A session has found no memory: all that it held is gone."""
-    session.drop(list(session.connections))
-    tables: List[Dict[Any, Any]] = [
-        session.cells, session.of_object, session.bindings, session.readers, session.errors, session.errors_before, session.publications,
-    ]  # fmt: skip
-    for table in tables:
-        table.clear()
-    session.loose.clear()
-    session.unread.clear()
-    session.joins, session.failed, session.queued, session.is_queue_sure = [], True, 0, True
-    session.postings.clear()
+def done_of(entry: Entry) -> Done:
+    """A command that has ended, as the model of sessions has it."""
+    warned = {it.object for it in entry.warnings if it.object and not it.property}
+    return Done(entry.asked, entry.reply, entry.error, entry.calls, warned, entry.word in KNOWN, entry.number)
 
 
 def know_connecting(session: Session, entry: Entry, it: Effect, is_sure: bool) -> None:

@@ -1,4 +1,4 @@
-"""What the inspector asks sessions by itself if it may, instead of showing that something is not known."""
+"""What the inspector asks sessions automatically if it may, instead of showing that something is not known."""
 
 from __future__ import annotations
 
@@ -7,18 +7,19 @@ import time
 from collections import deque
 from typing import Any, Callable, Deque, Dict, List, Optional, Set, Tuple
 
-from explaining.objects import ROOT
+from common.asked import OBJECT_NAME
+from common.objects import ROOT
+from common.told import ROOTS, WHOLE
+from common.values import UNKNOWN
 
 from .allowed import text_of
 from .described import unknown_in
 from .effects import cell_of
 from .entries import Entry
-from .session import UNKNOWN, Session
-from .told import ROOTS, WHOLE
+from .session import Session
 from .world import World
 
 MOST = 5  # commands in each second
-OBJECT_NAME = "objectName"
 NO_COMMAND = "E02"
 
 Json = Dict[str, Any]

@@ -33,7 +33,7 @@ class Refused(Exception):
 
 @dataclass(frozen=True)
 class Leave:
-    """What the page may do beside looking."""
+    """What the page may do in addition to looking."""
 
     ask: bool = False
     write: bool = False
@@ -78,7 +78,7 @@ class Pages:
         return self.replay.world if self.replay else self.own_world
 
     def news(self) -> Json:
-        """What is told of each moment."""
+        """What the page receives at each moment."""
         world = self.world
         with world.lock:
             return {**views.summary(world), **self.place()}
@@ -223,7 +223,7 @@ class Pages:
         raise Refused(403 if name in ("ask_tree", "look") else 404)
 
     def ask(self, session: str, command: Json) -> Json:
-        """Gives a command in the name of a session, where that is allowed, and answers with what was told to it."""
+        """Gives a command in the name of a session, where that is allowed, and answers with its calls, warnings and reply."""
         if not isinstance(command, dict):
             raise Refused(400)
         if not is_allowed(command, self.leave.ask, self.leave.write):

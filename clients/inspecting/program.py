@@ -7,11 +7,10 @@ import os
 import secrets
 import signal
 import socket
-import sys
 from contextlib import suppress
 from typing import List
 
-from common.ending import Stop
+from common.ending import Stop, complain
 from common.files import lines_of, opened
 from common.options import NAME, parser_of
 
@@ -56,7 +55,7 @@ def port(word: str) -> int:
 
 
 def show_live(feed: int, door: int) -> int:
-    """Shows the server of a front, which tells of it by a socket, until that ends."""
+    """Shows the server of a front, which reports it by a socket, until that ends."""
     with suppress(OSError):
         os.nice(NICENESS)
     link = socket.socket(fileno=feed)
@@ -84,7 +83,7 @@ def show_record(path: str, program: str, args: List[str], at: int) -> int:
     with bound(at) as door:
         pages = Pages(replay.world, Asking(None), Leave(), replay.words, replay)
         serve(door, token, pages)
-        say(f"shown at http://{HERE}:{door.getsockname()[1]}/{token}/")
+        complain(NAME, f"shown at http://{HERE}:{door.getsockname()[1]}/{token}/")
         with suppress(KeyboardInterrupt):
             while True:
                 signal.pause()
@@ -102,11 +101,6 @@ def bound(at: int) -> socket.socket:
         door.close()
         raise Stop(f"port {at} cannot be bound: {error.strerror or error}") from None
     return door
-
-
-def say(words: str) -> None:
-    if sys.stderr is not None:
-        print(f"{NAME}: {words}", file=sys.stderr, flush=True)
 
 
 def shown() -> int:
@@ -127,7 +121,7 @@ def main() -> int:
     try:
         return shown()
     except Stop as stop:
-        say(str(stop))
+        complain(NAME, str(stop))
     except KeyboardInterrupt:
         return 0
     return 1

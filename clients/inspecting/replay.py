@@ -73,7 +73,7 @@ class Replay:
             world.tell(line)
 
     def slice(self, name: str) -> FrozenSet[int]:
-        """The numbers of the lines that what a session is told depends on; all, where the program does not say it."""
+        """The numbers of the lines that a session's output depends on; all, where the program does not say it."""
         if name not in self.slices:
             try:
                 kept = self.run(f"--slice={name}")

@@ -7,8 +7,10 @@ from dataclasses import dataclass
 from itertools import islice
 from typing import Any, Callable, Dict, FrozenSet, Iterator, Optional, Tuple
 
+from common.values import UNKNOWN
+
 from .naming import in_order
-from .session import UNKNOWN, Session
+from .session import Session
 from .world import World
 
 KINDS = ("session", "object", "class", "name", "value", "publication")

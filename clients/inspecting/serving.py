@@ -22,9 +22,9 @@ PAGE = Path(__file__).with_name("page")
 KINDS = {".html": "text/html", ".css": "text/css", ".js": "text/javascript"}
 BODY_MOST = 65_536
 SECONDS_OF_NEWS = 0.2  # between two pieces of news, where there is any
-SECONDS_OF_QUIET = 5  # after which it is said that there is none
-SECONDS_TO_TAKE = 10  # in which a browser takes what it is told, or is let go
-NEWS_MOST = 32  # browsers that are told news at once
+SECONDS_OF_QUIET = 5  # after which it is said that nothing is new
+SECONDS_TO_TAKE = 10  # in which a browser takes what it receives, or is dropped
+NEWS_MOST = 32  # browsers that receive news at once
 CONNECTIONS_MOST = 6 * NEWS_MOST  # of all browsers together: as many as each of them opens
 SECONDS_TO_BEGIN = 5  # in which the first request of a connection has to come, whole and with the token
 SECONDS_OF_REST = 20  # in which each further one has to
@@ -106,7 +106,7 @@ class Handler(BaseHTTPRequestHandler):
         super().handle_one_request()
 
     def log_message(self, *_words: Any) -> None:
-        """Keeps no log, in which tokens would stand."""
+        """Keeps no log, because it would contain tokens."""
 
     def send_error(self, code: int, _message: Optional[str] = None, _explain: Optional[str] = None) -> None:
         """Refuses what is no request, and methods that there are not."""

@@ -4,9 +4,10 @@ from __future__ import annotations
 
 from typing import Any, Dict, Iterator, List, Optional, Tuple
 
+from common.values import UNKNOWN, Spot
+
 from .entries import Emission, Entry
 from .happened import Sought
-from .session import UNKNOWN, Spot
 from .views import told
 from .world import World
 

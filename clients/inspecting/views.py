@@ -1,11 +1,14 @@
-"""What the page is told, as JSON: of sessions, of trees, and of objects. What is not known is null, or said not to be."""
+"""What the page receives, as JSON: of sessions, of trees, and of objects. What is not known is null, or said not to be."""
 
 from __future__ import annotations
 
 from dataclasses import dataclass
 from typing import Any, Callable, Dict, List, Optional, Sequence, Set, Tuple
 
-from explaining.objects import ROOT
+from common.connections import Connection
+from common.objects import ROOT
+from common.told import ROOTS
+from common.values import UNKNOWN, Cell, Spot
 
 from . import described
 from .described import chain_of, properties_of
@@ -13,18 +16,17 @@ from .effects import cell_of
 from .evaluating import settle_errors
 from .forms import formula
 from .naming import in_order, label
-from .session import UNKNOWN, Cell, Connection, Session, Spot
-from .told import ROOTS
+from .session import Session
 from .world import BEHIND, MILLION, World
 
-ROWS_MOST = 500  # that are told at once
-LISTED_MOST = 500  # connections of an object that are told
+ROWS_MOST = 500  # that are sent at once
+LISTED_MOST = 500  # connections of an object that are sent
 
 Json = Dict[str, Any]
 
 
 def summary(world: World) -> Json:
-    """What stands at the top of the page, and what is told of each moment."""
+    """What the top of the page shows, and what the page receives at each moment."""
     return {
         "version": world.version,
         "sessions": sum(not it.is_gone for it in world.sessions.values()),
@@ -158,8 +160,8 @@ def ancestors(session: Session, number: int) -> List[int]:
 
 
 def flattened(session: Session, closed: Set[int]) -> List[Tuple[int, int]]:
-    """The objects of a session with their levels, as the tree shows them; last, on level -1, those of which it is not known
-    where they stand."""
+    """The objects of a session with their levels, as the tree shows them; last, on level -1, those whose place is not
+    known."""
     objects, found = session.objects, []
     waiting = [(it, 0) for it in reversed(objects.below.get(ROOT, []))]
     while waiting:
@@ -219,7 +221,7 @@ def moment(world: World, number: int) -> Optional[Json]:
 
 
 def value_of(cell: Cell) -> Json:
-    """A value as the page is told it: null where it is not known, as no property has that value. Whole numbers beyond what
+    """A value as the page receives it: null where it is not known, as no property has that value. Whole numbers beyond what
     a browser can tell apart are texts of digits."""
     if cell.value is UNKNOWN:
         return {"value": None, "sure": False, "entry": cell.entry}

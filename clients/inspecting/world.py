@@ -1,4 +1,4 @@
-"""All that is known of a server: its sessions, and the newest commands with what was told to them."""
+"""All that is known of a server: its sessions, and the newest commands with their calls, warnings and replies."""
 
 from __future__ import annotations
 
@@ -8,20 +8,22 @@ from collections import deque
 from time import monotonic_ns, time_ns
 from typing import Any, Deque, Dict, Iterator, List, Optional, Sequence, Set, Tuple
 
+from common.objects import Living
+from common.told import know_queue, know_read
+from common.values import Spot
 from explaining.held import is_deep
 
 from .classes import Classes
 from .described import Described, as_meta, is_description
 from .effects import count_of
 from .entries import CALLS_MOST, TEXT_MOST, Call, Entries, Entry, Warned
-from .learning import Learning, settle_queue
-from .session import Living, Posting, Session, Spot
-from .told import know_read
+from .learning import Learning, done_of
+from .session import Posting, Session
 
 NOBODY = "-"
 READER = json.JSONDecoder()
 MILLION = 1_000_000
-BEHIND = 500_000  # from which on what is known counts as behind
+BEHIND = 500_000  # from which on what is known counts as late
 DEPARTED_MOST = 16_384  # names of clients that have gone
 
 
@@ -42,13 +44,13 @@ class World:
         self.departed: Dict[str, None] = {}  # names whose clients have gone, the oldest first, and whose reset was not seen
         self.now = 0  # in millionths of a second, as the front says it
         self.last_end = 0
-        self.lag = 0  # how far what is known is behind, at the last lines that came
+        self.lag = 0  # how late what is known is, at the last lines that came
         self.ahead: Optional[int] = None  # how far the clock here is ahead of the front's
         self.epoch = 0  # when the front has started, in millionths of a second since 1970, or 0 if it is not known
         self.is_live = False
         self.lines = 0
         self.left_out = 0
-        self.total_rates = Session("")
+        self.total_rates = Session()
         self.version = 0
 
     def clock(self) -> int:
@@ -126,7 +128,7 @@ class World:
         """A session, which may be new."""
         found = self.sessions.get(name)
         if found is None:
-            found = self.sessions[name] = Session(name)
+            found = self.sessions[name] = Session(name=name)
         return found
 
     def learn_all(self, session: Session, entry: Entry) -> None:
@@ -134,7 +136,7 @@ class World:
         try:
             self.learn(session, entry)
         except (KeyError, TypeError, ValueError, AttributeError):
-            session.is_known = False  # it was answered as a command, and is none that is known here
+            session.is_known = False  # it was answered as a command, but is not known here
         if entry.word == "reset" and entry.error is None:
             self.reset(session)
         elif session.is_gone:
@@ -161,9 +163,11 @@ class World:
             self.post(to, event)
         if may_post:
             self.doubt_listeners(session)
-        settle_queue(session, entry)
+        done = done_of(entry)
+        if know_queue(session, done) and not session.queued:
+            session.postings.clear()
         session.note_doubts(entry.number)
-        know_read(session, entry)
+        know_read(session, done)
         self.know_listening(session, entry)
         entry.size += 128 * len(entry.changes)
 
@@ -202,7 +206,7 @@ class World:
             return
         session.joins = []
         self.know_listening(session)
-        fresh = Session(session.name)
+        fresh = Session(name=session.name)
         fresh.lines, fresh.commands, fresh.rates = session.lines, session.commands, session.rates
         fresh.version = session.version + 1
         self.sessions[session.name] = fresh
@@ -267,8 +271,8 @@ class World:
             self.know_listening(session)
 
     def depart(self, name: str) -> None:
-        """Keeps in mind that the client of a session has gone of which nothing else is kept. Names are given once, so that
-        lines of this one can only be its last."""
+        """Keeps in mind that the client of a session has gone. Nothing else is kept of such a session. Names are given once,
+        so lines of this one can only be its last."""
         self.departed[name] = None
         if len(self.departed) > DEPARTED_MOST:
             del self.departed[next(iter(self.departed))]
@@ -284,7 +288,7 @@ class World:
         for name in sessions:
             if name in self.departed:
                 continue
-            known = Session(name)
+            known = Session(name=name)
             known.objects = Living()
             known.objects.has_earlier, known.is_known = True, False
             known.are_connections_sure, known.is_queue_sure, known.last_connection = False, False, None

@@ -2,22 +2,20 @@
 
 from __future__ import annotations
 
-from dataclasses import dataclass, field
-from typing import Any, Dict, List, Mapping, Set
+from typing import Any, Dict, Iterable, Mapping
+
+from common.changes import Done, meet
+from common.objects import Met
 
 from .reading import Mistake
 
-FAILED = "E20"  # says that a session has failed, and holds nothing
-OBJECT_KEYS = ("object", "parent", "sender", "receiver", "context")  # of a command that hold the number of an object
 
-
-@dataclass
-class Known:
+class Known(Met):
     """What is known of a session."""
 
-    numbers: Dict[str, int] = field(default_factory=dict)  # of the objects that were given names
-    classes: Dict[int, str] = field(default_factory=dict)  # of the objects that were made
-    gone: Set[int] = field(default_factory=set)
+    def __init__(self) -> None:
+        super().__init__()
+        self.numbers: Dict[str, int] = {}  # of the objects that were given names
 
     def give(self, name: str, number: int) -> None:
         """Gives an object a name, which may have been another one's."""
@@ -40,27 +38,18 @@ class Known:
             raise Mistake(f"{word} is gone: object {number} was deleted")
         return number
 
-    def named_in(self, asked: Mapping[str, Any]) -> List[int]:
-        """The numbers of the objects that a command names, each once."""
-        numbers = [asked.get(key) for key in OBJECT_KEYS]
-        return sorted({it for it in numbers if isinstance(it, int) and not isinstance(it, bool)})
-
     def heed(self, asked: Mapping[str, Any], reply: Any) -> None:
         """Keeps what a command has told by its reply."""
-        do = asked.get("do")
-        if do == "new":
-            self.classes[reply] = str(asked.get("class"))
-        elif do == "object":
-            self.classes[int(asked["object"])] = str(reply["class"])
-        elif do == "delete":
-            self.gone.add(int(asked["object"]))
-        elif do == "reset":
+        if asked.get("do") == "object":
+            self.tell_class(asked["object"], reply["class"])
+        elif asked.get("do") == "reset":
             self.forget()
+        else:
+            meet(self, Done(dict(asked), reply))
 
-    def heed_refusal(self, code: str) -> None:
-        """Keeps what a refusal has told."""
-        if code == FAILED:
-            self.gone.update(self.classes)
+    def miss(self, numbers: Iterable[int]) -> None:
+        """These objects are not there: those that were made are gone."""
+        self.gone.update(self.classes.keys() & set(numbers))
 
     def forget(self) -> None:
         """All is as before the first command."""

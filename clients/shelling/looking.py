@@ -5,8 +5,9 @@ from __future__ import annotations
 from typing import TYPE_CHECKING, Any, Dict, Iterator, List, Mapping, Optional
 
 import metad
+from common.asked import OBJECT_NAME
 from explaining.faults import faults_of
-from explaining.reads import said_of_object_info
+from explaining.reads import said_of_object
 from explaining.words import plain, shown
 
 from .infix import infix_of
@@ -19,7 +20,6 @@ if TYPE_CHECKING:
 DRAWN_MOST = 1_000  # objects that `tree` draws
 PAGE = 1_000  # connections of one reply
 NO_COMMAND = "E02"
-OBJECT_NAME = "objectName"
 
 
 class Looking:
@@ -126,7 +126,7 @@ class Looking:
         """An object's place in its tree, its properties and its connections."""
         known = self.shell.known(self.shell.name)
         info = self.ask("object", object=number)
-        yield said_of_object_info({"object": self.label(number)}, labelled(info, known))
+        yield said_of_object({"object": self.label(number)}, labelled(info, known))
         for it in self.ask("properties", object=number):
             yield f"    {self.property_line(number, it)}"
         for it in self.connections(number):

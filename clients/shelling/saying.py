@@ -7,11 +7,12 @@ from contextlib import nullcontext
 from typing import IO, Any, Dict, List, Mapping, Optional
 
 import metad
+from common.asked import OBJECT_KEYS
 from explaining.commands import FORMS
 from explaining.refusing import further
 from explaining.words import CODES, ERRORS, Misfit, plain, shown
 
-from .known import OBJECT_KEYS, Known
+from .known import Known
 from .prompting import Prompt
 
 OF_OBJECTS = ("bindings", "connections", "publications", "joins")  # commands whose replies are lists of what names objects

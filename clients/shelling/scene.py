@@ -4,17 +4,13 @@ from __future__ import annotations
 
 from typing import Any, Callable, Dict, List, Mapping, Optional, Sequence, Tuple
 
+from common.kinds import RANGES
+
 from .known import Known
 from .reading import ARROW, METHOD, NAME, OBJECT, Mistake, Words, types_in
 
 Meta = Mapping[str, Any]
 
-BOUNDS = {
-    "int": (-(2**31), 2**31 - 1),
-    "uint": (0, 2**32 - 1),
-    "qlonglong": (-(2**63), 2**63 - 1),
-    "qulonglong": (0, 2**64 - 1),
-}
 BY_ITSELF = ("int", "qlonglong", "qulonglong")  # a whole number has the first of these types that holds it
 
 
@@ -111,8 +107,8 @@ def takes(type_name: str, value: Any) -> bool:
     """Whether a value is one of a type."""
     if isinstance(value, bool):
         return type_name == "bool"
-    if isinstance(value, int) and type_name in BOUNDS:
-        low, high = BOUNDS[type_name]
+    if isinstance(value, int) and type_name in RANGES:
+        low, high = RANGES[type_name]
         return low <= value <= high
     return isinstance(value, str) and type_name == "QString"
 

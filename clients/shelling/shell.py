@@ -9,12 +9,13 @@ from pathlib import Path
 from typing import Any, Callable, Dict, List, Mapping, Optional, Set
 
 import metad
-from explaining.expressions import objects_of
+from common.asked import named_in, objects_of
+from common.changes import FAILED, lose
 from explaining.faults import faults_of, is_name
 from explaining.refusing import missing_said
 
 from .forms import FORMS, OBJECT_FORMS, OWN_FORMS, Request, request_of, strange
-from .known import FAILED, Known
+from .known import Known
 from .link import Link, reason
 from .looking import Looking
 from .reading import NAME, Mistake, Words
@@ -182,7 +183,7 @@ class Shell:
     def refuse_command(self, name: str, asked: Any, held: Mapping[str, Any], code: str) -> None:
         """Says why the server has refused a command."""
         known = self.known(name)
-        known.heed_refusal(code)
+        lose(known, code)
         missing = self.missing(name, held) if code == NO_OBJECT else []
         said = f"refused, {code}: {' and '.join(missing)}" if missing else refusal_said(held, code, known)
         self.refuse(said, advice(code, faults_of(asked) if code == NO_COMMAND else []), name)
@@ -190,9 +191,9 @@ class Shell:
     def missing(self, name: str, asked: Mapping[str, Any]) -> List[str]:
         """Which of the objects that a command names are not there."""
         known = self.known(name)
-        numbers = dict.fromkeys([*known.named_in(asked), *sorted(objects_of(asked.get("to")))])
+        numbers = dict.fromkeys([*named_in(asked), *sorted(objects_of(asked.get("to")))])
         lacking = [it for it in numbers if not self.stands(name, it)]
-        known.gone.update(known.classes.keys() & set(lacking))
+        known.miss(lacking)
         return [missing_said(it, it in known.classes, known.label(it)) for it in lacking]
 
     # ---- the shell's own words ----

@@ -1,4 +1,4 @@
-"""What stands in `clients`: the client in Python with its page, the front, `explain`, `check`, `shell`,
+"""Tests of `clients`: the client in Python with its page, the front, `explain`, `check`, `shell`,
 `slice` and `inspect`."""
 
 import sys

@@ -1,4 +1,4 @@
-"""What the inspector claims to know of sessions, beside what the plain program knows of them."""
+"""What the inspector claims to know of sessions, compared with what the plain program knows of them."""
 
 from collections import Counter
 
@@ -16,7 +16,7 @@ def world_of(declared):
 
 
 def hear(world, command, lines):
-    """A command of a session, and what is told to it."""
+    """A command of a session, and its output."""
     world.now += 1_000
     world.begin(text_of(command).encode())
     for line in lines:

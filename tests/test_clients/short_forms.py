@@ -102,7 +102,7 @@ SHORT = [
     ("reset", {"do": "reset"}),
 ]
 NOT_SENT = (
-    *("jump", "new", "new 5", "new Probe as", "new Probe as self", "new Probe in nobody", "new Probe behind"),
+    *("jump", "new", "new 5", "new Probe as", "new Probe as self", "new Probe in nobody", "new Probe after"),
     *("delete", "delete nobody", "p.", "p.x =", "p.x = five", "p.x = NaN", "p.x = 1 2", "p.x 5"),
     *("p.ping(", "p.ping() later", "p.ping(five)", "p.ping(1 2)"),
     *("connect p.ping", "connect p.ping -> ", "connect p.jump -> p.note", "connect p -> p.note", "connect p.ping -> p.note twice"),
@@ -121,7 +121,7 @@ def prop(name, of=None):
 
 
 def nested(levels):
-    """A sum of so many ones behind `x`."""
+    """`x` with so many ones added to it."""
     return {"+": [nested(levels - 1), {"const": 1}]} if levels else {"prop": "x"}
 
 

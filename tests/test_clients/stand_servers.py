@@ -1,4 +1,4 @@
-"""Servers that stand in for `metad` where a test has to know when each command is answered."""
+"""Servers that replace `metad` where a test has to know when each command is answered."""
 
 import fcntl
 import os
@@ -41,11 +41,6 @@ def wait_until_true(test, holds, what):
     while not holds():
         test.assertLess(time.monotonic(), until, f"it takes too long until {what}")
         time.sleep(0.01)
-
-
-def whole_lines(path):
-    """The lines of a file that is being written, without a partial last one."""
-    return path.read_text().split("\n")[:-1]
 
 
 @contextmanager

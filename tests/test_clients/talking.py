@@ -49,6 +49,10 @@ class Talker:
                 if lines and (number == len(connections) - 1 or lines[-1][1] is None):
                     self._heard += [it.decode().rstrip("\n") for it in reader]
 
+    def so_far(self):
+        """The lines that have come by now."""
+        return list(self._heard)
+
     def heard(self):
         """The lines that came, once all connections have ended; between two of them an empty one."""
         if self._thread is not None:

@@ -32,6 +32,17 @@ class Terminal:
         before, self.shown = self.shown.split(text, 1)
         return before
 
+    def do(self, line, shown):
+        """Types a line, and waits for what it shows and for the next prompt."""
+        self.type(f"{line}\r")
+        self.wait(shown)
+        self.wait("a> ")
+
+    def leave(self, typed="\x04"):
+        """Ends the shell, by the end of its input or a line; its status is 0."""
+        self.type(typed)
+        self.test.assertEqual(self.end(), 0, "the end")
+
     def interrupt(self, text):
         """Presses Ctrl-C until a text is shown, as one would: a line editor that has just shown its prompt, and does not
         wait for a key yet, sees the interrupt when the next key comes."""

@@ -1,5 +1,5 @@
-"""`check` (clients/check): beside the program on class files by chance, on worked class files, on what loads and is not meant,
-and on bad words and inputs."""
+"""`check` (clients/check): compared with the program on random class files, and tried on worked class files, on files that load
+but contain mistakes, and on bad words and inputs."""
 
 import json
 from collections import Counter
@@ -21,12 +21,12 @@ from tests.support.cases import CASE, Cases, ProgramCases
 from tests.support.documents import all_examples
 from tests.support.lines import lines_of, text_of
 from tests.support.program import ROOT, Row, program_under_test
+from tests.support.seeds import SEED
 
 from . import CLIENTS
 
 CHECK = CLIENTS / "check"
-FILES, TEXTS = 2_000, 10_000  # by chance
-SEED = 1
+FILES, TEXTS = 2_000, 10_000  # random ones
 BODY = "classes[0].slots[0].body"
 KINDS = ("C01", "C02", "C03", "C04", "C05", "C06", "C07", "C08", "C09")
 
@@ -43,11 +43,11 @@ def refusal(findings):
     return (first.code, first.place.number) if first else (None, 0)
 
 
-# Beside the program, and beside the lists.
+# Compared with the program, and with the lists.
 
 
 def tried(seed):
-    """What is found in a class file by chance, by its kind, and in what the program says otherwise, or None."""
+    """The kind of fault found in a random class file, and how the program's answer differs, or None."""
     text = text_by_chance(seed)
     kind, number = refusal(found_in(text))
     said = f"metad: class file refused: {kind} at class {number}\n".encode() if kind else b""
@@ -62,15 +62,15 @@ class BesideTheProgram(ProgramCases):
     """The verdict and the fault that metad names."""
 
     def test_files_by_chance(self):
-        """They are those of the program, on class files by chance of which some have each kind of fault."""
-        cases = [(f"by chance, {seed}", seed) for seed in range(FILES)]
+        """They are those of the program, on random class files. Each kind of fault occurs in some of them."""
+        cases = [(f"random, {seed}", seed) for seed in range(FILES)]
         seen = Counter(kind for kind, _ in self.check_each(cases, tried, lambda it: it[1], ProcessPoolExecutor))
-        self.assertTrue(CASE or not {*KINDS, None} - seen.keys(), f"the class files made by chance show too little: {seen}")
+        self.assertTrue(CASE or not {*KINDS, None} - seen.keys(), f"the random class files show too little: {seen}")
         self.tell(" ".join(f"{kind or 'none'}: {number:,}" for kind, number in sorted(seen.items(), key=str)))
 
 
 class Lists(Cases):
-    """The class files of which it is written down whether they are refused, and for what."""
+    """The class files whose refusal, or acceptance, is written down with its reason."""
 
     def test_faults(self):
         """Each is taken, or its fault and its class are those that are written."""
@@ -103,17 +103,17 @@ def plain_value(node):
 
 
 def texts_of_json():
-    """Texts that are JSON or nearly so, of values by chance, of which some have a byte changed."""
+    """Texts that are JSON or nearly so. Their values are random, and some texts have a byte changed."""
     chance = Chance(SEED)
     for at in range(TEXTS):
         text = bytearray(chance.value().encode())
         if chance.is_so(0.3):
             text[chance.randrange(len(text))] = chance.choice(PIECES)
-        yield f"by chance, {at}", bytes(text).decode(errors="ignore")
+        yield f"random, {at}", bytes(text).decode(errors="ignore")
 
 
 class Reading(Cases):
-    """The reader of JSON beside that of the plain program."""
+    """The reader of JSON, compared with that of the plain program."""
 
     def test_reading(self):
         """Both take the same texts, and read the same of them."""
@@ -147,7 +147,7 @@ ORDER = """{"classes":[{"slots":[{"sig":"f()","body":[{"set":"x"}]}],
 FAR = '{"classes":[\n\n{"name":"ä😀","super":"QObject"}]}'
 
 # texts, with each fault: its line, its column, its path, its kind, and some of what is said of it; named by metad where the
-# line stands below 0
+# line is below 0
 PLACES = {
     "faults of two classes": (TWO, [
         (-2, 24, "classes[0].super", "C04", "Base"),
@@ -166,7 +166,7 @@ PLACES = {
         (-2, 58, "classes[0].x", "C02", 'no key "x"'),
     ]),
     "characters of several bytes": (FAR, [(-3, 9, "classes[0].name", "C02", "no name")]),
-    "a column behind them": ('{"classes":[{"name":"ä😀","super":1}]}', [
+    "a column after them": ('{"classes":[{"name":"ä😀","super":1}]}', [
         (-1, 21, "classes[0].name", "C02", "no name"), (1, 34, "classes[0].super", "C02", "a whole number"),
     ]),
     "an array": ("[]", [(-1, 1, "", "C02", "an array")]),
@@ -177,7 +177,7 @@ PLACES = {
     "a text without its end": ('{"classes', [(-1, 2, "", "C01", "no quote at its end")]),
     "a tab in a text": ('{"a\tb":1}', [(-1, 4, "", "C01", "U+0009")]),
     "half of a pair": ('["\\ud83d"]', [(-1, 3, "", "C01", "surrogate")]),
-    "an escape that is none": ('["\\x"]', [(-1, 3, "", "C01", "no escape")]),
+    "an invalid escape": ('["\\x"]', [(-1, 3, "", "C01", "no escape")]),
     "a number beyond all others": ("[1e400]", [(-1, 2, "", "C01", "beyond")]),
     "a number with a zero before it": ("[01]", [(-1, 2, "", "C01", "no value")]),
     "more than the value": ("{} {}", [(-1, 4, "", "C01", "goes on")]),
@@ -245,7 +245,7 @@ class Places(Cases):
         self.check_each(cases, fault_of)
 
     def test_limits(self):
-        """What is one too many is found where it stands."""
+        """What exceeds a limit by one is reported at its place."""
         block, forms = {"block": True}, {"arg": 0}
         for _ in range(32):
             forms = {"+": [forms, {"arg": 0}]}
@@ -271,7 +271,7 @@ SLOT = "go(int,QString)"
 
 
 def player(*actions):
-    """Classes of which the first does these actions in its first slot; its object is 1 below, its sender 3."""
+    """Classes, the first of them with these actions in its first slot. Below, its object is 1 and its sender 3."""
     slots = [{"sig": SLOT, "body": list(actions)}, {"sig": "hear()", "body": []}]
     properties = [{"name": "playing", "type": "bool"}, {"name": "level", "type": "int"}]
     signals = ["finished()", "levelChanged(int)"]
@@ -331,7 +331,7 @@ MISTAKES = [
     ({"set": "zonne", "to": ONE, "of": "sender"}, "W03", "set", None),
     (setting({"prop": "levle"}), "W03", "to.prop", "E11"),
 ]
-# actions of which nothing is said
+# actions without a finding
 FINE = [
     ({"emit": "tuned()", "args": []},),
     ({"emit": "told(int,QString)", "args": [FORM, TEXT], "of": "sender"},),
@@ -363,7 +363,7 @@ class Mistakes(ProgramCases):
         return [line["warning"] for line in lines if "warning" in line]
 
     def test_mistakes(self):
-        """Each is said where it stands, and the program refuses the action for it, where it does."""
+        """Each is reported at its place. Where the program refuses the action, it refuses it for the same reason."""
 
         def fault_of(case):
             action, code, path, refused = case
@@ -389,7 +389,7 @@ class Mistakes(ProgramCases):
         self.check_each(cases, lambda it: "\n".join(found.words for found in found_in(it).in_order()) or None)
 
     def test_names_and_keys(self):
-        """Properties that only the case of letters tells apart, keys that stand twice, and all dynamic properties where asked."""
+        """Properties whose names differ only in case, keys that occur twice, and all dynamic properties if asked for."""
         properties = [{"name": name, "type": "int"} for name in ("level", "Level", "objectname")]
         alike = [(it.code, it.node.path()) for it in found_in(file_of(properties=properties)).in_order()]
         self.assertEqual(alike, [("W07", f"classes[0].properties[{at}].name") for at in (1, 2)])

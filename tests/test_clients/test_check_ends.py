@@ -64,7 +64,7 @@ class Ends(Cases):
         self.check_each([(end.name, end) for end in ends(self.room)], lambda end: end.fault(end.run(CHECK)))
 
     def test_help(self):
-        """The help tells of the words of the command line, of each warning and of the ends."""
+        """The help describes the words of the command line, each warning and the exit statuses."""
         said = subprocess.run([CHECK, "--help"], capture_output=True, text=True, timeout=SECONDS).stdout
         for it in ("--strict", "--declared", "--format", "Exit status: 0", "NO_COLOR", *(it.value[0] for it in Mistake)):
             self.assertIn(it, said)

@@ -1,4 +1,4 @@
-"""`explain` (clients/explain): on the lines of all tests, on worked transcripts, on sessions by chance, and on bad words and
+"""`explain` (clients/explain): on the lines of all tests, on worked transcripts, on random sessions, and on bad words and
 inputs."""
 
 import io
@@ -33,7 +33,7 @@ from . import CLIENTS
 
 EXPLAIN = CLIENTS / "explain"
 WORKED = ROOT / "tests" / "explained"
-SESSIONS, COMMANDS = 100, 80  # by chance, of which each command is followed
+SESSIONS, COMMANDS = 100, 80  # random ones; each command is followed
 NAMES = ("a", "b")  # of those that listen to each other
 UNKNOWN_CODE = "a code that is not known here"
 EMPTY_WORDS = ("not answer", "no answer", "no command left", "no tree", "not known, since")
@@ -143,7 +143,7 @@ class Transcripts(ProgramCases):
                 yield Row(f"{folder.name} alone", given, (folder / "alone").read_bytes())
 
     def test_transcripts(self):
-        """Each is told as by hand."""
+        """Each explanation is the one that was written by hand."""
         self.check_each([(row.name, row) for row in self.rows()], lambda row: row.fault(row.run(EXPLAIN)))
 
 
@@ -151,9 +151,9 @@ def untrue(known, session):
     """What is held for known of the objects of a session and is not so, or None."""
     rows = {row.number: row for row in session.rows}
     if not known.sure <= rows.keys():
-        return f"{known.sure - rows.keys()} do not stand"
+        return f"{known.sure - rows.keys()} do not exist"
     if known.gone & rows.keys() or not rows.keys() <= set(known.all()) or known.has_earlier or known.failed:
-        return f"{rows.keys() - set(known.all())} stand"
+        return f"{rows.keys() - set(known.all())} exist"
     for number in known.parents.keys() & rows.keys():
         if (rows[number].parent or objects.ROOT) != known.parents[number]:
             return f"{number} is not below {known.parents[number]}"
@@ -167,7 +167,7 @@ def untrue(known, session):
 
 
 def command_of(chance, server, name, at):
-    """A command by chance of a session; now and then one that lists children or counts objects."""
+    """A random command of a session; now and then one that lists children or counts objects."""
     session = server.session(name)
     if at < 3:
         return {"do": "new", "class": "Lamp"}
@@ -187,7 +187,7 @@ class Followed:
 
 
 def knowledge_of(case):
-    """Follows sessions by chance, with their class file or without, up to what is held for known of one and is not so."""
+    """Follows random sessions, with or without their class file, up to the first wrong claim about one of them."""
     seed, has_classes = case
     chance, followed = Chance(seed), Followed()
     declared = list(chance.classes())
@@ -211,11 +211,11 @@ def knowledge_of(case):
 
 
 class Knowledge(Cases):
-    """What is held for known of the objects of sessions by chance, beside the plain program."""
+    """What is claimed about the objects of random sessions, compared with the plain program."""
 
     def check_knowledge(self, has_classes, share):
-        """After no command something is held for known that is not so, and after this share of them all is known."""
-        cases = [(f"by chance, {seed}", (seed, has_classes)) for seed in range(SESSIONS)]
+        """No claim is ever wrong, and everything is known after at least this share of all commands."""
+        cases = [(f"random, {seed}", (seed, has_classes)) for seed in range(SESSIONS)]
         followed = self.check_each(cases, knowledge_of, lambda it: it.fault, ProcessPoolExecutor)
         states, whole = sum(it.states for it in followed), sum(it.whole for it in followed)
         self.assertTrue(CASE or whole >= share * states, f"all objects are known after {whole} of {states} commands alone")
@@ -237,7 +237,7 @@ class End(Row):
     given: bytes = b""
     stdout: bytes | None = None
     stderr: bytes | None = None
-    said: str = ""  # what has to stand on standard error, among the rest; nothing may where it is empty
+    said: str = ""  # what standard error has to contain, among the rest; if empty, standard error must be empty too
 
     def passes(self, ran):
         said = ran.stderr.decode(errors="replace")
@@ -285,7 +285,7 @@ def ends(room):
     yield from (End(f"help {word}", words=(word,)) for word in ("--help", "-h"))
     yield End("commands that are not there", words=("--commands", "/nonexistent"), status=1, said="cannot be opened")
     yield End("commands that are a folder", ONE, words=("--commands", "/"), status=1, said="explain: / cannot be ")
-    yield End("commands of a name that is none", ONE, words=("--commands", ""), status=1, said="cannot be opened")
+    yield End("commands with an empty name", ONE, words=("--commands", ""), status=1, said="cannot be opened")
     tree = (*pairing, "--tree", "--classes")
     yield End("classes that are not there", ONE, words=(*tree, "/nonexistent"), status=1, said="cannot be opened")
     yield End("classes that are a folder", ONE, words=(*tree, "/"), status=1, said="explain: / cannot be ")
@@ -316,7 +316,7 @@ class Ends(Cases):
             self.check_each([(end.name, end) for end in ends(room)], lambda end: end.fault(end.run(EXPLAIN)))
 
     def test_help(self):
-        """The help tells of the words of the command line, the marks and the ends."""
+        """The help describes the words of the command line, the marks and the exit statuses."""
         said = subprocess.run([EXPLAIN, "--help"], capture_output=True, text=True, timeout=SECONDS).stdout
         for it in ("--commands", "--tree", "--classes", *MARKS, "Exit status: 0", "1 if", "2 after"):
             self.assertIn(it, said)
@@ -334,7 +334,7 @@ class Ends(Cases):
                 self.assertIn("this does not answer line 1 of the commands", "\n".join(map(str, said)))
 
     def test_devices(self):
-        """Outputs and inputs that are full or not there, with the buffers that Python has where it is told nothing else."""
+        """Outputs and inputs that are full or missing, with Python's default buffers."""
         own = {key: value for key, value in os.environ.items() if key != "PYTHONUNBUFFERED"}
         for device, wanted in DEVICES.items():
             with self.subTest(device=device):

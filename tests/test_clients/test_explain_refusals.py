@@ -68,7 +68,7 @@ class Refusals(ShellCases):
         for line, by_shell, by_explain in zip(lines, said[len(MADE) :], self.explained([*MADE, *lines])):
             with self.subTest(line=line):
                 first, *below = (it.strip() for it in by_shell.splitlines())
-                self.assertEqual(below, by_explain[1:], "what stands below")
+                self.assertEqual(below, by_explain[1:], "what is below")
                 self.assertEqual(MEANING.findall(first), MEANING.findall(by_explain[0]), "the code and what it means")
 
     def test_before_the_transcript(self):

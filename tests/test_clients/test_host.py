@@ -1,14 +1,11 @@
-"""The host with a plug-in (examples/plug_in_host/host.py), which finds the client and the front where they stand here."""
+"""The host with a plug-in (examples/plug_in_host/host.py), which finds the client and the front in this repository."""
 
 import os
-import subprocess
-import sys
 from pathlib import Path
 
 from tests.support.documents import COOKBOOK
-from tests.support.program import ROOT, SECONDS
+from tests.support.program import ROOT
 
-from . import PYTHON
 from .fronts import ClientCases
 
 HOST = ROOT / "examples" / "plug_in_host" / "host.py"
@@ -28,21 +25,16 @@ c2 hear() []
 class Host(ClientCases):
     """Runs of the example."""
 
-    def ran(self, *words):
-        own = {**os.environ, "PYTHONPATH": str(PYTHON), "PYTHONDONTWRITEBYTECODE": "1", "TMPDIR": self.room}
-        words = [sys.executable, "-W", "error", HOST, *words]
-        return subprocess.run(words, capture_output=True, text=True, timeout=SECONDS, env=own, stdin=subprocess.DEVNULL)
-
     def test_host(self):
         """The plug-in hears a word and its end from the host, the host what the plug-in says, and the observer all."""
-        ran = self.ran(self.program)
+        ran = self.ran_example(HOST, self.program)
         self.assertEqual((ran.returncode, ran.stdout, ran.stderr), (0, SAID, ""))
         self.assertEqual(os.listdir(self.room), [], "what it leaves")
 
     def test_nothing_to_start(self):
         """Where there is no server, or one that does not start, it says so and ends."""
         for program, said in ((Path(self.room, "nothing"), "No such file or directory"), ("false", "has ended with status 1")):
-            ran = self.ran(program)
+            ran = self.ran_example(HOST, program)
             self.assertEqual((ran.returncode, ran.stdout), (1, ""), ran.stderr)
             self.assertRegex(ran.stderr, rf"^host: .*{said}[^\n]*\n$")
             self.assertEqual(os.listdir(self.room), [], "what it leaves")

@@ -1,5 +1,5 @@
 """The inspector behind a front (clients/inspecting, front/src/inspector.rs): who may look, what is known by lines, what
-may be asked and written with permission, and that nobody waits for it."""
+may be asked and written with permission, and that it never blocks anything."""
 
 import http.client
 import json
@@ -40,7 +40,7 @@ class Refusals(InspectCases):
     """Who may look at a front that is shown."""
 
     def test_refused(self):
-        """Whoever has not the token, names another host or comes from another page is refused, and is told nothing."""
+        """A request without the token, with another host or from another page is refused, and learns nothing."""
         with self.shown() as (_, _, asker):
             right, json_type = {"Host": asker.own}, {"Content-Type": "application/json"}
             cases = [
@@ -108,7 +108,7 @@ class Refusals(InspectCases):
                     self.assertNotEqual(link.connect_ex((host, asker.port)), 0, host)
 
     def test_help(self):
-        """The usage of a record is that of the page of documents, which tells of each option of the front that is for it."""
+        """The usage for a record is that of its page, which describes each option of the front for the inspector."""
         page = (CLIENTS / "inspecting" / "README.md").read_text()
         shown = subprocess.run([sys.executable, CLIENTS / "inspect", "--help"], capture_output=True, text=True, timeout=PATIENCE).stdout
         self.assertIn(shown.splitlines()[0].replace("usage: inspect", "clients/inspect"), page.splitlines())
@@ -190,7 +190,7 @@ class Looking(InspectCases):
             self.assertIsNone(asker.get("about")["classes"])
 
     def test_news(self):
-        """Two browsers are told of each change, and one that does not read is not waited for."""
+        """Two browsers are notified of each change, and one that does not read blocks nothing."""
         with self.shown() as (path, _, asker), Client(path) as client:
             links = []
             for _ in range(2):
@@ -221,14 +221,14 @@ class Speaking(InspectCases):
             self.assertEqual(asker.get("about")["ask"], False)
 
     def test_ask(self):
-        """With leave to ask, a session is asked; its client is told nothing of that, and nothing can be written."""
+        """With permission to ask, a session can be asked. Its client receives nothing of that, and nothing can be written."""
         with self.shown(options=("--inspect-ask",)) as (path, _, asker), Client(path) as client:
             client.ask(CELL)
             said = asker.ask("c1", do="get", object=1, property="x")
             self.assertEqual((json.loads(said["answer"]), said["by_inspector"]), ({"reply": 0, "session": "c1"}, True))
             for word, more in (("set", {"object": 1, "property": "x", "value": 1}), ("invoke", {}), ("reset", {}), ("spin", {}), ("get", {"more": 1})):
                 self.assertEqual(asker.ask("c1", do=word, **more), 403, word)
-            self.assertEqual(client.ask(CELL), reply(2, "c1"), "the next line that the client is told")
+            self.assertEqual(client.ask(CELL), reply(2, "c1"), "the next line that the client receives")
             self.assertEqual(asker.post("ask_tree", {"session": "c1"})["asked"], 3)
 
     def test_ask_nobody(self):
@@ -243,7 +243,7 @@ class Speaking(InspectCases):
             self.assertEqual(asker.get("sessions")["total"], 0)
 
     def test_write(self):
-        """With leave to write, what is set and invoked is done; calls come to the client, the reply does not."""
+        """With permission to write, properties can be set and slots invoked. The client receives the calls, but not the reply."""
         with self.shown(options=("--inspect-write",)) as (path, _, asker), Client(path) as client:
             client.ask(CELL)
             client.ask('{"do":"connect","sender":1,"signal":"xChanged(int)","receiver":1,"method":"seen(int)"}')
@@ -259,11 +259,11 @@ class Speaking(InspectCases):
 
 
 class Nobody(InspectCases):
-    """Nobody waits for the inspector."""
+    """The inspector never blocks anything."""
 
     def test_stopped(self):
-        """An inspector that takes nothing holds nobody up; when it goes on, it says how much was left out, and of which
-        sessions nothing is known for certain."""
+        """An inspector that reads nothing holds nobody up. When it goes on, it says how much was left out, and which sessions
+        are no longer known for certain."""
         with self.shown() as (path, process, asker), Client(path) as client:
             client.ask(CELL)
             asker.until(self, lambda it: it["total"] == 1, "sessions")
@@ -306,7 +306,7 @@ class Feeds(InspectCases):
     """What the front tells the inspector, byte by byte."""
 
     def test_pieces(self):
-        """Lines are taken however they are cut, and those of a gap are begun anew."""
+        """Lines are read however they are cut. Commands that are under way at a gap are begun again."""
         told = b'@5\n>{"do":"new","class":"Cell","session":"a"}\n@9\n{"reply":1,"session":"a"}\n?3 {"do":"status","session":"a"}\n'
         told += b'!{"left":7,"sessions":["a"],"under_way":[["a",true],["b",false]]}\n{"reply":1,"session":"a"}\n{"reply":1,"session":"b"}\n'
         told += b'>too long\n{"error":"E01","session":"-"}\n!{"gone":"b"}\n>{"do":"reset","session":"b"}\n{"reply":true,"session":"b"}\n'

@@ -94,7 +94,7 @@ class Connections(ClientCases):
             time.sleep(0.05)
 
     def test_news(self):
-        """News are told to only so many, so that others find room beside them."""
+        """Only so many connections may wait for news, so that there is room for others."""
         self.serve()
         told = [self.link() for _ in range(NEWS_MOST)]
         for link in told:
@@ -127,7 +127,7 @@ class Connections(ClientCases):
             self.assertGreater(time.monotonic() - begun, 0.9, start)
 
     def test_idle(self):
-        """One that stays open behind a request is closed when no other comes; until then it is answered."""
+        """A connection that stays open after a request is closed if no other request comes. Until then it is answered."""
         self.serve()
         link = self.link()
         for _ in range(3):

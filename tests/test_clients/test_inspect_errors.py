@@ -51,23 +51,23 @@ class Over(unittest.TestCase):
         return world
 
     def test_there(self):
-        """An error is known once a warning has told of it, and as long as it stands."""
+        """An error is known once a warning has reported it, and as long as it lasts."""
         self.check(*LOOPS, x=(LOOP, True), y=(LOOP, True))
         self.check(*LOOPS, setting(2, "x", 7), x=(LOOP, True), y=(LOOP, True))
         self.check(binding(1, "z", prop("x", 2)), {"do": "delete", "object": 2}, {"do": "delete", "object": 3}, z=(FAULT, True))
 
     def test_written(self):
-        """A write to one property of a loop ends the errors of all of it, and what they come to is known."""
+        """A write to one property of a loop ends the errors of all its properties, and their values are known."""
         world = self.check(*LOOPS, setting(1, "y", 4))
         self.assertEqual(world.sessions["a"].cells[1, "x"][::2], (6, True))
 
     def test_bound_anew(self):
-        """A property that is bound anew is not in error any more where its new expression has a value, nor what reads it."""
+        """A property whose new binding has a value is no longer in error, nor is what reads it."""
         world = self.check(*LOOPS, binding(1, "z", prop("x")), binding(1, "y", TWO))
         self.assertEqual([world.sessions["a"].cells[1, name].value for name in "xyz"], [4, 2, 4])
 
     def test_bound_to_error(self):
-        """One that is bound anew to an expression with the same error is in it still, though no line tells so."""
+        """A property that is bound again to an expression with the same error stays in error, though no line says so."""
         self.check(*LOOPS, binding(1, "y", plus(prop("x"), TWO)), x=(LOOP, True), y=(LOOP, True))
 
     def test_unbound(self):
@@ -75,7 +75,7 @@ class Over(unittest.TestCase):
         self.check(*LOOPS, {"do": "unbind", "object": 1, "property": "x"})
 
     def test_branch(self):
-        """A loop that stands in the branch of an `if` that is not chosen any more is none."""
+        """A loop through a branch of an `if` is over once that branch is no longer chosen."""
         loop = binding(1, "x", {"if": [prop("flag"), TWO, plus(prop("x"), TWO)]})
         self.check(loop, x=(LOOP, True))
         self.check(loop, setting(1, "flag", True))
@@ -90,7 +90,7 @@ class Over(unittest.TestCase):
         self.check(*most, setting(1, "z", 5), x=(FAULT, True))
 
     def test_group(self):
-        """In a group nothing is told, and what was in error shows it; behind its end it is over."""
+        """In a group no line says that an error is over, and it is still shown. After the group's end it is over."""
         begin, end = {"do": "begin"}, {"do": "end"}
         self.check(*LOOPS, begin, setting(1, "y", 4), x=(LOOP, False))
         self.check(*LOOPS, begin, setting(1, "y", 4), end)
@@ -102,7 +102,7 @@ class Over(unittest.TestCase):
 
 
 class Told(unittest.TestCase):
-    """Errors of which only what the server tells says that they are over."""
+    """Errors that are known to be over only from what the server sends."""
 
     def world(self, *steps):
         """What is known where the class file is not, of commands with their answers."""
@@ -128,7 +128,7 @@ class Told(unittest.TestCase):
             self.assertEqual(self.world((get, value)), there, value)
 
     def test_signal(self):
-        """It is over where a signal tells of another value, though what it reads is not known."""
+        """It is over once a signal carries another value, though what the expression reads is not known."""
         read = {"do": "invoke", "object": 3, "method": "setX(int)", "args": [3]}
         functor = {"do": "connectFunctor", "sender": 3, "signal": "xChanged(int)", "context": 1, "functor": "count"}
         commands = [functor, connecting(1, 2, "seen(int)"), binding(1, "x", {"+": [prop("y"), {"const": 2**31 - 1}]}), setting(1, "y", 1)]
@@ -147,7 +147,7 @@ class Told(unittest.TestCase):
         self.assertEqual(errors_of(world), {})
 
     def test_doubtful(self):
-        """One of which it is not known whether it is over is shown so, in the graph and with its object."""
+        """An error that may be over is shown as doubtful, in the graph and with its object."""
         world, _ = heard(*CELLS, *LOOPS)
         session = world.sessions["a"]
         session.loosen((1, "y"))
@@ -159,7 +159,7 @@ class Told(unittest.TestCase):
 
 
 class Evaluated(unittest.TestCase):
-    """What expressions come to."""
+    """The values of expressions."""
 
     def value(self, form, steps=1_000, **cells):
         """The value of z of a Cell that is bound to an expression, where others have these values."""
@@ -174,7 +174,7 @@ class Evaluated(unittest.TestCase):
             return None
 
     def test_forms(self):
-        """Each form comes to what docs/PROTOCOL.md says."""
+        """Each form has the value that docs/PROTOCOL.md gives it."""
         for form, value in (
             (plus(TWO, prop("x")), 7), ({"-": [TWO, prop("x")]}, -3), ({"if": [{"<": [prop("x"), TWO]}, TWO, prop("x")]}, 5),
             ({"if": [{"=": [prop("objectName"), {"const": "n"}]}, {"const": 1}, {"const": 0}]}, 1), ({"if": [{"const": 1}, TWO, TWO]}, FAULT),
@@ -203,10 +203,10 @@ class Evaluated(unittest.TestCase):
 
 
 class Shown(InspectCases):
-    """What the page is told of a server that runs."""
+    """What the page receives about a running server."""
 
     def test_graph(self):
-        """The graph of bindings has an error while it stands, and none once it is over."""
+        """The graph of bindings shows an error while it lasts, and no longer."""
         with self.shown() as (path, _, asker), Client(path) as client:
             client.ask('{"do":"new","class":"Cell"}')
             client.ask('{"do":"bind","object":1,"property":"x","to":{"prop":"y"}}')

@@ -3,6 +3,7 @@
 import json
 import os
 import signal
+from collections import deque
 
 from inspecting.feed import Asking, Feed
 from inspecting.world import DEPARTED_MOST
@@ -21,7 +22,7 @@ LONG_TEXT = "x" * 4_096
 
 
 class Churn:
-    """What a front tells while sessions come and go: some of it is left out, as it is where the inspector is behind."""
+    """What a front tells while sessions come and go: some of it is left out, as happens when the inspector is too slow."""
 
     def __init__(self):
         self.world = world_of([])
@@ -65,13 +66,11 @@ class Churn:
         self.tell({"left": 9, "sessions": sorted(names), "under_way": [[it, False] for it in under_way]})
 
     def sizes(self):
-        """How much is kept by names of sessions."""
+        """How much is kept in each table of the world."""
         world = self.world
-        listening = sum(len(it) for it in world.listeners.values())
-        return {
-            "sessions": len(world.sessions), "objects": len(world.learning.knowledge.sessions), "slots": len(world.slots),
-            "listening": listening, "listened to": len(world.listeners), "under way": len(world.under_way),
-        }  # fmt: skip
+        kept = {**vars(world.learning), **vars(world)}
+        tables = {name: len(it) for name, it in kept.items() if isinstance(it, (dict, deque)) and name != "departed"}
+        return {**tables, "listening": sum(map(len, world.listeners.values()))}
 
 
 class Gaps(InspectCases):

@@ -158,6 +158,7 @@ class Fields(InputCases):
             browser.click("[data-property=of_int] [type=submit]")
             browser.wait_for("page.undo.done.length === 1")
             self.give(client, [setting(1, "of_int", 9)])
+            browser.wait_for("document.querySelector('[data-property=of_int]').children[2].textContent === '9'")
             browser.press("z", ctrl=True)
             says(browser, "has changed since")
             self.assertEqual(self.value_of(client, "of_int"), 9)

@@ -1,10 +1,9 @@
-"""What the inspector asks by itself (clients/inspecting), in place of showing that something is not known.
+"""What the inspector asks on its own (clients/inspecting), instead of showing that something is not known.
 
 What has to be known then is what the plain program knows.
 """
 
 import json
-import os
 import shutil
 import subprocess
 from pathlib import Path
@@ -20,15 +19,15 @@ from tests.plain import classes as plain_classes
 from tests.plain.world import Server
 from tests.support.cases import Cases
 from tests.support.program import SECONDS
+from tests.support.seeds import SEED
 
 from . import CLIENTS
 from .fronts import Client
 from .inspected import claims_of, hear, world_of
 from .inspectors import InspectCases
 
-SEED = int(os.environ.get("SEED", "1"))
 RUNS, COMMANDS, TURNS = 12, 150, 20
-ROUNDS = 20  # of looks, behind which all has to be known
+ROUNDS = 20  # of looks, after which all has to be known
 PLENTY = 10**6
 LOOKING = CLIENTS / "inspecting" / "page" / "looking.js"
 SCRIPT = """

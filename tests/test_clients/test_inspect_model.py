@@ -1,8 +1,7 @@
-"""What `inspect` knows of a server (clients/inspecting): compared with what the plain program knows, for sessions by chance,
+"""What `inspect` knows of a server (clients/inspecting): compared with what the plain program knows, for random sessions,
 and worked examples of what has led to calls."""
 
 import json
-import os
 from collections import Counter
 from concurrent.futures import ProcessPoolExecutor
 
@@ -16,13 +15,13 @@ from tests.plain import classes as plain_classes
 from tests.plain.lines import DEMONSTRATION as OF_ROWS
 from tests.plain.world import Server
 from tests.support.cases import Cases
+from tests.support.seeds import SEED
 
 from .inspected import claims_of, hear, world_of
 
-SEED = int(os.environ.get("SEED", "1"))
 ALONE = 30  # sessions of each kind
 TOGETHER = 10  # runs of sessions that listen to each other
-EACH = 10  # commands, behind which claims are looked at
+EACH = 10  # commands between two checks of the claims
 
 
 def judged(world, server, counts):
@@ -41,12 +40,12 @@ def run(declared, steps, server):
         hear(world, command, lines)
         fault = judged(world, server, counts) if number % EACH == 0 or number > 10_000 else None
         if fault:
-            return f"{fault}, behind command {number + 1}: {command} {lines}", counts
+            return f"{fault}, after command {number + 1}: {command} {lines}", counts
     return judged(world, server, counts), counts
 
 
 def steps_of_one(made, server, number):
-    """The commands of a session by chance with what is told to them, as they are made."""
+    """The commands of a random session with their output, as they are made."""
     session = server.session("a")
     for _ in range(number):
         command = {**made.command(session), "session": "a"}
@@ -54,7 +53,7 @@ def steps_of_one(made, server, number):
 
 
 def try_one(case):
-    """What is wrong with what is known of a session by chance."""
+    """What is wrong with what is known of a random session."""
     kind, seed = case
     made = kind(seed)
     declared, turns = list(made.classes()), made.choice(signals.TURNS)
@@ -79,7 +78,7 @@ def try_together(seed):
 
 
 class Known(Cases):
-    """What is known of sessions by chance."""
+    """What is known of random sessions."""
 
     def check_all(self, cases, do, wanted):
         tried = self.check_each(cases, do, lambda it: it[0], ProcessPoolExecutor)
@@ -91,7 +90,7 @@ class Known(Cases):
         self.assertGreater(known, values * wanted, "too little is known")
 
     def test_sessions(self):
-        """Of sessions by chance, all that is said to be known is so."""
+        """All that the inspector claims to know of random sessions is true."""
         kinds = [(f"{kind.__module__.rpartition('.')[2]} {seed}", (kind, seed)) for kind in (signals.Chance, bindings.Chance) for seed in range(SEED, SEED + ALONE)]
         self.check_all(kinds, try_one, 0.2)
 
@@ -100,7 +99,7 @@ class Known(Cases):
         self.check_all([(f"together {seed}", seed) for seed in range(SEED, SEED + TOGETHER)], try_together, 0.2)
 
     def test_sessions_in_turn(self):
-        """And of a hundred sessions that take turns, of which much is known."""
+        """All claims about a hundred sessions that take turns are true, and much is known of them."""
         server = Server(plain_classes.Classes(sessions.CLASSES))
         commands = [it for it in sessions.in_turn(listen=True) if int(it["session"][1:]) < 10]
         fault, counts = run(sessions.CLASSES, ((it, server.step(it)) for it in commands), server)
@@ -138,7 +137,7 @@ class Causes(Cases):
     """What has led to calls, in worked examples."""
 
     def test_within_one_another(self):
-        """A slot that sets a property calls what hears of that, within it; what the same signal calls next stands beside it."""
+        """The calls that a slot causes by setting a property are within its call. The next call of the same signal is next to it."""
         _, entry = heard(*CELLS, connecting(1, 2, "setX(int)"), connecting(1, 3, "seen(int)"), connecting(2, 3, "seen(int)"), setting(1, "x", 4))
         first, second = (1, "xChanged(int)"), (2, "xChanged(int)")
         self.assertEqual(nested(entry), [(2, "setX(int)", -1, first, True), (3, "seen(int)", 0, second, True), (3, "seen(int)", -1, first, True)])
@@ -215,6 +214,6 @@ class Parts(Cases):
         call = {"session": "a", "call": "f()", "object": 1, "sender": 0, "args": []}
         hear(world, {"session": "a", "do": "spin"}, [call] * (CALLS_MOST + 5) + [{"session": "a", "reply": {"events": 2_005, "left": 0, "lost": 0, "mismatched": 0}}])
         hear(world, {"session": "b", "do": "invoke"}, [{"session": "b", "reply": True}])
-        self.assertFalse(world.sessions["b"].is_known, "a command that was answered, and is none")
+        self.assertFalse(world.sessions["b"].is_known, "a command that was answered, though it is not valid")
         world.entries.kept.pop()
         self.assertEqual((len(world.entries.kept[-1].calls), world.entries.kept[-1].left_out), (CALLS_MOST, 5))

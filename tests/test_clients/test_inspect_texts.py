@@ -43,7 +43,7 @@ class Escapes:
 
 
 class Alone(Escapes, ClientCases):
-    """The function by itself, in node."""
+    """The function alone, in node."""
 
     def test_plain(self):
         """What misleads is escaped, and all else stays as it is."""

@@ -23,6 +23,7 @@ from tests.plain.lines import is_command
 from tests.plain.values import is_name as is_known_name
 from tests.support import protocol
 from tests.support.program import SECONDS
+from tests.support.seeds import SEED
 
 from . import CLIENTS
 from .fronts import ClientCases, FrontCases
@@ -32,7 +33,7 @@ SHELL = CLIENTS / "shell"
 LINE_MOST = 65_536
 COLOUR = "\x1b[3"
 OF_HOME = ("HOME", "XDG_STATE_HOME", "NO_COLOR", "TERM")
-SEED, BY_CHANCE = os.environ.get("SEED", "1"), 20_000
+BY_CHANCE = 20_000
 COMMANDS = list(protocol.commands())
 ALL_KEYS = sorted(set().union(*(required | optional for _, required, optional, _ in COMMANDS), {"x"}))
 REFUSED = r"^refused, E\d\d: .*\n(    .*\n)*    to do: .*\n$"
@@ -40,7 +41,7 @@ A_NAME = "a name: a letter or _, then letters, digits and _, at most 64"
 
 
 class ShellCases(ClientCases):
-    """Tests of runs of the shell, each of which has to end."""
+    """Tests of runs of the shell. Each run has to end."""
 
     def environment(self, **more):
         """The environment of a run, whose home is a folder of the test."""
@@ -86,7 +87,7 @@ class Forms(ShellCases):
         self.tell(f"cases: {len(wanted)}")
 
     def test_not_sent(self):
-        """What is none is told so, and nothing is sent of it; blank lines and remarks say nothing."""
+        """A line that is no command is reported and not sent. Blank lines and remarks print nothing."""
         script = "".join(f"{typed}\n" for typed in (*NOT_SENT, "", " \t", "# new Probe"))
         said = self.said(f"{OBJECTS}{script}save sent\n").splitlines()
         self.assertEqual(len(Path(self.room, "sent").read_bytes().splitlines()), len(OF_OBJECTS), "lines that were sent")
@@ -107,7 +108,7 @@ class Forms(ShellCases):
         self.assertIn("not sent: p has several methods show: show(int), show(QString)", said)
 
     def test_infix(self):
-        """Expressions as one writes them, as JSON; and what is none."""
+        """Expressions as people write them, as JSON, and texts that are no expressions."""
 
         def number_of(word):
             if not word.isdigit() and word != "c":
@@ -160,7 +161,7 @@ class Lines(ShellCases):
         self.assertEqual(said[1], "b: object 1 is made, of class Cell, a root")
 
     def test_saved_and_run(self):
-        """A session that was saved is input for metad, and what another shell says of it is the same, but for names."""
+        """A saved session is input for metad. Another shell prints the same for it, except for names."""
         script = (
             "new Probe\nnew Cell in 1\nconnect 2.xChanged -> 2.seen\n2.x = 5\nsession b\nnew QObject\n7.x\n"
             "1.objectName\nsession a\ndelete 2\n2.x\n"
@@ -221,14 +222,14 @@ class Words(ShellCases):
 
     def test_faults_by_chance(self):
         """Something is said to be wrong with an object of JSON exactly where it is no command, which the plain program judges."""
-        chance, commands = random.Random(SEED), 0
+        chance, commands = random.Random(str(SEED)), 0
         for _ in range(BY_CHANCE):
             given = keys_by_chance(chance)
             may = is_command(given) and is_known_name(given.get("session"))
             self.assertEqual(faults_of(given) == [], may, f"SEED={SEED}: {given}")
             commands += may
         self.assertTrue(BY_CHANCE // 10 < commands < BY_CHANCE * 9 // 10, f"{commands} commands of {BY_CHANCE}")
-        self.tell(f"cases: {BY_CHANCE:,}, of which {commands:,} are commands")
+        self.tell(f"cases: {BY_CHANCE:,}, {commands:,} of them commands")
 
     def test_refusals(self):
         """A refusal is said with its code and its meaning, by the names, and with what to do."""
@@ -301,7 +302,7 @@ class Words(ShellCases):
         self.assertEqual(said[2:], ["    to do: `reset` the session, and make its objects again; other sessions go on", "not sent: p is gone: object 1 was deleted"])
 
     def test_sessions(self):
-        """Names are those of their session; lines of another one say of which they are."""
+        """Names belong to their session. Lines of another session say whose they are."""
         script = (
             'new Probe as p\nsession b\nnew Cell\nnew Cell as p\n{"session":"a","do":"delete","object":1}\n'
             'p.x = 4\nsession a\np.ping()\n'
@@ -331,7 +332,7 @@ class Words(ShellCases):
         self.assertEqual([line for line in self.said(script) if not line.isprintable() and line != "\n"], [])
 
     def test_help(self):
-        """It tells of each command, and of one."""
+        """It describes all commands, or a single one."""
         said = self.said("help")
         lacking = [do for do, *_ in protocol.commands() if not re.search(rf"^{do}\b", said, re.MULTILINE)]
         self.assertEqual(lacking, ["set", "get", "connectFunctor"], "commands that have other forms")
@@ -349,7 +350,7 @@ HELD = (
 
 
 def keys_by_chance(chance):
-    """The keys of a command, of which some are taken away, put there, or hold something else."""
+    """The keys of a command. Some are removed, some are added, and some hold something else."""
     do, required, optional, _ = chance.choice(COMMANDS)
     keys = [*sorted(required), *(key for key in sorted(optional) if chance.random() < 0.5)]
     given = {"session": "a", "do": do, **{key: value_for(do, key) for key in keys}}
@@ -363,7 +364,7 @@ def keys_by_chance(chance):
 
 
 def value_for(do, key):
-    """What may stand at a key."""
+    """A value that a key may have."""
     of_one = {("setParent", "parent"): None, ("bindings", "after"): {"object": 1, "property": "x"}}
     return of_one[do, key] if (do, key) in of_one else {**NAMES, **VALUES}.get(key, 1)
 
@@ -382,7 +383,7 @@ class Ends(ShellCases):
         self.assertEqual(self.ran("begin\nend\nquit\nend\n", "--strict").returncode, 0, "nothing was refused")
 
     def test_server_ends(self):
-        """Its end is told with its status, wherever it comes."""
+        """The shell reports the server's end with its status, whenever that happens."""
         classes = Path(self.room, "classes.json")
         classes.write_text("[]")
         for what, words, given, said in (

@@ -2,6 +2,7 @@
 
 import subprocess
 import sys
+from contextlib import contextmanager
 from pathlib import Path
 from unittest import mock
 
@@ -29,131 +30,114 @@ class LiveShell(FrontCases, test_shell.ShellCases):
         self.assertEqual(host.known_as, "c1", "its name")
         return host
 
+    @contextmanager
+    def listening(self):
+        """A host and a shell at a terminal that listens to it, behind a front."""
+        with self.front() as (path, _):
+            host = self.host_of(path)
+            with host.server, self.terminal("--socket", str(path), server=(), NO_COLOR="1") as terminal:
+                self.listen(terminal)
+                yield host, terminal
+
+    @contextmanager
+    def piped(self, *words):
+        """A host and a shell on pipes that has begun to listen to it, behind a front."""
+        with self.front() as (path, _):
+            host = self.host_of(path)
+            words, pipe = [sys.executable, test_shell.SHELL, *words, "--socket", str(path)], subprocess.PIPE
+            with host.server, subprocess.Popen(words, stdin=pipe, stdout=pipe, env=self.environment(), text=True) as process:
+                try:
+                    process.stdin.write("new Cell as c\njoin c1.level(int) -> c.seen(int)\n")
+                    process.stdin.flush()
+                    for _ in range(2):
+                        process.stdout.readline()
+                    yield host, process
+                finally:
+                    process.kill()
+
     def listen(self, terminal):
         """Has the shell at a terminal listen to the host."""
-        for typed, said in (("new Cell as c\r", "it is c"), ("join c1.level(int) -> c.seen(int)\r", "is joined by seen(int)")):
-            terminal.type(typed)
-            terminal.wait(said)
-            terminal.wait("a> ")
+        terminal.do("new Cell as c", "it is c")
+        terminal.do("join c1.level(int) -> c.seen(int)", "is joined by seen(int)")
 
     def test_typed(self):
         """A call is shown while the prompt waits, and what is typed by then stays, and is shown again."""
-        with self.front() as (path, _):
-            host = self.host_of(path)
-            with host.server, self.terminal("--socket", str(path), server=(), NO_COLOR="1") as terminal:
-                self.listen(terminal)
-                host.set(1, "x", 1)
-                terminal.wait(f"{SEEN.format(1)}\r\n")
-                terminal.wait("a> ")
-                terminal.type("c.y = 2")
-                terminal.wait("c.y = 2")
-                terminal.type("\x1b[D")  # the cursor goes before the 2
-                for value in (2, 3):
-                    host.set(1, "x", value)
-                    terminal.wait(f"{SEEN.format(value)}\r\n")
-                    terminal.wait("a> c.y = 2")
-                terminal.type("4\r")
-                terminal.wait("y of object c was set to 42")
-                terminal.wait("a> ")
-                terminal.type("spin\r")
-                self.assertNotIn("called", terminal.wait("a> "), "what is left for `spin`")
-                terminal.type("\x04")
-                self.assertEqual(terminal.end(), 0, "the end")
-                self.assertNotIn("Traceback", terminal.all)
+        with self.listening() as (host, terminal):
+            host.set(1, "x", 1)
+            terminal.wait(f"{SEEN.format(1)}\r\n")
+            terminal.wait("a> ")
+            terminal.type("c.y = 2")
+            terminal.wait("c.y = 2")
+            terminal.type("\x1b[D")  # the cursor goes before the 2
+            for value in (2, 3):
+                host.set(1, "x", value)
+                terminal.wait(f"{SEEN.format(value)}\r\n")
+                terminal.wait("a> c.y = 2")
+            terminal.do("4", "y of object c was set to 42")
+            terminal.type("spin\r")
+            self.assertNotIn("called", terminal.wait("a> "), "what is left for `spin`")
+            terminal.leave()
+            self.assertNotIn("Traceback", terminal.all)
 
     def test_many(self):
         """Calls that come while commands are typed are all shown, in order, and no answer is missed."""
-        with self.front() as (path, _):
-            host = self.host_of(path)
-            with host.server, self.terminal("--socket", str(path), server=(), NO_COLOR="1") as terminal:
-                self.listen(terminal)
-                for value in range(1, 41):
-                    host.set(1, "x", value)
-                    if value % 4 == 0:
-                        terminal.type(f"c.y = {value}\r")
-                        terminal.wait(f"set to {value}\r\n")
-                if SEEN.format(40) not in terminal.all:
-                    terminal.wait(SEEN.format(40))
-                told = [line.split("[")[1].split("]")[0] for line in terminal.all.splitlines() if "called with [" in line]
-                self.assertEqual(told, [str(value) for value in range(1, 41)], "what is shown")
-                sets = [int(line.rpartition(" ")[2]) for line in terminal.all.splitlines() if "was set to" in line]
-                self.assertEqual(sets, list(range(4, 41, 4)), "the answers")
-                terminal.type("quit\r")
-                self.assertEqual(terminal.end(), 0, "the end")
+        with self.listening() as (host, terminal):
+            for value in range(1, 41):
+                host.set(1, "x", value)
+                if value % 4 == 0:
+                    terminal.type(f"c.y = {value}\r")
+                    terminal.wait(f"set to {value}\r\n")
+            if SEEN.format(40) not in terminal.all:
+                terminal.wait(SEEN.format(40))
+            told = [line.split("[")[1].split("]")[0] for line in terminal.all.splitlines() if "called with [" in line]
+            self.assertEqual(told, [str(value) for value in range(1, 41)], "what is shown")
+            sets = [int(line.rpartition(" ")[2]) for line in terminal.all.splitlines() if "was set to" in line]
+            self.assertEqual(sets, list(range(4, 41, 4)), "the answers")
+            terminal.leave("quit\r")
 
     def test_other_editors(self):
         """With another line editor, or without one, calls are shown too, and what is typed is not lost."""
         for before in ("import shelling.prompting; shelling.prompting.editor = lambda: None", "sys.modules['readline'] = None"):
             shell = Path(self.room, "shell")
             shell.write_text(OTHER.format(clients=str(CLIENTS), before=before))
-            with mock.patch.object(test_shell, "SHELL", shell), self.front() as (path, _):
-                host = self.host_of(path)
-                with host.server, self.terminal("--socket", str(path), server=(), NO_COLOR="1") as terminal:
-                    self.listen(terminal)
-                    terminal.type("c.y = 4")
-                    terminal.wait("c.y = 4")
-                    host.set(1, "x", 1)
-                    terminal.wait(f"{SEEN.format(1)}\r\n")
-                    terminal.wait("a> ")
-                    terminal.type("2\r")
-                    terminal.wait("y of object c was set to 42")
-                    terminal.type("quit\r")
-                    self.assertEqual(terminal.end(), 0, "the end")
+            with mock.patch.object(test_shell, "SHELL", shell), self.listening() as (host, terminal):
+                terminal.type("c.y = 4")
+                terminal.wait("c.y = 4")
+                host.set(1, "x", 1)
+                terminal.wait(f"{SEEN.format(1)}\r\n")
+                terminal.wait("a> ")
+                terminal.type("2\r")
+                terminal.wait("y of object c was set to 42")
+                terminal.leave("quit\r")
 
     def test_interrupted(self):
-        """Ctrl-C cancels the line as ever, also behind a call that was shown."""
-        with self.front() as (path, _):
-            host = self.host_of(path)
-            with host.server, self.terminal("--socket", str(path), server=(), NO_COLOR="1") as terminal:
-                self.listen(terminal)
-                terminal.type("delete c")
-                terminal.wait("delete c")
-                host.set(1, "x", 1)
-                terminal.wait("a> delete c")
-                terminal.interrupt("a> ")
-                terminal.type("names\r")
-                terminal.wait("c: object 1, of class Cell")
-                terminal.type("quit\r")
-                self.assertEqual(terminal.end(), 0, "the end")
+        """Ctrl-C cancels the line as usual, even after a call was shown."""
+        with self.listening() as (host, terminal):
+            terminal.type("delete c")
+            terminal.wait("delete c")
+            host.set(1, "x", 1)
+            terminal.wait("a> delete c")
+            terminal.interrupt("a> ")
+            terminal.type("names\r")
+            terminal.wait("c: object 1, of class Cell")
+            terminal.leave("quit\r")
 
     def test_piped(self):
         """Calls are shown while the next line does not come, also if the input is no terminal."""
-        with self.front() as (path, _):
-            host = self.host_of(path)
-            words = [sys.executable, test_shell.SHELL, "--socket", str(path)]
-            pipe = subprocess.PIPE
-            with host.server, subprocess.Popen(words, stdin=pipe, stdout=pipe, env=self.environment(), text=True) as process:
-                try:
-                    process.stdin.write("new Cell as c\njoin c1.level(int) -> c.seen(int)\n")
-                    process.stdin.flush()
-                    for _ in range(2):
-                        process.stdout.readline()
-                    for value in (1, 2):
-                        host.set(1, "x", value)
-                        self.assertEqual(process.stdout.readline(), f"{SEEN.format(value)}\n", "what is said")
-                    self.assertEqual(process.communicate("c.y\n", timeout=PATIENCE)[0], "y of object c is 0\n", "an answer")
-                    self.assertEqual(process.returncode, 0, "the end")
-                finally:
-                    process.kill()
+        with self.piped() as (host, process):
+            for value in (1, 2):
+                host.set(1, "x", value)
+                self.assertEqual(process.stdout.readline(), f"{SEEN.format(value)}\n", "what is said")
+            self.assertEqual(process.communicate("c.y\n", timeout=PATIENCE)[0], "y of object c is 0\n", "an answer")
+            self.assertEqual(process.returncode, 0, "the end")
 
     def test_no_live(self):
         """With --no-live what comes waits for `spin`."""
-        with self.front() as (path, _):
-            host = self.host_of(path)
-            words = [sys.executable, test_shell.SHELL, "--no-live", "--socket", str(path)]
-            pipe = subprocess.PIPE
-            with host.server, subprocess.Popen(words, stdin=pipe, stdout=pipe, env=self.environment(), text=True) as process:
-                try:
-                    process.stdin.write("new Cell as c\njoin c1.level(int) -> c.seen(int)\n")
-                    process.stdin.flush()
-                    for _ in range(2):
-                        process.stdout.readline()
-                    host.set(1, "x", 1)
-                    told = process.communicate("status\nspin\n", timeout=PATIENCE)[0].splitlines()
-                finally:
-                    process.kill()
-            self.assertIn("1 event in its queue", told[0], "what waits")
-            self.assertEqual(told[1], SEEN.format(1), "what `spin` brings")
+        with self.piped("--no-live") as (host, process):
+            host.set(1, "x", 1)
+            told = process.communicate("status\nspin\n", timeout=PATIENCE)[0].splitlines()
+        self.assertIn("1 event in its queue", told[0], "what waits")
+        self.assertEqual(told[1], SEEN.format(1), "what `spin` brings")
         ran = self.ran("", "--no-live")
         self.assertEqual((ran.returncode, ran.stdout), (2, b""), "without a socket")
 

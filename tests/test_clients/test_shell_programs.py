@@ -88,7 +88,7 @@ class Saving(ShellCases):
         self.assertFalse(Path(self.room, "end").exists(), "whether something was written")
 
     def test_help(self):
-        """The help tells of both."""
+        """The help describes both."""
         said = self.said("help\n").splitlines()
         self.assertIn("save FILE", said)
         self.assertIn("save! FILE", said)

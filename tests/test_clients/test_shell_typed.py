@@ -39,34 +39,23 @@ class Typed(ShellCases):
     def test_lines(self):
         """Lines are answered in colours, up to the end of the input; the history has them, and the next run too."""
         with self.terminal() as terminal:
-            terminal.type("new Probe as p\r")
-            terminal.wait("\x1b[32mobject 1 is made, of class Probe, a root; it is p\x1b[0m")
-            terminal.wait("a> ")
-            terminal.type("delete 9\r")
-            terminal.wait("\x1b[31mrefused, E04: there is no object 9\x1b[0m")
-            terminal.wait("a> ")
+            terminal.do("new Probe as p", "\x1b[32mobject 1 is made, of class Probe, a root; it is p\x1b[0m")
+            terminal.do("delete 9", "\x1b[31mrefused, E04: there is no object 9\x1b[0m")
             terminal.type("session b\r")
             terminal.wait("b> ")
-            terminal.type("\x04")
-            self.assertEqual(terminal.end(), 0, "the end of the input")
+            terminal.leave()
         self.assertEqual(self.history(), ["new Probe as p", "delete 9", "session b"])
         with self.terminal() as terminal:
-            terminal.type("\x1b[A\x1b[A\x1b[A\r")
-            terminal.wait("object 1 is made, of class Probe, a root; it is p")
-            terminal.wait("a> ")
-            terminal.type("quit\r")
-            self.assertEqual(terminal.end(), 0, "the word for the end")
+            terminal.do("\x1b[A\x1b[A\x1b[A", "object 1 is made, of class Probe, a root; it is p")
+            terminal.leave("quit\r")
         self.assertEqual(self.history()[-2:], ["new Probe as p", "quit"])
 
     def test_plain(self):
-        """With NO_COLOR nothing is coloured; a history that cannot be written is none."""
+        """With NO_COLOR nothing is coloured. A history that cannot be written is not kept."""
         Path(self.room, "file").write_text("")
         with self.terminal(NO_COLOR="1", XDG_STATE_HOME=f"{self.room}/file") as terminal:
-            terminal.type("status\r")
-            terminal.wait("the session has no object")
-            terminal.wait("a> ")
-            terminal.type("quit\r")
-            self.assertEqual(terminal.end(), 0, "the end")
+            terminal.do("status", "the session has no object")
+            terminal.leave("quit\r")
             self.assertNotIn(COLOUR, terminal.all)
             self.assertNotIn("Traceback", terminal.all)
         self.assertFalse(Path(self.room, ".local").exists(), "a history elsewhere")
@@ -75,34 +64,26 @@ class Typed(ShellCases):
         """The tabulator completes commands, classes, names, methods and properties."""
         with self.terminal(NO_COLOR="1") as terminal:
             for typed, said in (
-                ("new Pro\t as p\r", "object 1 is made, of class Probe, a root; it is p"),
-                ("p.pi\t\r", "ping() of object p was called or sent"),
-                ("new Ce\t as cell\r", "object 2 is made, of class Cell, a root; it is cell"),
-                ("cell.fl\t = true\r", "flag of object cell was set to true"),
-                ("cell.setX\t5)\r", "setX(int) of object cell was called or sent, argument 5"),
-                ("conn\t ce\t.xCh\t -> ce\t.see\t que\t\r", "xChanged(int) of object cell posts a call of seen(int)"),
-                ("stat\t\r", "the session has 2 objects and 1 connection"),
+                ("new Pro\t as p", "object 1 is made, of class Probe, a root; it is p"),
+                ("p.pi\t", "ping() of object p was called or sent"),
+                ("new Ce\t as cell", "object 2 is made, of class Cell, a root; it is cell"),
+                ("cell.fl\t = true", "flag of object cell was set to true"),
+                ("cell.setX\t5)", "setX(int) of object cell was called or sent, argument 5"),
+                ("conn\t ce\t.xCh\t -> ce\t.see\t que\t", "xChanged(int) of object cell posts a call of seen(int)"),
+                ("stat\t", "the session has 2 objects and 1 connection"),
             ):
-                terminal.type(typed)
-                terminal.wait(said)
-                terminal.wait("a> ")
-            terminal.type("\x04")
-            self.assertEqual(terminal.end(), 0, "the end")
+                terminal.do(typed, said)
+            terminal.leave()
 
     def test_interrupt(self):
         """It cancels the line and nothing else, neither the server nor a wait for an answer."""
         with self.terminal(NO_COLOR="1") as terminal:
-            terminal.type("new Probe as p\r")
-            terminal.wait("it is p")
-            terminal.wait("a> ")
+            terminal.do("new Probe as p", "it is p")
             terminal.type("delete p")
             terminal.wait("delete p")
             terminal.interrupt("a> ")
-            terminal.type("names\r")
-            terminal.wait("p: object 1, of class Probe")
-            terminal.wait("a> ")
-            terminal.type("\x04")
-            self.assertEqual(terminal.end(), 0, "the end")
+            terminal.do("names", "p: object 1, of class Probe")
+            terminal.leave()
             self.assertNotIn("Traceback", terminal.all)
 
     def wait_for(self, path):
@@ -122,16 +103,13 @@ class Typed(ShellCases):
             self.wait_for(Path(self.room, "asked"))
             terminal.interrupt("a> ")
             Path(self.room, "given_up").touch()
-            terminal.type("children\r")
-            terminal.wait("the root is 2")
-            terminal.wait("a> ")
-            terminal.type("\x04")
-            self.assertEqual(terminal.end(), 0, "the end")
+            terminal.do("children", "the root is 2")
+            terminal.leave()
             self.assertNotIn("the root is 1", terminal.all)
             self.assertNotIn("Traceback", terminal.all)
 
     def test_server_ends(self):
-        """The server's end is told with its status."""
+        """The shell reports the server's end with its status."""
         with self.terminal(server=("sh", "-c", "read line; exit 3")) as terminal:
             terminal.type("status\r")
             terminal.wait("shell: the server has ended with status 3")

@@ -1,4 +1,4 @@
-"""`slice` (clients/slice): on worked records, on runs by chance beside the plain program, with programs that slice wrongly,
+"""`slice` (clients/slice): on worked records, on random runs compared with the plain program, with programs that slice wrongly,
 and on bad words, files and outputs."""
 
 import os
@@ -32,7 +32,7 @@ from . import CLIENTS
 from .test_explain import End
 
 SLICE = CLIENTS / "slice"
-MARKS = {True: b"+ ", False: b"- ", None: b"? "}  # of a command that is kept or left out, and of what is none
+MARKS = {True: b"+ ", False: b"- ", None: b"? "}  # of a command that is kept, of one that is left out, and of other lines
 FRONTED = b"""\
 {"class":"Cell","do":"new","session":"a","session":"c1"}
 {"class":"Cell","do":"new","session":"a","session":"c2"}
@@ -58,8 +58,8 @@ def text_in(lines):
 
 
 def shown(lines, session, behind):
-    """What the tool has to write for a worked input: its lines with their marks, and this behind them. Each line that nobody's
-    slice keeps is no command, or blank."""
+    """What the tool has to write for a worked input: its lines with their marks, and then the given lines. A line that is in
+    nobody's slice is no command, or blank."""
     marks = [(MARKS[session in keepers.split() if keepers else None], text) for keepers, text in lines]
     return text_in(mark + text for mark, text in marks if text.strip(b" \t\r")) + text_in(it.encode() for it in behind)
 
@@ -177,11 +177,11 @@ class Worked(ProgramCases):
         self.check_each(((row.name, row) for row in WORKED), partial(fault_of, self.room, self.program))
 
     def test_shown(self):
-        """Each line of a record is marked, the commands are counted, and the session is told the same."""
+        """Each line of a record is marked, the commands are counted, and the session receives the same."""
         self.check_tool(tool_fault)
 
     def test_only(self):
-        """The slice alone is written as the lines stand in the record."""
+        """With `--only`, the lines of the slice are written exactly as in the record."""
         self.check_tool(only_fault)
 
     def test_without_last_end(self):
@@ -209,7 +209,7 @@ class Worked(ProgramCases):
             self.assertEqual((ran.returncode, ran.stdout, ran.stderr), (0, wanted, b""), name)
 
 
-# Runs by chance.
+# Random runs.
 
 RUNS, RUNS_AT_ONCE = 40, 4
 
@@ -237,7 +237,7 @@ def try_marks(program, seed):
     run = mixed.run_of(made, Server(Classes(declared), turns), RUNS_AT_ONCE)
     lines = list(with_faults(made, run))
     with TemporaryDirectory(prefix="metad-slice-") as room:
-        row = replace(row_with_classes("by chance", [], [], declared, room, turns), given=text_in(lines), folder=Path(room))
+        row = replace(row_with_classes("random", [], [], declared, room, turns), given=text_in(lines), folder=Path(room))
         notes = notes_of(server_of(row), lines)
         places = {name: [it.place for it in kept(notes, name)] for name in run.server.sessions}
         fault = next(filter(None, (marks_fault(row, program, name, its) for name, its in places.items())), None)
@@ -246,12 +246,12 @@ def try_marks(program, seed):
 
 
 class ByChance(ProgramCases):
-    """Runs by chance."""
+    """Random runs."""
 
     def test_marks(self):
-        """The lines that the plain program keeps are marked, also among others that are the same, and each session is told
-        the same by its slice."""
-        cases = ((f"by chance, {seed}", seed) for seed in range(1, RUNS // RUNS_AT_ONCE + 1))
+        """The lines that the plain program keeps are marked, even among identical ones. Each session receives the same from
+        its slice."""
+        cases = ((f"random, {seed}", seed) for seed in range(1, RUNS // RUNS_AT_ONCE + 1))
         tried = self.check_each(cases, partial(try_marks, self.program), lambda it: it.fault, ProcessPoolExecutor)
         counts = all_shown(tried)
         self.tell(", ".join(f"{what}: {number:,}" for what, number in counts.items()))
@@ -315,7 +315,7 @@ class Wrong(ProgramCases):
     """Programs that do not do what they have to."""
 
     def test_wrong(self):
-        """It is shown what a session is told otherwise, or said what is wrong, with status 1."""
+        """The tool shows what a session receives that differs, or says what is wrong, and ends with status 1."""
         room = self.enterContext(TemporaryDirectory(prefix="metad-slice-"))
         self.check_each(wrong_programs(), partial(wrong_fault, room, self.program))
 
@@ -408,7 +408,7 @@ def ends_of_words(record, program):
     yield from (End(f"words {words}", words=words, status=2, said="usage:") for words in STATUS_2)
     yield from (End(f"help {words}", words=words) for words in HELP)
     yield from (End(f"turns {it}", words=("--metad", program, "--turns", it, record, "a")) for it in TURNS)
-    yield End("options behind", words=(record, "a", "--only", "--metad", program))
+    yield End("options after the session", words=(record, "a", "--only", "--metad", program))
 
 
 def unable(name, said, *words, folder=None):
@@ -424,10 +424,10 @@ def ends_of_files(room, record, program):
     yield unable("a strange name of a class file", "C01 at class 0", *own, "--classes=-x", record, "a", folder=room)
     yield unable("no record", "slice: /nonexistent cannot be opened: No such file", "/nonexistent", "a")
     yield unable("a record that is a folder", "slice: / cannot be ", "/", "a")
-    yield unable("a record of a name that is none", "cannot be opened", "", "a")
+    yield unable("a record with an empty name", "cannot be opened", "", "a")
     yield unable("no program", "slice: /nonexistent cannot be started: No such", "--metad", "/nonexistent", record, "a")
-    yield unable("a program that is none", "cannot be started: Permission denied", "--metad", record, record, "a")
-    yield unable("a program of a name that is none", "cannot be started", "--metad", "", record, "a")
+    yield unable("a file that is no program", "cannot be started: Permission denied", "--metad", record, record, "a")
+    yield unable("a program with an empty name", "cannot be started", "--metad", "", record, "a")
     no_classes = "metad: class file refused: unreadable\nslice: "
     yield unable("no class file", no_classes, *own, "--classes", "/nonexistent", record, "a")
 
@@ -459,13 +459,13 @@ class Ends(ProgramCases):
         self.check_each([(end.name, end) for end in ends], lambda end: end.fault(end.run(SLICE)))
 
     def test_help(self):
-        """The help tells of the words of the command line, the marks and the ends."""
+        """The help describes the words of the command line, the marks and the exit statuses."""
         said = subprocess.run([SLICE, "--help"], capture_output=True, text=True, timeout=SECONDS).stdout
         for it in OF_HELP:
             self.assertIn(it, said)
 
     def test_devices(self):
-        """Outputs that are full or not there, with the buffers that Python has where it is told nothing else."""
+        """Outputs that are full or missing, with Python's default buffers."""
         own = {key: value for key, value in os.environ.items() if key != "PYTHONUNBUFFERED"}
         record = self.record(100 * OWN)
         for device, wanted in DEVICES.items():

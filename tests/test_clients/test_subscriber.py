@@ -1,13 +1,10 @@
-"""The subscriber (examples/subscriber/subscriber.py), which finds the client and the front where they stand here."""
+"""The subscriber (examples/subscriber/subscriber.py), which finds the client and the front in this repository."""
 
 import os
-import subprocess
-import sys
 from pathlib import Path
 
-from tests.support.program import ROOT, SECONDS
+from tests.support.program import ROOT
 
-from . import PYTHON
 from .fronts import ClientCases
 
 SUBSCRIBER = ROOT / "examples" / "subscriber" / "subscriber.py"
@@ -17,19 +14,14 @@ SAID = "".join(f"the subscriber says: {it}\n" for it in ("it listens", "x is 1",
 class Subscriber(ClientCases):
     """Runs of the example."""
 
-    def ran(self, *words):
-        own = {**os.environ, "PYTHONPATH": str(PYTHON), "PYTHONDONTWRITEBYTECODE": "1", "TMPDIR": self.room}
-        words = [sys.executable, "-W", "error", SUBSCRIBER, *words]
-        return subprocess.run(words, capture_output=True, text=True, timeout=SECONDS, env=own, stdin=subprocess.DEVNULL)
-
     def test_subscriber(self):
         """Each value is printed as it comes: the publisher gives the next one when it knows that the last one was printed."""
-        ran = self.ran(self.program)
+        ran = self.ran_example(SUBSCRIBER, self.program)
         self.assertEqual((ran.returncode, ran.stdout, ran.stderr), (0, SAID, ""))
         self.assertEqual(os.listdir(self.room), [], "what it leaves")
 
     def test_nothing_to_start(self):
         """Where there is no server it says so and ends."""
-        ran = self.ran(Path(self.room, "nothing"))
+        ran = self.ran_example(SUBSCRIBER, Path(self.room, "nothing"))
         self.assertEqual((ran.returncode, ran.stdout), (1, ""), ran.stderr)
         self.assertRegex(ran.stderr, r"^subscriber: .*No such file or directory[^\n]*\n$")

@@ -1,4 +1,4 @@
-"""What stands in `clients` and the examples can be run by Python 3.8."""
+"""Everything in `clients` and the examples can be run by Python 3.8."""
 
 import ast
 
@@ -18,7 +18,7 @@ def programs():
 
 
 def has_annotations(tree):
-    """Whether something says of which type it is."""
+    """Whether something has a type annotation."""
     for node in ast.walk(tree):
         if isinstance(node, ast.AnnAssign) or isinstance(node, ast.arg) and node.annotation:
             return True
@@ -35,7 +35,7 @@ def fault_of(text):
         return str(error)
     future = {it.name for node in tree.body if isinstance(node, ast.ImportFrom) and node.module == "__future__" for it in node.names}
     if has_annotations(tree) and "annotations" not in future:
-        return "types are computed when it is run, of which some are none in that version"
+        return "types are computed when it is run, and some do not exist in that version"
     return None
 
 

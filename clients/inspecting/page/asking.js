@@ -22,7 +22,7 @@ export function hear(tell, lost) {
   source.onerror = lost;
 }
 
-/** Does something again and again, at most once at a time: what is asked for meanwhile is done once behind it. */
+/** Does something again and again, at most once at a time: what is asked for meanwhile is done once, right after it. */
 export function oneAtATime(does) {
   let isUnderWay = false, isWanted = false;
   return async function again() {
