@@ -1,16 +1,15 @@
 #!/usr/bin/env python3
 """Counts the instructions of the built program on generated inputs, and compares the counts with their marks.
 
-Each figure is what one line, call, event or the like takes more in an input than in one of half the length, so that
-the start and what is made before cancel out; some figures are ratios of two others. Instructions are counted by
-valgrind's callgrind, so that other load on the machine does not matter, and requests for memory by COUNTER, preloaded.
-FIXED, preloaded too, gives the program the same random bytes in each run, so that counts are the same each time. All
-replies are compared with what they must be.
+Each figure is the cost of one more line, call or event: the difference of a run on an input and on one of half the length,
+divided, so that the start cancels out. Some figures are ratios of two others. valgrind's callgrind counts instructions, and
+COUNTER, a preloaded library, requests for memory. FIXED, another one, gives the program the same random bytes in each run,
+so that counts repeat. All replies are compared with the expected ones.
 
-Each count has a guard and may have a goal. A count over its guard is a regression: the status is 1 then. Goals are
-shown, and decide nothing. With --last a count that is more than 1.03 times that of an earlier program is a regression
-too. With --write the counts and guards of this run are written down, in marks.json and docs/internals/MEASURES.md; goals stay.
-Times and peaks of memory are printed last, and decide nothing. Without valgrind only these are printed.
+Each count has a guard and may have a goal. A count over its guard is a regression, and the status is 1. Goals are shown and
+decide nothing. With --last, a count over 1.03 times that of an earlier program is a regression too. With --write, counts and
+guards of this run are written to marks.json and docs/internals/MEASURES.md; goals stay. Times and peaks of memory are
+printed last and decide nothing. Without valgrind only these are printed.
 """
 
 from __future__ import annotations
@@ -57,7 +56,7 @@ def show_counts(programs, room, libraries):
 
 
 def verdict(said, count, goal):
-    """What is printed beside a figure: whether it is a regression, and whether it has reached its goal."""
+    """The words printed after a figure: whether it is a regression, and whether it has reached its goal."""
     reached = {"yes": ", goal reached", "no": ", goal not reached", "-": ""}[marks.is_reached(count, goal)]
     return f"{'REGRESSION' if said else 'kept'}{reached}"
 
@@ -88,7 +87,7 @@ def options():
     parser.add_argument("program", type=path, help="the built program")
     parser.add_argument("counter", type=path, help="the library that counts requests for memory")
     parser.add_argument("fixed", type=path, help="the library that gives fixed random bytes")
-    parser.add_argument("--last", type=path, metavar="PROGRAM", help="an earlier program, which is counted beside it")
+    parser.add_argument("--last", type=path, metavar="PROGRAM", help="an earlier program, which is counted too")
     parser.add_argument("--write", action="store_true", help="writes down the counts of this run and guards made from them")
     return parser.parse_args()
 

@@ -1,10 +1,10 @@
 #!/usr/bin/env python3
-"""Measures metad beside other ways to give each client objects of its own: what one client more takes, and round trips.
+"""Compares metad with other ways to give each client objects of its own: memory per client, and round trips.
 
-Usage: beside.py PROGRAM. Round trips are shares of those of a bare loop in Python, which writes a line to PROGRAM and
-reads one, taken by turns in one run; each share is the middle one of several turns. Memory is what belongs to a process
-alone, and grows by a client. A D-Bus daemon, and a C++ compiler with Qt 6, are asked where they are on the path. What
-others do on the machine counts here: it is for people, and decides nothing.
+Usage: beside.py PROGRAM. Round trips are shares of those of a bare loop in Python that writes a line to PROGRAM and reads
+one, measured by turns in one run; each share is the median of several turns. Memory is the private memory of a process, and
+its growth per client. A D-Bus daemon, and a C++ compiler with Qt 6, are measured if they are on the path. Other load on the
+machine affects the figures: they are for people, and decide nothing.
 """
 
 from __future__ import annotations
@@ -144,7 +144,7 @@ def asking(process: subprocess.Popen[bytes]) -> Callable[[], object]:
 @contextmanager
 def fronted(program: str) -> Iterator[Tuple[str, subprocess.Popen[bytes]]]:
     """A front with its server: where it listens, and its process."""
-    with TemporaryDirectory(prefix="metad-beside-") as room:
+    with TemporaryDirectory(prefix="metad-compared-") as room:
         path = str(Path(room, "socket"))
         words = [*front_words(), "--quiet", path, program]
         with subprocess.Popen(words, stderr=PIPE, start_new_session=True) as process:
@@ -246,7 +246,7 @@ def shares_of_trips(program: str) -> Tuple[float, Dict[str, float]]:
 
 
 def bytes_behind_front(program: str) -> float:
-    """What one client more of a front takes, with a named object, of the front and of the server together."""
+    """The memory per client of a front and its server together, each client with a named object."""
     with fronted(program) as (path, process):
         kept = [asking_front(path)]
         server = int(Path(f"/proc/{process.pid}/task/{process.pid}/children").read_text())
@@ -257,7 +257,7 @@ def bytes_behind_front(program: str) -> float:
 
 
 def bytes_on_bus() -> Optional[float]:
-    """What one client more of a D-Bus daemon takes of it, without an object; None where there is no daemon."""
+    """The memory per client of a D-Bus daemon, without an object; None where there is no daemon."""
     with bus() as process:
         if process is None:
             return None
@@ -269,7 +269,7 @@ def bytes_on_bus() -> Optional[float]:
 
 
 def bytes_of_processes(words: List[str], given: bytes) -> float:
-    """What a process takes that has a named object, beside others like it. It writes a line when it is ready."""
+    """The memory of one of several processes that each have a named object. It writes a line when it is ready."""
     processes: List[subprocess.Popen[bytes]] = []
     try:
         for _ in range(PROCESSES):
@@ -291,7 +291,7 @@ def bytes_of_qt() -> Optional[float]:
     found = subprocess.run(["pkg-config", "--cflags", "--libs", "Qt6Core"], capture_output=True, text=True)
     if found.returncode:
         return None
-    with TemporaryDirectory(prefix="metad-beside-") as room:
+    with TemporaryDirectory(prefix="metad-compared-") as room:
         source, program = Path(room, "lamp.cpp"), str(Path(room, "lamp"))
         source.write_text(QT)
         subprocess.run(["c++", "-O2", "-fPIC", source, "-o", program, *found.stdout.split()], check=True)

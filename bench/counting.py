@@ -1,7 +1,7 @@
-"""What the program is given and writes, and how its instructions and its requests for memory are counted.
+"""Runs the program on an input, and counts its instructions and its requests for memory.
 
-A counted program is given the same random bytes in each run, by the library `fixed`, preloaded: it hashes names with
-random keys, and which names collide would change the counts by up to 2 %.
+The preloaded library `fixed` gives it the same random bytes in each run. Otherwise the random keys by which it hashes names
+would change which names collide, and the counts by up to 2 %.
 """
 
 import os
@@ -28,7 +28,7 @@ def has_valgrind():
 
 
 class Room:
-    """A folder with an input, the classes for it, what must be told to it and what a program writes."""
+    """A folder with an input, its classes, the expected output and what a program writes."""
 
     def __init__(self, folder):
         folder = Path(folder)
@@ -56,7 +56,7 @@ class Room:
             raise Fault(f"{self.name}: {command[0]} ends with {status}\n{self.log.read_text(errors='replace')}")
 
     def check(self):
-        """Compares what was written with what must be told."""
+        """Compares the output with the expected one."""
         if cmp(self.wrote, self.wanted, shallow=False):
             return
         with open(self.wrote) as wrote, open(self.wanted) as wanted:

@@ -1,4 +1,4 @@
-"""How measurements end: what each program here does with its words, and which status it has."""
+"""The words and the exit status of the programs that measure."""
 
 from __future__ import annotations
 

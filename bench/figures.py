@@ -10,7 +10,7 @@ from lines import CELL_DESCRIBED, METHODS, demonstration_classes, lamps, usual_c
 
 Line = Tuple[str, str]
 
-INSTRUCTIONS, REQUESTS = "instructions", "requests for memory"
+INSTRUCTIONS, ALLOCATIONS = "instructions", "allocations"
 
 LINES = 20_000
 SOME_LINES = 10_000
@@ -40,7 +40,7 @@ JOINS = 1_024  # as many as a session may have; it may have as many publications
 
 @dataclass(frozen=True)
 class Figure:
-    """What one of many takes: the difference of two inputs, of which one does it so many times more often.
+    """The cost of one of many: the difference of two inputs, one of them with so many times as many.
 
     `lines` gives the input that does it so many times over. Each time has so many `rounds`, and each round has so many
     of what is counted, in addition to what the figure `less` counts. To be timed it is done `often` as many times over.
@@ -95,7 +95,7 @@ def line(name, lines, count=SOME_LINES, classes=usual_classes):
 
 
 def line_told(name, lines, count, told, classes=usual_classes):
-    """A figure of each line that is told, where so many are told each time; `lines` gives the input of so many times."""
+    """The cost of a line of output, with so many lines each time; `lines` gives the input of so many times."""
     return Figure(name, "line told", count, lambda times: lines(times * count), told, classes=lambda times: classes())
 
 
@@ -108,14 +108,14 @@ def in_sessions(count):
     return line(f"set and get, in {so_many(count, 'sessions')}", lambda lines: inputs.in_turn(count, lines), LINES)
 
 
-def set_beside(standing):
-    name = f"set of an int, next to {so_many(standing, 'objects')}"
-    return line(name, lambda lines: inputs.set_beside(standing, lines))
+def set_beside(others):
+    name = f"set of an int, next to {so_many(others, 'objects')}"
+    return line(name, lambda lines: inputs.set_beside(others, lines))
 
 
-def beside_objects(standing):
-    name = f"new and delete, next to {so_many(standing, 'objects')}"
-    return line(name, lambda lines: inputs.beside_objects(standing, lines))
+def beside_objects(others):
+    name = f"new and delete, next to {so_many(others, 'objects')}"
+    return line(name, lambda lines: inputs.beside_objects(others, lines))
 
 
 def beside_connections(session):
@@ -162,7 +162,7 @@ def many_at_once(name, unit, lines, less, work):
 
 
 def heard(name, others=lambda: (), **how):
-    """The figure of calls of many ears, with other lines before it."""
+    """The figure of calls of many receivers, with other lines before it."""
     return Figure(name, "call", RINGS, lambda times: inputs.heard_by(EARS, times * RINGS, others(), **how), EARS)
 
 
@@ -172,7 +172,7 @@ def told(name, kind, slot):
 
 
 def chained(chains):
-    """The figure of what is told where properties set each other in so many chains."""
+    """The cost of a line of output where properties set each other in so many chains."""
     name = f"a set and its calls, in {so_many(chains, 'chains')} of {LONG_CHAIN} properties that set each other"
     return line_told(name, lambda times: inputs.chains_by_notify(chains, LONG_CHAIN, times), LINES // LONG_CHAIN, LONG_CHAIN)
 
@@ -208,7 +208,7 @@ def unheard_under(names):
 
 
 def listened(sessions):
-    """The figure of what is told where so many sessions have joined a property that is set."""
+    """The cost of a line of output where so many sessions have joined a property that is set."""
     told = inputs.SETS + (inputs.SETS + 1) * sessions
     rounds = max(1, LINES // told)
     name = f"{inputs.SETS} sets that are published, and a spin in each of {sessions:,} sessions"
@@ -224,8 +224,8 @@ def class_file(count):
 
 
 def memory(figure):
-    """How often memory is asked for in place of the instructions."""
-    return replace(figure, name=f"memory: {figure.name}", what=REQUESTS, less=None)
+    """A figure that counts allocations instead of instructions."""
+    return replace(figure, name=f"memory: {figure.name}", what=ALLOCATIONS, less=None)
 
 
 SENT = line("a signal sent to nobody", lambda lines: inputs.rings(0, lines))
@@ -248,10 +248,10 @@ NO_BINDINGS = line("bindings of a session without any", lambda lines: inputs.bin
 BINDINGS_LISTED = many_at_once("bindings, of {:,}", "binding", inputs.bindings_listed, NO_BINDINGS, LINES)
 ARRIVED = many_at_once("a post, in {:,} sessions", "arrival", inputs.posted, unheard(FEW), LINES)
 
-HEARD = heard(f"a call, of a signal with {EARS:,} ears")
-HEARD_BEHIND_BROKEN = heard(f"a call, of a signal with {EARS:,} ears, after a connection was broken", is_broken=True)
+HEARD = heard(f"a call, of a signal with {EARS:,} receivers")
+HEARD_BEHIND_BROKEN = heard(f"a call, of a signal with {EARS:,} receivers, after a connection was broken", is_broken=True)
 HEARD_IN_TURN = Figure(
-    f"a call, of one of {SENDERS} signals with {EARS:,} ears, connected in turn",
+    f"a call, of one of {SENDERS} signals with {EARS:,} receivers, connected in turn",
     "call",
     RINGS,
     lambda times: inputs.heard_in_turn(SENDERS, EARS, times * RINGS),

@@ -1,4 +1,4 @@
-"""The parts of hard use of a front: a front with its log and its figures, and clients whose every line is known before."""
+"""The parts of hard use of a front: the front with its log and figures, and clients whose every line is known in advance."""
 
 from __future__ import annotations
 
@@ -156,7 +156,7 @@ class Pump:
         return f'{call}{{"reply":true,"session":"{self.name}"}}\n'.encode()
 
     def push(self) -> None:
-        """Writes commands, as many as may be under way."""
+        """Writes commands up to the limit of those under way."""
         for self.sent in range(self.sent + 1, self.answered + self.ahead + 1):
             line = f'{{"do":"set","object":1,"property":"x","value":{self.sent}{self.own}}}\n'.encode()
             if self.link.send(line) != len(line):

@@ -1,8 +1,9 @@
 #!/usr/bin/env python3
 """A server for trials of a front, which answers each line with a digest of it, for the session that it names.
 
-Usage: hard_use.py hard_echo.py rubbish. So a front is seen to hand on each line once, with the session of its client and
-otherwise byte for byte. It is quicker than what does commands. What is no object is answered by `E01` for the session `-`.
+Usage: hard_use.py hard_echo.py rubbish. It shows that a front forwards each line once, with the session of its client and
+otherwise byte for byte. It is quicker than a server that does commands. A line that is no object is answered by `E01` for
+the session `-`.
 """
 
 from __future__ import annotations

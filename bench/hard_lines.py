@@ -1,4 +1,4 @@
-"""Lines that no honest client writes, mixed with some honest ones, and the lines that a program alone has to be given."""
+"""Lines that no honest client writes, mixed with some honest ones, and what a program alone is given instead."""
 
 from __future__ import annotations
 
@@ -73,7 +73,7 @@ class Lines(random.Random):
 
 
 def object_in(line: bytes) -> Any:
-    """The object that a line is, as any reader of JSON reads it; None if it is none."""
+    """The object in a line, as any reader of JSON reads it; None if the line is no object."""
     try:
         found = json.loads(line.strip(b" \t\r").decode(), parse_constant=strange)
     except (ValueError, RecursionError):

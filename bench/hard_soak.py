@@ -142,13 +142,16 @@ class Soak:
         self.counts["kill"] = self.counts.get("kill", 0) + 1
         self.kill_at = time.monotonic() + KILL_EVERY
 
-    def rest(self) -> Tuple[int, int]:
-        """Closes all clients; returns the front's memory in KiB, and the number of its open files."""
+    def rest(self, files_most: Optional[int] = None) -> Tuple[int, int]:
+        """Closes all clients; returns the front's memory in KiB, and the number of its open files, which has to fall to the most
+        where that is given."""
         self.pumps.drain()
         self.let_go(float("inf"))
         with connected(self.room / "control") as link:
             wait_until(lambda: self.names(link) <= {"team"}, "all groups have gone but that of a shared session")
         time.sleep(1)
+        if files_most is not None:
+            wait_until(lambda: self.front.files() <= files_most, f"no more than {files_most} files are open at rest")
         return self.front.figure("VmRSS"), self.front.files()
 
 
@@ -164,12 +167,12 @@ def soak(room: Path, program: str, chance: random.Random, seconds: int) -> str:
             front.check()
             if first is None and time.monotonic() > begun + seconds / 4:
                 first = load.rest()
-        last = load.rest()
+        assert first is not None
+        last = load.rest(first[1])
         peak = front.figure("VmHWM")
         front.end()
-    assert first is not None
-    if last[1] > first[1] or last[0] > first[0] * (1 + MORE[1]) + MORE[0]:
-        raise Failed(f"KiB of memory and files at rest: {first} after a quarter, and {last} at the end")
+    if last[0] > first[0] * (1 + MORE[1]) + MORE[0]:
+        raise Failed(f"KiB of memory at rest: {first[0]:,} after a quarter, and {last[0]:,} at the end")
     did = ", ".join(f"{count} {name}" for name, count in sorted(load.counts.items()))
     after = f"{first[0]:,} KiB and {first[1]} files after a quarter, {last[0]:,} KiB and {last[1]} files at the end"
     return f"at rest {after}; peak {peak:,} KiB; {load.commands:,} commands; {did}"

@@ -36,7 +36,7 @@ def deaf(path: Path) -> socket.socket:
     reader = link.makefile("rb")
     for _ in range(1 + CALLS):
         if not reader.readline():
-            raise Failed("a client was closed before it had been told much")
+            raise Failed("a client was closed before it received much")
     reader.detach()
     link.sendall(RING)
     return link

@@ -1,5 +1,5 @@
 #!/usr/bin/env python3
-"""Uses a front hard, and says what came of it; the first fault ends it with status 1.
+"""Puts a front under hard use, and prints the results; the first fault ends it with status 1.
 
 Usage: hard_use.py [--seed N] [--part OF] PROGRAM TRIAL [TRIAL..]
        hard_use.py [--seed N] [--seconds N] PROGRAM soak

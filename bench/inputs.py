@@ -1,4 +1,4 @@
-"""The inputs that are counted and timed: lines, each with the text that must be told to it.
+"""The inputs that are counted and timed: lines, each with its expected output.
 
 They are the same in every run. Each makes what has to be there, and then does what is counted so many times.
 """
@@ -51,7 +51,7 @@ BLANKS_AND_ESCAPES = {",": ", ", ":": ": ", "lamp": "l\\u0061mp", "objectName": 
 
 
 def numbered(session, first, kinds):
-    """New objects of these classes, the first of which gets this number."""
+    """New objects of these classes, numbered from this number."""
     return [new(session, number, kind) for number, kind in enumerate(kinds, first)]
 
 
@@ -100,7 +100,7 @@ def metas(lines, *described):
 
 
 def values_in_turn(write_value, read_value, lines):
-    """A Cell, of which a value is written by a line and read by another one again and again."""
+    """A Cell whose value is written by one line and read by another, again and again."""
     yield new("a", 1, "Cell")
     for value in range(1, lines // 2 + 1):
         yield write_value("a", value)
@@ -135,7 +135,7 @@ def family(number):
 
 
 def seen(number, looks):
-    """A family, whose children are told again and again."""
+    """A family, whose children are listed again and again."""
     yield from family(number)
     yield from [children("a", 1, list(range(2, number + 2)))] * looks
 
@@ -161,14 +161,14 @@ def found_last(number, looks):
 
 
 def come_and_go(first, lines):
-    """Objects that are made and deleted one by one, the first of which gets this number."""
+    """Objects that are made and deleted one by one, numbered from this number."""
     for number in range(first, first + lines // 2):
         yield new("a", number)
         yield delete("a", number)
 
 
 def beside_objects(standing, lines):
-    """Objects that come and go beside so many others."""
+    """Objects that come and go next to so many others."""
     yield from numbered("a", 1, ["QObject"] * standing)
     yield from come_and_go(standing + 1, lines)
 
@@ -189,13 +189,13 @@ def connections_listed(count, looks):
 
 
 def beside_connections(session, count, lines):
-    """Objects of session a that come and go beside so many connections of others in a session, that one or another."""
+    """Objects of session a that come and go next to so many connections of others, in that session or another one."""
     yield from connections(session, count)
     yield from come_and_go(3 if session == "a" else 1, lines)
 
 
 def tie_and_untie(session, count, lines):
-    """A connection of session a that is made and broken again and again, beside so many of others in a session."""
+    """A connection of session a that is made and broken again and again, next to so many of others in a session."""
     yield from connections(session, count)
     first, standing = (3, count) if session == "a" else (1, 0)
     yield from numbered("a", first, ["Bell", "Ear"])
@@ -205,7 +205,7 @@ def tie_and_untie(session, count, lines):
 
 
 def random_ends(objects, seed):
-    """The ends of connections of so many objects by chance, in all different ones."""
+    """Random ends of connections of so many objects, all of them different."""
     chance, seen = Random(seed), set()
     while True:
         ends = chance.randint(1, objects), chance.randint(1, objects)
@@ -220,8 +220,8 @@ def tie_cells(ends, number, **kind):
 
 
 def ties_by_chance(objects, count, lines, **kind):
-    """So many connections of so many Cells, all by chance. Then one more is made again and again, and any one broken: by its
-    number, or where they are unique by its ends."""
+    """So many random connections of so many Cells. Then another is made again and again, and any one broken: by its number,
+    or where they are unique by its ends."""
     yield from numbered("a", 1, ["Cell"] * objects)
     found, chance, standing = random_ends(objects, "ends"), Random("broken"), []
     for number in range(1, count + lines // 2 + 1):
@@ -307,13 +307,13 @@ def cells(kind, slot, others, times):
 
 
 def set_beside(standing, times):
-    """A Cell that is set so many times beside so many others, without anybody to tell."""
+    """A Cell that is set so many times next to so many others, with nobody connected."""
     yield from numbered("a", 1, ["Cell"] * (standing + 1))
     yield from (set_x("a", value) for value in range(1, times + 1))
 
 
 def chains_by_notify(chains, length, times):
-    """So many chains of Cells, in each of which each one sets the next; in turn the first one of a chain is set, so many
+    """So many chains of Cells in which each one sets the next. The chains take turns: the first Cell of one is set, so many
     times in all."""
     firsts = range(1, chains * length + 1, length)
     yield from numbered("a", 1, ["Cell"] * (chains * length))
@@ -338,7 +338,7 @@ def bindings_listed(count, looks):
 
 
 def chain(length, times):
-    """A Link that is set so many times, and so many others of which each is bound to be one more than the one before.
+    """A Link that is set so many times, and so many others that are each bound to be one more than the one before.
 
     They are bound in a group, so that the chain is not evaluated for each of them.
     """
@@ -352,8 +352,8 @@ def chain(length, times):
 
 
 def pairs(bindings, times):
-    """A Pair that is set so many times, beside others of which each has a binding of its own, as it has; with it there are so
-    many bindings, which are made in a group."""
+    """A Pair that is set so many times, next to others. Each has a binding of its own, so many in all, which are made in a
+    group."""
     yield from numbered("a", 1, ["Pair"] * bindings)
     yield begin("a")
     yield from (pair("a", number) for number in range(1, bindings + 1))
@@ -393,15 +393,15 @@ def listeners(count, other):
 
 
 def unheard(sessions, times):
-    """A Cell that is published, and set so many times beside so many sessions that have joined another one."""
+    """A Cell that is published, and set so many times next to so many sessions that have joined another one."""
     yield from publisher()
     yield from listeners(sessions, "b")
     yield from (set_x("a", value) for value in range(1, times + 1))
 
 
 def unheard_under(names, joins, times):
-    """A Cell that is published under so many names, and set so many times beside a session that has so many joins of
-    other names of its session."""
+    """A Cell that is published under so many names, and set so many times next to a session with so many joins of other
+    names of its session."""
     yield new("a", 1, "Cell")
     yield from (publish("a", f"n{number}") for number in range(names))
     yield new("l0", 1, "Ear")

@@ -1,4 +1,4 @@
-"""Lines of input, each with the text that must be told to it, and the classes that they name."""
+"""Lines of input, each with its expected output, and the classes that they name."""
 
 import json
 from pathlib import Path
@@ -37,7 +37,7 @@ PAIR = {
 METHODS = 256  # as many as a class may have
 METHODS_OF_QOBJECT = ["destroyed()", "objectNameChanged(QString)", "deleteLater()"]
 
-# What `meta` tells of the Cell of the demonstration classes.
+# What `meta` replies for the Cell of the demonstration classes.
 CELL_DESCRIBED = {
     "class": "Cell",
     "methodOffset": len(METHODS_OF_QOBJECT),
@@ -65,7 +65,7 @@ LAMP = """
 
 
 def panel():
-    """A class with as many methods as there may be, and what `meta` tells of it."""
+    """A class with as many methods as there may be, and what `meta` replies for it."""
     own = METHODS - len(METHODS_OF_QOBJECT)
     signals = [f"signal{number}(int)" for number in range(own // 2)]
     slots = [f"slot{number}(int)" for number in range(own // 2, own)]
@@ -85,7 +85,7 @@ PANEL, PANEL_DESCRIBED = panel()
 
 
 def class_file(classes):
-    """The text of a class file with these classes, each of which is a text."""
+    """The text of a class file with these classes, which are texts."""
     return '{"classes":[' + ",".join(classes) + "]}"
 
 
@@ -116,12 +116,12 @@ def reply(session, value):
 
 
 def called(session, slot, receivers, *args, sender=1):
-    """The lines that tell of one call of each receiver."""
+    """The lines for one call of each receiver."""
     keys = {"args": args, "call": slot, "sender": sender, "session": session}
     return "".join(ENCODE({"object": it, **keys}) + "\n" for it in receivers)
 
 
-# Each of these is a line with what must be told to it.
+# Each of these is a line with its expected output.
 
 
 def new(session, number, kind="QObject", **parent):
@@ -221,7 +221,7 @@ def ping(session, calls=""):
 
 
 def noted(session, sender):
-    """The line that tells of a call of the first object, a Probe."""
+    """The line for a call of the first object, a Probe."""
     return called(session, "note()", [1], sender=sender)
 
 

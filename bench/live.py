@@ -1,11 +1,10 @@
 #!/usr/bin/env python3
-"""Measures subscribers of the client in Python behind a front: what those that wait take of the processor, and how long it
-takes from a signal of one client to the function of another one that listens.
+"""Measures subscribers of the Python client behind a front: the processor time of those that wait, and the time from a
+signal of one client to the callback of another.
 
-The subscribers are in a process of their own: so many that wait, in as many threads, and in asyncio as tasks of one
-thread. The time is measured for one that listens, in another process, with live sessions and, to compare, with
-`live=False`, where the client asks by `spin` again and again, and over sockets without the client. What others do on the machine counts here: it is for
-people, and decides nothing.
+The waiting subscribers are in a process of their own, as threads and, in asyncio, as tasks of one thread. The time is
+measured in another process, with live sessions. It is compared with `live=False`, where the client polls by `spin`, and with
+sockets without the client. Other load on the machine affects the figures: they are for people, and decide nothing.
 """
 
 from __future__ import annotations

@@ -1,23 +1,28 @@
-"""The marks of each figure: a guard, which decides whether a run passes, and a goal, which decides nothing.
+"""The marks of each figure: a guard, which a run must keep, and a goal, which decides nothing.
 
-`marks.json` has them, beside the count that each guard was made from. The page docs/internals/MEASURES.md shows them in a table.
+`marks.json` has them, with the count that each guard was made from. The tables of docs/internals/MEASURES.md show counts and
+goals; they have no guards, because each is made from its count.
 """
 
 from __future__ import annotations
 
 import json
 import math
+import re
 from dataclasses import asdict, dataclass
 from pathlib import Path
 from typing import Dict, Iterable, Iterator, List, Union
 
-from figures import Figure, Ratio
+from figures import FIGURES, Figure, Ratio
 
 Number = Union[int, float]
 
 MARKS = Path(__file__).with_name("marks.json")
 PAGE = Path(__file__).resolve().parent.parent / "docs" / "internals" / "MEASURES.md"
-HEAD = "| figure | unit | count | guard | goal | reached |\n|---|---|---|---|---|---|\n"
+TABLES = re.compile(r"(<!-- tables: counts -->\n).*?(<!-- end of tables -->\n)", re.DOTALL)  # on the page
+GROWTH = ("figure", "per", "small", "large", "ratio", "goals")  # the columns of each table
+LINES = ("figure", "per", "count", "goal")
+MEMORY = ("figure", "unit", "count", "goal")
 
 ROOM = 1.03  # a guard is so many times the count that it was made from
 SMALLEST = 0.01  # and at least so much more than that, which is the last digit that is shown
@@ -95,17 +100,46 @@ def write(marks: List[Mark], sessions: Dict[str, float]) -> None:
     """Writes down marks, here and on the page, which has the bytes of sessions too."""
     MARKS.write_text("[\n" + ",\n".join(json.dumps(asdict(it)) for it in marks) + "\n]\n")
     memory = [Mark(name, "bytes", rounded(value), None, None) for name, value in sessions.items()]
-    write_page([*marks, *memory])
+    write_page({it.name: it for it in marks}, memory)
 
 
-def rows_of(marks: Iterable[Mark]) -> str:
-    """The rows of the table on the page."""
-    cells = ([it.name, it.unit, *map(shown, (it.count, it.guard, it.goal)), is_reached(it.count, it.goal)] for it in marks)
-    return "".join(f"| {' | '.join(row)} |\n" for row in cells)
+def table_of(columns: Iterable[str], rows: Iterable[Iterable[str]]) -> str:
+    """A table in Markdown."""
+    cells = [list(columns), *map(list, rows)]
+    lines = ["| " + " | ".join(row) + " |\n" for row in cells]
+    return "".join([lines[0], "|---" * len(cells[0]) + "|\n", *lines[1:]])
 
 
-def write_page(marks: Iterable[Mark]) -> None:
-    """Writes the table of the page anew."""
-    before, _, after = PAGE.read_text().partition(HEAD)
-    _, _, after = after.partition("\n\n")
-    PAGE.write_text(f"{before}{HEAD}{rows_of(marks)}\n{after}")
+def marked(mark: Mark) -> str:
+    """A count as the page shows it: in bold if it misses its goal."""
+    text = shown(mark.count)
+    return f"**{text}**" if is_reached(mark.count, mark.goal) == "no" else text
+
+
+def goals_of(marks: Iterable[Mark]) -> str:
+    """The goals of some marks, in one cell."""
+    goals = [it.goal for it in marks]
+    return "; ".join(map(shown, goals)) if any(it is not None for it in goals) else "-"
+
+
+def row_of(mark: Mark, unit: str) -> List[str]:
+    """The row of one figure."""
+    return [mark.name, unit, marked(mark), shown(mark.goal)]
+
+
+def tables_of(marks: Dict[str, Mark], sessions: Iterable[Mark]) -> str:
+    """The tables of the page: pairs of figures with their ratio, the other figures, and memory."""
+    ratios = [it for it in FIGURES if isinstance(it, Ratio)]
+    pairs = {it: [marks[name] for name in (it.small.name, it.large.name, it.name)] for it in ratios}
+    listed = {it.name for of_ratio in pairs.values() for it in of_ratio}
+    others = [it for it in FIGURES if isinstance(it, Figure) and it.name not in listed]
+    growth = ([it.name, it.small.unit, *map(marked, found), goals_of(found)] for it, found in pairs.items())
+    lines = (row_of(marks[it.name], it.unit) for it in others if it.counts_instructions)
+    memory = [*(marks[it.name] for it in others if not it.counts_instructions), *sessions]
+    return "\n".join((table_of(GROWTH, growth), table_of(LINES, lines), table_of(MEMORY, (row_of(it, it.unit) for it in memory))))
+
+
+def write_page(marks: Dict[str, Mark], sessions: Iterable[Mark]) -> None:
+    """Writes the tables of the page again."""
+    made = tables_of(marks, sessions)
+    PAGE.write_text(TABLES.sub(lambda found: f"{found[1]}\n{made}\n{found[2]}", PAGE.read_text()))

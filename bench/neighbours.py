@@ -1,9 +1,9 @@
 #!/usr/bin/env python3
-"""Measures what one session feels of another one's worst lines, over one pipe.
+"""Measures how long the worst lines of one session delay another one, over one pipe.
 
 Usage: neighbours.py PROGRAM [--seconds N] [--write]. One session asks for a text again and again, in turn alone and right
-behind a line of another session, so that it waits for the whole of that line; so for N seconds with each kind of line. What
-is printed are ratios of round trips within one run: the median, and the 99th of a hundred, to the median alone. With --write
+after a line of another session, so that it waits for the whole of that line, for N seconds with each kind of line. It
+prints ratios of round trips within one run: the median, and the 99th percentile, to the median alone. With --write
 the table of docs/internals/MEASURES.md is written again.
 """
 
@@ -21,7 +21,7 @@ from typing import Iterable
 from lines import command
 
 PAGE = Path(__file__).resolve().parent.parent / "docs" / "internals" / "MEASURES.md"
-HEAD = "| a line of the other session | lines told to it | median | 99th of 100 | round trips |\n|---|---|---|---|---|\n"
+HEAD = "| a line of the other session | median | 99th percentile |\n|---|---|---|\n"
 SECONDS = 10
 PATIENCE = 300  # seconds in which an answer has to come
 ROOM = 1 << 20  # bytes that are read at once
@@ -54,17 +54,15 @@ class Talk:
         self.process.terminate()
         self.process.wait()
 
-    def ask(self, lines: bytes, last: bytes) -> int:
-        """Gives lines, and reads up to this last answer; answers how many lines came."""
+    def ask(self, lines: bytes, last: bytes) -> None:
+        """Gives lines, and reads up to this last answer."""
         self.give(lines)
-        output, said, until, came = self.process.stdout.fileno(), b"", time.monotonic() + PATIENCE, 0
+        output, said, until = self.process.stdout.fileno(), b"", time.monotonic() + PATIENCE
         while not said.endswith(last):
             part = os.read(output, ROOM)
             if not part or time.monotonic() > until:
                 raise Fault(f"the program does not answer {lines[:200]!r}")
-            came += part.count(b"\n")
             said = said[-len(last) :] + part
-        return came
 
     def give(self, lines: bytes) -> None:
         try:
@@ -74,7 +72,7 @@ class Talk:
             raise Fault("the program has ended") from None
 
     def do(self, lines: Iterable[str]) -> None:
-        """Gives lines of which no answer matters."""
+        """Gives lines whose answers do not matter."""
         waiting = [it.encode() for it in lines]
         for first in range(0, len(waiting), AT_ONCE):
             self.ask(b"".join(waiting[first : first + AT_ONCE]) + MARK, MARKED)
@@ -82,7 +80,7 @@ class Talk:
 
 @dataclass
 class Neighbour:
-    """Another session: what it makes at first, its line, and what it makes anew behind each."""
+    """Another session: what it makes at first, its line, and what it makes again after each line."""
 
     name: str
     line: str
@@ -106,7 +104,7 @@ def deepened(form: dict) -> dict:
 
 
 def followers(count: int) -> list[str]:
-    """Cells of which each adds one to the one before it, behind the second one; bound in a group."""
+    """Cells after the second one that each add one to the one before; bound in a group."""
     forms = ({"+": [{"prop": "x", "of": number - 1}, {"const": 1}]} for number in range(3, count + 3))
     bound = [of_b("bind", object=number, property="x", to=deepened(form)) for number, form in enumerate(forms, 3)]
     return [*made("Cell", count + 2), of_b("begin"), *bound, of_b("end")]
@@ -131,18 +129,18 @@ def tree() -> Neighbour:
 
 
 def bindings() -> Neighbour:
-    """The value that is set turns from one to another, with each line and the one behind it."""
+    """The value that is set changes with each line and changes back with the next."""
     turned = [of_b("set", object=2, property="x", value=value) for value in (1, 0)]
     return Neighbour(f"a property set that {BINDINGS:,} bindings follow", turned[0], followers(BINDINGS), turned[1:])
 
 
 def followed_calls() -> Neighbour:
-    """Each of some calls sets a property anew that bindings follow: by a slot, and by a functor that sets another value."""
+    """Each of some calls sets a property that bindings follow: by a slot, and by a functor that sets another value."""
     slot = of_b("connect", sender=1, signal="xChanged(int)", receiver=2, method="setX(int)")
     functor = of_b("connectFunctor", sender=1, signal="xChanged(int)", context=2, functor="clamp")
     turned = [of_b("set", object=1, property="x", value=value) for value in (250, 0)]
     first = [*followers(BINDINGS), *[slot, functor] * (FOLLOWED // 2)]
-    return Neighbour(f"{FOLLOWED} calls, each of which sets what {BINDINGS:,} bindings follow", turned[0], first, turned[1:])
+    return Neighbour(f"{FOLLOWED} calls that each set what {BINDINGS:,} bindings follow", turned[0], first, turned[1:])
 
 
 def neighbours() -> list[Neighbour]:
@@ -162,65 +160,62 @@ def neighbours() -> list[Neighbour]:
 
 @dataclass
 class Felt:
-    """Round trips alone and beside another session, and how many lines that one was told at once."""
+    """Round trips alone and next to another session."""
 
     name: str
-    told: int
     alone: list[float]
     beside: list[float]
 
     def row(self) -> str:
-        return row_of(self.name, self.told, self.beside, quantile(self.alone, 0.5))
+        return row_of(self.name, self.beside, quantile(self.alone, 0.5))
 
 
 def quantile(times: list[float], share: float) -> float:
-    """The time of which this share of others is below."""
+    """The time that this share of the others is below."""
     return sorted(times)[int(share * len(times))]
 
 
-def row_of(name: str, told: int, times: list[float], alone: float) -> str:
+def row_of(name: str, times: list[float], alone: float) -> str:
     """A row of the table, where a round trip alone takes so long."""
     median, late = (shown(quantile(times, share) / alone) for share in (0.5, 0.99))
-    return f"| {name} | {told:,} | {median} | {late} | {len(times):,} |"
+    return f"| {name} | {median} | {late} |"
 
 
 def row_alone(found: list[Felt]) -> str:
     """The row of all round trips alone."""
     times = [it for felt_once in found for it in felt_once.alone]
-    return row_of("none", 0, times, quantile(times, 0.5))
+    return row_of("none", times, quantile(times, 0.5))
 
 
 def shown(ratio: float) -> str:
     return f"{ratio:,.0f}" if ratio >= 100 else f"{ratio:.1f}"
 
 
-def timed(talk: Talk, lines: bytes) -> tuple[float, int]:
+def timed(talk: Talk, lines: bytes) -> float:
     begun = time.perf_counter()
-    told = talk.ask(lines, TOLD)
-    return time.perf_counter() - begun, told
+    talk.ask(lines, TOLD)
+    return time.perf_counter() - begun
 
 
 def felt(program: str, other: Neighbour, seconds: float) -> Felt:
     """What is felt of another session for so many seconds, once at least."""
-    found = Felt(other.name, 0, [], [])
+    found = Felt(other.name, [], [])
     with Talk(program) as talk:
         talk.do([*FIRST, *other.first])
         until = time.monotonic() + seconds
         while not found.beside or time.monotonic() < until:
-            found.alone.append(timed(talk, ASK)[0])
-            taken, told = timed(talk, other.line.encode() + ASK)
-            found.beside.append(taken)
-            found.told = told - 1
+            found.alone.append(timed(talk, ASK))
+            found.beside.append(timed(talk, other.line.encode() + ASK))
             talk.do(other.behind)
     return found
 
 
 def write_page(rows: list[str]) -> None:
-    """Writes the table of the page anew."""
-    before, head, behind = PAGE.read_text().partition(HEAD)
+    """Writes the table of the page again."""
+    before, head, after = PAGE.read_text().partition(HEAD)
     if not head:
         raise Fault(f"{PAGE.name} has no table with this head: {HEAD}")
-    PAGE.write_text(before + head + "".join(f"{row}\n" for row in rows) + "\n" + behind.partition("\n\n")[2])
+    PAGE.write_text(before + head + "".join(f"{row}\n" for row in rows) + "\n" + after.partition("\n\n")[2])
 
 
 def positive(word: str) -> float:

@@ -1,8 +1,8 @@
 #!/usr/bin/env python3
-"""Measures what a plan for many clients needs: what a client of a front takes, lines a second, and how many groups move.
+"""Measures what you need to plan for many clients: memory per client of a front, lines per second, and moved groups.
 
-Usage: scaling.py PROGRAM. Where haproxy is on the path it is asked too. What others do on the machine counts in all times:
-it is for people, and decides nothing.
+Usage: scaling.py PROGRAM. haproxy is measured too if it is on the path. Other load on the machine affects all times: they are
+for people, and decide nothing.
 """
 
 from __future__ import annotations
@@ -271,7 +271,7 @@ def tell_moves(what: str, one: Sequence[object], more: Sequence[object], newest:
 
 
 def measure_moves(room: Path) -> None:
-    """How many groups move where there is one worker more, or one machine more."""
+    """How many groups move when another worker or another machine is added."""
     try:
         from ring import Ring
     except ImportError:

@@ -40,7 +40,7 @@ def seconds_of(program, room):
 
 
 def peak_of(program, room):
-    """The peak of resident memory of a run, in KiB, read when all is told and before the input ends."""
+    """The peak of resident memory of a run, in KiB, read when all output is there and before the input ends."""
     wanted = room.wanted.stat().st_size
     with open(room.given, "rb") as source, open(room.wrote, "wb") as sink:
         process = subprocess.Popen(room.command(program), stdin=subprocess.PIPE, stdout=sink)

@@ -1,12 +1,11 @@
 #!/usr/bin/env python3
-"""Measures a front with several workers: lines a second over one, two and four of them, what a line costs the front, how
-lines are best given to a socket, how fast a group is brought back, and how long a quiet client waits beside a group that
-floods its worker or another one.
+"""Measures a front with several workers: lines per second over one, two and four of them, the cost of a line in the front,
+ways to write lines to a socket, how fast a group is restored, and how long a quiet client waits next to a group that floods
+its worker or another one.
 
-Usage: workers.py PROGRAM. Clients ask for little, a `status`, or for much, a `set` that 300 bindings follow. They are
-in processes of their own. Ratios are the middle ones of several turns, and those of lines a second and of waits are
-between runs that follow each other at once. What others do on the machine counts here: it is for people, and decides
-nothing.
+Usage: workers.py PROGRAM. Clients ask for little, a `status`, or for much, a `set` that 300 bindings follow. They are in
+processes of their own. Ratios are medians of several turns, and those of lines per second and of waits compare runs right
+after each other. Other load on the machine affects the figures: they are for people, and decide nothing.
 """
 
 from __future__ import annotations
@@ -152,7 +151,7 @@ def quiet(path: str, group: str) -> float:
 
 
 def waits(program: str) -> Dict[str, float]:
-    """How long a quiet client waits beside a group that floods, as a ratio to alone."""
+    """How long a quiet client waits next to a group that floods, as a ratio to alone."""
     ring, names = Ring(2), [f"d{number}" for number in range(99)]
     mine, other = (next(it for it in names if ring.number_of(it) == number) for number in (1, 2))
     found: Dict[str, float] = {}
@@ -165,8 +164,8 @@ def waits(program: str) -> Dict[str, float]:
 
 
 def sending() -> Dict[str, float]:
-    """Microseconds of a line where many are told to one client: a call for each, one for a list of them, and one for a
-    text that they were joined to."""
+    """Microseconds per line where one client receives many: with a call for each, one for a list of them, and one for a text
+    that they were joined to."""
     near, far = socket.socketpair()
     ways: Dict[str, Callable[[], object]] = {
         "a call for each": lambda: [near.send(PIECE) for _ in range(PIECES)],
@@ -244,7 +243,7 @@ def measure(program: str) -> None:
     found = [waits(program) for _ in range(TURNS)]
     for what in found[0]:
         ratio = statistics.median(it[what] for it in found)
-        print(f"a quiet client beside a flood of {what}: {ratio:.1f} times as long as alone")
+        print(f"a quiet client next to a flood of {what}: {ratio:.1f} times as long as alone")
 
 
 def main(words: Sequence[str]) -> int:

@@ -1,18 +1,19 @@
 #!/usr/bin/env python3
-"""Counts the instructions of the dearest lines of each command: those behind which, or for which, a session is at its limits.
+"""Counts the instructions of the most expensive lines of each command, in sessions at their limits.
 
 Usage: worst.py PROGRAM [--only WORDS] [--calls N] [--write]. Of each run valgrind's callgrind counts the last line alone.
-The same line takes so much in a session in which there is nothing: its reading and its answer. Beyond that it may take so
-much for itself and for each action, call, event, evaluation of a binding, end of an object and post that arrives of all
-that it brings about, and so much for each row that it has to look at by its meaning; what else is there may cost nothing.
-All that is told is compared with what it must be. It ends with 1 where a line takes more than it may. With --only no states
-but those with these words in their names are counted. With --write the table of docs/internals/MEASURES.md is written again. A line
-that takes too long is not counted.
+The same line is counted in an empty session: its reading and its answer. Beyond that a line may take so much for itself and
+for each action, call, event, evaluation of a binding, end of an object and arriving post that it causes, and so much for
+each row that it must look at; everything else may cost nothing. All output is compared with the expected one. The status is
+1 if a line takes more than it may. With --only only states with these words in their names are counted. With --write the
+table of docs/internals/MEASURES.md is written again, which has the lines that take at least three times what they may: of
+each state one for each command. A line that takes too long is not counted.
 """
 
 from __future__ import annotations
 
 import argparse
+import itertools
 import json
 import os
 import signal
@@ -30,13 +31,15 @@ from worst_lines import Line, Sizes, State, Worst, states
 
 PAGE = Path(__file__).resolve().parent.parent / "docs" / "internals" / "MEASURES.md"
 HEAD = "| state | line | lines | rows | does | instructions | alone | share |\n" + "|---" * 8 + "|\n"
+PAGE_HEAD = "| session | line: times what it may take |\n|---|---|\n"
 ITSELF, ROW = 3_000, 300  # instructions that are allowed
+FAR = 3  # the page has lines that take at least so many times what they may
 THERE = [command(session, "status") for session in "abc"]  # the sessions are there then
 COUNTS_LATER = [*CALLGRIND, "--instr-atstart=no"]
 COUNT_NOW = ["callgrind_control", "-i", "on"]
-AT_ONCE = 64  # lines that are given before what is told to them is read
+AT_ONCE = 64  # lines that are given before their output is read
 ROOM = 1 << 16  # bytes that are read at once
-PATIENCE = 600  # seconds in which what is told to some lines has to come
+PATIENCE = 600  # seconds in which the output of some lines has to come
 MOMENT, IDLE = 0.002, 1_000  # how long a look at it waits, and how often it may wait for a line that it has
 
 
@@ -62,7 +65,7 @@ class Run:
         self.process.stdout.close()
 
     def do(self, lines: Iterable[Line]) -> None:
-        """Gives lines, many at once, and compares what is told to them with what must be."""
+        """Gives lines, many at once, and compares their output with the expected one."""
         waiting = list(lines)
         for first in range(0, len(waiting), AT_ONCE):
             self.talk(*map("".join, zip(*waiting[first : first + AT_ONCE])))
@@ -70,10 +73,10 @@ class Run:
     def talk(self, given: str, wanted: str) -> None:
         said = self.answer(given, lambda said: len(said) >= len(wanted))
         if said != wanted.encode():
-            raise Fault(f"{given[-200:]!r} is told {said[-200:]!r}, and not {wanted[-200:]!r}")
+            raise Fault(f"{given[-200:]!r} is answered {said[-200:]!r}, and not {wanted[-200:]!r}")
 
     def answer(self, given: str, is_whole: Callable[[bytearray], bool]) -> bytes:
-        """Gives lines, and reads what is told to them up to where it is whole."""
+        """Gives lines, and reads their output until it is whole."""
         self.process.stdin.write(given.encode())
         said, until, idle = bytearray(), time.monotonic() + PATIENCE, 0
         os.set_blocking(self.process.stdout.fileno(), False)
@@ -112,7 +115,7 @@ class Run:
 
 
 def behind(program: str, room: Path, state: State, line: Worst, turns: int) -> int | None:
-    """How many instructions a line takes behind a state; None where it takes too long."""
+    """How many instructions a line takes after a state; None where it takes too long."""
     try:
         with Run(program, room, turns) as run:
             run.do(state.before())
@@ -124,7 +127,7 @@ def behind(program: str, room: Path, state: State, line: Worst, turns: int) -> i
 
 
 def alone(program: str, room: Path, line: Worst) -> int:
-    """How many instructions a line takes in a session in which there is nothing, where a class that it names is none."""
+    """How many instructions a line takes in an empty session, where the class that it names does not exist."""
     keys = json.loads(line.line)
     given = command(**{**keys, **({"class": "None"} if "class" in keys else {})})
     with Run(program, room, 1) as run:
@@ -136,7 +139,7 @@ def alone(program: str, room: Path, line: Worst) -> int:
 
 @dataclass(frozen=True)
 class Row:
-    """A line with what it takes behind its state and alone; None where it takes too long."""
+    """A line with what it takes after its state and alone; None where it takes too long."""
 
     state: str
     line: Worst
@@ -163,7 +166,7 @@ def rows_of(program: str, state: State, turns: int, room: Path) -> Iterator[Row]
 
 
 def table(program: str, sizes: Sizes, words: str, room: Path) -> Iterator[Row]:
-    """The rows of the table, each of which is printed."""
+    """The rows of the table, which are printed one by one."""
     for state in states(sizes):
         if words in state.name:
             for row in rows_of(program, state, sizes.turns, room):
@@ -171,25 +174,35 @@ def table(program: str, sizes: Sizes, words: str, room: Path) -> Iterator[Row]:
                 yield row
 
 
+def kind_of(line: Worst) -> str:
+    """The command of a line, or what it does if it calls a slot for its actions."""
+    return json.loads(line.line)["do"] if line.name.startswith("`") else line.name
+
+
 def chosen(rows: list[Row]) -> list[Row]:
-    """Of each command, and of slots by what they do, the line that takes most of what it may, and all that take more."""
-    most: dict[str, Row] = {}
-    for row in sorted(rows, key=lambda it: it.share):
-        most[json.loads(row.line.line)["do"] if row.line.name.startswith("`") else row.line.name] = row
-    return [it for it in rows if it.share > 1 or it in most.values()]
+    """Of each state and each command in it the line that takes most of what it may, if that is far too much."""
+    most = {(row.state, kind_of(row.line)): row for row in sorted(rows, key=lambda it: it.share)}
+    return [it for it in rows if it.share >= FAR and it in most.values()]
+
+
+def page_rows(rows: list[Row]) -> Iterator[str]:
+    """The rows of the page, one for each state that has such a line."""
+    for state, found in itertools.groupby(chosen(rows), key=lambda it: it.state):
+        lines = (f"{it.line.name}: {'takes too long' if it.taken is None else f'{it.share:,.0f}'}" for it in found)
+        yield f"| {state} | {'; '.join(lines)} |\n"
 
 
 def write_page(rows: list[Row]) -> None:
     """Writes the table of the page again."""
-    before, head, behind = PAGE.read_text().partition(HEAD)
+    before, head, after = PAGE.read_text().partition(PAGE_HEAD)
     if not head:
-        raise Fault(f"{PAGE.name} has no table with this head: {HEAD}")
-    PAGE.write_text(before + head + "".join(f"{row.text()}\n" for row in chosen(rows)) + "\n" + behind.partition("\n\n")[2])
+        raise Fault(f"{PAGE.name} has no table with this head: {PAGE_HEAD}")
+    PAGE.write_text(before + head + "".join(page_rows(rows)) + "\n" + after.partition("\n\n")[2])
 
 
 def options() -> argparse.Namespace:
     """The words of the command line."""
-    parser = argparse.ArgumentParser(description="Counts the instructions of the dearest lines of each command.")
+    parser = argparse.ArgumentParser(description="Counts the instructions of the most expensive lines of each command.")
     parser.add_argument("program", help="the built program")
     parser.add_argument("--only", default="", help="words in the names of the states that are counted")
     parser.add_argument("--calls", type=int, default=Sizes.calls, help=f"of slots that do much, {Sizes.calls:,} at first")

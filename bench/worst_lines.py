@@ -1,8 +1,8 @@
-"""The lines that cost most, which worst.txt describes: for each state of a session what is there, and what is counted.
+"""The lines that cost most, which worst.txt describes: the states of a session, and the lines that are counted in each.
 
-A line is worst where as much as may be is there that it has nothing to do with, or where all that is there is its own.
-What the expressions of worst.txt may name: the sizes (`calls` and `classes` as `calls_most` and `classes_most`), what
-`NAMES_OF_LINES` has, and the names that the description itself gives to values.
+A line costs most where the session is full of what it has nothing to do with, or of what is its own.
+Expressions of worst.txt may name the sizes (`calls` and `classes` as `calls_most` and `classes_most`), the entries of
+`NAMES_OF_LINES`, and the names that the description itself gives to values.
 """
 
 from __future__ import annotations
@@ -43,7 +43,7 @@ class Sizes:
 
 @dataclass(frozen=True)
 class Worst:
-    """A line that is counted, with what must be told to it.
+    """A line that is counted, with its expected output.
 
     By its meaning it looks at so many rows, and does so much: itself, and each action, call, event, evaluation of a binding,
     end of an object and post that arrives of all that it brings about.
@@ -58,7 +58,7 @@ class Worst:
 
 @dataclass(frozen=True)
 class State:
-    """What stands before some lines, each of which is counted alone behind it."""
+    """A state of a session, and lines that are each counted alone after it."""
 
     name: str
     before: Callable[[], Iterable[Line]]
@@ -76,13 +76,13 @@ def sums(leaves: int) -> dict:
 
 
 def added(forms: List[dict]) -> dict:
-    """The sum of some forms, of which there is one at least."""
+    """The sum of some forms, at least one."""
     half = len(forms) // 2
     return {"+": [added(forms[:half]), added(forms[half:])]} if half else forms[0]
 
 
 def as_large_as_may_be(leaf: dict) -> dict:
-    """An expression of 64 forms that comes to 30 more than one of them."""
+    """An expression of 64 forms whose value is 30 more than that of one of them."""
     return {"if": [{"const": True}, {"+": [sums(30), leaf]}, {"const": 0}]}
 
 
@@ -161,7 +161,7 @@ def usual_classes() -> str:
 
 
 def deep_classes(count: int) -> str:
-    """As many classes as may be, each the superclass of the next but for the last; some have a method each."""
+    """The maximum of classes, each the superclass of the next, except the last; some have a method each."""
     slots = [[{"sig": f"m{number}(int)", "body": []}] if number < 250 else [] for number in range(1, count)]
     above = ["QObject", *(f"C{number}" for number in range(1, count))]
     rows = [{"name": f"C{number}", "super": above[number - 1], "slots": it} for number, it in enumerate(slots, 1)]
@@ -180,7 +180,7 @@ class Refused:
 
 @dataclass(frozen=True)
 class After:
-    """A reply, behind lines that are told before it."""
+    """A reply, after the lines that come before it."""
 
     told: str
     answer: Any
@@ -226,7 +226,7 @@ def joined(method: str = "hear(int)", number: int = 1) -> dict:
     return {"from": "b", "name": "level", "object": number, "method": method}
 
 
-# Trees, each a list of the parents of the objects from number 1 on; 0 is none.
+# Trees, each a list of the parents of the objects from number 1 on; 0 for no parent.
 
 
 def star(count: int) -> List[int]:
@@ -290,7 +290,7 @@ class Given:
         return cls(found[1] or "a", found[2], *(compile(it.strip(), str(DESCRIBED), "eval") for it in (found[3], answer)))
 
     def line(self, names: Names, **more: Any) -> Line:
-        """The line, and what is told to it."""
+        """The line, and its output."""
         keys, answer = (eval(it, names, more) for it in (self.keys, self.answer))
         told = ""
         if isinstance(answer, After):
