@@ -92,7 +92,7 @@ def positive(word: str) -> int:
 
 def options() -> argparse.Namespace:
     """The words of the command line."""
-    parser = argparse.ArgumentParser(prog="python3 -m tests.hostile", description="Compares what is told to hostile lines with the plain program.")
+    parser = argparse.ArgumentParser(prog="python3 -m tests.hostile", description="Compares the answers to hostile lines with the plain program's.")
     parser.add_argument("--lines", type=positive, default=LINES, help=f"how many at most, {LINES:,} where it is not said")
     parser.add_argument("--seconds", type=positive, default=SECONDS, help="how long pieces are begun")
     parser.add_argument("--piece", type=positive, default=hostile.LINES, help=f"lines of a piece, {hostile.LINES:,} where it is not said")

@@ -18,11 +18,11 @@ from .support.documents import all_examples
 from .support.json_schema import Schema
 from .support.lines import lines_of
 from .support.program import ROOT, ROWS, SECONDS, Row, rows_in
+from .support.seeds import SEED
 
 QUICK = 1  # second of the processor's time
 SCHEMA = ROOT / "docs" / "classes.schema.json"
-CHANGED = 150  # class files that are changed by chance
-SEED = 1
+CHANGED = 150  # class files that are changed at random
 NESTED = 10_000  # calls in one another, which the deepest class file takes of the schema's reader
 SHOWN = 1_000
 WORD = re.compile(r"\w+", re.ASCII)  # of a signature
@@ -65,7 +65,7 @@ def files_of_tests():
 
 
 class SchemaOfClassFiles(ProgramCases):
-    """The schema of class files beside the program that reads them."""
+    """The schema of class files, compared with the program that reads them."""
 
     def setUp(self):
         self.schema = Schema(json.loads(SCHEMA.read_text()))
@@ -108,7 +108,7 @@ class SchemaOfClassFiles(ProgramCases):
         self.check_each(wrong_files(), lambda classes: self.fault_of(classes, False), at_once=1)
 
     def test_changed_files(self):
-        """What the schema refuses of class files that were changed by chance, the program refuses too."""
+        """The program refuses each randomly changed class file that the schema refuses."""
         chance = Changes(SEED)
         changed = [chance.changed({"classes": list(signals.Chance(at).classes())[:2]}) for at in range(CHANGED)]
 
@@ -120,7 +120,7 @@ class SchemaOfClassFiles(ProgramCases):
         tried = self.check_each([(f"change {at}", it) for at, it in enumerate(changed)], try_file, lambda it: it[1], at_once=1)
         seen = Counter(accepted for accepted, _ in tried)
         shows = seen[False, False] and seen[True, True]
-        self.assertTrue(CASE or shows, f"the class files made by chance show nothing: {seen}")
+        self.assertTrue(CASE or shows, f"the random class files show nothing: {seen}")
 
 
 def types_of(signature):

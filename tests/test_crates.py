@@ -40,7 +40,7 @@ def faults_in(root: Path) -> List[str]:
         used = named_by(root / "crates" / crate) & known
         faults += [f"{crate} names no {name}" for name in names if name not in used]
         faults += [f"{crate} names {name}, and its line does not" for name in sorted(used - set(names))]
-        faults += [f"{crate} stands before {name}" for name in names if name in lines and name not in earlier]
+        faults += [f"{crate} is listed before {name}" for name in names if name in lines and name not in earlier]
         earlier.add(crate)
     here = {path.name for path in (root / "crates").iterdir() if (path / "src").is_dir()}
     return faults + [f"{name} has no line" for name in sorted(here - set(lines))]
@@ -64,5 +64,5 @@ class Crates(Cases):
             (room / "crates" / name / "src" / "lib.rt").write_text(f"{text}\n")
         (room / "crates" / "side" / "specs").mkdir()
         (room / "crates" / "side" / "specs" / "It.antt").write_text("use Rattle.high.specs.It.{it}\n")
-        wanted = ["high names no itoa", "high stands before low", "low names itoa, and its line does not", "side names high, and its line does not"]
+        wanted = ["high names no itoa", "high is listed before low", "low names itoa, and its line does not", "side names high, and its line does not"]
         self.assertEqual(faults_in(room), [*wanted, "more has no line"])

@@ -14,17 +14,16 @@ from .support.cases import Cases
 from .support.markdown import all_pages, anchors_in, links_in, section, table_in
 from .support.program import ROOT, SECONDS
 from .support.sources import CRATES, GLOSSARY, OF_CODE, OF_SPECS, Entry
-from .support.sources import all_declared, all_functions, definitions_in, glossary, names_of
+from .support.sources import all_declared, all_functions, crates_that_define, glossary, names_of
 
 ARCHITECTURE = ROOT / "docs" / "internals" / "ARCHITECTURE.md"
 CHANGING = ROOT / "docs" / "internals" / "CHANGING.md"
 DEFINITIONS = ROOT / "docs" / "internals" / "DEFINITIONS.md"
-DEFINITION = re.compile(r"`([A-Z]\w+)\.(\w+)`")
+DEFINITION = re.compile(r"(?:`(\w+)` )?`([A-Z]\w+)\.(\w+)`")  # perhaps with its crate in front
 CALL = re.compile(r"`(?:\w+::)?([a-z]\w*)`")
 NAMED = re.compile(r"`([^`\n]+)`")
 OF_CRATE = re.compile(r"(?:src|specs|proofs|must-fail)(?:/[\w.]+)*/?")
 LEMMAS = re.compile(r"(\w+Lemmas)(?:\.antt)?")
-IMPORT = re.compile(r"^use Rattle\.(\w+)\.proofs\.", re.MULTILINE)
 TABLES = ROOT / "tools" / "tables.py"
 OF_SOURCE = re.compile(r"`(\w+/src/\w+\.rt): (\w+)`")
 LAYOUT = "\n## How a crate is laid out\n"  # which names files that stand for others
@@ -52,7 +51,7 @@ class Links(Cases):
         self.check_each(cases, lambda page: "\n".join(dead_links(page)) or None)
 
     def test_reading(self) -> None:
-        """Links in code are none, and headings have the anchors that pages are shown with."""
+        """Links in code do not count, and headings have the anchors that pages are shown with."""
         text = "# A B's `c()`\n[x](y.md#z) `[x](code)` [w](https://w)\n```\n# no heading\n[x](block)\n```\n## A B's c\n[v](#a)\n"
         self.assertEqual(links_in(text), [("y.md", "z"), ("", "a")])
         self.assertEqual(anchors_in(text), ["a-bs-c", "a-bs-c-1"])
@@ -104,27 +103,10 @@ class Changing(Cases):
         self.assertEqual(gone, [], "sources that are not named")
 
     def test_files(self) -> None:
-        """Each stands in the crate that is named before it."""
+        """Each file is in the crate that is named before it."""
         named = list(files_of_crates(CHANGING.read_text().partition(LAYOUT)[0]))
         self.assertGreater(len(named), 0, "it names no file of a crate")
         self.assertEqual([name for name, path in named if not path.exists()], [], "files that are not there")
-
-
-def lenders(crate: Path) -> Set[str]:
-    """The crates whose proofs a crate's own import, but for the standard library."""
-    texts = [path.read_text() for path in crate.joinpath("proofs").rglob("*.antt")]
-    return {name for text in texts for name in IMPORT.findall(text)} - {crate.name, "std"}
-
-
-class Imports(Cases):
-    """Whose lemmas are imported."""
-
-    def test_table(self) -> None:
-        """docs/internals/ARCHITECTURE.md names for each crate those whose proofs its own import."""
-        section = ARCHITECTURE.read_text().partition("\n## What crates see of each other\n")[2].partition("\n## ")[0]
-        rows = [[NAMED.findall(cell) for cell in row] for row in table_in(section, 2)]
-        said = {crate: set(of) for crates, of in rows for crate in crates}
-        self.assertEqual(said, {path.name: found for path in CRATES.iterdir() if (found := lenders(path))})
 
 
 class Way(Cases):
@@ -145,6 +127,9 @@ class Way(Cases):
         return file.is_file() and re.search(rf"\bfn {name}\b", file.read_text()) is not None
 
 
+SAID = {"side": "This crate keeps what is aside: all of it", "high": "Highest: it"}  # what crates say of themselves, up to "is"
+
+
 class Made(Cases):
     """The tables that tools/tables.py writes."""
 
@@ -161,24 +146,30 @@ class Made(Cases):
         self.assertEqual(self.ran("--check"), (0, "", ""))
 
     def lay_out(self, page: str = "<!-- table: crates -->\nold\n<!-- end of table -->\n") -> Path:
-        """A repository of four crates, one of which names both another and what is below that."""
+        """A repository of four crates. One names both another and what is below that, and its proofs use lemmas of two."""
         (self.room / "docs" / "internals").mkdir(parents=True)
         (self.room / "docs" / "internals" / "ARCHITECTURE.md").write_text(f"before\n{page}after\n")
         (self.room / "crates.txt").write_text("# Base\nlow: serde_json\nside: low\nhigh: low side itoa\nabove status=3: high side low\n")
         for name, root in (("low", "lib.rt"), ("side", "lib.rt"), ("high", "lib.rt"), ("above", "main.rt")):
             source = self.room / "crates" / name / "src" / root
             source.parent.mkdir(parents=True)
-            source.write_text(f"//! What {name}\n//! is. More of it.\n//!\n//! And more.\nmod a;\n")
+            source.write_text(f"//! {SAID.get(name, f'What {name}')}\n//! is. More of it.\n//!\n//! And more.\nmod a;\n")
+        lemmas = self.room / "crates" / "high" / "proofs" / "one" / "Lemmas.antt"
+        lemmas.parent.mkdir(parents=True)
+        names = ("low", "json", "high", "std")
+        lemmas.write_text("".join(f"use Rattle.{it}.proofs.Lemmas.{{it}}\n" for it in names) + "use Rattle.side.specs.It.{it}\n")
         return self.room / "docs" / "internals" / "ARCHITECTURE.md"
 
     def test_made(self) -> None:
-        """A crate's row has its first sentence, and what it names but for what is below another one that it names."""
+        """A crate's row has its first sentence without details, what it names except what is below another one that it
+        names, and the crates whose lemmas its proofs use, except itself and the standard library."""
         page = self.lay_out()
         self.assertEqual(self.ran("--check", "--root", self.room)[0], 1, "before it is written")
         self.assertEqual(self.ran("--root", self.room), (0, "docs/internals/ARCHITECTURE.md: written\n", ""))
         self.assertEqual(self.ran("--check", "--root", self.room), (0, "", ""))
-        rows = ["| `low` | What low is | |", "| `side` | What side is | `low` |", "| `high` | What high is | `side` |"]
-        wanted = ["| crate | what it is | builds on |", "|---|---|---|", *rows, "| `above` | What above is | `high` |"]
+        rows = ["| `low` | What low is | | |", "| `side` | Keeps what is aside | `low` | |", "| `high` | Highest | `side` | `json`, `low` |"]
+        head = ["| crate | what it is | builds on | uses lemmas of |", "|---|---|---|---|"]
+        wanted = [*head, *rows, "| `above` | What above is | `high` | |"]
         head, *lines, end = page.read_text().split("<!-- ")
         self.assertEqual((head, end), ("before\n", "end of table -->\nafter\n"))
         self.assertEqual(lines[0].split("-->\n")[1].strip().splitlines(), wanted)
@@ -201,23 +192,33 @@ class Definitions(Cases):
     """What docs/internals/DEFINITIONS.md names for each rule: the definition that states it, and the call that keeps it."""
 
     def setUp(self) -> None:
-        self.rules = list(table_in(DEFINITIONS.read_text(), 4))
+        self.rules = list(table_in(DEFINITIONS.read_text(), 3))
         self.assertGreater(len(self.rules), 0, "it has no rules")
 
     def test_definitions(self) -> None:
-        """Each definition stands in a file of `specs` that is called as is said."""
-        named = {it for _, _, definitions, _ in self.rules for it in DEFINITION.findall(definitions)}
-        gone = sorted(".".join(it) for it in named if it[1] not in definitions_in(it[0]))
-        self.assertEqual(gone, [], "definitions that are not there")
+        """Each definition is in the file of `specs` that the page names; of one crate, unless the page names the crate."""
+        named = {it for _, definitions, _ in self.rules for it in DEFINITION.findall(definitions)}
+        self.assertEqual(sorted(filter(None, map(self.fault_of, named))), [], "definitions that are not there, or in several crates")
+
+    def fault_of(self, named: Tuple[str, str, str]) -> str:
+        """The definition, with its crate if the page names that, if it is not there or in several crates."""
+        crate, file, name = named
+        crates = crates_that_define(file, name)
+        return "" if crate in crates or (not crate and len(crates) == 1) else " ".join((crate, f"{file}.{name}")).strip()
+
+    def test_faults(self) -> None:
+        """What is in no crate, in several, or in another crate than the named one is a fault."""
+        named = [("", "Fitting", "IsFitting"), ("isolation", "Fitting", "IsFitting"), ("", "Fitting", "none"), ("session_model", "Fitting", "IsFitting")]
+        self.assertEqual([self.fault_of(it) for it in named], ["Fitting.IsFitting", "isolation Fitting.IsFitting", "Fitting.none", ""])
 
     def test_calls(self) -> None:
         """Each call is one of a function that is there."""
-        called = {it for _, _, _, calls in self.rules for it in CALL.findall(calls)}
+        called = {it for _, _, calls in self.rules for it in CALL.findall(calls)}
         self.assertEqual(sorted(called - all_functions()), [], "functions that are not there")
 
 
 class Words(Cases):
-    """The glossary of docs/internals/ARCHITECTURE.md beside what the crates declare."""
+    """The glossary of docs/internals/ARCHITECTURE.md, compared with what the crates declare."""
 
     def setUp(self) -> None:
         self.declared = all_declared()
@@ -241,9 +242,9 @@ class Words(Cases):
         self.check_each([(", ".join(entry.words), entry) for entry in self.entries], self.fault_of)
 
     def test_once(self) -> None:
-        """Each word stands in one row."""
+        """Each word has one row."""
         counts = Counter(word for entry in self.entries for word in entry.words)
-        self.assertEqual([word for word, count in counts.items() if count > 1], [], "words that stand twice")
+        self.assertEqual([word for word, count in counts.items() if count > 1], [], "words with two rows")
 
     def test_reading(self) -> None:
         """What others may name is found, methods, fields and what is private aside."""

@@ -28,7 +28,7 @@ NAME = "desk"
 NO_MORE = "\n# what it may not do"  # what the confinement of a service begins with
 EXPOSED = 3.0  # how much of 10 `systemd-analyze security` may find at most
 EXPOSURE = re.compile(r"Overall exposure level for \S+: ([0-9.]+)")
-CALLED = re.compile(r"^\d+ +(\w+)\(", re.MULTILINE)  # system calls that strace tells of
+CALLED = re.compile(r"^\d+ +(\w+)\(", re.MULTILINE)  # system calls that strace reports
 OF_SOCKETS = re.compile(r"\bsocket(?:pair)?\((\w+)")
 WATCHDOG_MICROSECONDS = 600_000  # in place of the 30 seconds of the units
 SECONDS_TO_END = 5  # which the front gives its server
@@ -45,7 +45,7 @@ def sections_of(path):
 
 
 def words_of(line, variables):
-    """A command as systemd makes it: `$NAME` that stands alone is as many words as its value has."""
+    """A command as systemd makes it: a word `$NAME` becomes as many words as its value has."""
     words = line.split()
     return [it for word in words for it in (variables[word[1:]].split() if word.startswith("$") else [word])]
 

@@ -29,7 +29,7 @@ class Fresh(Cases):
         self.tell(f"cases: {len(lists.FILES) + len(lists.PAGES)}")
 
     def test_lists_of_clients(self) -> None:
-        """So are those that programs beside this one write."""
+        """The lists that other programs in `tools` write are up to date too."""
         others = sorted((ROOT / "tools").glob("*_commands.py"))
         for other in others:
             ran = subprocess.run([sys.executable, str(other), "--check"], capture_output=True, timeout=SECONDS)

@@ -55,13 +55,13 @@ class Machines(MachineCases):
         self.assertIn('"events":0', spun[1], "what the client on another machine hears")
 
     def test_killed(self):
-        """A machine's clients are closed when it is killed, and come to another one, where they have new sessions; others
-        see nothing of it. When it is back, the name's next clients come to it, and those that came meanwhile stay."""
+        """A machine's clients are closed when it is killed, and reach another one, where they have new sessions; others
+        see nothing of it. When it is back, the name's next clients reach it, and those that came meanwhile stay."""
         (ann, home), (eve, _), (tom, _) = map(self.visit, NAMES)
         for client in (ann, eve, tom, eve):
             client.ask(NEW)
         self.all.kill(home)
-        self.assertEqual(ann.until_closed(), b"", "what a client of it is told")
+        self.assertEqual(ann.until_closed(), b"", "what a client of it receives")
         meanwhile, elsewhere = self.visit("ann")
         self.assertNotEqual(elsewhere, home, "where it is served then")
         session = meanwhile.name()
@@ -76,14 +76,14 @@ class Machines(MachineCases):
         self.assertIn('"reply":[1,2]', eve.ask(CHILDREN), "the others' sessions")
 
     def test_cut_off(self):
-        """A machine that is cut off counts as gone after three checks; its clients are closed, and come to another one."""
+        """A machine that is cut off counts as gone after three checks; its clients are closed, and reach another one."""
         if not self.places.may_be_cut:
             self.skipTest("a machine on an address of this one cannot be cut off")
         ann, home = self.visit("ann")
         eve, _ = self.visit("eve")
         self.places.cut(home, True)
         try:
-            self.assertEqual(ann.until_closed(), b"", "what a client of it is told")
+            self.assertEqual(ann.until_closed(), b"", "what a client of it receives")
             self.assertEqual(self.all.states()[home][0], "DOWN", "what the edge says of it")
             self.assertNotEqual(self.visit("ann")[1], home, "where it is served then")
             self.assertIn('"reply"', eve.ask(CHILDREN), "the others")
@@ -99,33 +99,33 @@ class Machines(MachineCases):
         server = int(Path(f"/proc/{front}/task/{front}/children").read_text().split()[0])
         os.kill(server, signal.SIGSTOP)
         try:
-            self.assertEqual(ann.until_closed(), b"", "what a client of it is told")
+            self.assertEqual(ann.until_closed(), b"", "what a client of it receives")
             self.assertNotEqual(self.visit("ann")[1], home, "where it is served then")
         finally:
             os.kill(server, signal.SIGCONT)
         self.all.wait_for(home, UP)
 
     def test_front_alone(self):
-        """Where the front of a machine has ended alone, whoever comes to it is closed, and it counts as gone."""
+        """Where the front of a machine has ended alone, whoever reaches it is closed, and it counts as gone."""
         ann, home = self.visit("ann")
         address = self.places.addresses[home]
         self.assertIn('{"reply":', self.said(EDGE, address, INNER_PORT, STATUS)[0], "while the front is there")
         front = self.all.running[home].pop(0)
         front.kill()
         front.wait()
-        self.assertEqual(ann.until_closed(), b"", "what a client of it is told")
-        self.assertEqual(self.said(EDGE, address, INNER_PORT, STATUS), ["refused"], "what who comes is told")
+        self.assertEqual(ann.until_closed(), b"", "what a client of it receives")
+        self.assertEqual(self.said(EDGE, address, INNER_PORT, STATUS), ["refused"], "what a new client receives")
         self.all.wait_for(home, DOWN)
         self.assertNotEqual(self.visit("ann")[1], home, "where it is served then")
         self.all.kill(home)
         self.bring_back(home)
 
     def test_drained(self):
-        """By the page's lines for the edge: a machine that is drained keeps its clients and is given no new ones; what is
-        shut there comes to another one; and when it is ready it is given clients again."""
+        """By the page's lines for the edge: a machine that is drained keeps its clients and is given no new ones; clients
+        that are shut there reach another one; and when it is ready it is given clients again."""
         drain, shut, ready = RULE.findall(PAGE.read_text())
         ann, home = self.visit("ann")
-        self.assertEqual(home, "two", "the machine of which the page speaks")
+        self.assertEqual(home, "two", "the machine in the page's example")
         self.all.rule(drain)
         try:
             self.assertNotEqual(self.visit("ann")[1], home, "where a new client is")
@@ -138,7 +138,7 @@ class Machines(MachineCases):
         self.assertEqual(self.visit("ann")[1], home, "where a new client is at the end")
 
     def test_checks(self):
-        """Checks leave nothing behind: for all the checks by which the edge finds a machine alive, its server is given no
+        """Checks leave no traces: for all the checks by which the edge finds a machine alive, its server is given no
         line of a session."""
         self.all.kill("two")
         self.bring_back("two")
@@ -225,13 +225,13 @@ class Machines(MachineCases):
         return address
 
     def test_lines(self):
-        """What is no command, and what is half a line at the end, comes to the server and back as with a front alone."""
+        """What is no command, and what is half a line at the end, is passed to the server and back as with a front alone."""
         client, _ = self.visit("eve")
         session = client.name()
         client.say("nonsense", '{"do":"jump"}')
         self.assertEqual([client.hear(), client.hear()], [error("E01", "-"), error("E02", session)])
         client.link.sendall(NEW.encode())
-        self.assertEqual(client.rest(), [reply(1, session)], "what is told to half a line")
+        self.assertEqual(client.rest(), [reply(1, session)], "the answer to half a line")
 
     def test_shell(self):
         """The tools use a client's socket as one of a front."""
@@ -280,13 +280,13 @@ class WithWorkers(MachineCases):
 
 
 class ByAddress(MachineCases):
-    """Clients that are told apart by their addresses."""
+    """Clients that the edge distinguishes by their addresses."""
 
     config = "edge_by_address.cfg"
     kind = staticmethod(addresses)
 
     def homes(self):
-        """The machine that a client of each address comes to."""
+        """The machine that a client of each address reaches."""
         before = sum(len(self.all.homes(it)) for it in SOURCES)
         said = self.said(CLIENTS_PLACE, self.places.addresses[EDGE], PORT, STATUS, *SOURCES)
         self.assertEqual(sum(it.startswith('{"reply":') for it in said), len(SOURCES), said)
@@ -294,7 +294,7 @@ class ByAddress(MachineCases):
         return {it: self.all.homes(it)[-1] for it in SOURCES}
 
     def test_edges_agree(self):
-        """A second edge, in which the machines stand in another order, has each address on the same machine."""
+        """A second edge, with the machines in another order, has each address on the same machine."""
         homes, path = self.homes(), self.room / "other.cfg"
         lines = (FOLDER / self.config).read_text().splitlines()
         servers = [line for line in lines if line.startswith("    server ")]

@@ -1,4 +1,4 @@
-"""What stands in examples/machines: its programs, and its files for haproxy."""
+"""The contents of examples/machines: its programs, and its files for haproxy."""
 
 import os
 import re
@@ -28,7 +28,7 @@ def all_running():
 
 
 class Files(ProgramCases):
-    """What stands in the folder."""
+    """The contents of the folder."""
 
     def setUp(self):
         self.room = self.enterContext(TemporaryDirectory(prefix="metad-machines-"))
@@ -99,7 +99,7 @@ class Files(ProgramCases):
         return said, servers
 
     def test_configurations(self):
-        """haproxy takes each file as it stands, where it finds the certificates, and says nothing of it."""
+        """haproxy takes each file as it is, where it finds the certificates, and reports nothing."""
         if lacking():
             self.skipTest(lacking())
         made = subprocess.run(["sh", FOLDER / "certificates.sh", self.room, "client"], capture_output=True, text=True)
@@ -125,7 +125,7 @@ class Files(ProgramCases):
             self.assertIn(" fall 3 rise 2 ", lines, name)
 
     def test_edges(self):
-        """The two files of an edge differ in how clients come and how they are told apart, and in nothing else."""
+        """The two files of an edge differ in how clients come and how it distinguishes them, and in nothing else."""
         by_name, by_address = ((FOLDER / name).read_text().splitlines() for name in ("edge.cfg", "edge_by_address.cfg"))
         differ = {line.split()[0] for line in set(by_name) ^ set(by_address) if not line.startswith("#")}
         self.assertEqual(differ, {"presetenv", "bind", "tcp-request", "log-format", "balance"})

@@ -11,6 +11,7 @@ import shutil
 import subprocess
 import sys
 from argparse import Namespace
+from pathlib import Path
 from tempfile import NamedTemporaryFile
 from typing import Dict, List, Optional, Tuple
 from unittest import mock
@@ -24,6 +25,7 @@ sys.path.insert(0, str(ROOT / "bench"))
 
 import bench  # isort: skip  # noqa: E402
 import marks  # isort: skip  # noqa: E402
+import worst  # isort: skip  # noqa: E402
 import worst_lines  # isort: skip  # noqa: E402
 from figures import FIGURES, Figure, Ratio  # isort: skip  # noqa: E402
 
@@ -48,25 +50,54 @@ class Marks(Cases):
         self.assertEqual(without, {it.name for it in FIGURES if isinstance(it, Ratio)})
 
     def test_guards(self) -> None:
-        """A guard is at least 1.03 times the count beside it, and no more than one step of the last digit above that."""
+        """A guard is at least 1.03 times the count next to it, and no more than one step of the last digit above that."""
         for it in self.known.values():
             if it.guard is not None:
                 step = 1 if it.count >= 100 else 0.02
                 least = 1.03 * it.count
                 self.assertTrue(least - 1e-9 <= it.guard <= least + step, it)
 
-    def test_table(self) -> None:
-        """The page shows them as they are, with whether each goal is reached."""
-        self.assertIn(marks.HEAD + marks.rows_of(self.known.values()), PAGE.read_text())
+    def test_tables(self) -> None:
+        """The page shows counts and goals as they are; the bytes of sessions, which have no marks, follow."""
+        (shown,) = re.findall(r"<!-- tables: counts -->\n\n(.*?)\n<!-- end of tables -->", PAGE.read_text(), re.DOTALL)
+        made = marks.tables_of(self.known, [])
+        self.assertEqual(shown[: len(made)], made)
+        self.assertRegex(shown[len(made) :], r"\A(\| another session, [^|]* \| bytes \| \d+ \| - \|\n){2}\Z")
+
+    def test_each_once(self) -> None:
+        """Each figure is in one table: with its ratio if it has one. So all counts are on the page."""
+        tables = marks.tables_of(self.known, []).split("\n\n")
+        growth, lines, memory = ([row.strip("| ").split(" | ") for row in it.splitlines()[2:]] for it in tables)
+        ratios = {it.name: it for it in FIGURES if isinstance(it, Ratio)}
+        self.assertEqual([row[0] for row in growth], list(ratios))
+        found = {name for it in ratios.values() for name in (it.name, it.small.name, it.large.name)}
+        self.assertEqual([row[0] for row in lines + memory], [it.name for it in FIGURES if it.name not in found])
 
     def test_texts(self) -> None:
-        """Numbers and words of the table."""
-        for mark, wanted in (
-            (marks.Mark("a", "times", 1.5, None, 1.0), "| a | times | 1.50 | - | 1.00 | no |\n"),
-            (marks.Mark("b", "bytes", 1_000, 1_030, None), "| b | bytes | 1,000 | 1,030 | - | - |\n"),
-            (marks.Mark("c", "lines", 5.0, 5.15, 5.0), "| c | lines | 5.00 | 5.15 | 5.00 | yes |\n"),
+        """Numbers and words of the tables: a count that misses its goal is in bold, and what has no goal has a hyphen."""
+        for mark, count, goal in (
+            (marks.Mark("a", "times", 1.5, None, 1.0), "**1.50**", "1.00"),
+            (marks.Mark("b", "bytes", 1_000, 1_030, None), "1,000", "-"),
+            (marks.Mark("c", "lines", 5.0, 5.15, 5.0), "5.00", "5.00"),
         ):
-            self.assertEqual(marks.rows_of([mark]), wanted)
+            self.assertEqual(marks.row_of(mark, "line"), [mark.name, "line", count, goal])
+        self.assertEqual(marks.table_of(("a", "b"), [("1", "2")]), "| a | b |\n|---|---|\n| 1 | 2 |\n")
+        made = [marks.Mark("it", "times", 2, None, goal) for goal in (1_500, None, 1.5)]
+        self.assertEqual([marks.goals_of(made), marks.goals_of(made[1:2])], ["1,500; -; 1.50", "-"])
+
+    def test_page_is_written(self) -> None:
+        """Tables are written in place of those before, and all else on the page stays."""
+        with NamedTemporaryFile("w+", prefix="metad-page-") as file:
+            file.write("before\n<!-- tables: counts -->\nold\n<!-- end of tables -->\nafter\n")
+            file.flush()
+            with mock.patch.object(marks, "PAGE", Path(file.name)):
+                marks.write_page(self.known, [marks.Mark("another session", "bytes", 400, None, None)])
+            text = Path(file.name).read_text()
+        tables = marks.tables_of(self.known, []) + "| another session | bytes | 400 | - |\n"
+        self.assertEqual(text, f"before\n<!-- tables: counts -->\n\n{tables}\n<!-- end of tables -->\nafter\n")
+
+    def test_guards_of_counts(self) -> None:
+        """Guards are rounded up."""
         self.assertEqual([marks.guard_of(it) for it in (0.0, 0.38, 2.5, 99.0, 100, 4_000)], [0.01, 0.4, 2.58, 102, 103, 4_120])
 
 
@@ -77,7 +108,7 @@ class Dearest(ProgramCases):
         self.states = list(worst_lines.states(SMALL))
 
     def test_commands(self) -> None:
-        """Each command of the protocol has a line, and each line is told something."""
+        """Each command of the protocol has a line, and each line has an answer."""
         lines = [line for state in self.states for line in state.worst]
         counted = {json.loads(line.line)["do"] for line in lines}
         self.assertEqual(counted, {do for do, *_ in protocol.commands()})
@@ -108,6 +139,33 @@ class Dearest(ProgramCases):
         return difference(wanted.encode(), ran.stdout.encode())
 
 
+class Chosen(Cases):
+    """The lines that bench/worst.py writes on the page."""
+
+    def row(self, state: str, name: str, do: str, taken: Optional[int]) -> worst.Row:
+        """A line that may take 3,600 instructions, next to the 400 that it takes in an empty session."""
+        return worst.Row(state, worst_lines.Worst(name, json.dumps({"do": do}), "", rows=2), taken, 400)
+
+    def test_chosen(self) -> None:
+        """Of each state and command the worst line is written, if it takes at least three times what it may."""
+        rows = [
+            self.row("many", "`set` of one", "set", 400 + 4 * 3_600),
+            self.row("many", "`set` of another", "set", 400 + 5 * 3_600),
+            self.row("many", "`get`", "get", 400 + 3 * 3_600 - 1),
+            self.row("many", "a slot", "invoke", 400 + 3 * 3_600),
+            self.row("more", "`set` of one", "set", None),
+            self.row("few", "`set` of one", "set", 400),
+        ]
+        self.assertEqual(list(worst.page_rows(rows)), ["| many | `set` of another: 5; a slot: 3 |\n", "| more | `set` of one: takes too long |\n"])
+
+    def test_page(self) -> None:
+        """The page has the place for them, and what they may take."""
+        text = PAGE.read_text()
+        self.assertEqual(text.count(worst.PAGE_HEAD), 1)
+        self.assertIn(f"plus {worst.ITSELF:,} for itself", text)
+        self.assertIn(f"plus {worst.ROW:,} for each row", text)
+
+
 class Fixed(ProgramCases):
     """The library that gives a counted program the same random bytes in each run."""
 
@@ -121,7 +179,7 @@ class Fixed(ProgramCases):
         self.assertEqual((len(given["fixed"]), len(given["random"])), (1, 2), given)
 
     def test_program(self) -> None:
-        """The program has its random bytes from what the library stands in for."""
+        """The program has its random bytes from what the library replaces."""
         if shutil.which("objdump") is None:
             self.skipTest("objdump is not on the path")
         symbols = subprocess.run(["objdump", "-T", self.program], capture_output=True, text=True, timeout=SECONDS).stdout
@@ -129,7 +187,7 @@ class Fixed(ProgramCases):
 
 
 class Sessions(Cases):
-    """The bytes of a session, which docs/internals/MEASURES.md has and docs/SCALING.md reckons with."""
+    """The bytes of a session, which docs/internals/MEASURES.md has and docs/SCALING.md uses."""
 
     def test_sum(self) -> None:
         """The memory of a million sessions is summed up from the bytes that `make bench` has written down."""

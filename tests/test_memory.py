@@ -44,14 +44,14 @@ from .support.program import ROWS, Row, library, row_of, rows_in
 
 SESSIONS = 1_000
 COMMANDS = 200
-REFUSED = 400  # one of so many requests for memory behind the start is refused, if the program comes to it
+REFUSED = 400  # one of so many requests for memory after the start is refused, if the program makes it
 LISTENERS = 200  # runs of sessions that listen to each other
-WHOLE = 3  # a short one of these, in which posts arrive that want memory: each of its growths is refused
+WHOLE = 3  # a short one of these, in which posts arrive that need memory: each of its growths is refused
 GROWTHS_OF_LINE = 8  # requests for memory that a line of theirs makes, about
 
 
 def refuse_with_bindings(program, preloaded, seed):
-    """What comes of a session with bindings in which one growth is refused, which is taken by chance."""
+    """What comes of a session with bindings in which one random growth is refused."""
     made = bindings.Watching(seed)
     with session_by_chance(made, seed, COMMANDS) as session:
         trial = Trial(program, preloaded, session.row, count_start(program, preloaded, session.row))
@@ -59,8 +59,8 @@ def refuse_with_bindings(program, preloaded, seed):
 
 
 def refuse_among_listeners(program, preloaded, seed):
-    """What comes of sessions that listen to each other where one growth of theirs is refused, taken by chance; of one
-    run where each is, in turn."""
+    """What comes of sessions that listen to each other where one random growth of theirs is refused; in one run each
+    growth is refused in turn."""
     made = mixed.Chance(seed)
     with listeners_by_chance(made, seed) as row:
         trial = Trial(program, preloaded, row, count_start(program, preloaded, row))
@@ -72,7 +72,7 @@ def refuse_among_listeners(program, preloaded, seed):
 class RefusedGrowths(ProgramCases):
     """Rows with one request for memory refused after another.
 
-    Rows that start alike, by the same words and class files, differ only behind their start, so all but the first of
+    Rows that start alike, by the same words and class files, differ only after their start, so all but the first of
     them begin there. Where the class file has more than 4 KiB the number grows by a fiftieth at each step,
     and where the row has more than 1,000 lines by a fifth.
     """
@@ -113,18 +113,18 @@ class RefusedGrowths(ProgramCases):
             if ran.stdout == b"".join(RECEIVER_FAILS):
                 seen.append(number - start)
         self.assertTrue(seen, "no refused growth made the receiver fail")
-        self.tell(f"growths behind the start: {number - start - 1}, of arrivals: {seen}")
+        self.tell(f"growths after the start: {number - start - 1}, of arrivals: {seen}")
 
     def check_by_chance(self, number, try_seed, kinds):
         """Tries so many sessions or runs, and that some of them lead to outcomes of these kinds."""
-        cases = ((f"by chance, {seed}", seed) for seed in range(1, number + 1))
+        cases = ((f"random, {seed}", seed) for seed in range(1, number + 1))
         tried = self.check_each(cases, partial(try_seed, self.program, library("refuse_growth")), lambda it: it.fault, ProcessPoolExecutor)
         outcomes = self.tell_outcomes(tried)
         few = [kind for kind, least in kinds.items() if outcomes[kind] < least]
         self.assertEqual([] if CASE else few, [], "too few sessions led to this")
 
     def test_sessions_with_bindings(self):
-        """So does one growth, taken by chance, of each of many sessions whose bindings are asked for after each command."""
+        """One random growth is refused in each of many sessions whose bindings are asked for after each command."""
         self.check_by_chance(SESSIONS, refuse_with_bindings, {FAILED: SESSIONS // 10})
 
     def test_sessions_that_listen(self):
@@ -159,7 +159,7 @@ class FailedReads(ProgramCases):
         failed, count = [error("E20", "a")] * len(ONE_OF_EACH), len(ONE_OF_EACH)
         answers = answers_in(self.row.stdout)[len(MADE) :]
         self.assertEqual((answers[:count], answers[count]), (failed, text(reply=True, session="a")))
-        self.assertNotIn(failed[0], answers[count:], "behind the reset")
+        self.assertNotIn(failed[0], answers[count:], "after the reset")
 
     def test_reads(self):
         """So does the program, in which a growth of a command before them was refused."""
@@ -199,8 +199,8 @@ class LittleMemory(ProgramCases):
         return tried
 
     def check_spaces(self, row, needed):
-        """Each run ends by itself, and each session is told what it may be told where memory is short; outcomes of these
-        kinds come about."""
+        """Each run ends without being killed, and each session receives what it may receive where memory is short; outcomes
+        of these kinds come about."""
         outcomes, whole = Counter(), None
         for size, came, ran in self.tried_spaces(row):
             with self.subTest(space=f"{size // KIB:,} KiB"):
@@ -212,11 +212,11 @@ class LittleMemory(ProgramCases):
         self.assertEqual([kind for kind in needed if not outcomes[kind]], [], "no space led to this")
 
     def test_two_sessions(self):
-        """Two sessions, of which one hears the other."""
+        """Two sessions. One hears the other."""
         self.check_spaces(row_of(ROWS / "signal_is_posted_to_another_session"), [NOT_LOADED, ENDED])
 
     def test_session_that_grows(self):
-        """A session that grows until it fails, beside one that counts on, is reset and grows again."""
+        """A session that grows until it fails, next to one that counts on, is reset and grows again."""
         self.check_spaces(growing_row(), [NOT_LOADED, ENDED, FAILED])
 
     def check_peaks(self, parts):
@@ -293,22 +293,22 @@ CASES = [
     ("a session is not entered", told(error("E21", "a"), NUMBER_B, error("E04", "a"), CALLS_B), "session not entered"),
     ("a line is lost", told(NUMBER_A, NUMBER_B, error("E21", "-"), CALLS_B), "line lost"),
     ("a lost first line", told(error("E21", "-"), NUMBER_B, error("E04", "a"), CALLS_B), "line lost"),
-    ("the end with a front of the row", ended(NUMBER_A, OUT_OF_MEMORY, COMPLAINT), "program ended"),
-    ("the end behind a call", ended(NUMBER_A + NUMBER_B + TITLE_A + CALL_B, OUT_OF_MEMORY, COMPLAINT), "program ended"),
+    ("the end with a prefix of the row", ended(NUMBER_A, OUT_OF_MEMORY, COMPLAINT), "program ended"),
+    ("the end after a call", ended(NUMBER_A + NUMBER_B + TITLE_A + CALL_B, OUT_OF_MEMORY, COMPLAINT), "program ended"),
     ("the end with something else", ended(NUMBER_B, OUT_OF_MEMORY, COMPLAINT), None),
     ("the end without a word", ended(NUMBER_A, OUT_OF_MEMORY), None),
     ("another status", ended(NUMBER_A, 3, COMPLAINT), None),
-    ("a session that is told of its failure and goes on", told(NUMBER_A, error("E21", "b"), TITLE_A, CALLS_B), None),
+    ("a session that receives its failure and goes on", told(NUMBER_A, error("E21", "b"), TITLE_A, CALLS_B), None),
     ("a session that goes on after it had a line", told(NUMBER_A, NUMBER_B, TITLE_A, error("E21", "b"), CALLS_B), None),
     ("another session fails too", told(error("E21", "a"), NUMBER_B, error("E20", "a"), error("E20", "b")), None),
     ("a failed session whose lines are not read", ended(NUMBER_A + NUMBER_B + error("E21", "a") + CALLS_B + error("E20", "a")), None),
     ("a call before the failure", told(NUMBER_A, NUMBER_B, TITLE_A, CALL_B, error("E21", "b")), None),
     ("a call is missing", told(NUMBER_A, NUMBER_B, TITLE_A, WARNING_B, TRUTH_B), None),
-    ("the reply behind calls is missing", told(NUMBER_A, NUMBER_B, TITLE_A, CALL_B, WARNING_B), None),
+    ("the reply after calls is missing", told(NUMBER_A, NUMBER_B, TITLE_A, CALL_B, WARNING_B), None),
     ("a lost line after a call", told(NUMBER_A, NUMBER_B, TITLE_A, CALL_B, error("E21", "-")), None),
     ("a reply is missing", told(NUMBER_A, NUMBER_B, TITLE_A), None),
     ("a wrong reply", told(NUMBER_A, NUMBER_B, CALLS_B, TITLE_A), None),
-    ("an answer of its own for want of memory", told(NUMBER_A, error("E14", "b"), TITLE_A, error("E20", "b")), None),
+    ("an answer of its own when out of memory", told(NUMBER_A, error("E14", "b"), TITLE_A, error("E20", "b")), None),
 ]
 
 
@@ -343,17 +343,17 @@ CASES_OF_POSTS = [
     ("the receiver fails at its reset", [*BEGUN, TRUTH_A, CALLED_B, TRUTH_A, FAILED_B, LATER_B], "session failed"),
     ("the receiver fails where it joins", [NUMBER_A, NUMBER_B, FAILED_B, TRUTH_A, TRUTH_A, LATER_B, TRUTH_A, *RESET_B], "session failed"),
     ("the sender fails before its post", [*BEGUN, FAILED_A, SPUN_NOTHING, LATER_A, *RESET_B], "session failed"),
-    ("the sender fails behind its post", [*BEGUN, FAILED_A, CALLED_B, LATER_A, *RESET_B], "session failed"),
+    ("the sender fails after its post", [*BEGUN, FAILED_A, CALLED_B, LATER_A, *RESET_B], "session failed"),
     ("a line of the sender is lost", [*BEGUN, error("E21", "-"), SPUN_NOTHING, TRUTH_A, *RESET_B], "line lost"),
     ("the sender is not entered", [FAILED_A, NUMBER_B, TRUTH_B, error("E04", "a"), error("E04", "a"), SPUN_NOTHING, error("E04", "a"), *RESET_B], "session not entered"),
     ("the sender fails with the receiver", [*BEGUN, FAILED_A, LATER_B, LATER_A, *RESET_B], None),
     ("the sender fails, and goes on", [*BEGUN, FAILED_A, SPUN_NOTHING, TRUTH_A, *RESET_B], None),
     ("a post is lost without a failure", [*BEGUN, TRUTH_A, SPUN_NOTHING, TRUTH_A, *RESET_B], None),
-    ("the sender is told that the receiver fails", [*BEGUN, error("E14", "a"), LATER_B, TRUTH_A, *RESET_B], None),
+    ("the sender is notified that the receiver fails", [*BEGUN, error("E14", "a"), LATER_B, TRUTH_A, *RESET_B], None),
     ("the receiver fails where nothing is posted", [NUMBER_A, NUMBER_B, LATER_B, TRUTH_A, TRUTH_A, LATER_B, TRUTH_A, *RESET_B], None),
     ("the receiver goes on", [*BEGUN, TRUTH_A, LATER_B, TRUTH_A, TRUTH_B, JOINS_B], None),
     ("the receiver stays failed", [*BEGUN, TRUTH_A, LATER_B, TRUTH_A, LATER_B, LATER_B], None),
-    ("the receiver is told of its failure and goes on", [*BEGUN, TRUTH_A, LATER_B, TRUTH_A, TRUTH_B, LATER_B], None),
+    ("the receiver is notified of its failure and goes on", [*BEGUN, TRUTH_A, LATER_B, TRUTH_A, TRUTH_B, LATER_B], None),
 ]
 
 LOADED_NOT = b"metad: error while loading shared libraries: libc.so.6: failed to map segment from shared object\n"
@@ -366,7 +366,7 @@ CASES_OF_LITTLE = [
     ("a session fails twice", [NUMBER_A, NUMBER_B, FAILED_B, TRUTH_A, TRUTH_A, LATER_B, TRUTH_A, FAILED_B, LATER_B], 0, b"", [FAILED] * 2),
     ("a session is entered at its third line", [FAILED_A, NUMBER_B, TRUTH_B, FAILED_A, error("E04", "a"), SPUN_NOTHING, error("E04", "a"), *RESET_B], 0, b"", [NOT_ENTERED] * 2),
     ("the program ends at once", [], OUT_OF_MEMORY, COMPLAINT, [ENDED]),
-    ("the program ends behind a failure", [*BEGUN, FAILED_A, SPUN_NOTHING], OUT_OF_MEMORY, COMPLAINT, [FAILED, ENDED]),
+    ("the program ends after a failure", [*BEGUN, FAILED_A, SPUN_NOTHING], OUT_OF_MEMORY, COMPLAINT, [FAILED, ENDED]),
     ("the program ends in a line", [*BEGUN, TRUTH_A, POSTED_B[:9]], OUT_OF_MEMORY, COMPLAINT, [ENDED]),
     ("the program ends in another line", [*BEGUN, TRUTH_A, SPUN[:12]], OUT_OF_MEMORY, COMPLAINT, None),
     ("the program is not loaded", [], UNLOADED, LOADED_NOT, [NOT_LOADED]),
@@ -384,7 +384,7 @@ class Outcomes(Cases):
     """What came of a refused growth, told of programs that are made up here, each by what it writes then."""
 
     def test_outcomes(self):
-        """The allowed outcomes are told by their names, and anything else is none of them."""
+        """The allowed outcomes have names, and anything else is refused."""
         self.check_outcomes(MadeUp(**vars(ROW)), CASES)
 
     def test_outcomes_of_posts(self):

@@ -40,7 +40,7 @@ def run_row(program: str, row: Row, kib: "int | None" = None) -> CompletedProces
 
 
 class Tried(NamedTuple):
-    """What came of a row in a space, how many of its sessions were told everything, and what is wrong, or None."""
+    """What came of a row in a space, how many of its sessions had all their answers, and what is wrong, or None."""
 
     kind: str
     spared: int = 0
@@ -48,13 +48,13 @@ class Tried(NamedTuple):
 
 
 def failure_fault(name: str, told: "list[bytes]", wanted: "list[bytes]") -> "str | None":
-    """What is wrong with the answers to a session that has failed: behind those that it has to have stands E21, and then
+    """What is wrong with the answers to a session that has failed: after those that it has to have comes E21, and then
     only E20."""
     at = next((at for at, (got, want) in enumerate(zip(told, wanted)) if got != want), None)
     if at is None or at == 0:
-        return None if told else f"{name} is told nothing"
+        return None if told else f"{name} receives nothing"
     rest = [line("E21", name)] + [line("E20", name)] * (len(told) - at - 1)
-    return None if told[at:] == rest else f"{name} is told {b''.join(told[at:])[:300]!r} behind {at} answers"
+    return None if told[at:] == rest else f"{name} receives {b''.join(told[at:])[:300]!r} after {at} answers"
 
 
 def judged(program: str, row: Row, ran: CompletedProcess) -> Tried:

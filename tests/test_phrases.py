@@ -4,21 +4,15 @@ import tempfile
 from pathlib import Path
 
 from .support.cases import Cases
-from .support.phrases import counts, found_in, listed
-
-HOW = "python3 -m tests.support.phrases PATH lists them, with what to write instead; --write lowers the numbers"
+from .support.phrases import all_found, found_in
 
 
 class Phrases(Cases):
-    """The list of files that still have such phrases."""
+    """Phrases that are banned."""
 
-    def test_numbers(self) -> None:
-        """No file has more of them than tests/phrases.txt says, and none has fewer: the numbers only fall."""
-        now, before = counts(), listed()
-        risen = [f"{name}: {count}, and not {before.get(name, 0)}" for name, count in now.items() if count > before.get(name, 0)]
-        self.assertEqual(risen, [], f"files with more phrases than before; {HOW}")
-        lower = [f"{name}: {now.get(name, 0)}, and not {count}" for name, count in before.items() if now.get(name, 0) < count]
-        self.assertEqual(lower, [], f"files with fewer phrases, or none: lower their numbers; {HOW}")
+    def test_files(self) -> None:
+        """No document, help, message or comment has one of them."""
+        self.assertEqual(list(all_found()), [], "what to write instead follows each of them")
 
     def found(self, suffix: str, text: str) -> list:
         """The phrases that are found in a file of this kind."""
@@ -41,4 +35,6 @@ class Phrases(Cases):
         self.assertEqual(self.found(".py", code), [(2, "is told"), (3, "anew"), (4, "by chance")])
         code = "//! What stands\n//! here.\nfn beside() {}\n// by chance\n/// What is\n/// none.\n"
         self.assertEqual(self.found(".rt", code), [(1, "stands"), (5, "is none")])
+        self.assertEqual(self.found(".antt", "-- What is\n-- told, `anew`.\nanew = told\n"), [(1, "is told")])
+        self.assertEqual(self.found(".md", "0 if there is none; a slot is none.\n"), [(1, "is none")])
         self.assertEqual(self.found(".rs", 'const HELP: &str = r#"\nwhat is told\n"#;\n'), [(2, "is told")])

@@ -33,7 +33,7 @@ class End(Row):
     stdout: bytes | None = b""
     source: str | None = None  # a path in place of the input
     sink: str | None = None  # a path in place of the output, or "nobody" for a pipe without a reader
-    part: str = ""  # stands in what is written, on either of the two
+    part: str = ""  # is in what is written, on either of the two
 
     def run(self, program):
         with ExitStack() as opened:
@@ -92,13 +92,13 @@ ENDS = [
     End("a session's name of 65 bytes", words=("--slice", 65 * "a"), status=2, stderr=BAD_NAME),
     End("a session's name that is empty", words=("--slice=",), status=2, stderr=BAD_NAME),
     End("a session's name that is a hyphen", words=("--slice", "-"), status=2, stderr=BAD_NAME),
-    End("a session's name that is none, before a class file that is a folder", words=("/", "--slice", "a b"), status=2, stderr=BAD_NAME),
+    End("a bad session name before a class file that is a folder", words=("/", "--slice", "a b"), status=2, stderr=BAD_NAME),
     End("a class file without a name", words=("",), status=1, stderr=b"metad: class file refused: unreadable\n"),
     End("a class file that is a folder", words=("/",), status=1, stderr=b"metad: class file refused: unreadable\n"),
     End("a class file that is empty", words=("/dev/null",), status=1, stderr=b"metad: class file refused: C01 at class 0\n"),
 ]
 
-# words that give no options, each with the status that they end with and what stands in the text
+# words that give no options, each with the status that they end with and a part of the text that is written
 REFUSED_WORDS = [
     (("a", "b"), 2, "error: unexpected argument 'b' found\n\nUsage: metad [OPTIONS] [CLASSES]\n\nFor more information, try '--help'.\n"),
     (("a", "-hx"), 0, "\n\nUsage: metad [OPTIONS] [CLASSES]\n\n"),
@@ -278,7 +278,7 @@ class Sizes(ProgramCases):
     """A limit on the size of the files that the program writes."""
 
     def run_limited(self, setting):
-        """What comes of a run that writes to a file beyond such a limit, behind this setting of the shell's, and the file."""
+        """What comes of a run that writes to a file beyond such a limit, after this setting of the shell's, and the file."""
         with TemporaryDirectory(prefix="metad-sizes-") as room:
             wrote = Path(room, "wrote")
             words = [WITHOUT_CORE, setting, OF_SIZE, f'exec "$0" > {wrote}']
@@ -286,7 +286,7 @@ class Sizes(ProgramCases):
             return ran, wrote.read_bytes()
 
     def check_front(self, wrote):
-        """What stands in the file is as much of the answer as may."""
+        """The file has as much of the answer as the limit allows."""
         self.assertTrue(wrote and (ONE + OF_TRUTHS).startswith(wrote), wrote[-300:])
         self.assertLess(len(wrote), len(ONE + OF_TRUTHS))
 
@@ -341,7 +341,7 @@ class Need:
 
 
 def need_of(program, row, resources, most):
-    """How much a row needs of these resources, of which it has at most so many bytes."""
+    """How much a row needs of these resources. It has at most so many bytes of each."""
     fault = fault_within(program, row, resources, most)
     if fault:
         return Need(row.name, fault)
@@ -372,7 +372,7 @@ class Limits(ProgramCases):
             self.tell(f"\n    {it.name}: {words} {it.kib} KiB")
 
     def test_wide(self):
-        """As many objects, connections, events, properties, publications and joins, and texts as long as may be."""
+        """As many objects, connections, events, properties, publications and joins as may be, and the longest texts."""
         self.check_stack(limits.wide_rows())
 
     def test_deep(self):
@@ -391,13 +391,13 @@ class Limits(ProgramCases):
         self.assertEqual((ran.returncode, ran.stdout), (-signal.SIGSEGV, b""))
 
     def test_shared(self):
-        """As many events as there may be, whose texts are those of two emissions; it is told in how much memory."""
+        """As many events as there may be, whose texts are those of two emissions; the test prints how much memory they need."""
         self.check_needs(limits.shared_rows(), resource.RLIMIT_AS, ADDRESSES, "in an address space of")
 
 
 NAMES = 20_000
 JOINS = 1_000  # of each session
-TRIES = 3  # runs of each input, of which the quickest counts
+TRIES = 3  # runs of each input; the quickest counts
 MOST = 4  # times as long as other names
 
 

@@ -1,4 +1,4 @@
-"""Lines and sessions by chance, the same in every run: the built program is compared with the plain one, which works
+"""Random lines and sessions, the same in every run: the built program is compared with the plain one, which works
 out what is wanted while it makes what is given."""
 
 import json
@@ -21,8 +21,8 @@ from .support.cases import CASE, ProgramCases
 from .support.differences import difference, shown_input
 from .support.lines import lines_of, text_of
 from .support.program import Row
+from .support.seeds import SEED
 
-SEED = os.environ.get("SEED", "1")
 LONG_SESSIONS = 50
 LONG_COMMANDS = 1_000_000
 LONG_TURNS = 20
@@ -69,11 +69,11 @@ def words_in(lines):
 
 
 class Lines(ProgramCases):
-    """Lines that are made by chance, in form and out of it."""
+    """Random lines, in form and out of it."""
 
     def test_lines(self):
         """200,000 lines are answered alike, byte for byte."""
-        lines, server = chance.lines_of(chance.Chance(SEED)), server_with(turns=chance.TURNS)
+        lines, server = chance.lines_of(chance.Chance(str(SEED))), server_with(turns=chance.TURNS)
         wanted = b"".join(answer(server, line) for line in lines)
         words = (b'{"reply":', b'"call":', b'"call":"clamp"', b'"call":"count"', b'"warning":"BindingLoop"')
         replies, calls, clamped, counted, loops = map(wanted.count, words)
@@ -83,7 +83,7 @@ class Lines(ProgramCases):
         self.assertGreaterEqual(functors, chance.LINES // 40_000, "there are too few calls of functors")
         self.assertGreaterEqual(loops, chance.LINES // 40_000, "there are too few loops of bindings")
         check_share(self, shares(words_in(lines)))
-        self.check_rows([Row(f"lines by chance, {SEED}", b"\n".join(lines), wanted, words=("--turns", str(chance.TURNS)))])
+        self.check_rows([Row(f"random lines, {SEED}", b"\n".join(lines), wanted, words=("--turns", str(chance.TURNS)))])
         self.tell(f"lines: {len(lines):,}, replies: {replies:,}, calls: {calls:,}, of functors: {functors:,}, loops: {loops:,}")
 
 
@@ -94,7 +94,7 @@ def told_by_plain(commands, classes):
 
 
 def tree_fault(program, commands):
-    """What is wrong with what is told to commands of sessions with trees, or None."""
+    """What is wrong with the answers to commands of sessions with trees, or None."""
     row = Row("trees", lines_of(commands), lines_of(told_by_plain(commands, trees.CLASSES_THERE)))
     return row.fault(row.run(program))
 
@@ -107,7 +107,7 @@ class Trees(ProgramCases):
         check_share(self, shares(it["do"] for seed in range(trees.CHANCES) for it in trees.by_chance(seed)))
 
     def test_trees(self):
-        """Deep and wide trees that are deleted, and small ones by chance."""
+        """Deep and wide trees that are deleted, and small random ones."""
         self.check_each(trees.sessions(), partial(tree_fault, self.program), workers=ProcessPoolExecutor)
 
 
@@ -118,21 +118,21 @@ def reads_in(commands, answers):
 
 
 def shown_by_signals(commands, answers):
-    """What a session has to show: calls, of them those of functors and those that tell of what a command had set, events
-    that were taken, and replies to what only reads."""
+    """What a session has to show: calls, among them those of functors and those that report what a command had set,
+    events that were taken, and replies to what only reads."""
     lines = [line for told in answers for line in told]
     return Counter({
         "calls": signals.calls_in(lines),
         "calls of functors": signals.functors_in(lines),
         "events": signals.events_in(lines),
-        "calls that tell of changes": signals.changes_in(commands, answers),
+        "calls that report changes": signals.changes_in(commands, answers),
         **reads_in(commands, answers),
         **shares(it["do"] for it in commands),
     })
 
 
 def shown_by_bindings(commands, answers):
-    """What a session with bindings has to show: calls and errors that bindings and ends of groups tell of, errors that come
+    """What a session with bindings has to show: calls and errors that bindings and ends of groups report, errors that come
     of what is set, deleted and called, and errors that are asked for."""
     told = defaultdict(list)
     for command, lines in zip(commands, answers):
@@ -167,11 +167,11 @@ def try_session(kind, shown_by, program, seed, number=signals.COMMANDS):
 
 
 class OneSession(ProgramCases):
-    """Sessions with classes, bodies and commands by chance, each with few turns."""
+    """Sessions with random classes, bodies and commands, each with few turns."""
 
     def check_sessions(self, seeds, kind, shown_by, needed=None, **how):
         """Tries so many sessions, which together have to show all that is needed, where they are not cases by name."""
-        cases = ((f"by chance, {seed}", seed) for seed in range(int(SEED), int(SEED) + seeds))
+        cases = ((f"random, {seed}", seed) for seed in range(SEED, SEED + seeds))
         tried = self.check_each(cases, partial(try_session, kind, shown_by, self.program, **how), lambda it: it.fault, ProcessPoolExecutor)
         shown = all_shown(tried)
         self.tell(", ".join(f"{what}: {number:,}" for what, number in shown.items()))
@@ -181,11 +181,11 @@ class OneSession(ProgramCases):
 
     def test_signals(self):
         """Signals, slots, functors, events and properties."""
-        needed = ("calls of functors", "events", "calls that tell of changes", *(f"replies to {word}" for word in reads.READS))
+        needed = ("calls of functors", "events", "calls that report changes", *(f"replies to {word}" for word in reads.READS))
         check_share(self, self.check_sessions(signals.SESSIONS, signals.Chance, shown_by_signals, needed))
 
     def test_bindings(self):
-        """Bindings and groups beside them."""
+        """Bindings and groups, in addition to signals."""
         check_share(self, self.check_sessions(bindings.SESSIONS, bindings.Chance, shown_by_bindings))
 
     def test_watched_bindings(self):
@@ -222,14 +222,14 @@ class Part:
 
 
 def parts_of(run):
-    """The parts of a run that decide what each session is told."""
+    """The parts of a run that decide the output of each session."""
     for name in run.server.sessions:
         yield Part(name, "without those outside its influence", run.within_influence(name))
         yield Part(name, "in its slice", run.slice(name))
 
 
 def part_faults(run, row, program):
-    """What is wrong with what sessions are told by parts of a run, each of which has names of its own in one input."""
+    """What is wrong with the answers to sessions in parts of a run. Each part has names of its own in one input."""
     parts = dict(enumerate(parts_of(run)))
     given = [mixed.renamed(command, f"_{at}") for at, part in parts.items() for command in part.commands]
     told = lines_by_session(replace(row, given=lines_of(given)).run(program).stdout)
@@ -242,7 +242,7 @@ def part_faults(run, row, program):
 
 
 def alone_faults(run):
-    """Sessions that are not told alone what they are told among the others."""
+    """Sessions that do not receive alone what they receive among the others."""
     for name in run.server.sessions:
         alone = told_alone(Session(name, run.server.classes, run.server.turns), run.items(name))
         fault = difference(lines_of(run.told(name)), lines_of(alone))
@@ -277,7 +277,7 @@ def try_mixed(program, seed):
     declared, turns = list(made.classes()), made.choice(signals.TURNS)
     run = mixed.run_of(made, Server(Classes(declared), turns))
     with TemporaryDirectory(prefix="metad-mixed-") as room:
-        row = row_with_classes(f"by chance, {seed}", run.commands(), run.lines(), declared, room, turns)
+        row = row_with_classes(f"random, {seed}", run.commands(), run.lines(), declared, room, turns)
         faults = [row.fault(row.run(program)), *alone_faults(run), *part_faults(run, row, program)]
     fault = next(filter(None, faults), None)
     return Tried(fault and f"{fault}\nits class file: {text_of({'classes': declared})}", shown_by_run(run))
@@ -287,10 +287,10 @@ class Mixed(ProgramCases):
     """Sessions that listen to each other."""
 
     def test_mixed(self):
-        """Runs of a few sessions by chance; and each session is told the same alone with what is posted to it, without the
-        commands of all that no join has led to it from, and by its slice."""
-        seeds = range(int(SEED), int(SEED) + mixed.RUNS // mixed.RUNS_AT_ONCE)
-        cases = ((f"by chance, {seed}", seed) for seed in seeds)
+        """Random runs of a few sessions. Each session receives the same lines alone with what is posted to it, without the
+        commands of sessions that no chain of joins connects to it, and by its slice."""
+        seeds = range(SEED, SEED + mixed.RUNS // mixed.RUNS_AT_ONCE)
+        cases = ((f"random, {seed}", seed) for seed in seeds)
         tried = self.check_each(cases, partial(try_mixed, self.program), lambda it: it.fault, ProcessPoolExecutor)
         shown = all_shown(tried)
         self.tell(", ".join(f"{what}: {number:,}" for what, number in shown.items()))
@@ -306,8 +306,8 @@ def sessions_in_turn():
 
 
 def listening_in_turn():
-    """The commands of a hundred sessions that listen to each other, what the plain program tells to them, and what comes to
-    each by its name: its commands, and the posts of the others."""
+    """The commands of a hundred sessions that listen to each other, the plain program's answers, and the input of each
+    session by its name: its commands, and the posts of the others."""
     server, wanted, items = Server(Classes(sessions.CLASSES)), [], defaultdict(list)
     commands = sessions.in_turn(listen=True)
     names = {command["session"] for command in commands}
@@ -321,7 +321,7 @@ def listening_in_turn():
 
 
 def alone_fault(case):
-    """What is wrong with what a session was told, where the plain program tells it of it alone, or None."""
+    """What is wrong with a session's output, compared with what the plain program gives it alone, or None."""
     name, items, told = case
     return difference(lines_of(told_alone(Session(name, Classes(sessions.CLASSES)), items)), told)
 
@@ -333,7 +333,7 @@ class Sessions(ProgramCases):
         self.room = self.enterContext(TemporaryDirectory(prefix="metad-sessions-"))
 
     def test_sessions_in_turn(self):
-        """A hundred sessions that take turns are told what the plain program tells."""
+        """A hundred sessions that take turns receive what the plain program tells."""
         commands, wanted = sessions_in_turn()
         calls = signals.calls_in(wanted)
         self.assertGreater(calls, 0, "there are no calls")
@@ -341,8 +341,8 @@ class Sessions(ProgramCases):
         self.tell(f"commands: {len(commands):,}, calls: {calls:,}")
 
     def test_sessions_that_listen(self):
-        """A hundred sessions that take turns and listen to the next one are told what each is told by the plain program
-        alone, with what is posted to it."""
+        """A hundred sessions take turns and listen to the next one. Each receives what the plain program gives it alone,
+        with what is posted to it."""
         commands, wanted, items = listening_in_turn()
         row = row_with_classes("all in turn", commands, wanted, sessions.CLASSES, self.room)
         self.check_rows([row])
@@ -351,14 +351,14 @@ class Sessions(ProgramCases):
         self.tell(f"commands: {len(commands):,}, calls: {signals.calls_in(wanted):,}")
 
     def test_sessions_alone(self):
-        """Each of them is told by a server of its own what it is told among the others."""
+        """Each of them receives from a server of its own what it receives among the others."""
         commands, wanted = map(by_session, sessions_in_turn())
         self.assertEqual(len(commands), sessions.SESSIONS)
         self.check_rows([row_with_classes(name, commands[name], wanted[name], sessions.CLASSES, self.room) for name in commands])
 
     @unittest.skipUnless(os.environ.get("LONG"), "LONG=1 runs it, for some minutes")
     def test_sessions_at_length(self):
-        """A million commands by chance, in fifty sessions of one server, are answered as by the plain program."""
+        """A million random commands, in fifty sessions of one server, are answered as by the plain program."""
         made = mixed.Chance(1)
         declared = list(made.classes())
         server, commands, wanted = Server(Classes(declared), LONG_TURNS), [], []

@@ -21,9 +21,9 @@ from .plain.world import Server
 from .support.cases import ProgramCases
 from .support.lines import lines_of, text_of
 from .support.program import ROOT
+from .support.seeds import seed_of
 
 PAGE = ROOT / "docs" / "SCALING.md"
-SEED = os.environ.get("SEED")
 RUNS, GROUPS, SERVERS_MOST = 20, 8, 4
 ROW = re.compile(r"^\| (.*) \| (.*) \| ((?:measured|estimated)[^|]*) \|$", re.MULTILINE)
 SUM = re.compile(r"`([0-9,.*/()^ ]+) = ([0-9,.]+)`")
@@ -40,7 +40,7 @@ def join(source, **more):
 
 
 def told_by(program, commands, words=()):
-    """What each session is told by a server that is given these commands."""
+    """The answers to each session by a server that is given these commands."""
     ran = subprocess.run([program, *words], input=lines_of(commands), capture_output=True, check=True)
     told = defaultdict(list)
     for line in ran.stdout.splitlines():
@@ -53,11 +53,10 @@ class Apart(ProgramCases):
 
     def setUp(self):
         self.room = self.enterContext(TemporaryDirectory(prefix="metad-scaling-"))
-        self.seed = int(SEED) if SEED else random.randrange(2**32)
-        self.tell(f"SEED={self.seed}")
+        self.seed = seed_of(self)
 
     def test_groups(self):
-        """Groups of sessions by chance, which listen to each other within a group, are told the same by one server, and by
+        """Random groups of sessions, which listen to each other within a group, receive the same from one server as from
         some servers over which the groups are spread in any way."""
         self.check_each(((f"run {at}", self.seed + at) for at in range(RUNS)), self.fault_of)
 
@@ -91,7 +90,7 @@ class Apart(ProgramCases):
         self.assertEqual(told_by(self.program, [*one, ping])["a"], told_by(self.program, [*one, *other, ping, spin])["a"])
 
     def test_order(self):
-        """What a session is told is in the order of its commands, whatever the others' are that stand between."""
+        """The answers to a session are in the order of its commands, whatever commands of others are between them."""
         mine = [{"do": "new", "class": "Probe", "session": "a"} for _ in range(50)]
         others = [{"do": "new", "class": "Probe", "session": f"b{number % 7}"} for number in range(200)]
         chance = random.Random(self.seed)

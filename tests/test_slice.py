@@ -1,4 +1,4 @@
-"""`metad --slice NAME`: the lines of an input that what a session is told depends on, of worked inputs, of runs by chance,
+"""`metad --slice NAME`: the lines of an input that a session's output depends on, of worked inputs, of random runs,
 and of a long one; and the names that it is given."""
 
 import time
@@ -21,8 +21,9 @@ from .support.differences import difference, shown_input
 from .support.growths import COMPLAINT, ENDED, MOST, NOT_SEEN, OUT_OF_MEMORY, Trial
 from .support.lines import lines_of, text_of
 from .support.program import Row, library
+from .support.seeds import SEED
 from .test_program import READ_FAULT, WRITE_FAULT, End
-from .test_random import SEED, Tried, all_shown, lines_by_session
+from .test_random import Tried, all_shown, lines_by_session
 
 NOBODY = "z"  # a session that no worked input has
 
@@ -107,13 +108,13 @@ TWICE = "the argument '--slice <NAME>' cannot be used multiple times"
 ENDS = [
     kept_whole("a name of 64 bytes", ("--slice", LONGEST), LONGEST),
     kept_whole("a name of one byte", ("--slice", "_"), "_"),
-    kept_whole("a name behind an equals sign", ("--slice=a",)),
+    kept_whole("a name after an equals sign", ("--slice=a",)),
     kept_whole("turns before it", ("--turns", "3", "--slice", "a")),
-    kept_whole("turns behind it", ("--slice=a", "--turns=1000000")),
-    kept_whole("no options behind it", ("--slice", "a", "--")),
+    kept_whole("turns after it", ("--slice=a", "--turns=1000000")),
+    kept_whole("no options after it", ("--slice", "a", "--")),
     bad("a name of 65 bytes", "--slice", LONGEST + "n"),
     bad("an empty name", "--slice", ""),
-    bad("an empty name behind an equals sign", "--slice="),
+    bad("an empty name after an equals sign", "--slice="),
     bad("a name of a hyphen", "--slice", "-"),
     bad("a name with a space", "--slice", "a b"),
     bad("a name with a space before it", "--slice", " a"),
@@ -122,7 +123,7 @@ ENDS = [
     bad("a name that is not ASCII", "--slice", "ä"),
     bad("a name with an equals sign", "--slice", "a=b"),
     bad("a bad name before a class file", "--slice", "a b", "/nonexistent"),
-    bad("a bad name behind a class file", "/nonexistent", "--slice", "a b"),
+    bad("a bad name after a class file", "/nonexistent", "--slice", "a b"),
     bad("a bad name and turns", "--slice=a b", "--turns", "3"),
     refused("a name twice", ("--slice", "a", "--slice=a"), TWICE),
     refused("a bad name twice", ("--slice", "a b", "--slice", "a b"), TWICE),
@@ -174,7 +175,7 @@ def refuse_growths(program, preloaded, row):
     return Tried("the growths have no end", shown)
 
 
-# Runs by chance.
+# Random runs.
 
 FAULTY = (b"", b" \t\r", b"nonsense", b'{"do":"spin"}', b'{"do":"spin","session":"-"}')
 FAULTS_OF_SESSIONS = ("jump", "join", "leave", "new")  # words that are no command without further keys
@@ -186,7 +187,7 @@ def fault_of(session):
 
 
 def with_faults(chance, run):
-    """The lines of a run's commands, with others between that are none, some in the names of its sessions."""
+    """The lines of a run's commands, with other lines between them, some in the names of its sessions."""
     sessions = list(run.server.sessions)
     for command in run.commands():
         if chance.is_so(FAULTY_SHARE):
@@ -213,8 +214,8 @@ class Sliced:
 
 
 def shown_by_slices(run, lines, slices):
-    """What runs have to show: of each slice, whether it has lines of others, and whether it leaves out some of a session of
-    which it keeps others."""
+    """What runs have to show: of each slice, whether it has lines of others, and whether it keeps some lines of a session
+    and leaves out others."""
     shown = Counter({"lines": len(lines), "commands": len(run.steps), "slices": len(slices)})
     given = Counter(step.session for step in run.steps)
     for it in slices:
@@ -233,7 +234,7 @@ def try_slices(program, seed):
     run = mixed.run_of(made, Server(Classes(declared), turns))
     lines = list(with_faults(made, run))
     with TemporaryDirectory(prefix="metad-slices-") as room:
-        row = row_with_classes(f"by chance, {seed}", [], [], declared, room, turns)
+        row = row_with_classes(f"random, {seed}", [], [], declared, room, turns)
         row = replace(row, given=b"".join(it + b"\n" for it in lines), folder=Path(room))
         notes = notes_of(server_of(row), lines)
         slices = [Sliced(name, slice_of(lines, notes, name)) for name in run.server.sessions]
@@ -244,13 +245,13 @@ def try_slices(program, seed):
 
 
 class ByChance(ProgramCases):
-    """Slices of runs by chance."""
+    """Slices of random runs."""
 
     def test_runs(self):
-        """The program keeps what the plain one keeps, also of what was kept, and tells each session by its slice what it has
-        told it by all lines, but for the faults of its own that the slice leaves out."""
-        seeds = range(int(SEED), int(SEED) + mixed.RUNS // mixed.RUNS_AT_ONCE)
-        cases = ((f"by chance, {seed}", seed) for seed in seeds)
+        """The program keeps what the plain one keeps, also of what was kept. By its slice each session receives what it
+        receives by all lines, except the faults of its own that the slice leaves out."""
+        seeds = range(SEED, SEED + mixed.RUNS // mixed.RUNS_AT_ONCE)
+        cases = ((f"random, {seed}", seed) for seed in seeds)
         tried = self.check_each(cases, partial(try_slices, self.program), lambda it: it.fault, ProcessPoolExecutor)
         shown = all_shown(tried)
         self.tell(", ".join(f"{what}: {number:,}" for what, number in shown.items()))

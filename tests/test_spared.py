@@ -1,4 +1,4 @@
-"""Many sessions of which one runs out of memory: those that do not listen to it are told what they would be told without that,
+"""Many sessions, and one runs out of memory: those that do not listen to it receive what they would receive without that,
 and those that do hear what it has posted by then."""
 
 from __future__ import annotations
@@ -22,7 +22,7 @@ from .support.spared import Reference, failure_faults, sources_of
 
 SEEDS = 4
 PARTS = 8  # in which the growths of a run are refused side by side
-TOLD = 5_000  # refusals, at least, that some session is told of
+TOLD = 5_000  # refusals, at least, that some session receives
 OFTEN = 1_000
 
 
@@ -67,7 +67,7 @@ def refuse_part(program: str, preloaded: str, case: "tuple[int, int]") -> Tried:
 
 
 class SparedSessions(ProgramCases):
-    """Sessions beside one that runs out of memory."""
+    """Sessions next to one that runs out of memory."""
 
     def test_each_growth(self) -> None:
         """Whichever growth is refused, no session is affected that was spared, nor any that listens to spared ones alone."""
@@ -76,7 +76,7 @@ class SparedSessions(ProgramCases):
         counts = sum((it.counts for it in tried), Counter())
         self.tell(", ".join(f"{key}: {number:,}" for key, number in counts.items()))
         if not CASE:
-            self.assertGreaterEqual(counts["told"], TOLD, "too few refusals were told")
+            self.assertGreaterEqual(counts["told"], TOLD, "too few refusals were received")
             few = [key for key in ("unread", "hit", "spared", "listening", "beside") if counts[key] < OFTEN]
             self.assertEqual(few, [], "these are too few")
 
@@ -119,7 +119,7 @@ def burst_row(room: Path) -> Row:
 
 
 def seen_by(answer: bytes) -> "list[int]":
-    """The values of the calls that an answer tells of."""
+    """The values of the calls in an answer."""
     return [it["args"][0] for it in map(json.loads, answer.splitlines()) if "call" in it]
 
 
@@ -173,7 +173,7 @@ MADE_UP = Row("made up", lines_of(GIVEN), lines_of(WANTED))
 WITHOUT_SECOND_D = lines_of([*WANTED[:9], *WANTED[10:12], reply("d", 2)])
 ENTERED = 6  # lines before the sessions' second objects
 
-# what is written in place of the lines behind the joins, which sessions are spared then, and whether that is allowed
+# what is written in place of the lines after the joins, which sessions are spared then, and whether that is allowed
 RUNS = [
     ("nothing is refused", WANTED[ENTERED:], "abcd", True),
     ("the first one fails, and all that listen to it differ", [error("a", "E21"), reply("b", 9), reply("c", 9), *WANTED[9:]], "d", True),

@@ -1,4 +1,4 @@
-"""What stands in tools/ and the Makefile's targets: `make try` with a stand-in for `rt`, and what each says that needs a
+"""The programs in tools/ and the Makefile's targets: `make try` with a stand-in for `rt`, and what each says that needs a
 program that is missing."""
 
 from __future__ import annotations
@@ -31,8 +31,8 @@ sys.exit({status})
 OLD_PYTHON = '#!/bin/sh\nif [ "$1" = --version ]; then echo Python 3.7.16; else exit 1; fi\n'
 LACKING = {
     "rt": ("all", "run", "test", "try"),
-    "cc": ("test", "tests", "rows", "bench", "libraries"),
-    "python3": ("all", "run", "test", "tests", "rows", "test_install", "try", "bench", "lists", "tables", "budget", "dist", "deb"),
+    "cc": ("test", "tests", "soak", "rows", "bench", "libraries"),
+    "python3": ("all", "run", "test", "tests", "soak", "rows", "test_install", "try", "bench", "lists", "tables", "budget", "dist", "deb"),
     "objdump": ("dist", "deb"),
     "dpkg-deb": ("deb",),
     "flake8": ("lint",),
@@ -132,6 +132,66 @@ class Try(Tools):
         self.assertNotEqual(self.ran("make", "try", "SESSION=none.txt").returncode, 0)
         self.assertEqual(self.ran(sys.executable, TRY, "--help").returncode, 0)
         self.assertFalse((self.room / "note").exists(), "rt is not started")
+
+
+class Archive(Tools):
+    """`tools/archive.py`, which proves and compiles the crate of a library over the libraries that `rt ci` has left."""
+
+    def setUp(self) -> None:
+        super().setUp()
+        (self.room / "kit" / "bin").mkdir(parents=True)
+        self.repository = self.room / "repository"
+        for name in ("low", "middle", "top_c"):
+            (self.repository / "crates" / name).mkdir(parents=True)
+        (self.repository / "crates.txt").write_text("# a comment\nlow:\nmiddle: low json\ntop_c staticlib: std_heap middle\n")
+
+    def kit(self, status: int) -> None:
+        """Puts a stand-in for the toolchain on the path, whose `rattle` notes its words, writes its output and ends so."""
+        text = STAND_IN.format(python=sys.executable, note=str(self.room / "note"), answers=b"", log=LOG, status=status)
+        text = text.replace("sys.stdout.buffer", f"pathlib.Path(sys.argv[-1]).touch() if not {status} else None\nsys.stdout.buffer")
+        for name in ("rattle", "rt"):
+            (self.room / "kit" / "bin" / name).write_text(text)
+            (self.room / "kit" / "bin" / name).chmod(0o755)
+        (self.path / "rt").symlink_to(self.room / "kit" / "bin" / "rt")
+
+    def archive(self, *words: object) -> subprocess.CompletedProcess[bytes]:
+        return self.ran(sys.executable, ROOT / "tools" / "archive.py", *words)
+
+    def test_built(self) -> None:
+        """The crate's own proof is over all libraries below it, and its archive is put into its `out`."""
+        self.kit(0)
+        ran = self.archive(self.repository, "top_c")
+        made = self.repository / "crates" / "top_c" / "out" / "libtop_c.a"
+        self.assertEqual((ran.returncode, ran.stdout, ran.stderr), (0, b"crates/top_c/out/libtop_c.a is built\n", b""))
+        words, crates, kit = self.note()["words"], self.repository / "crates", self.room / "kit"
+        self.assertEqual(words[:4], ["build", "--crate-name", "top_c", "src/lib.rt"])
+        externs = [words[at + 1] for at, it in enumerate(words) if it == "--extern"]
+        kits = [f"{it}={kit}/rlibs/{it}.rlib" for it in ("std", "std_heap")]
+        self.assertEqual(externs, [*kits, f"middle={crates}/middle/out/rlib/middle.rlib"])
+        places = [words[at + 1] for at, it in enumerate(words) if it == "-L"]
+        self.assertEqual(places, [f"dependency={it}" for it in (kit / "rlibs", *(crates / name / "out/rlib" for name in ("low", "middle")))])
+        self.assertEqual((words[-2:], made.is_file()), (["-o", str(made)], True))
+        self.assertNotIn("--allow-holes", words)
+
+    def test_not_proved(self) -> None:
+        """What is not proved is said, and no archive of an earlier run is left."""
+        self.kit(1)
+        made = self.repository / "crates" / "top_c" / "out" / "libtop_c.a"
+        made.parent.mkdir()
+        made.touch()
+        ran = self.archive(self.repository, "top_c")
+        self.assertEqual((ran.returncode, ran.stdout, made.exists()), (1, b"", False))
+        self.assertTrue(ran.stderr.startswith(LOG) and ran.stderr.endswith(b"top_c is not built\n"), ran.stderr)
+
+    def test_wrong_words(self) -> None:
+        """A crate that is not there is status 2 with a usage line, and without a toolchain it is said."""
+        for words in ([self.repository, "nothing"], [self.repository], []):
+            ran = self.archive(*words)
+            self.assertEqual((ran.returncode, ran.stdout), (2, b""), words)
+            self.assertTrue(ran.stderr.startswith(b"usage: archive.py "), ran.stderr)
+        ran = self.archive(self.repository, "top_c")
+        self.assertEqual((ran.returncode, ran.stderr.count(b"\n")), (1, 1), ran.stderr)
+        self.assertEqual(self.archive("--help").returncode, 0)
 
 
 class Needs(Tools):

@@ -1,4 +1,4 @@
-"""The version is raised wherever it stands, by tools/version.py."""
+"""The version is raised wherever it is written, by tools/version.py."""
 
 import shutil
 import subprocess
@@ -11,7 +11,7 @@ from .support.documents import version
 from .support.program import ROOT
 
 TOOL = ROOT / "tools" / "version.py"
-WHERE = ("README.md", "CHANGELOG.md", "docs", "man", "examples", "clients", "crates", "bench", "tools")
+WHERE = ("README.md", "CHANGELOG.md", "docs", "man", "examples", "clients", "crates", "bench", "tools", "include", "library")
 NEW = "98.7.6"
 
 
@@ -32,7 +32,7 @@ class Version(Cases):
         return subprocess.run([sys.executable, str(TOOL), *words], capture_output=True, text=True)
 
     def test_raised(self) -> None:
-        """The version stands in no other place, and the changes keep what they said of it."""
+        """The version is in no other place, and the changes keep what they said of it."""
         room, old = Path(self.enterContext(TemporaryDirectory(prefix="metad-version-"))), version()[0]
         before = {path: text for path, text in texts_below(ROOT).items() if old in text}
         for path in before:
@@ -53,7 +53,7 @@ class Version(Cases):
     def test_changes(self) -> None:
         """What is unreleased becomes the part of the new version; without it an empty part is begun."""
         room, old = Path(self.enterContext(TemporaryDirectory(prefix="metad-version-"))), version()[0]
-        files = ("README.md", "man", "examples", "clients/python/metad", "clients/js", "clients/qt/CMakeLists.txt", "crates/command_line/src")
+        files = ("README.md", "man", "examples", "clients/python/metad", "clients/js", "clients/qt/CMakeLists.txt", "crates/command_line/src", "include")
         for name in files:
             copy = shutil.copytree if (ROOT / name).is_dir() else shutil.copy
             (room / name).parent.mkdir(parents=True, exist_ok=True)

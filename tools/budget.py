@@ -1,12 +1,11 @@
 #!/usr/bin/env python3
-"""Prints what each crate weighs, and fails where one is heavier than it may be.
+"""Prints the size of each crate, and fails if one is over a limit.
 
-For each crate: its lines of code (contracts among them, without comments and blank lines), the lines of
-its definitions, how many lines of proof there are for one of code, its public functions, its edits and
-its longest contract. It fails at a contract of more than 8 clauses, a crate of more than 1,500 or a file
-of more than 800 lines of code, a line of code, definitions or proofs of more than 160 characters, more than two
-edits for each public function, and more than 220 edits in all. The crates of tests have lines that a
-program prints, and those may be longer. An edit that begins with a line `wrong body: WORDS` is counted in all, and not with its crate's.
+For each crate it prints the lines of code (with contracts, without comments and blank lines) and of definitions, the lines
+of proof per line of code, the public functions, the edits, and the longest contract. The limits are 8 clauses in a contract,
+1,500 lines of code in a crate and 800 in a file, 160 characters in a line of code, definitions or proofs, two edits for each
+public function, and 220 edits in all. In crates of tests, lines that a program prints may be longer. An edit that begins
+with a line `wrong body: WORDS` counts only for the total.
 Usage: budget.py REPOSITORY
 """
 
@@ -30,7 +29,7 @@ MOST_EDITS = 220
 
 EXPORT = re.compile(r"^pub use ([^;]+);", re.MULTILINE)
 BLOCK = re.compile(r"^(?:pub )?(?:unsafe )?(?P<kind>impl|trait)\b(?P<head>[^{]*)\{")
-FUNCTION = re.compile(r"^(?P<indent> *)(?P<open>pub(?:\([^)]*\))? )?(?:const )?(?:unsafe )?fn (?P<name>\w+)")
+FUNCTION = re.compile(r'^(?P<indent> *)(?P<open>pub(?:\([^)]*\))? )?(?:const )?(?:unsafe )?(?:extern "C" )?fn (?P<name>\w+)')
 CLAUSE = re.compile(r"^ +(?:requires|ensures)\*?(?: |$)")
 WRONG_BODY = re.compile(r"^wrong body: \S", re.MULTILINE)
 

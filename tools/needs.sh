@@ -34,6 +34,7 @@ for program in "$@"; do
         has "${compiler%% *}" || missing "$compiler, a C compiler, which builds small libraries for tests and measurements; install one (Debian: apt-get install gcc), or name one with CC=COMPILER."
         ;;
     python3=*) need_python "${program#python3=}" ;;
+    objcopy) has objcopy || missing "objcopy, which hides the library's own symbols; install binutils (Debian: apt-get install binutils)." ;;
     objdump) has objdump || missing "objdump, which says what a program needs; install binutils (Debian: apt-get install binutils)." ;;
     flake8) has flake8 || missing "flake8, which reads the sources in Python; install it (Debian: apt-get install flake8)." ;;
     dpkg-deb) has dpkg-deb || missing "dpkg-deb, which makes packages for Debian; install dpkg, or use make dist instead." ;;

@@ -18,7 +18,8 @@ EFFECTS = ("reads", "changes", "calls")
 KIND_OF_KEY = {
     **dict.fromkeys(("object", "parent", "sender", "receiver", "context", "connection"), "number"),
     **dict.fromkeys(("signal", "method"), "signature"),
-    **dict.fromkeys(("unique", "single"), "truth"),
+    **dict.fromkeys(("class", "property", "functor", "name", "from"), "name"),
+    **dict.fromkeys(("on", "unique", "single"), "truth"),
     "type": "way",
 }  # of keys about which the table says nothing else
 KIND_OF_TEXT = {
@@ -157,8 +158,10 @@ def keys_of(cell: str) -> Tuple[Set[str], Set[str]]:
 
 
 def refusals() -> Dict[Tuple[str, str], str]:
-    """What the page says about refusals, by the command's word and, where its row names one, a key of the form."""
-    named = ((NAMED.findall(what), refused) for what, refused in table("Commands", 2))
+    """What the page says about refusals, by the command's word and, where its row names one, a key of the form.
+
+    A row is for one command, or for several with commas between them."""
+    named = ((NAMED.findall(part), refused) for what, refused in table("Commands", 2) for part in what.split(", "))
     return {(words[0], words[1] if len(words) > 1 else ""): refused for words, refused in named}
 
 

@@ -1,5 +1,5 @@
 #!/usr/bin/env python3
-"""Writes the tables of the documents that are made of sources: in docs/internals/ARCHITECTURE.md the crates, lowest first.
+"""Writes the tables of documents that are made from sources: the crates in docs/internals/ARCHITECTURE.md, lowest first.
 
 A table is between two comments of the page, `<!-- table: NAME -->` and `<!-- end of table -->`; all else on the page
 stays unchanged. With --check nothing is written, and the status is 1 where a table is not what the sources make of it.
@@ -17,6 +17,9 @@ ROOT = Path(__file__).resolve().parent.parent
 ARCHITECTURE = Path("docs", "internals", "ARCHITECTURE.md")
 BETWEEN = r"(<!-- table: {} -->\n).*?(<!-- end of table -->\n)"
 SENTENCE = re.compile(r"(.+?)\.(?= |$)")
+SUBJECT = re.compile(r"[^:;]+(?=[:;] |$)")  # what a sentence says before it gives details
+KEEPS = re.compile(r"^This crate (\w)")
+IMPORT = re.compile(r"^use Rattle\.(\w+)\.proofs\.", re.MULTILINE)
 
 Crates = Dict[str, List[str]]
 
@@ -51,8 +54,14 @@ def builds_on(name: str, crates: Crates) -> List[str]:
     return [it for it in named if it not in covered]
 
 
+def lenders(crate: Path) -> List[str]:
+    """The crates whose lemmas the proofs of a crate use, except the standard library."""
+    texts = (path.read_text() for path in crate.joinpath("proofs").rglob("*.antt"))
+    return sorted({name for text in texts for name in IMPORT.findall(text)} - {crate.name, "std"})
+
+
 def description_of(crate: Path) -> str:
-    """The first sentence of a crate's own description, which its root file begins with."""
+    """What a crate is: the first sentence of its own description, which its root file begins with, without details."""
     sources = [it for it in (crate / "src" / "lib.rt", crate / "src" / "main.rt") if it.is_file()]
     if not sources:
         raise Unwritten(f"{crate} has neither src/lib.rt nor src/main.rt")
@@ -65,16 +74,22 @@ def description_of(crate: Path) -> str:
     sentence = SENTENCE.match(" ".join(lines))
     if sentence is None:
         raise Unwritten(f"{source} does not begin with a sentence that describes the crate")
-    return sentence[1]
+    subject = SUBJECT.match(sentence[1])
+    return KEEPS.sub(lambda found: found[1].upper(), subject[0] if subject else sentence[1])
+
+
+def cell(names: List[str]) -> str:
+    """A cell of a table with these names."""
+    return f" {', '.join(f'`{it}`' for it in names)} " if names else " "
 
 
 def table_of_crates(root: Path) -> str:
-    """Each crate, what it is, and what it builds on."""
+    """Each crate, what it is, what it builds on, and whose lemmas its proofs use."""
     crates = crates_of(root)
-    rows = ["| crate | what it is | builds on |", "|---|---|---|"]
+    rows = ["| crate | what it is | builds on | uses lemmas of |", "|---|---|---|---|"]
     for name in crates:
-        below = "".join(f"{', ' if at else ' '}`{it}`" for at, it in enumerate(builds_on(name, crates)))
-        rows.append(f"| `{name}` | {description_of(root / 'crates' / name)} |{below} |")
+        path = root / "crates" / name
+        rows.append(f"| `{name}` | {description_of(path)} |{cell(builds_on(name, crates))}|{cell(lenders(path))}|")
     return "".join(f"{row}\n" for row in rows)
 
 

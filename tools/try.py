@@ -1,8 +1,8 @@
 #!/usr/bin/env python3
 """Answers a session of commands in about two minutes, by a metad that is compiled but not proved.
 
-`rt try` compiles the program with checks and runs it once. Its own lines are shown only when it fails. The answers
-go to standard output, and one line that says that this run is not proved goes to standard error.
+`rt try` compiles the program with checks and runs it once; its own output is shown only if it fails. Answers go to standard
+output. A line on standard error says that this run is not proved.
 """
 
 from __future__ import annotations

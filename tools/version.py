@@ -13,6 +13,7 @@ CHANGES = Path("CHANGELOG.md")
 UNRELEASED = "## Unreleased\n"
 PLACES = [
     SAID,
+    Path("include/metad.h"),
     Path("clients/js/package.json"),
     Path("README.md"),
     Path("clients/qt/CMakeLists.txt"),

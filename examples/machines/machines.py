@@ -1,4 +1,4 @@
-"""An edge, the machines behind it and the sockets of clients before it: how they are started, and how each goes."""
+"""An edge, its machines and the sockets of its clients: how they are started, and how each is ended."""
 
 from __future__ import annotations
 
@@ -21,7 +21,7 @@ MACHINES = ("one", "two", "three")
 PLACES = (EDGE, *MACHINES, CLIENTS)
 PORT, INNER_PORT, HEALTH_PORT = 7070, 7071, 7072
 PATIENCE, PAUSE = 30, 0.02
-OF_SYSTEM = "/usr/local/sbin:/usr/sbin:/sbin"  # where programs stand that a user's path may not have
+OF_SYSTEM = "/usr/local/sbin:/usr/sbin:/sbin"  # programs are here that a user's path may not reach
 UP, DOWN = ("UP", "L7OK"), ("DOWN",)  # what the edge says of a machine that has answered, and of one that has gone
 
 
@@ -52,7 +52,7 @@ class Machines:
         self.program = list(program)
         self.room = room
         self.places = places
-        self.options = options  # of the fronts, beside those that all have
+        self.options = options  # of the fronts, in addition to those that all have
         self.common = {"METAD_CERTIFICATES": str(room), "METAD_ADMIN": str(room / "edge.admin"), **settings}
         self.running: Dict[str, List[subprocess.Popen[bytes]]] = {}
         self.logs: Dict[int, Path] = {}  # by the numbers of the processes
@@ -128,7 +128,7 @@ class Machines:
         self.start_edge()
 
     def open(self, name: str) -> Path:
-        """A socket whose clients come to the edge with the certificate of this name."""
+        """A socket whose clients reach the edge with the certificate of this name."""
         self.certify(name)
         path = self.room / f"{name}.sock"
         path.unlink(missing_ok=True)
@@ -147,7 +147,7 @@ class Machines:
                 return reader.read()
 
     def states(self) -> Dict[str, Sequence[str]]:
-        """What the edge says of each machine: its state, and what its last check came to, without the star of one that is
+        """What the edge says of each machine: its state, and the result of its last check, without the star of one that is
         under way."""
         head, *rows = (line.split(",") for line in self.rule("show stat").splitlines() if line)
         name, state, check = (head.index(it) for it in ("svname", "status", "check_status"))
@@ -158,7 +158,7 @@ class Machines:
         self.wait_until(f"{wanted} of {name}", lambda: tuple(self.states()[name])[: len(wanted)] == tuple(wanted))
 
     def homes(self, name: str) -> List[str]:
-        """The machines that clients of a name have come to, in their order, as the edge has said."""
+        """The machines that clients of a name have reached, in their order, as the edge has said."""
         said = (line.split(" is on ") for line in (self.room / "edge.log").read_text().splitlines())
         return [words[1] for words in said if words[0] == name]
 

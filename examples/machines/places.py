@@ -28,7 +28,7 @@ class Addresses:
         return "127.0.0.1"
 
     def words(self, place: str) -> List[str]:
-        """What stands before the words of a program, so that it runs at a place."""
+        """The words before those of a program, which have it run at a place."""
         return []
 
     def cut(self, place: str, is_cut: bool) -> None:
@@ -76,7 +76,7 @@ class Namespaces(Addresses):
         return process
 
     def at(self, process: subprocess.Popen[bytes]) -> List[str]:
-        """What stands before the words of a program that runs in the namespaces of a process."""
+        """The words before those of a program, which have it run in the namespaces of a process."""
         return ["nsenter", "--target", str(process.pid), "--user", "--net", "--preserve-credentials"]
 
     def do(self, process: subprocess.Popen[bytes], *words: str) -> None:

@@ -1,7 +1,7 @@
 #!/usr/bin/env python3
 """Starts three machines with an edge before them, each in a network namespace where these can be had.
 
-All sockets, certificates, logs and records stand in FOLDER, which is made where it is not there. PROGRAM is the server, and
+All sockets, certificates, logs and records are in FOLDER, which is made where it is not there. PROGRAM is the server, and
 ARGS are its words. It ends at SIGINT and SIGTERM.
 """
 
@@ -26,7 +26,7 @@ NAMES = ("ann", "eve", "tom")  # of the certificates of clients
 
 
 def parser(about: str) -> argparse.ArgumentParser:
-    """What reads the words of the command line, but for those at the end."""
+    """What reads the words of the command line, except those at the end."""
     words = argparse.ArgumentParser(description=about, formatter_class=argparse.RawDescriptionHelpFormatter, allow_abbrev=False)
     words.add_argument("--addresses", action="store_true", help="places are addresses of this machine, and no namespaces")
     return words

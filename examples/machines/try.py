@@ -71,10 +71,10 @@ def show(machines: Machines, stack: ExitStack) -> None:
     machines.wait_for(home, DOWN)
     machines.start_machine(home)
     machines.wait_for(home, UP)
-    print(f"{home} is back: ann comes to {Visit(machines, 'ann', stack).home}; the one before {third.has()} on {third.home}")
+    print(f"{home} is back: ann goes to {Visit(machines, 'ann', stack).home}; the one before {third.has()} on {third.home}")
     machines.rule(f"set server machines/{third.home} state drain")
     name, visit = next((name, visit) for name, visit in visits.items() if visit.home == third.home)
-    print(f"{third.home} is drained: {name} {visit.has()} there, and comes to {Visit(machines, name, stack).home}")
+    print(f"{third.home} is drained: {name} {visit.has()} there, and goes to {Visit(machines, name, stack).home}")
 
 
 def try_all(given: argparse.Namespace) -> None:

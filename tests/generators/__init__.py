@@ -1,2 +1,2 @@
-"""What the tests give the program: lines and sessions by chance, the same for each seed, class files, and sessions at the
+"""What the tests give the program: random lines and sessions, the same for each seed, class files, and sessions at the
 limits."""

@@ -1,8 +1,8 @@
-"""Sessions by chance with bindings and groups, beside all that sessions of `signals` do.
+"""Random sessions with bindings and groups, in addition to all that sessions of `signals` do.
 
 Most properties that classes declare may be bound. Properties are bound to expressions over properties of the object itself
 and of others, also such that are not there or may not be read, so that there are chains, loops, and errors that come and go
-with what is set, unbound or deleted. Slots write such properties as they do all others, and are told of their changes.
+with what is set, unbound or deleted. Slots write such properties as they do all others, and are called on their changes.
 """
 
 from tools.protocol import word_that_replies
@@ -23,7 +23,7 @@ STRANGE_FORMS = (
 
 
 class Chance(signals.Chance):
-    """Classes, bodies and commands by chance, with bindings and groups."""
+    """Random classes, bodies and commands, with bindings and groups."""
 
     def declared_property(self, name):
         return {**super().declared_property(name), **({"bindable": True} if self.is_so(0.9) else {})}
@@ -37,7 +37,7 @@ class Chance(signals.Chance):
     # Commands.
 
     def command(self, session):
-        """A command in a session, of which more than half are those of bindings."""
+        """A command in a session. More than half of these are about bindings."""
         if session.groups and self.is_so(0.12) or self.is_so(0.005):
             return {"do": "end"}
         if session.rows and self.is_so(reads.SHARE_BEFORE):

@@ -1,4 +1,4 @@
-"""Runs by chance of many sessions that join each other in chains, publish, and are reset now and then."""
+"""Random runs of many sessions that join each other in chains, publish, and are reset now and then."""
 
 from __future__ import annotations
 
@@ -22,7 +22,7 @@ RESETS = 0.05  # of the commands
 
 
 class Chance(mixed.Chance):
-    """Commands by chance of sessions that listen to each other, and are reset more often than those of `mixed`."""
+    """Random commands of sessions that listen to each other, and are reset more often than those of `mixed`."""
 
     def command_among(self, server: Server, name: str, sources: "list[str]") -> dict:
         return {"do": "reset"} if self.is_so(RESETS) else super().command_among(server, name, sources)
@@ -30,7 +30,7 @@ class Chance(mixed.Chance):
 
 @contextmanager
 def chained_row(seed: int) -> "Iterator[Row]":
-    """The row of such a run, while its class file stands."""
+    """The row of such a run, while its class file exists."""
     made = Chance(seed)
     declared = list(made.classes())
     run = mixed.run_of(made, Server(Classes(declared), TURNS), GROUPS, COMMANDS)

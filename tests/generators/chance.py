@@ -1,4 +1,4 @@
-"""Lines by chance.
+"""Random lines.
 
 The lines are commands of a few sessions with their keys in any order, some twice, some missing, some of
 others; with white space, escapes, numbers and texts in and out of form, lists and objects in one another, also
@@ -81,7 +81,7 @@ BYTES = (0x00, 0x1F, 0x80, 0xC3, 0xED, 0xF0, 0xFF)
 
 
 class Chance(random.Random):
-    """What is made by chance."""
+    """A source of random lines and their parts."""
 
     made = 0  # lines so far
 
@@ -89,7 +89,7 @@ class Chance(random.Random):
         return f'"{self.choice(SESSIONS)}{self.made // LINES_OF_SESSIONS}"'
 
     def word(self):
-        """The word of a command, now and then one that is none."""
+        """The word of a command, now and then an unknown one."""
         if self.is_so(0.01):
             return self.choice(("jump", "reset") if self.is_so(0.1) else ("jump",))
         return self.choices(list(KNOWN), [WEIGHTS.get(it, 1) for it in KNOWN])[0]
@@ -213,7 +213,7 @@ class Chance(random.Random):
         return "{" + ",".join(f'"{key}":{value}' for key, value in members) + "}"
 
     def members_of(self, word):
-        """The members of a command in form, but for its word and its session."""
+        """The members of a command in form, except its word and its session."""
         own = {
             "bind": lambda: [*self.bound_property(), ("to", self.binding())],
             "block": lambda: [("object", self.object()), ("on", "true" if self.is_so(0.2) else "false")],
@@ -299,10 +299,10 @@ class Chance(random.Random):
         return front.ljust(size - 2, b"x") + b'"}'
 
 
-def lines_of(chance):
-    """The lines, of which each so many is a long one: in turn the longest that there may be, and one byte more."""
+def lines_of(chance, number=LINES):
+    """So many lines, with long ones at regular places: in turn of the longest allowed length, and of one byte over that."""
     each = LINES // LONG
     return [
         chance.line() if at % each else chance.long_line(LINE_BYTES + at // each % 2)
-        for at in range(1, LINES + 1)
+        for at in range(1, number + 1)
     ]

@@ -1,5 +1,5 @@
-"""Class files: those that the schema and the program have to take and those that both have to refuse, and changes of class
-files by chance."""
+"""Class files: those that the schema and the program have to take and those that both have to refuse, and random changes of
+class files."""
 
 import copy
 import random
@@ -110,7 +110,7 @@ def wrong_files():
 
 
 class Changes(random.Random):
-    """Changes of class files by chance."""
+    """Random changes of class files."""
 
     NUMBERS = (0, 1, -1, 1.5, 9, 32, 2**32, 2**64)
     TEXTS = ("", "x", "a b", "self", "f()", "f(int)", "int")

@@ -1,7 +1,7 @@
-"""Texts of class files by chance.
+"""Random texts of class files.
 
-They are class files of sessions by chance and those of the other lists, as they are or changed: values put in for others,
-taken out, put twice and renamed, keys that stand twice, white space and escapes, numbers in and out of form, arrays in one
+They are class files of random sessions and those of the other lists, as they are or changed: values put in for others,
+taken out, put twice and renamed, keys that occur twice, white space and escapes, numbers in and out of form, arrays in one
 another about as deep as JSON is read, and bytes that are changed, left out, put in or repeated.
 """
 
@@ -22,7 +22,7 @@ TOKENS = ("[", "]", "{", "}", ":", ",")
 
 
 class Texts(Changes):
-    """Class files by chance, and changes of them."""
+    """Random class files, and changes of them."""
 
     def values(self):
         """What is put in for a value."""

@@ -41,7 +41,7 @@ def numbered(begin, number, end):
 
 
 def colliding(number, end=""):
-    """So many names that collide, with what stands behind each."""
+    """So many names that collide, each followed by an end of its own."""
     return numbered(start(), number, end)
 
 

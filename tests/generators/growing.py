@@ -1,4 +1,4 @@
-"""A session that grows by texts, is reset and grows again, beside one that only counts on."""
+"""A session that grows by texts, is reset and grows again, next to one that only counts on."""
 
 from __future__ import annotations
 

@@ -23,12 +23,12 @@ BORDERS = (
 )
 NUMBER = re.compile(rb"(?<=[:,\[])-?[0-9]+(?=[,}\]])")
 LONG_SHARE = 0.0005
-FIRST = 30  # lines of which sessions begin, each an object that is made
+FIRST = 30  # lines at the start of sessions, each making an object
 SPOILED = (0, 0, 0, 1, 1, 2)  # times that a line is
 
 
 class Chance(chance.Chance):
-    """Lines by chance that are spoiled in some way."""
+    """Random lines that are spoiled in some way."""
 
     def __init__(self, seed: str) -> None:
         super().__init__(seed)
@@ -63,7 +63,7 @@ class Chance(chance.Chance):
         return line[: at.start()] + self.choice(BORDERS).encode() + line[at.end() :]
 
     def with_keys(self, line: bytes) -> bytes:
-        """Keys stand before its own."""
+        """Puts keys before its own."""
         keys = "".join(f'"{self.choice(KEYS)}":{self.value()},' for _ in range(self.randint(1, 3)))
         return line.replace(b"{", b"{" + keys.encode(), 1)
 

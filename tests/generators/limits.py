@@ -16,7 +16,7 @@ def deep_sum(levels):
 
 
 def behind_choices(actions, count):
-    """Actions that are done behind so many choices within one another."""
+    """Actions that are done inside so many nested choices."""
     test = {"=": [deep_sum(28), {"const": 0}]}
     return [{"when": test, "then": behind_choices(actions, count - 1)}] if count else actions
 
@@ -97,7 +97,7 @@ def lost_functors():
 
 
 def chain_of_functors(count):
-    """Objects of which each sets the next one's property by a functor, as far as signals may be nested."""
+    """A chain of objects where each sets the next one's property by a functor, as far as signals may be nested."""
     yield from ((new(), reply(number)) for number in range(1, count + 1))
     yield from ((clamp(number, "xChanged(int)", number + 1), reply(number)) for number in range(1, count))
     calls = [call("clamp", number + 1, number, 100) for number in range(2, LEVELS + 1)]
@@ -107,7 +107,7 @@ def chain_of_functors(count):
 
 
 def texts():
-    """Arguments that are texts as long as may be, and longer ones."""
+    """Arguments that are texts of the maximum length, and longer ones."""
     yield new(), reply(1)
     yield connect(1, "told(QString,int)", 1, "hear(QString,int)"), reply(1)
     for unit in ("x", "ä", "\U0001f600"):
@@ -123,7 +123,7 @@ def texts():
 
 
 def objects():
-    """As many objects as there may be, and names as long as may be."""
+    """As many objects as there may be, and names of the maximum length."""
     most = LEVELS * LEVELS
     name = lambda size: {"do": "set", "object": 1, "property": "objectName", "value": "n" * size}
     yield from ((new(), reply(number)) for number in range(1, most + 1))
@@ -133,7 +133,7 @@ def objects():
 
 
 def values():
-    """As many dynamic properties as there may be, with texts as long as may be."""
+    """As many dynamic properties as there may be, with texts of the maximum length."""
     names = [f"p{at}" for at in range(DYNAMIC_PROPERTIES)]
     yield new(), reply(1)
     for unit in ("x", "ä", "\U0001f600"):
@@ -207,7 +207,7 @@ def deepened(form):
 
 
 def bound_chain(count, shaped=lambda form: form):
-    """Objects of which each adds one to what the one before it shows, by forms that are shaped in some way."""
+    """A chain of objects where each adds one to what the one before it shows, by forms that are shaped in some way."""
     numbers, middle = range(1, count + 1), count // 2
     yield from noted_objects(count)
     yield BEGIN, reply(1)
@@ -226,7 +226,7 @@ def bound_chain(count, shaped=lambda form: form):
 
 
 def bound_ring(count):
-    """Objects in a ring, of which each shows what the next one does."""
+    """Objects in a ring. Each shows what the next one shows."""
     numbers, middle = range(1, count + 1), count // 2
     others = [it for it in numbers if it != middle]
     yield from noted_objects(count)
@@ -258,7 +258,7 @@ def bound_readers(count):
 
 
 def ring(count):
-    """Objects in a ring, each of which sets its property to what the one before it was set to."""
+    """Objects in a ring. Each sets its property to what the one before it was set to."""
     def calls(first, value):
         return [call("keep(int)", number + 1, number, value) for number in range(first, first + LEVELS)]
 
@@ -273,7 +273,7 @@ def ring(count):
 
 
 def ring_of_bindings(count, form={"prop": "x"}):
-    """A ring of objects, each of which sets its property to what the bound one of the object before it shows."""
+    """A ring of objects. Each sets its property to what the bound one of the object before it shows."""
     yield from ((new(), reply(number)) for number in range(1, count + 1))
     yield from ((bind(number, "y", form), reply(True)) for number in range(1, count + 1))
     yield from ((connect(number, "yChanged(int)", number % count + 1, "keep(int)"), reply(number)) for number in range(1, count + 1))
@@ -334,8 +334,8 @@ def ends(slot, later):
 
 
 def told_ends(slot):
-    """Trees as deep as may be, but for one level: a property of another object follows one of each one's deepest object, and
-    its change at the end of that deletes the next tree."""
+    """Trees one level short of the maximum depth: a property of another object follows one of each one's deepest object,
+    and its change at the end of that deletes the next tree."""
     levels = LEVELS - 1
     roots = range(1, levels * LEVELS + 1, levels)
     deepest, followers = [root + levels - 1 for root in roots], range(levels * LEVELS + 1, LEVELS * LEVELS + 1)
@@ -392,7 +392,7 @@ def lost_calls():
 
 
 def shared_texts():
-    """As many events as there may be, of two emissions, each with as many texts as may be, and these as long as may be.
+    """As many events as there may be, of two emissions, each with the most texts that it may have, of the maximum length.
 
     All but two are gone with their receiver before they are taken.
     """
@@ -426,7 +426,7 @@ def wide_rows():
     yield row_of(f"{EVENTS} events of all priorities", priorities(), "--turns", str(EVENTS))
     yield row_of(f"calls that meet {EVENTS} events", lost_calls(), "--turns", str(EVENTS - 1))
     yield row_of(f"{DYNAMIC_PROPERTIES} dynamic properties of {TEXT_BYTES} bytes", values())
-    yield row_of("a ring of objects that tell of their changes", ring(LEVELS * LEVELS))
+    yield row_of("a ring of objects that signal their changes", ring(LEVELS * LEVELS))
     yield row_of(f"{GROUPS} groups", groups())
     yield row_of(f"{BINDINGS} bindings", bindings())
     yield row_of(f"a chain of {BINDINGS} bindings", bound_chain(BINDINGS + 1))
@@ -440,17 +440,17 @@ def wide_rows():
 
 def deep_rows():
     yield row_of("trees deleted in nested signals", falls("fall()"))
-    yield row_of("trees deleted in nested signals behind choices", falls("fallDeep()"))
+    yield row_of("trees deleted in nested signals, inside choices", falls("fallDeep()"))
     yield row_of("trees deleted in nested changes", changes("sink(int)"))
-    yield row_of("trees deleted in nested changes behind choices", changes("sinkDeep(int)"))
+    yield row_of("trees deleted in nested changes, inside choices", changes("sinkDeep(int)"))
     yield row_of("functors in a chain", chain_of_functors(LEVELS * LEVELS))
-    yield row_of("a ring of objects that tell of changes of bound properties", ring_of_bindings(LEVELS + 2))
+    yield row_of("a ring of objects that signal changes of bound properties", ring_of_bindings(LEVELS + 2))
     yield row_of("a ring of objects whose bindings are as deep as may be", ring_of_bindings(LEVELS + 2, deepened({"prop": "x"})))
     yield row_of(f"a chain of {BINDINGS} bindings as deep as may be", bound_chain(BINDINGS + 1, deepened))
     yield row_of(f"a ring of {BINDINGS} bindings", bound_ring(BINDINGS))
     yield row_of("objects whose ends delete the next one", chain("drop()"))
-    yield row_of("objects whose ends delete the next one behind choices", chain("dropDeep()"))
+    yield row_of("objects whose ends delete the next one inside choices", chain("dropDeep()"))
     yield row_of("trees whose ends delete the next one", ends("drop()", False))
-    yield row_of("trees whose ends delete the next one behind choices", ends("dropDeep()", False))
-    yield row_of("trees whose ends delete the next one behind choices, in an event", ends("dropDeep()", True))
-    yield row_of("trees whose ends change a property whose signal deletes the next one behind choices", told_ends("dropDeep()"))
+    yield row_of("trees whose ends delete the next one inside choices", ends("dropDeep()", False))
+    yield row_of("trees whose ends delete the next one inside choices, in an event", ends("dropDeep()", True))
+    yield row_of("trees whose ends change a property whose signal deletes the next one inside choices", told_ends("dropDeep()"))

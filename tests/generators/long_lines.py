@@ -1,4 +1,4 @@
-"""A session that is told a line which is longer than a line of input may be, for whose text memory is wanted."""
+"""A session that receives a line which is longer than a line of input may be, and whose text needs memory."""
 
 from __future__ import annotations
 
@@ -9,7 +9,7 @@ from tests.support.program import Row
 
 PARAMETERS = 10
 KINDS = ",".join(["QString"] * PARAMETERS)
-TEXT = "\n" * 4_096  # each of which is written by two bytes
+TEXT = "\n" * 4_096  # each is written by two bytes
 TOLD, HEAR = f"told({KINDS})", f"hear({KINDS})"
 TELL = [{"emit": TOLD, "args": [{"prop": "label"}] * PARAMETERS}]
 CLASS = {

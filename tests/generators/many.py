@@ -19,7 +19,7 @@ def parent(number):
 
 
 def wide_tree():
-    """As many objects as there may be, of which all but one are children of that one."""
+    """As many objects as there may be. All but one are children of that one."""
     yield new(), reply(1)
     yield from ((new(1), reply(number)) for number in range(2, OBJECTS + 1))
     yield new(1), E14
@@ -89,7 +89,7 @@ def pages(asked, after, found):
 
 
 def connections():
-    """As many connections as there may be, of which one in two is of the second object too."""
+    """As many connections as there may be. Every second one is of the second object too."""
     yield from ((new(), reply(number)) for number in (1, 2))
     made = [note(number) if number % 2 else note(number, receiver=1, type="queued", single=True) for number in range(1, CONNECTIONS + 1)]
     for it in made:
@@ -113,7 +113,7 @@ def states():
 
 
 def long_properties():
-    """As many dynamic properties as there may be, with texts as long as may be."""
+    """As many dynamic properties as there may be, with texts of the maximum length."""
     text, declared = "\u00e4" * (TEXT_BYTES // 2), {"bindable": True, "bound": False, "error": None}
     yield new(), reply(1)
     yield from ((set_to(1, f"p{at}", text), reply(False)) for at in range(DYNAMIC_PROPERTIES))
@@ -140,7 +140,7 @@ def bindings():
 
 
 def long_binding():
-    """An expression with as many forms as there may be, and one with a text as long as may be."""
+    """An expression with as many forms as there may be, and one with a text of the maximum length."""
     yield new(), reply(1)
     form, text = {"const": 1}, {"const": "\u00e4" * (TEXT_BYTES // 2)}
     for _ in range((FORMS - 1) // 2):

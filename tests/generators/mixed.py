@@ -1,8 +1,8 @@
-"""Runs by chance of a few sessions that listen to each other, and what of a run decides what one of its sessions is told.
+"""Random runs of a few sessions that listen to each other, and what of a run decides the output of one of its sessions.
 
 The sessions of a run publish signals of their objects, join each other, mostly by what another one publishes, and
 leave and are reset now and then; else they do what sessions of `bindings` do. So what one of them posts reaches others
-whose slots post on. Several runs share a server and take turns by chance: their sessions never name each other.
+whose slots post on. Several runs share a server and take turns at random: their sessions never name each other.
 """
 
 from dataclasses import dataclass, field
@@ -25,7 +25,7 @@ LISTENING = {"publish": 8, "join": 10, "unpublish": 1, "leave": 2, "reset": 0.3,
 
 
 class Chance(bindings.Chance):
-    """Commands by chance of sessions that listen to each other."""
+    """Random commands of sessions that listen to each other."""
 
     def command_among(self, server, name, sources):
         """A command of the session of this name, which may listen to those of the sources."""
@@ -155,7 +155,7 @@ class Run:
         return [line for step in self.steps for line in step.lines if step.session == name]
 
     def items(self, name):
-        """What comes to a session: its commands, and the posts of the others with their names."""
+        """The input of a session: its commands, and the posts of the others with their names."""
         for step in self.steps:
             if step.session == name:
                 yield step.command
@@ -163,7 +163,7 @@ class Run:
                 yield from ((step.session, post) for post in step.posts)
 
     def influence(self, name):
-        """The sessions that may have come to tell a session something: itself, and whom a join of one of these has named."""
+        """The sessions that may affect a session's output: itself, and whom a join of one of these has named."""
         found, joins = {name}, {(step.session, step.joined()) for step in self.steps}
         while more := {source for session, source in joins if session in found and source is not None} - found:
             found |= more
@@ -175,7 +175,7 @@ class Run:
         return [step.command for step in self.steps if step.session in found]
 
     def slice(self, name):
-        """The commands that may have come to tell a session something, each found by the joins that stood before it."""
+        """The commands that may affect a session's output, each found by the joins that were made before it."""
         return [step.command for step in kept(self.steps, name)]
 
 

@@ -95,7 +95,7 @@ def filling(size: int) -> "list[Part]":
 
 
 def rows_of(size: int, folder: Path) -> "list[Row]":
-    """Rows that nest, one of them behind sessions that fill so many bytes."""
+    """Rows that nest, one of them after sessions that fill so many bytes."""
     slot, words = ("dropDeep()", DEEP_CLASSES) if size >= DEEP_SPACE else ("drop()", CLASSES)
     made, ended = deletions(slot)
     return [

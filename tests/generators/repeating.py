@@ -1,4 +1,4 @@
-"""Lines that make things and take them away, again and again, so that as much is there behind them as before."""
+"""Lines that make things and remove them, again and again, so that as much is there after them as before."""
 
 from __future__ import annotations
 
@@ -50,6 +50,6 @@ def held_and_reset() -> Iterator[tuple[dict, object]]:
 
 
 def reset() -> Iterator[Part]:
-    """The same objects, made anew after each reset."""
+    """The same objects, made again after each reset."""
     part = part_of(held_and_reset())
     return (part for _ in range(PARTS))

@@ -1,4 +1,4 @@
-"""A hundred sessions that share a server and take turns, so that their rows stand among each other: each for itself, or
+"""A hundred sessions that share a server and take turns, so that their rows are mixed: each for itself, or
 each listening to the next, the last to the first."""
 
 import random
@@ -68,7 +68,7 @@ def bind_some(chance, ears):
 
 
 def life_of(session, listens=False):
-    """What a session is told to do: its first object calls its others, which come and go in an order of its own."""
+    """The commands of a session: its first object calls its others, which come and go in an order of its own."""
     chance = random.Random(session)
     ears = range(2, OBJECTS + 1)
 

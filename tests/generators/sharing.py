@@ -10,7 +10,7 @@ from .steps import (
 
 
 def publications():
-    """As many publications as there may be, all of one signal, of which another session joins the last and the first."""
+    """As many publications as there may be, all of one signal. Another session joins the last and the first."""
     names = [f"p{at}" for at in range(PUBLICATIONS)]
     yield new(), reply(1)
     yield new(), reply(2)
@@ -41,7 +41,7 @@ def publications():
 
 
 def joins():
-    """As many joins as there may be, which make as many events as there may be, and one time more."""
+    """As many joins as there may be, which make as many events as there may be, and then once again."""
     names = [f"p{at}" for at in range(JOINS)]
     posts, more = EVENTS // JOINS, JOINS // 2
     yield new(), reply(1)
@@ -72,7 +72,7 @@ def joins():
 
 
 def lost_posts():
-    """Posts that meet as many events as there may be, of which more than one command can take are taken later."""
+    """Posts that meet as many events as there may be. Those that one command cannot take are taken later."""
     yield new(), reply(1)
     yield of("b", new(), reply(1))
     yield of("b", join("a", "temp", ["int"], 1, "keep(int)"), reply(True))
@@ -85,7 +85,7 @@ def lost_posts():
 
 
 def full_neighbours():
-    """Sessions of which one has as many events as there may be: another one, with the same joins, loses nothing."""
+    """One session has as many events as there may be: another one, with the same joins, loses nothing."""
     yield new(), reply(1)
     yield publish(1, "down()", "temp"), reply(True)
     for session in "bc":
@@ -102,7 +102,7 @@ def full_neighbours():
 
 
 def posted_texts():
-    """Texts as long as may be that are posted."""
+    """Texts of the maximum length that are posted."""
     yield new(), reply(1)
     yield of("b", new(), reply(1))
     yield publish(1, "told(QString,int)", "temp"), reply(True)

@@ -1,8 +1,8 @@
-"""Sessions by chance with signals, slots, events and properties.
+"""Random sessions with signals, slots, events and properties.
 
-Each session has a class file of its own, whose slots emit, connect, disconnect, delete at once or later, block,
-reparent, choose and write by chance, and few turns. What one class declares as a property, most times with a signal
-that tells of its changes, another one does not, so that it is dynamic there. The commands are by chance too; most
+Each session has few turns and a class file of its own, whose slots emit, connect, disconnect, delete at once or later,
+block, reparent, choose and write at random. What one class declares as a property, most times with a signal that
+reports its changes, another one does not, so that it is dynamic there. The commands are random too; most
 name objects, methods and properties that are there. Connections of each type are made, many of them of `destroyed()`,
 and events are taken now and then.
 """
@@ -42,7 +42,7 @@ def kind_of(name):
 
 
 def form_of(kind):
-    """The kind of which an expression is made that fits a property of some kind: all numbers are of one."""
+    """The kind of an expression that fits a property of some kind: all numbers share one."""
     return kind if kind in ("bool", "QString") else "int"
 
 
@@ -51,13 +51,13 @@ def kinds_of(method):
 
 
 class Chance(random.Random):
-    """Classes, bodies and commands by chance."""
+    """Random classes, bodies and commands."""
 
     def is_so(self, share):
         return self.random() < share
 
     def signal(self, share=0.1):
-        """A signal, by this share one of `QObject`, which most times is the one that tells of an object's end."""
+        """A signal, by this share one of `QObject`, which most times is the one that reports an object's end."""
         return self.choice((END, END, NAME_CHANGED)) if self.is_so(share) else self.choice(SIGNALS)
 
     def first_connection(self):
@@ -165,7 +165,7 @@ class Chance(random.Random):
         return {"name": name, "super": above, "signals": list(signals), "slots": bodies, "properties": list(map(self.declared_property, properties))}
 
     def classes(self):
-        """Three classes, of which the second is below the first."""
+        """Three classes. The second is below the first."""
         names = self.sample(list(PROPERTIES), len(PROPERTIES))
         yield self.declared_class("Lamp", "QObject", SIGNALS, SLOTS, names[:5])
         yield self.declared_class("Torch", "Lamp", (), (), names[5:7])
@@ -186,7 +186,7 @@ class Chance(random.Random):
         return self.choice(("nothing()", "nothing", "deleteLater()", "destroyed()")) if self.is_so(0.06) else self.choice((*SIGNALS, *SLOTS))
 
     def command(self, session):
-        """A command in a session, of which most name objects that are there."""
+        """A command in a session. Most commands name objects that are there."""
         living = [row.number for row in session.rows]
         if len(living) > OBJECTS and self.is_so(0.3):
             return {"do": "delete", "object": self.choice(living)}
@@ -196,7 +196,7 @@ class Chance(random.Random):
         return self.command_of(self.choices(list(COMMANDS_MADE), COMMANDS_MADE.values())[0], one, other)
 
     def object(self, living):
-        """An object that is there, often one of the oldest, of which most is asked."""
+        """An object that is there, often one of the oldest, which have most to answer."""
         return self.choice(living[:OLDEST] if self.is_so(0.6) else living)
 
     def command_of(self, kind, one, other):
@@ -257,7 +257,7 @@ class Chance(random.Random):
 
 
 def life_of(chance, server, number=COMMANDS):
-    """So many commands by chance in a session of a server, which connect its first objects first, and what it is told to each."""
+    """So many random commands in a session of a server, which connect its first objects first, and the answers to each."""
     commands, answers = [], []
     for at in range(number):
         if at < LAMPS:

@@ -3,7 +3,7 @@
 from tests.support.lines import LINE_BYTES, text_of
 
 LONG = 1_000_000
-OTHERS = 100  # sessions beside those of which a long input keeps lines
+OTHERS = 100  # sessions in addition to those whose lines a long input keeps
 
 
 # Lines.
@@ -38,222 +38,93 @@ def leave(session, source, number=1):
     return line(session, "leave", **ends_of(source, number))
 
 
-# Joins, joiners, sessions beside them, and spelling.
+WORDS = {"new": new, "publish": publish, "set": set_x, "join": join, "leave": leave}
 
-OWN = [
-    ("a", new("a")),
-    ("a b", new("b")),
-    ("a b", publish("b")),
-    ("a b", set_x("b", 1)),
-    ("a", join("a", "b")),
-    ("a b", set_x("b", 2)),
-    ("a", leave("a", "b")),
-    ("b", set_x("b", 3)),
-    ("a", line("a", "spin")),
-    ("c", new("c")),
-]
+
+def steps(text):
+    """Lines with the sessions that keep them, each written as these sessions, a word, the session of the line and what the
+    word takes: `ab set b 2`. Other words are commands, which take an object."""
+    found = []
+    for step in text.split(", "):
+        keepers, word, session, *more = step.split()
+        values = [int(it) if it.isdecimal() else it for it in more]
+        made = WORDS[word](session, *values) if word in WORDS else line(session, word, **({"object": values[0]} if values else {}))
+        found.append((" ".join(keepers), made))
+    return found
+
+
+# Joins, joiners, other sessions, and spelling.
+
+OWN = steps(
+    "a new a, ab new b, ab publish b, ab set b 1, a join a b, ab set b 2, a leave a b, b set b 3, a spin a, c new c"
+)
 OF_JOINS = {
-    "a join that stands to the end": [
-        ("a b", new("b")),
-        ("a b", publish("b")),
-        ("a", new("a")),
-        ("a", join("a", "b")),
-        ("a b", set_x("b")),
-        ("c", new("c")),
-        ("a", line("a", "spin")),
-        ("a b", set_x("b", 2)),
-    ],
-    "two joins of one session, left one after the other": [
-        ("a", new("a")),
-        ("a", new("a")),
-        ("a", join("a", "b")),
-        ("a", join("a", "b", 2)),
-        ("a", leave("a", "b")),
-        ("a b", new("b")),
-        ("a", leave("a", "b", 2)),
-        ("b", new("b")),
-    ],
-    "a join twice, both left at once": [
-        ("a", new("a")),
-        ("a", join("a", "b")),
-        ("a", join("a", "b")),
-        ("a b", new("b")),
-        ("a", leave("a", "b")),
-        ("b", new("b")),
-    ],
-    "a join that is left and made again": [
-        ("a", new("a")),
-        ("a", join("a", "b")),
-        ("a b", new("b")),
-        ("a", leave("a", "b")),
-        ("a b", publish("b")),
-        ("a", join("a", "b")),
-        ("a b", set_x("b")),
-        ("a", leave("a", "b")),
-        ("b", set_x("b", 2)),
-    ],
-    "a join that was not there to leave": [
-        ("a", new("a")),
-        ("a", join("a", "b")),
-        ("a", leave("a", "c")),
-        ("a", leave("a", "b", 2)),
-        ("a b", new("b")),
-        ("c", new("c")),
-    ],
+    "a join that lasts to the end": steps(
+        "ab new b, ab publish b, a new a, a join a b, ab set b, c new c, a spin a, ab set b 2"
+    ),
+    "two joins of one session, left one after the other": steps(
+        "a new a, a new a, a join a b, a join a b 2, a leave a b, ab new b, a leave a b 2, b new b"
+    ),
+    "a join twice, both left at once": steps("a new a, a join a b, a join a b, ab new b, a leave a b, b new b"),
+    "a join that is left and made again": steps(
+        "a new a, a join a b, ab new b, a leave a b, ab publish b, a join a b, ab set b, a leave a b, b set b 2"
+    ),
+    "a join that was not there to leave": steps("a new a, a join a b, a leave a c, a leave a b 2, ab new b, c new c"),
     "joins that are refused": [
-        ("a", new("a")),
-        ("a", join("a", "b", 2)),
+        *steps("a new a, a join a b 2"),
         ("a", join("a", "b", types=["no"])),
         ("a", join("a", "b", types=[])),
         ("a", join("a", "b", method="nothing()")),
-        ("a", join("a", "a")),
-        ("b", new("b")),
+        *steps("a join a a, b new b"),
     ],
-    "a join of a name that is not published": [
-        ("a", new("a")),
-        ("a", join("a", "b")),
-        ("a b", new("b")),
-        ("c", new("c")),
-    ],
-    "a session that is joined before its first command": [
-        ("a", new("a")),
-        ("a", join("a", "b")),
-        ("a b", line("b", "status")),
-    ],
-    "a session whose commands all stand before the join": [
-        ("b", new("b")),
-        ("b", publish("b")),
-        ("a", new("a")),
-        ("a", join("a", "b")),
-    ],
-    "a session that is joined and joins nobody": [
-        ("a", new("a")),
-        ("a", join("a", "b")),
-        ("a b", new("b")),
-        ("a", set_x("a")),
-        ("a b", publish("b")),
-    ],
+    "a join of a name that is not published": steps("a new a, a join a b, ab new b, c new c"),
+    "a session that is joined before its first command": steps("a new a, a join a b, ab status b"),
+    "a session whose commands are all before the join": steps("b new b, b publish b, a new a, a join a b"),
+    "a session that is joined and joins nobody": steps("a new a, a join a b, ab new b, a set a, ab publish b"),
 }
 OF_JOINERS = {
-    "a joiner that is reset": [
-        ("a b", new("b")),
-        ("a", new("a")),
-        ("a", join("a", "b")),
-        ("a b", publish("b")),
-        ("a", line("a", "reset")),
-        ("b", set_x("b")),
-        ("a", new("a")),
-    ],
-    "a joiner that is reset and joins again": [
-        ("a", new("a")),
-        ("a", join("a", "b")),
-        ("a", line("a", "reset")),
-        ("a b", new("b")),
-        ("a", new("a")),
-        ("a", join("a", "b")),
-        ("a b", publish("b")),
-    ],
-    "a source that is reset": [
-        ("a b", new("b")),
-        ("a", new("a")),
-        ("a", join("a", "b")),
-        ("a b", line("b", "reset")),
-        ("a b", new("b")),
-    ],
-    "a joiner whose object is deleted": [
-        ("a", new("a")),
-        ("a", join("a", "b")),
-        ("a b", new("b")),
-        ("a", line("a", "delete", object=1)),
-        ("b", publish("b")),
-    ],
+    "a joiner that is reset": steps("ab new b, a new a, a join a b, ab publish b, a reset a, b set b, a new a"),
+    "a joiner that is reset and joins again": steps(
+        "a new a, a join a b, a reset a, ab new b, a new a, a join a b, ab publish b"
+    ),
+    "a source that is reset": steps("ab new b, a new a, a join a b, ab reset b, ab new b"),
+    "a joiner whose object is deleted": steps("a new a, a join a b, ab new b, a delete a 1, b publish b"),
     "a joiner whose object is deleted with its parent": [
-        ("a", new("a")),
+        *steps("a new a"),
         ("a", new("a", parent=1)),
-        ("a", join("a", "b", 2)),
-        ("a b", new("b")),
-        ("a", line("a", "delete", object=1)),
-        ("b", publish("b")),
+        *steps("a join a b 2, ab new b, a delete a 1, b publish b"),
     ],
-    "a joiner whose object is deleted later": [
-        ("a", new("a")),
-        ("a", join("a", "b")),
-        ("a", line("a", "deleteLater", object=1)),
-        ("a b", new("b")),
-        ("a", line("a", "spin")),
-        ("b", publish("b")),
-    ],
+    "a joiner whose object is deleted later": steps(
+        "a new a, a join a b, a deleteLater a 1, ab new b, a spin a, b publish b"
+    ),
     "a joiner whose object deletes itself when it hears": [
-        ("a", new("a")),
+        *steps("a new a"),
         ("a", join("a", "b", method="deleteLater()", types=[])),
-        ("a b", new("b")),
+        *steps("ab new b"),
         ("a b", line("b", "publish", object=1, signal="destroyed()", name="t")),
-        ("a b", line("b", "delete", object=1)),
-        ("a", line("a", "spin")),
-        ("b", new("b")),
+        *steps("ab delete b 1, a spin a, b new b"),
     ],
-    "a joiner whose other object is deleted": [
-        ("a", new("a")),
-        ("a", new("a")),
-        ("a", join("a", "b")),
-        ("a", line("a", "delete", object=2)),
-        ("a b", new("b")),
-    ],
+    "a joiner whose other object is deleted": steps("a new a, a new a, a join a b, a delete a 2, ab new b"),
     "a joiner whose commands are refused": [
-        ("a", new("a")),
-        ("a", join("a", "b")),
-        ("a", line("a", "delete", object=7)),
-        ("a b", set_x("b", number=9)),
+        *steps("a new a, a join a b, a delete a 7, ab set b 1 9"),
         ("a", line("a", "get", object=9, property="x")),
-        ("a b", line("b", "end")),
-        ("c", line("c", "end")),
+        *steps("ab end b, c end c"),
     ],
 }
 OF_OTHERS = {
-    "a source that joins another one": [
-        ("a b c", new("c")),
-        ("a b", new("b")),
-        ("a b", join("b", "c")),
-        ("a b c", publish("c")),
-        ("a", new("a")),
-        ("a", join("a", "b")),
-        ("a b", publish("b")),
-        ("b c", set_x("c")),
-    ],
-    "a source that joins another one too late": [
-        ("c", new("c")),
-        ("a b", new("b")),
-        ("a", new("a")),
-        ("a", join("a", "b")),
-        ("a b", publish("b")),
-        ("a b", join("b", "c")),
-    ],
-    "two that join one": [
-        ("a b c", new("c")),
-        ("a", new("a")),
-        ("a", join("a", "c")),
-        ("b", new("b")),
-        ("a b c", publish("c")),
-        ("b", join("b", "c")),
-        ("a", leave("a", "c")),
-        ("b c", set_x("c")),
-    ],
-    "two that join each other": [
-        ("a b", new("a")),
-        ("a b", new("b")),
-        ("a b", join("a", "b")),
-        ("a b", join("b", "a")),
-        ("a b", set_x("a")),
-        ("a b", set_x("b")),
-    ],
-    "two that join each other, of which one leaves": [
-        ("a", new("a")),
-        ("a b", new("b")),
-        ("a", join("a", "b")),
-        ("a b", join("b", "a")),
-        ("a b", leave("b", "a")),
-        ("a", set_x("a")),
-    ],
+    "a source that joins another one": steps(
+        "abc new c, ab new b, ab join b c, abc publish c, a new a, a join a b, ab publish b, bc set c"
+    ),
+    "a source that joins another one too late": steps(
+        "c new c, ab new b, a new a, a join a b, ab publish b, ab join b c"
+    ),
+    "two that join one": steps(
+        "abc new c, a new a, a join a c, b new b, abc publish c, b join b c, a leave a c, bc set c"
+    ),
+    "two that join each other": steps("ab new a, ab new b, ab join a b, ab join b a, ab set a, ab set b"),
+    "two that join each other, and one leaves": steps(
+        "a new a, ab new b, a join a b, ab join b a, ab leave b a, a set a"
+    ),
 }
 
 
@@ -303,11 +174,10 @@ OF_LINES = {
         ("a", line("a", "spin")),
     ],
     "a leave that is no command": [
-        ("a", new("a")),
-        ("a", join("a", "b")),
+        *steps("a new a, a join a b"),
         ("", leave("a", "b")[:-1]),
         ("", line("a", "leave", **{"from": "b", "name": "t", "object": 1})),
-        ("a b", new("b")),
+        *steps("ab new b"),
     ],
     "lines of 65,536 bytes and of one more": [
         ("a", padded(new("a"), LINE_BYTES)),
@@ -320,12 +190,11 @@ OF_LINES = {
         ("a b", padded(set_x("b"), LINE_BYTES)),
     ],
     "names that begin alike": [
-        ("a", new("a")),
+        *steps("a new a"),
         ("aa", new("aa")),
-        ("a A", new("A")),
-        ("a", join("a", "A")),
+        *steps("aA new A, a join a A"),
         ("aa", publish("aa")),
-        ("a A", publish("A")),
+        *steps("aA publish A"),
     ],
     "a single line": [("a", new("a"))],
     "an input of 0 bytes": [],
@@ -348,14 +217,14 @@ def near(number):
 
 
 def of_chain(keepers, acts):
-    """Ten sessions of which each has joined the next one; then these act, each once. The last joins are made first."""
+    """Ten sessions, each joined to the next one; then these act, each once. The last joins are made first."""
     yield from ((keepers(at), new(name)) for at, name in enumerate(TEN))
     yield from ((keepers(at), join(TEN[at], TEN[at + 1])) for at in reversed(range(9)))
     yield from ((keepers(at), set_x(TEN[at])) for at in acts)
 
 
 def of_ring():
-    """Ten sessions of which each has joined the next one, and the last one the first, act twice around, the last one first.
+    """Ten sessions, each joined to the next one, and the last one to the first, act twice around, the last one first.
 
     Of the second round a slice keeps what its session does and what was done before; that of the last session keeps all, as
     the first session is heard by it, the next one by that, and so on. So all have come by the first round."""
@@ -367,8 +236,8 @@ def of_ring():
 
 
 OF_TEN = {
-    "a chain of ten, of which each acts behind those that it hears": list(of_chain(up_to, reversed(range(10)))),
-    "a chain of ten, of which each acts before those that it hears": list(of_chain(near, range(10))),
+    "a chain of ten, where each acts after those that it hears": list(of_chain(up_to, reversed(range(10)))),
+    "a chain of ten, where each acts before those that it hears": list(of_chain(near, range(10))),
     "a ring of ten": list(of_ring()),
 }
 INPUTS = {"the own row": OWN, **OF_JOINS, **OF_JOINERS, **OF_OTHERS, **OF_LINES, **OF_TEN}
@@ -395,7 +264,7 @@ def with_deletion(keepers):
 
 
 def long_lines():
-    """Lines of which ten are kept for `a`: what it does and hears, and behind that the others go on."""
+    """Lines, ten of them kept for `a`: what it does and hears, and after that the others go on."""
     kept = [text for keepers, text in OWN if "a" in keepers.split()]
     kept[-1:] = [line("a", "status"), line("a", "spin"), *kept[-1:]]
     others = [f"s{at}" for at in range(OTHERS)]

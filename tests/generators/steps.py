@@ -1,4 +1,4 @@
-"""Commands as steps of a session, each with what has to be told to it."""
+"""Commands as steps of a session, each with the answers that it has to receive."""
 
 from tests.support.lines import lines_of
 from tests.support.program import Row

@@ -1,5 +1,5 @@
 """Sessions with trees of objects: deep and wide ones that are deleted whole, from the middle and from the end, and many
-small ones of commands by chance."""
+small ones of random commands."""
 
 import random
 
@@ -14,7 +14,7 @@ COMMANDS = 120
 
 
 def by_chance(seed):
-    """Commands of two sessions, of which most name objects that are there."""
+    """Commands of two sessions. Most name objects that are there."""
     chance, made = random.Random(seed), {"a": 0, "b": 0}
     for _ in range(COMMANDS):
         session = chance.choice("aab")
@@ -68,4 +68,4 @@ def sessions():
         goes = [line for number in order for line in (delete(number), *looks)]
         yield name, [new(parent) for parent in parents] + goes + [new(None)]
     for seed in range(CHANCES):
-        yield f"by chance, {seed}", list(by_chance(seed))
+        yield f"random, {seed}", list(by_chance(seed))

@@ -226,7 +226,7 @@ test("an exception of a callback that nobody takes ends the process", () => {
 test("calls are iterated where the session is not live, until none comes in time", async (t) => {
   const session = (await served(t)).session("a");
   const probe = await session.new("Probe");
-  const calls = session.calls({ timeout: 300 });
+  const calls = session.calls({ timeout: 1_000 });
   for (let count = 0; count < 3; count += 1) await probe.late({ type: "queued" });
   const heard = [];
   for await (const { method } of calls) heard.push(method);

@@ -154,7 +154,8 @@ test("a spy keeps the arguments of a signal, and waitFor waits for it", async (t
   assert.strictEqual(await spy.wait({ timeout: 1 }), false);
   await spy.stop();
   const waiting = it.waitFor(button.textChanged, { timeout: PATIENCE });
-  setTimeout(() => button.set("text", "now"), 50);
+  while (!(await it.connections({ object: button })).length); // until the wait has connected it
+  await button.set("text", "now");
   assert.deepStrictEqual(await waiting, ["now"]);
   assert.ok((await failed(it.waitFor(() => false, { timeout: 10 }))) instanceof NotAnswered);
   assert.ok((await failed(it.waitFor(button.textChanged, { timeout: 10 }))) instanceof NotAnswered);

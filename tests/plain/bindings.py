@@ -50,7 +50,7 @@ class Scene:
     def shown(self, at, seen=()):
         """What a property shows, where those that were seen are being evaluated.
 
-        What is no loop is kept: it has come to none of those that were seen, as a loop would have ended it."""
+        What is no loop is kept: it has read none of those that were seen, as a loop would have ended it."""
         if at in seen:
             return Shown(None, BINDING_LOOP)
         if at not in self.bindings:
@@ -63,8 +63,8 @@ class Scene:
         return shown
 
     def settled(self, at, seen):
-        """What the expression of a bound property comes to: a value of its kind, or its default and an error. An error that
-        is read is handed on, and every other fault is an evaluation error."""
+        """The result of the expression of a bound property: a value of its kind, or its default and an error. An error that
+        is read is passed on, and every other fault is an evaluation error."""
         binding = self.bindings[at]
         try:
             value = evaluated(binding.form, [], lambda target, name: self.read(at, target, name, seen))

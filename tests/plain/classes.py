@@ -26,7 +26,7 @@ def method_of(text, is_signal, body=()):
 
 @dataclass
 class Functor:
-    """What a signal may be connected to beside methods: its body is done with its context object as `self`, over the state
+    """What a signal may be connected to besides methods: its body is done with its context object as `self`, over the state
     that its connection keeps, and `next` gives it another."""
 
     text: str
@@ -59,7 +59,7 @@ FUNCTORS = {it.text: it for it in (CLAMP, COUNT)}
 
 @dataclass
 class Property:
-    """A declared property; `notify` is the normal form of the signal that tells of its changes, where there is one."""
+    """A declared property; `notify` is the normal form of the signal that reports its changes, where it has one."""
 
     name: str
     kind: str
@@ -163,7 +163,7 @@ class Connection:
 
 @dataclass
 class Event:
-    """What waits in the queue for an object: a call of its method or of a functor, or where there is none its deletion."""
+    """What waits in the queue for an object: a call of its method or of a functor, or without a callee its deletion."""
 
     number: int
     callee: int | str | None = None

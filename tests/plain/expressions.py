@@ -1,4 +1,4 @@
-"""Expressions: their form in a binding, what they read, and what they come to."""
+"""Expressions: their form in a binding, what they read, and their results."""
 
 from .values import NUMBERS, Refused, is_known_by, is_long, is_name, is_number, is_text, is_value, refuse
 
@@ -10,7 +10,7 @@ OPERANDS = {"+": 2, "-": 2, "<": 2, "=": 2, "cat": 2, "if": 3}
 
 
 def binding_of(json):
-    """The expression of a binding that a piece of JSON is. Faults of form come before limits, wherever they stand."""
+    """The expression of a binding that a piece of JSON is. Faults of form come before limits, wherever they are."""
     if not is_expression(json):
         refuse("E22")
     if sum(1 for _ in nodes_of(json)) > NODES or any(is_long(it.get("const")) for it in nodes_of(json)):
@@ -61,7 +61,7 @@ def shortest(form):
 
 
 def evaluated(form, args, read, state=None):
-    """What an expression comes to over these arguments and the state of a functor, where `read` answers what a property
+    """The result of an expression over these arguments and the state of a functor, where `read` answers what a property
     is, from left to right. The first fault ends it; of `if` only the branch that is chosen counts."""
     if "const" in form:
         return form["const"]
@@ -79,7 +79,7 @@ def evaluated(form, args, read, state=None):
 
 
 def next_state(form, args, state):
-    """The state of a functor behind a call: what its expression comes to, where that is a whole number of 64 bits without
+    """The state of a functor after a call: the result of its expression, where that is a whole number of 64 bits without
     sign, and else the same."""
     try:
         found = evaluated(form, args, lambda target, name: refuse("E04"), state)

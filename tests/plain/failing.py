@@ -1,4 +1,4 @@
-"""What is told where memory is refused: the refusals that the answers to a run's lines tell of.
+"""The answers where memory is refused: the refusals that the answers to a run's lines report.
 
 A session fails in a command of its own, with any number of the command's posts made by then, or where a post reaches it; a
 line is lost while it is read; and a session is not entered. Nothing else may come of a refusal while the program goes on.

@@ -1,7 +1,7 @@
 """The lines of the plain program, byte for byte: what a line of input asks of it, and the text of what it answers.
 
 The keys of the commands are those of the table in docs/PROTOCOL.md. A line is read by Python's `json`. What that takes
-and `serde_json` does not is refused here: NaN and infinities, numbers beyond all floats, surrogates that stand alone,
+and `serde_json` does not is refused here: NaN and infinities, numbers beyond all floats, surrogates without their pair,
 and what is nested too deep.
 """
 
@@ -53,13 +53,13 @@ DECODER = json.JSONDecoder(parse_int=whole_number, parse_float=real_number, pars
 
 
 def depth_of(text):
-    """How deep lists and objects stand in one another, up to the first fault."""
+    """How deep lists and objects are nested, up to the first fault."""
     steps = ((token in "[{") - (token in "]}") for token in TEXT_OR_BRACKET.findall(text))
     return max(accumulate(steps), default=0)
 
 
 def json_of(line):
-    """The JSON that a line is; raises `ValueError` where it is none that may stand there."""
+    """The JSON that a line is; raises `ValueError` where a line may not be such JSON."""
     text = line.decode()
     is_deep = text.count("[") + text.count("{") > DEPTH and depth_of(text) > DEPTH
     if len(line) > LINE_BYTES or is_deep or any(SURROGATE.findall(text)):
@@ -145,7 +145,7 @@ def error(code, session):
 
 
 def told(server, line):
-    """What is told to a line that is not blank."""
+    """The answers to a line that is not blank."""
     try:
         given = json_of(line)
     except ValueError:

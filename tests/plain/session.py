@@ -1,6 +1,6 @@
 """A session as its definitions have it: lists of rows, an agenda that is done item by item, and what it posts to others.
 
-Nothing here is quick, and nothing is kept beside the rows: whatever is asked is looked for by going through them.
+Nothing here is quick, and only the rows are kept: whatever is asked is looked for by going through them.
 """
 
 from bisect import insort
@@ -189,7 +189,7 @@ class Session(Acting):
         return errors + [item for items in values for item in items]
 
     def notification(self, at, value, depth):
-        """The signal that tells of a property's new value, where it has one, with as much of it as the signal takes."""
+        """The signal that reports a property's new value, where it has one, with as much of it as the signal takes."""
         notify = self.known_property(*at).notify
         if notify is None:
             return []
@@ -203,7 +203,7 @@ class Session(Acting):
         return declared if declared.is_bindable else refuse("E18")
 
     def bind(self, number, name, json):
-        """Binds a property to the expression that a piece of JSON is, and answers what tells of it."""
+        """Binds a property to the expression that a piece of JSON is, and answers what reports it."""
         declared, at, form = self.bindable(number, name), At(number, name), binding_of(json)
         for target, read in reads_of(form):
             self.bindable(number if target == "self" else target, read)
@@ -214,7 +214,7 @@ class Session(Acting):
         return self.told_since(before, 0, at)
 
     def unbind(self, at):
-        """Leaves a bound property the value that it shows, and answers what tells of it."""
+        """Leaves a bound property the value that it shows, and answers what reports it."""
         before = self.scene()
         self.row(at.number).values[at.name] = self.shown(at).value
         self.bindings.pop(at, None)
@@ -229,7 +229,7 @@ class Session(Acting):
         return self.groups
 
     def end_group(self):
-        """Ends a group, and answers what tells of all that has changed since the outermost one began."""
+        """Ends a group, and answers what reports all that has changed since the outermost one began."""
         if not self.groups:
             refuse("E17")
         self.groups -= 1
@@ -290,7 +290,7 @@ class Session(Acting):
     # Events.
 
     def post(self, event):
-        """Puts an event behind all of its priority and above, and answers whether there was room for it."""
+        """Puts an event after all of its priority and above, and answers whether there was room for it."""
         has_room = len(self.queue) < EVENTS
         if has_room:
             insort(self.queue, event, key=lambda waiting: -waiting.priority)
@@ -300,7 +300,7 @@ class Session(Acting):
         return self.post(Event(number)) or refuse("E14")
 
     def delivered(self, event):
-        """What an event comes to."""
+        """What is done to deliver an event."""
         if event.callee is None:
             return [("delete", event.number, 0)]
         if self.called(event.number, event.callee).is_signal:
@@ -356,7 +356,7 @@ class Session(Acting):
     # What a slot or functor names and computes.
 
     def target(self, frame, target):
-        """The number of the object that a target is; 0 where there is none."""
+        """The number of the object that a target is; 0 where it is no object."""
         if target == "self":
             return frame.self_number
         if target == "sender":

@@ -1,4 +1,4 @@
-"""The slice of an input for a session: the commands that what the session is told depends on."""
+"""The slice of an input for a session: the commands that the session's output depends on."""
 
 from typing import NamedTuple
 
@@ -26,7 +26,7 @@ def notes_of(server, lines):
 
 def kept(notes, name):
     """The commands that a session's slice keeps, found from the last one to the first: those of the session, and those of
-    any other one that is kept further behind or is joined just then by one of these."""
+    any other one that is kept later in the input or is joined just then by one of these."""
     members, found = {name}, []
     for note in reversed(notes):
         if note.session in members or note.joined_by & members:
@@ -36,5 +36,5 @@ def kept(notes, name):
 
 
 def slice_of(lines, notes, name):
-    """The lines of a session's slice as they stand in the input, each with its end."""
+    """The lines of a session's slice as they are in the input, each with its end."""
     return b"".join(lines[note.place] + b"\n" for note in kept(notes, name))

@@ -54,7 +54,7 @@ def is_of_kind(value, kind):
 
 
 def default_of(kind):
-    """The value of a kind that stands where no other does."""
+    """The value of a kind where no other value is given."""
     return {"bool": False, "QString": ""}.get(kind, 0)
 
 

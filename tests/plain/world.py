@@ -31,7 +31,7 @@ class Server:
         return frozenset(it.name for it in self.sessions.values() if any(join.source == name for join in it.joins))
 
     def done(self, command):
-        """What is told to a command, line by line, and what it has posted to the others."""
+        """The answers to a command, line by line, and what it has posted to the others."""
         session = self.session(command["session"])
         lines, posts = done(session, command)
         self.deliver(session, posts)
@@ -45,7 +45,7 @@ class Server:
                     other.arrive(session.name, post)
 
     def step(self, command):
-        """What is told to a command, line by line."""
+        """The answers to a command, line by line."""
         return self.done(command)[0]
 
 

@@ -1,1 +1,1 @@
-"""What the tests share: how the program is run and compared, and what the documents say."""
+"""The parts that tests share: running the program, comparing its output, and reading the documents."""

@@ -1,4 +1,4 @@
-"""Runs of the program within bounds that the shell sets, and what may come of one in which memory is short."""
+"""Runs of the program within bounds that the shell sets, and their allowed results where memory is short."""
 
 from __future__ import annotations
 
@@ -19,7 +19,7 @@ ENDS = ((0, b""), (OUT_OF_MEMORY, COMPLAINT))  # the statuses that a run may end
 
 
 def run_bounded(program: str, row: Row, bounds: str) -> CompletedProcess:
-    """Runs a row behind these words of the shell, which set bounds for what it starts."""
+    """Runs a row after these words of the shell, which set bounds for what it starts."""
     words = ("-c", f'{bounds} && exec "$0" "$@"', program, *row.words)
     return replace(row, words=words).run("sh")
 
@@ -33,7 +33,7 @@ class Came:
 
 
 def is_begun(server: Followed, line: bytes, text: bytes) -> bool:
-    """Whether a text is the beginning of what is told to a line."""
+    """Whether a text is the beginning of the output of a line."""
     return answer(server.copied(), line).startswith(text)
 
 

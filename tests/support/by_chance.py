@@ -1,4 +1,4 @@
-"""Sessions that are made by chance, as rows for the built program."""
+"""Random sessions, as rows for the built program."""
 
 from contextlib import contextmanager
 from dataclasses import replace
@@ -23,7 +23,7 @@ def row_with_classes(name, commands, wanted, declared, room, turns=None, seconds
 
 
 class Made(NamedTuple):
-    """A session that was made by chance: its class file, its commands, what each is told, and the row of them."""
+    """A random session: its class file, its commands, the output of each, and the row of them."""
 
     declared: list
     commands: list
@@ -33,20 +33,19 @@ class Made(NamedTuple):
 
 @contextmanager
 def session_by_chance(made, seed, number=signals.COMMANDS):
-    """A session of so many commands that a kind of chance makes, while its class file stands."""
+    """A random session of so many commands, for as long as its class file exists."""
     declared, turns = list(made.classes()), made.choice(signals.TURNS)
     commands, answers = signals.life_of(made, Server(Classes(declared), turns), number)
     with TemporaryDirectory(prefix="metad-session-") as room:
         wanted = [line for told in answers for line in told]
-        yield Made(declared, commands, answers, row_with_classes(f"by chance, {seed}", commands, wanted, declared, room, turns))
+        yield Made(declared, commands, answers, row_with_classes(f"random, {seed}", commands, wanted, declared, room, turns))
 
 
 @contextmanager
 def listeners_by_chance(made, seed, number=1):
-    """The row of so many runs of sessions that listen to each other, which a kind of chance makes, while their class file
-    stands."""
+    """The row of so many random runs of sessions that listen to each other, for as long as their class file exists."""
     declared, turns = list(made.classes()), made.choice(signals.TURNS)
     run = mixed.run_of(made, Server(Classes(declared), turns), number)
     with TemporaryDirectory(prefix="metad-listeners-") as room:
-        row = row_with_classes(f"by chance, {seed}", run.commands(), run.lines(), declared, room, turns)
+        row = row_with_classes(f"random, {seed}", run.commands(), run.lines(), declared, room, turns)
         yield replace(row, folder=Path(room))

@@ -1,4 +1,4 @@
-"""Tests of many cases, each of which is reported by its name."""
+"""Tests of many cases that are each reported by name."""
 
 import os
 import resource
@@ -27,13 +27,13 @@ class Cases(unittest.TestCase):
         return super().run(result)
 
     def tell(self, words, end=" ... "):
-        """Says something of the test that is under way, where each is told of."""
+        """Prints something about the test that is under way, if the runner reports each test."""
         if words and getattr(self.result, "showAll", False):
             self.result.stream.write(words + end)
             self.result.stream.flush()
 
     def check_each(self, cases, try_case, fault_of=lambda tried: tried, workers=ThreadPoolExecutor, at_once=AT_ONCE):
-        """Tries cases side by side, which are given with their names, and reports each as a sub-test in its turn.
+        """Tries cases side by side, which are given with their names, and reports each as a sub-test, in order.
 
         `fault_of` says what is wrong with what came of a case, or None; without it that is the fault. Answers what
         came of all cases.

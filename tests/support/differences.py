@@ -1,4 +1,4 @@
-"""How what came differs from what was wanted, and which line of the input it was said to."""
+"""The difference between an output and the expected one, and the input line that it answers."""
 
 import difflib
 
@@ -54,7 +54,7 @@ def line_asked(given, wanted, came):
 
 
 def shown_input(given, last=None):
-    """The lines of an input as far as this one, of which only the last ones are shown."""
+    """The lines of an input up to this one; only the last of them are shown."""
     lines = lines_in(given)
     last = len(lines) if last is None else last
     if not lines:

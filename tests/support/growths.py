@@ -1,7 +1,7 @@
-"""Runs of the program with one of its requests for memory refused, and what may come of it.
+"""Runs of the program with one of its requests for memory refused, and their allowed results.
 
 The answer to a command is all that it prints: calls and warnings, and then its reply or its error. A refused growth may
-come to one of these KINDS:
+have one of these KINDS of results:
 
 - not seen: the run is the row's;
 - session failed: one command is answered by E21 alone, every later one of its session by E20, and all
@@ -13,12 +13,12 @@ come to one of these KINDS:
 - session not entered: a session that had no command before cannot be entered; the command is answered by
   E21 for its session, and all others as if it had not been there;
 - program ended: with status 5 and a prefix of the row's answer;
-- start refused: the same before it reads a line, while it makes its classes, its functors, its server and
+- start refused: it ends so before it reads a line, while it makes its classes, its functors, its server and
   its buffers.
 
-Where sessions are joined or reset, what others are told behind a failure, and a failed session behind its
-`reset`, is not that of the row: the plain program says what it is. Anything else is wrong. Whatever comes
-of it, a session that listens to none that was hit is told what the row tells it.
+Where sessions are joined or reset, the row does not have what others receive after a failure, and a failed
+session after its `reset`: the plain program says what it is. Anything else is wrong. In every case a session
+that listens to no session that was hit receives what the row has for it.
 """
 
 import json
@@ -40,7 +40,7 @@ OUT_OF_MEMORY = 5
 COMPLAINT = b"metad: out of memory\n"
 NOT_SEEN, ENDED, NOT_STARTED = "not seen", "program ended", "start refused"
 KINDS = (NOT_SEEN, FAILED, RECEIVER_FAILED, LINE_LOST, NOT_ENTERED, ENDED, NOT_STARTED)
-OF_MANY = (b'"join"', b'"reset"')  # words of commands for which the row does not say what is told behind a failure
+OF_MANY = (b'"join"', b'"reset"')  # words of commands after which the row does not say what sessions receive when one fails
 
 
 def line(code, session):
@@ -48,7 +48,7 @@ def line(code, session):
 
 
 def answers_in(text):
-    """The answer to each command: the lines that it prints, of which the last is its reply or its error."""
+    """The answer to each command: the lines that it prints; the last is its reply or its error."""
     answers, is_whole = [], True
     for it in lines_in(text):
         if is_whole:
@@ -75,7 +75,7 @@ def with_failed_session(answers, at):
 
 
 def told_to(answers):
-    """What each session is told, by its name."""
+    """The lines that each session receives, by its name."""
     told = defaultdict(bytes)
     for it in answers:
         told[session_of(it)] += it
@@ -98,8 +98,8 @@ def listeners(joins, name):
 
 @dataclass
 class Tried:
-    """What came of refusing one growth after another, how often a session that was not hit was told what the row tells it,
-    and what is wrong, or None."""
+    """The results of refusing one growth after another, how often a session that was not hit received what the row has for
+    it, and what is wrong, or None."""
 
     outcomes: Counter = field(default_factory=Counter)
     fault: str | None = None
@@ -121,7 +121,7 @@ class Trial:
         return self.row.status != 0 or len(self.lines) == len(self.answers)
 
     def run(self, number):
-        """Runs the row with this growth refused, and tells whether the run came to it."""
+        """Runs the row with this growth refused, and tells whether the run reached it."""
         reader, writer = os.pipe()
         added = {"LD_PRELOAD": self.library, "REFUSE_AT": str(number), "REFUSE_NOTE": str(writer)}
         try:
@@ -143,8 +143,8 @@ class Trial:
         return any(word in self.row.given for word in OF_MANY)
 
     def failed(self, answers, at):
-        """What a refusal led to, where a session has failed by it or was not entered and that leads to these answers, of
-        which this is the first that is not as in the row; or None."""
+        """The kind of a refusal after which a session has failed or was not entered, if that leads to these answers; the
+        first that is not as in the row is given. None if it does not."""
         if not self.has_many():
             return FAILED if answers == with_failed_session(self.answers, at) else None
         told = tuple(answers)
@@ -158,7 +158,7 @@ class Trial:
         return self.told.keys() - listeners(self.joins, name) - {NOBODY}
 
     def outcome(self, ran, number=None):
-        """What the refusal of this growth led to, or None where it is none of the allowed."""
+        """The kind of result of refusing this growth, or None if it is not allowed."""
         if ran.returncode == OUT_OF_MEMORY:
             if ran.stderr != COMPLAINT or not self.row.stdout.startswith(ran.stdout):
                 return None

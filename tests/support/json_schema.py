@@ -1,7 +1,6 @@
-"""Whether a JSON value is what a JSON Schema says, for the keywords that docs/classes.schema.json uses.
+"""Checks a JSON value against a JSON Schema (draft 2020-12), for the keywords that docs/classes.schema.json uses.
 
-The words are those of draft 2020-12. A keyword that is not known here is an error, so that no schema says more
-than is looked at.
+An unknown keyword is an error, so that everything in a schema is checked.
 """
 
 import re
@@ -33,7 +32,7 @@ def when(kind, holds):
 
 
 def pattern(said):
-    """A pattern as Python has it, for which `$` may stand before a last line feed."""
+    """A pattern as Python has it, for which `$` may match before a last line feed."""
     return re.compile(re.sub(r"\$$", r"\\Z", said), re.ASCII)
 
 

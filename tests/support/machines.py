@@ -1,5 +1,5 @@
-"""Several machines behind an edge (examples/machines), as tests have them: in network namespaces where these can be had, and
-else on addresses of this machine."""
+"""Several machines behind an edge (examples/machines) for tests: in network namespaces if possible, otherwise on addresses
+of this machine."""
 
 import os
 import shutil

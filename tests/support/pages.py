@@ -1,4 +1,4 @@
-"""How the programs of a page are run: a block of Python, and behind it a block of what it prints."""
+"""How the programs of a page are run: a block of Python, followed by a block of what it prints."""
 
 import os
 import re

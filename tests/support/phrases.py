@@ -1,7 +1,7 @@
-"""Phrases that are no plain English, and where they still are.
+"""Phrases that are no plain English, and the places where they are.
 
 `python3 -m tests.support.phrases` lists each of them with its file and line, and what to write instead; with the path of a
-file or folder only those there. `--write` writes the numbers of tests/phrases.txt anew.
+file or folder only those there. Its status is 1 if there are any.
 """
 
 from __future__ import annotations
@@ -12,14 +12,12 @@ import os
 import re
 import sys
 import tokenize
-from collections import Counter
 from pathlib import Path
-from typing import Callable, Dict, Iterator, List, Tuple
+from typing import Callable, Dict, Iterator, Tuple
 
 from .program import ROOT
 
-LISTED = ROOT / "tests" / "phrases.txt"
-OWN = ("tests/support/phrases.py", "tests/test_phrases.py", "tests/phrases.txt")
+OWN = ("tests/support/phrases.py", "tests/test_phrases.py")
 # what to look for, and what to write instead
 BANNED: Dict[str, str] = {
     r"want of memory": "out of memory",
@@ -29,13 +27,13 @@ BANNED: Dict[str, str] = {
     r"lets? go of|letting go of": "drops, releases",
     r"com(?:e|es|ing) to(?! (?:rest|an end))|came to": "is, gets, amounts to",
     r"reckon\w*": "estimate",
-    r"(?:one|a) \w+ more\b(?! than)": "per .., another ..",
+    r"(?:one|a) (?!or )\w+ more\b(?! than)": "per .., another ..",
     r"a front of": "a front for",
     r"as it was": "unchanged, as before",
     r"of which": "a sentence of its own",
     r"behind(?! (?:an? |the |its |that |this |each )?(?:\w+ )?(?:fronts?|sockets?|edges?|proxy|proxies)\b)": "after",
-    r"beside": "in addition to, next to",
-    r"(?:is|are|was|were|be) (?-i:none)": "is not a .., there are no ..",
+    r"beside(?!\.py)": "in addition to, next to",
+    r"(?<!there\s)(?:is|are|was|were|be) (?-i:none)": "is not a .., there are no ..",
     r"(?:stands?|stood|standing)(?! for\b)(?!-)": "is, exists, remains",
     r"anew": "again, from the start",
     r"(?:mend|mends|mended)": "fix",
@@ -55,7 +53,9 @@ QUOTED = re.compile(r"`[^`\n]*`|\]\([^)\s]*\)")  # code within a line, and where
 DOCUMENTED = re.compile(r"(?:^[ \t]*//[/!].*\n)+", re.MULTILINE)  # doc comments in Rust and Rattle
 RAW = re.compile(r'r#"(.*?)"#', re.DOTALL)  # long texts there, as that of a help
 NOTED = re.compile(r"^[ \t]*(?://|\*|/\*\*).*$", re.MULTILINE)  # comments in JavaScript and C
+FIELD = re.compile(r"\{[^{}\n]*\}")  # an expression in an f-string
 MARK = re.compile(r"^[ \t]*//[/!]", re.MULTILINE)
+DEFINED = re.compile(r"(?:^[ \t]*--.*\n)+", re.MULTILINE)  # comments of definitions
 
 Part = Tuple[int, str]  # where a part of a file begins, as a line's number, and its text
 
@@ -74,7 +74,9 @@ def of_python(text: str) -> Iterator[Part]:
     """The comments and texts of a Python source: docstrings, helps and messages."""
     for token in tokenize.generate_tokens(io.StringIO(text).readline):
         if token.type in (tokenize.COMMENT, tokenize.STRING) or token.type == FSTRING:
-            yield token.start[0], token.string
+            text = QUOTED.sub("`", FIELD.sub("", token.string))
+            if " " in text:  # a single word is a key, and no text for people
+                yield token.start[0], text
 
 
 FSTRING = getattr(tokenize, "FSTRING_MIDDLE", -1)  # since Python 3.12 the texts of f-strings are tokens of their own
@@ -87,6 +89,12 @@ def of_rust(text: str) -> Iterator[Part]:
             yield line_of(text, found.start()), MARK.sub("", found[0])
 
 
+def of_definitions(text: str) -> Iterator[Part]:
+    """The comments in a file of definitions."""
+    for found in DEFINED.finditer(text):
+        yield line_of(text, found.start()), QUOTED.sub("`", re.sub(r"^[ \t]*--", "", found[0], flags=re.MULTILINE))
+
+
 def of_script(text: str) -> Iterator[Part]:
     """The comments of a source in JavaScript or C that have lines of their own."""
     for found in NOTED.finditer(text):
@@ -95,7 +103,7 @@ def of_script(text: str) -> Iterator[Part]:
 
 READERS: Dict[str, Callable[[str], Iterator[Part]]] = {
     ".md": of_page, ".1": of_page, ".txt": of_page, ".py": of_python, "": of_python, ".rs": of_rust, ".rt": of_rust,
-    ".antt": of_rust, ".js": of_script, ".mjs": of_script, ".ts": of_script, ".c": of_script, ".h": of_script, ".cpp": of_script,
+    ".antt": of_definitions, ".js": of_script, ".mjs": of_script, ".ts": of_script, ".c": of_script, ".h": of_script, ".cpp": of_script,
 }  # fmt: skip
 PLACES = ("docs", "clients", "tools", "bench", "tests", "examples", "man", "front", "crates")  # and the pages above these
 MADE = ("__pycache__", "target", "build", "out", "proofs", "must-fail")  # folders that are not read: what is built, and proofs
@@ -130,42 +138,22 @@ def found_in(path: Path) -> Iterator[Tuple[int, str, str]]:
             yield first + part.count("\n", 0, found.start()), " ".join(found[0].split()), advice[found.lastindex - 1]
 
 
-def counts() -> Dict[str, int]:
-    """How many banned phrases each file has, where it has any."""
-    found = Counter({str(path.relative_to(ROOT)): sum(1 for _ in found_in(path)) for path in all_files()})
-    return {name: count for name, count in sorted(found.items()) if count}
-
-
-def listed() -> Dict[str, int]:
-    """The numbers of tests/phrases.txt."""
-    rows = (line.split(" ", 1) for line in LISTED.read_text().splitlines() if line and not line.startswith("#"))
-    return {name: int(count) for count, name in rows}
-
-
-def write() -> List[str]:
-    """Writes the numbers of today; answers which files have more than before."""
-    before = listed() if LISTED.exists() else {}
-    now = counts()
-    head = "# Phrases of tests/support/phrases.py that are still there. A number may only fall; `--write` there writes them.\n"
-    LISTED.write_text(head + "".join(f"{count} {name}\n" for name, count in now.items()))
-    return [f"{name}: {before.get(name, 0)} before, {count} now" for name, count in now.items() if count > before.get(name, 0)]
+def all_found(start: str = "") -> Iterator[str]:
+    """A line for each banned phrase in the files whose paths begin like this."""
+    for path in all_files():
+        name = str(path.relative_to(ROOT))
+        if name.startswith(start):
+            for line, phrase, instead in found_in(path):
+                yield f"{name}:{line}: {phrase!r}: {instead}"
 
 
 def main() -> int:
-    """Lists the phrases, or writes their numbers."""
+    """Lists the phrases."""
     parser = argparse.ArgumentParser(prog="phrases", description="Lists phrases that are no plain English, with what to write instead.")
-    parser.add_argument("--write", action="store_true", help="write the numbers of tests/phrases.txt, and say which have risen")
     parser.add_argument("path", nargs="?", default="", help="a file or folder of the repository; all of it without")
-    given = parser.parse_args()
-    if given.write:
-        print("\n".join(write()))
-        return 0
-    for path in all_files():
-        name = str(path.relative_to(ROOT))
-        if name.startswith(given.path):
-            for line, phrase, instead in found_in(path):
-                print(f"{name}:{line}: {phrase!r}: {instead}")
-    return 0
+    found = list(all_found(parser.parse_args().path))
+    print("".join(f"{it}\n" for it in found), end="")
+    return 1 if found else 0
 
 
 if __name__ == "__main__":

@@ -1,4 +1,4 @@
-"""The program under test, and runs of it: what it is given, and what it then has to do."""
+"""The program under test, and its runs: what it is given, and the expected results."""
 
 import os
 import subprocess
@@ -56,7 +56,7 @@ class Row:
 
     name: str
     given: bytes
-    stdout: bytes | None  # None where any text may stand there
+    stdout: bytes | None  # None where any text is allowed
     stderr: bytes | None = b""
     status: int = 0
     words: tuple[str, ...] = ()
@@ -94,8 +94,8 @@ class Row:
 def rows_in(path):
     """The rows of a folder by name, each a folder with `stdin` and `stdout`.
 
-    `args` (one word a line), `status` and `stderr` may stand beside them. Without `stderr` nothing is
-    to be written there, or any text where the status is 2.
+    It may also have `args` (one word a line), `status` and `stderr`. Without `stderr` nothing may be
+    written there, or any text if the status is 2.
     """
     return [row_of(folder.resolve()) for folder in sorted(Path(path).iterdir())]
 

@@ -1,4 +1,4 @@
-"""What the sources of crates declare, and the glossary that says which words stand for what of it."""
+"""The names that the sources of crates declare, and the glossary, which says which word each of them carries."""
 
 import re
 from dataclasses import dataclass, field
@@ -13,7 +13,7 @@ GLOSSARY = ROOT / "docs" / "internals" / "ARCHITECTURE.md"
 OF_TESTS = "tests_of_"
 # types and functions of code that others may name, methods aside
 OF_CODE = re.compile(r"^pub(?:\(\w+\))? (?:const |unsafe )?(?:fn|struct|enum|trait|type) (\w+)", re.MULTILINE)
-# definitions and types that stand by their names alone
+# definitions and types, which are known by their names alone
 OF_SPECS = re.compile(r"^ *(?:(?:abbrev|unfoldable) pub|pub (?:record|data)) ([^\s:(){}]+)", re.MULTILINE)
 FUNCTION = re.compile(r"\bfn (\w+)")
 NAMED = re.compile(r"`(\w+)::(\w+)`")
@@ -36,9 +36,9 @@ def all_declared() -> Dict[str, Set[str]]:
     return found
 
 
-def definitions_in(name: str) -> Set[str]:
-    """What the files of `specs` define that are called so."""
-    return {it for path in CRATES.glob(f"*/specs/{name}.antt") for it in OF_SPECS.findall(path.read_text())}
+def crates_that_define(file: str, name: str) -> Set[str]:
+    """The crates that define this in a file of `specs` that is called so."""
+    return {path.parts[-3] for path in CRATES.glob(f"*/specs/{file}.antt") if name in OF_SPECS.findall(path.read_text())}
 
 
 def all_functions() -> Set[str]:

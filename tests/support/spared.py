@@ -1,4 +1,4 @@
-"""Which sessions a run has spared where memory was short, and whether each of them is told what it would be told without that.
+"""Which sessions a run has spared where memory was short, and whether each of them receives what it otherwise would.
 
 A session is spared where it, and every session that it joins, directly or through others, has never been answered by E21 or
 E20. It receives byte for byte what it receives in a run with ample memory on the same input without the lines that were
@@ -38,12 +38,12 @@ def sources_of(joins: "set[tuple[str, str]]", name: str) -> "set[str]":
 
 
 def hit_in(answers: Iterable[bytes]) -> "set[str]":
-    """The sessions that some answer tells of a failure."""
+    """The sessions whose failure some answer reports."""
     return {session_of(it) for it in answers if it.startswith(HITS)} - {NOBODY}
 
 
 def told_in(answers: Iterable[bytes]) -> "dict[str, bytes]":
-    """What each session is told."""
+    """The lines that each session receives."""
     told: "dict[str, bytes]" = defaultdict(bytes)
     for answer in answers:
         told[session_of(answer)] += answer
@@ -67,7 +67,7 @@ def failure_faults(lines: Iterable[bytes], answers: Iterable[bytes]) -> Iterator
             continue
         name, is_hit = command["session"], answer in (line("E20", command["session"]), line("E21", command["session"]))
         if name in failed and not is_hit and command["do"] != "reset":
-            yield f"{name} has failed, and is told {answer[:300]!r}"
+            yield f"{name} has failed, and receives {answer[:300]!r}"
         if not is_hit:
             failed.discard(name)
         elif name in entered or answer == line("E20", name):
@@ -88,7 +88,7 @@ class Spared:
 
 
 class Reference:
-    """What the sessions of a row are told where memory is ample, also without some of its lines. `run` runs a row."""
+    """What the sessions of a row receive where memory is ample, also without some of its lines. `run` runs a row."""
 
     def __init__(self, row: Row, run: "Callable[[Row], bytes]"):
         self.row, self.run = row, run
@@ -107,7 +107,7 @@ class Reference:
         return self.written[unread]
 
     def told_without(self, unread: "tuple[int, ...]") -> "dict[str, bytes]":
-        """What each session is told where these lines are left out."""
+        """What each session receives where these lines are left out."""
         if unread not in self.told:
             self.told[unread] = told_in(answers_in(self.stdout_without(unread)))
         return self.told[unread]

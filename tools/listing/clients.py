@@ -8,7 +8,7 @@ from typing import Iterable, List, Optional, Tuple
 from tools import protocol
 from tools.protocol import Command, Form, Key
 
-from .names import HEAD, WIDTH, name_of
+from .names import HEAD, WIDTH
 
 PLAIN = {
     (): ("", "nothing"),
@@ -44,9 +44,6 @@ from typing import Dict, FrozenSet, List, Tuple
 KNOWN: Dict[str, List[Tuple[Dict[str, str], Dict[str, str], str, Tuple[str, ...]]]] = {{
 {known}
 }}  # for each form of a command: the keys that are required, those that are not, the kind of the reply, the codes
-NAMES: Dict[str, str] = {{
-{names}
-}}  # of commands in Python's style
 READING: Dict[str, FrozenSet[str]] = {{
 {reading}
 }}  # commands that change nothing, and the keys that each may have
@@ -103,7 +100,6 @@ def known_commands() -> str:
     return KNOWN.format(
         head=HEAD,
         known=rows((it.word, known_forms(it)) for it in commands),
-        names=rows((it.word, json.dumps(name_of(it.word))) for it in commands),
         reading=rows((it.word, f"frozenset({tuple_of(all_keys(it))})") for it in reading(commands)),
         line=protocol.limit("bytes of a line of input"),
     )
