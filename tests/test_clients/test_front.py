@@ -126,7 +126,8 @@ class Page(FrontCases):
         page = FRONT_PAGE.read_text()
         shown = subprocess.run([FRONT, "--help"], capture_output=True, text=True, timeout=PATIENCE).stdout
         options = re.findall(r"^  (?:-h, )?(--\S+(?: [A-Z]+)?)  ", shown, re.MULTILINE)
-        self.assertEqual(sorted(re.findall(r"^\| `(--.*?)` \|", page, re.MULTILINE)), sorted(options), "the options")
+        listed = re.findall(r"`(--.*?)`", "\n".join(re.findall(r"^- (`--.*?):", page, re.MULTILINE)))
+        self.assertEqual(sorted(listed), sorted(options), "the options")
         self.assertIn(shown.splitlines()[0].replace("usage: metad-front", "bin/metad-front"), page.splitlines(), "the usage")
 
 
