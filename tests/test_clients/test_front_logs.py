@@ -13,6 +13,7 @@ from pathlib import Path
 
 from tests.support.documents import OPERATING_PAGE
 from tests.support.lines import text_of
+from tests.support.markdown import section
 from tests.support.program import ROOT
 
 from .fronts import FRONT, GREETED_BY_PYTHON, NEW, PATIENCE, Client, Log, error, reply
@@ -135,11 +136,11 @@ class Form(LogCases):
             self.assertIn(f"metad-front: error: argument {words[0]}: ", ran.stderr)
 
     def test_page(self):
-        """The page about operating lists the events that the sources log, with their levels."""
+        """The page about operating lists the events that the sources log."""
         source = "\n".join(path.read_text() for path in sorted((ROOT / "front" / "src").glob("*.rs")))
         logged = set(re.findall(r'\.say\(\s*(?:Level::\w+|level),\s*"(\w+)"', source)) | set(re.findall(r'\.note\(\s*"(\w+)"', source))
         logged |= {"left_out", "ended"}  # which the log adds
-        shown = re.findall(r"^\| `(\w+)` \| (?:error|warn|info|debug)", OPERATING_PAGE.read_text(), re.MULTILINE)
+        shown = re.findall(r"^- `(\w+)`(?: \(|:)", section(OPERATING_PAGE.read_text(), "The log"), re.MULTILINE)
         self.assertEqual(sorted(shown), sorted(logged))
 
 

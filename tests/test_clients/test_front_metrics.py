@@ -13,6 +13,7 @@ from pathlib import Path
 
 from tests.support.documents import OPERATING_PAGE
 from tests.support.lines import text_of
+from tests.support.markdown import section
 
 from .fronts import FRONT, NEW, PATIENCE, STATUS, Client, error, reply
 from .grouped import WorkerCases, hello, servers_of, wait_until
@@ -106,12 +107,16 @@ class Page(MetricsCases):
         self.assertEqual((ran.returncode, ran.stdout, ran.stderr), (0, "", ""), "what promtool finds")
 
     def test_page(self):
-        """The table of the page about operating has the metrics that there are, with their types and meanings."""
+        """The list of the page about operating has the metrics that there are, with their meanings, and says their types."""
         with self.measured():
             text = self.page()
         helped = re.findall(r"^# HELP (\w+) (.*)\n# TYPE \w+ (\w+)$", text, re.MULTILINE)
-        shown = re.findall(r"^\| `(metad_front_\w+)` \| (\w+) \| (.*) \|$", OPERATING_PAGE.read_text(), re.MULTILINE)
-        self.assertEqual(sorted(shown), sorted((name, kind, meaning) for name, meaning, kind in helped))
+        said = section(OPERATING_PAGE.read_text(), "Metrics")
+        shown = re.findall(r"^- `(metad_front_\w+)`: (.*)$", said, re.MULTILINE)
+        self.assertEqual(sorted(shown), sorted((name, meaning) for name, meaning, _ in helped))
+        histograms = re.findall(r"`(\w+)`", re.findall(r"are counters, (.*) are histograms, and the others are gauges", said)[0])
+        kinds = {name: "counter" if name.endswith("_total") else "histogram" if name in histograms else "gauge" for name, _ in shown}
+        self.assertEqual(kinds, {name: kind for name, _, kind in helped})
 
     def test_requests(self):
         """Other paths and methods are refused, as is a request that does not end. A path, a port and an address are places."""

@@ -134,7 +134,7 @@ class Page(NetworkCases):
 
     def test_options(self):
         """The page has the options of the help that are for the network."""
-        found = re.findall(r"^\| `(--\S+)", WEB_PAGE.read_text(), re.MULTILINE)
+        found = re.findall(r"^- `(--t\S+)", WEB_PAGE.read_text(), re.MULTILINE)
         self.assertEqual(sorted(found), sorted(word for word in front_help().split() if re.fullmatch(r"--t(ls\S*|cp)", word)))
 
 
