@@ -44,7 +44,7 @@ KIND_OF_REPLY = (
     (r"an array of names", "names"),
     (r"the property's value.*", "value"),
     (r'`"BindingLoop"`, .* null.*', "error or null"),
-    (r"the expression .* null .*", "expression or null"),
+    (r"the expression .* null", "expression or null"),
     (r"counts of events", "spun"),
     (r"the counts of the session", "status"),
     (r"the methods and properties of the class", "meta"),

@@ -25,7 +25,7 @@ from .lines import Meta, Spun, Status, Value
 
 
 def new(class_: str, parent: Optional[int] = None) -> Asked[int]:
-    """Makes an object, a root or below a parent. Returns the object's number."""
+    """Makes an object. Returns the object's number."""
     return Asked("new", class_=class_, **given(parent=parent))
 
 
@@ -35,25 +35,22 @@ def delete(object: int) -> Asked[bool]:
 
 
 def delete_later(object: int) -> Asked[bool]:
-    """Posts the deletion of an object, which `spin` does."""
+    """Posts the deletion of an object."""
     return Asked("deleteLater", object=object)
 
 
 def set_parent(object: int, parent: Optional[int]) -> Asked[bool]:
-    """Gives an object another parent, or makes it a root."""
+    """Gives an object another parent, or none."""
     return Asked("setParent", object=object, parent=parent)
 
 
 def children(object: Optional[int] = None) -> Asked[List[int]]:
-    """Lists the children of an object, the newest last, or without an object the roots.
-
-    Returns a list of object numbers.
-    """
+    """Lists an object's children, or the roots, the newest last. Returns a list of object numbers."""
     return Asked("children", **given(object=object))
 
 
 def find(object: int, name: Optional[str] = None, class_: Optional[str] = None) -> Asked[Optional[int]]:
-    """Finds the first object below another one by `objectName` and class. Returns the number, or None."""
+    """Finds the first object below another by `objectName` and class. Returns the number, or None."""
     return Asked("find", object=object, **given(name=name, class_=class_))
 
 
@@ -68,7 +65,7 @@ def get(object: int, property: str) -> Asked[Value]:
 
 
 def dynamic_names(object: int) -> Asked[List[str]]:
-    """Lists the dynamic properties of an object, the first one set first. Returns a list of names."""
+    """Lists an object's dynamic properties, the first set first. Returns a list of names."""
     return Asked("dynamicNames", object=object)
 
 
@@ -78,7 +75,7 @@ def bind(object: int, property: str, to: Value) -> Asked[bool]:
 
 
 def unbind(object: int, property: str) -> Asked[bool]:
-    """Ends the binding of a property, which keeps its value. Returns whether it was bound."""
+    """Ends the binding of a property. Returns whether it was bound."""
     return Asked("unbind", object=object, property=property)
 
 
@@ -88,12 +85,12 @@ def binding_error(object: int, property: str) -> Asked[Optional[str]]:
 
 
 def begin() -> Asked[int]:
-    """Begins a group, in which no change of a property is announced. Returns how many groups are open now."""
+    """Begins a group, which holds notifications back. Returns how many groups are open."""
     return Asked("begin")
 
 
 def end() -> Asked[int]:
-    """Ends a group; the end of the outermost one announces what has changed. Returns how many groups are open now."""
+    """Ends a group. Returns how many groups are open."""
     return Asked("end")
 
 
@@ -107,7 +104,7 @@ def connect(
     unique: Optional[bool] = None,
     single: Optional[bool] = None,
 ) -> Asked[int]:
-    """Connects a signal to a slot or to another signal. Returns the connection's number."""
+    """Connects a signal to a slot or signal. Returns the connection's number."""
     return Asked("connect", sender=sender, signal=signal, receiver=receiver, method=method, **given(type=type, unique=unique, single=single))
 
 
@@ -121,7 +118,7 @@ def connect_functor(
     unique: Optional[bool] = None,
     single: Optional[bool] = None,
 ) -> Asked[int]:
-    """Connects a signal to a functor of the server, for a context object. Returns the connection's number."""
+    """Connects a signal to a functor for a context. Returns the connection's number."""
     return Asked("connectFunctor", sender=sender, signal=signal, context=context, functor=functor, **given(type=type, unique=unique, single=single))
 
 
@@ -133,7 +130,7 @@ def disconnect(
     receiver: Optional[int] = None,
     method: Optional[str] = None,
 ) -> Asked[int]:
-    """Breaks the connection of a number, or all connections of a sender that match.
+    """Breaks a connection, or all connections of a sender that match.
 
     Returns whether the connection existed, or how many connections were broken.
     """
@@ -148,30 +145,27 @@ def invoke(
     type: Optional[str] = None,
     priority: Optional[int] = None,
 ) -> Asked[bool]:
-    """Sends a signal of an object or calls its slot, with the type `"queued"` by an event.
-
-    Returns True; False if the object has no such method.
-    """
+    """Sends a signal, or calls a slot. Returns True; False if the object has no such method."""
     return Asked("invoke", object=object, method=method, args=list(args), **given(type=type, priority=priority))
 
 
 def block(object: int, on: bool) -> Asked[bool]:
-    """Blocks the signals of an object or lets them through. Returns whether its signals were blocked before."""
+    """Blocks an object's signals, or lets them through. Returns whether its signals were blocked."""
     return Asked("block", object=object, on=on)
 
 
 def publish(object: int, signal: str, name: str) -> Asked[bool]:
-    """Publishes a signal of an object under a name."""
+    """Publishes a signal under a name."""
     return Asked("publish", object=object, signal=signal, name=name)
 
 
 def unpublish(name: str) -> Asked[bool]:
-    """Withdraws what is published under a name. Returns whether there was a publication of this name."""
+    """Ends a publication. Returns whether the name was published."""
     return Asked("unpublish", name=name)
 
 
 def join(from_: str, name: str, types: Sequence[str], object: int, method: str) -> Asked[bool]:
-    """Subscribes a method of an object to what another session publishes under a name."""
+    """Subscribes a method to what another session publishes."""
     return Asked("join", from_=from_, name=name, types=list(types), object=object, method=method)
 
 
@@ -181,7 +175,7 @@ def leave(from_: str, name: str, object: int, method: str) -> Asked[bool]:
 
 
 def spin() -> Asked[Spun]:
-    """Delivers the events of the session. Returns counts of events."""
+    """Delivers the session's events. Returns counts of events."""
     return Asked("spin")
 
 
@@ -191,35 +185,32 @@ def status() -> Asked[Status]:
 
 
 def meta(class_: str) -> Asked[Meta]:
-    """Lists the methods and the properties of a class. Returns the methods and properties of the class."""
+    """Lists the methods and properties of a class. Returns the methods and properties of the class."""
     return Asked("meta", class_=class_)
 
 
 def parent(object: int) -> Asked[Optional[int]]:
-    """Shows the parent of an object. Returns the parent's number; None for a root."""
+    """Shows an object's parent. Returns the parent's number; None for a root."""
     return Asked("parent", object=object)
 
 
 def find_all(object: int, name: Optional[str] = None, class_: Optional[str] = None) -> Asked[List[int]]:
-    """Lists all objects below another one by `objectName` and class, by depth. Returns a list of object numbers."""
+    """Lists all objects below another by `objectName` and class. Returns a list of object numbers."""
     return Asked("findAll", object=object, **given(name=name, class_=class_))
 
 
 def object_info(object: int) -> Asked[ObjectInfo]:
-    """Shows the class, the place and the counts of an object. Returns the object's class, parent and counts."""
+    """Describes an object. Returns the object's class, parent and counts."""
     return Asked("object", object=object)
 
 
 def properties(object: int) -> Asked[List[PropertyInfo]]:
-    """Lists the properties of an object with their values, the dynamic ones last.
-
-    Returns a list of the properties.
-    """
+    """Lists an object's properties with their values. Returns a list of the properties."""
     return Asked("properties", object=object)
 
 
 def connections(object: Optional[int] = None, after: Optional[int] = None) -> Asked[List[ConnectionInfo]]:
-    """Lists connections by number, or only those above `after`; with an object only its own.
+    """Lists connections by number: all, an object's, or those above `after`.
 
     Returns a list of at most 1,000 connections.
     """
@@ -227,35 +218,32 @@ def connections(object: Optional[int] = None, after: Optional[int] = None) -> As
 
 
 def bindings(after: Optional[BindingInfo] = None) -> Asked[List[BindingInfo]]:
-    """Lists bound properties in the order of their objects, or only those after the given one.
-
-    Returns a list of at most 1,000 bound properties.
-    """
+    """Lists bound properties: all, or those after the given one. Returns a list of at most 1,000 bound properties."""
     return Asked("bindings", **given(after=after))
 
 
 def binding(object: int, property: str) -> Asked[Value]:
-    """Shows the expression that a property is bound to. Returns the expression as bound; None if not bound."""
+    """Shows a property's binding. Returns the expression as bound, or None."""
     return Asked("binding", object=object, property=property)
 
 
 def publications() -> Asked[List[PublicationInfo]]:
-    """Lists the publications of the session, the oldest first. Returns a list of publications."""
+    """Lists the publications, the oldest first. Returns a list of publications."""
     return Asked("publications")
 
 
 def joins() -> Asked[List[JoinInfo]]:
-    """Lists the joins of the session, the oldest first. Returns a list of joins."""
+    """Lists the joins, the oldest first. Returns a list of joins."""
     return Asked("joins")
 
 
 def classes() -> Asked[List[str]]:
-    """Lists the classes in the order in which they are declared, `QObject` first. Returns a list of names."""
+    """Lists the classes as declared, `QObject` first. Returns a list of names."""
     return Asked("classes")
 
 
 def describe(class_: str) -> Asked[ClassInfo]:
-    """Lists the members of a class with their types. Returns the members of the class."""
+    """Describes the members of a class. Returns the members of the class."""
     return Asked("describe", class_=class_)
 
 
@@ -265,5 +253,5 @@ def functors() -> Asked[List[FunctorInfo]]:
 
 
 def reset() -> Asked[bool]:
-    """Puts the session back to its state before its first command."""
+    """Puts the session back to its beginning."""
     return Asked("reset")

@@ -141,10 +141,10 @@ public:
     /// Replies `"BindingLoop"`, `"EvaluationError"` or null.
     Reply bindingError(Number object, const QString &property) const { return give("bindingError", {{QStringLiteral("object"), object}, {QStringLiteral("property"), property}}); }
 
-    /// Replies how many groups are open now.
+    /// Replies how many groups are open.
     Reply begin() const { return give("begin", {}); }
 
-    /// Replies how many groups are open now.
+    /// Replies how many groups are open.
     Reply end() const { return give("end", {}); }
 
     /// Replies the connection's number. It also takes `type`, `unique`, `single`.
@@ -162,13 +162,13 @@ public:
     /// Replies `true`; `false` if the object has no such method. It also takes `type`, `priority`.
     Reply invoke(Number object, const QString &method, const QVariantList &args, const QVariantMap &more = {}) const { return give("invoke", {{QStringLiteral("object"), object}, {QStringLiteral("method"), method}, {QStringLiteral("args"), args}}, more); }
 
-    /// Replies whether its signals were blocked before.
+    /// Replies whether its signals were blocked.
     Reply block(Number object, bool on) const { return give("block", {{QStringLiteral("object"), object}, {QStringLiteral("on"), on}}); }
 
     /// Replies `true`.
     Reply publish(Number object, const QString &signal, const QString &name) const { return give("publish", {{QStringLiteral("object"), object}, {QStringLiteral("signal"), signal}, {QStringLiteral("name"), name}}); }
 
-    /// Replies whether there was a publication of this name.
+    /// Replies whether the name was published.
     Reply unpublish(const QString &name) const { return give("unpublish", {{QStringLiteral("name"), name}}); }
 
     /// Replies `true`.
@@ -204,7 +204,7 @@ public:
     /// Replies an array of at most 1,000 bound properties. It also takes `after`.
     Reply bindings(const QVariantMap &more = {}) const { return give("bindings", {}, more); }
 
-    /// Replies the expression as bound; null if not bound.
+    /// Replies the expression as bound, or null.
     Reply binding(Number object, const QString &property) const { return give("binding", {{QStringLiteral("object"), object}, {QStringLiteral("property"), property}}); }
 
     /// Replies an array of publications.
