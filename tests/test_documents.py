@@ -146,7 +146,7 @@ class Made(Cases):
         self.assertEqual(self.ran("--check"), (0, "", ""))
 
     def lay_out(self, page: str = "<!-- table: crates -->\nold\n<!-- end of table -->\n") -> Path:
-        """A repository of four crates. One names both another and what is below that, and its proofs use lemmas of two."""
+        """A repository of four crates. One names both another and what is below that."""
         (self.room / "docs" / "internals").mkdir(parents=True)
         (self.room / "docs" / "internals" / "ARCHITECTURE.md").write_text(f"before\n{page}after\n")
         (self.room / "crates.txt").write_text("# Base\nlow: serde_json\nside: low\nhigh: low side itoa\nabove status=3: high side low\n")
@@ -154,22 +154,17 @@ class Made(Cases):
             source = self.room / "crates" / name / "src" / root
             source.parent.mkdir(parents=True)
             source.write_text(f"//! {SAID.get(name, f'What {name}')}\n//! is. More of it.\n//!\n//! And more.\nmod a;\n")
-        lemmas = self.room / "crates" / "high" / "proofs" / "one" / "Lemmas.antt"
-        lemmas.parent.mkdir(parents=True)
-        names = ("low", "json", "high", "std")
-        lemmas.write_text("".join(f"use Rattle.{it}.proofs.Lemmas.{{it}}\n" for it in names) + "use Rattle.side.specs.It.{it}\n")
         return self.room / "docs" / "internals" / "ARCHITECTURE.md"
 
     def test_made(self) -> None:
-        """A crate's row has its first sentence without details, what it names except what is below another one that it
-        names, and the crates whose lemmas its proofs use, except itself and the standard library."""
+        """A crate's row has its first sentence without details, and what it names except what is below another one that it
+        names."""
         page = self.lay_out()
         self.assertEqual(self.ran("--check", "--root", self.room)[0], 1, "before it is written")
         self.assertEqual(self.ran("--root", self.room), (0, "docs/internals/ARCHITECTURE.md: written\n", ""))
         self.assertEqual(self.ran("--check", "--root", self.room), (0, "", ""))
-        rows = ["| `low` | What low is | | |", "| `side` | Keeps what is aside | `low` | |", "| `high` | Highest | `side` | `json`, `low` |"]
-        head = ["| crate | what it is | builds on | uses lemmas of |", "|---|---|---|---|"]
-        wanted = [*head, *rows, "| `above` | What above is | `high` | |"]
+        rows = ["| `low` | What low is | |", "| `side` | Keeps what is aside | `low` |", "| `high` | Highest | `side` |"]
+        wanted = ["| crate | what it is | builds on |", "|---|---|---|", *rows, "| `above` | What above is | `high` |"]
         head, *lines, end = page.read_text().split("<!-- ")
         self.assertEqual((head, end), ("before\n", "end of table -->\nafter\n"))
         self.assertEqual(lines[0].split("-->\n")[1].strip().splitlines(), wanted)

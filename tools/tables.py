@@ -19,7 +19,6 @@ BETWEEN = r"(<!-- table: {} -->\n).*?(<!-- end of table -->\n)"
 SENTENCE = re.compile(r"(.+?)\.(?= |$)")
 SUBJECT = re.compile(r"[^:;]+(?=[:;] |$)")  # what a sentence says before it gives details
 KEEPS = re.compile(r"^This crate (\w)")
-IMPORT = re.compile(r"^use Rattle\.(\w+)\.proofs\.", re.MULTILINE)
 
 Crates = Dict[str, List[str]]
 
@@ -54,12 +53,6 @@ def builds_on(name: str, crates: Crates) -> List[str]:
     return [it for it in named if it not in covered]
 
 
-def lenders(crate: Path) -> List[str]:
-    """The crates whose lemmas the proofs of a crate use, except the standard library."""
-    texts = (path.read_text() for path in crate.joinpath("proofs").rglob("*.antt"))
-    return sorted({name for text in texts for name in IMPORT.findall(text)} - {crate.name, "std"})
-
-
 def description_of(crate: Path) -> str:
     """What a crate is: the first sentence of its own description, which its root file begins with, without details."""
     sources = [it for it in (crate / "src" / "lib.rt", crate / "src" / "main.rt") if it.is_file()]
@@ -84,12 +77,11 @@ def cell(names: List[str]) -> str:
 
 
 def table_of_crates(root: Path) -> str:
-    """Each crate, what it is, what it builds on, and whose lemmas its proofs use."""
+    """Each crate, what it is, and what it builds on."""
     crates = crates_of(root)
-    rows = ["| crate | what it is | builds on | uses lemmas of |", "|---|---|---|---|"]
+    rows = ["| crate | what it is | builds on |", "|---|---|---|"]
     for name in crates:
-        path = root / "crates" / name
-        rows.append(f"| `{name}` | {description_of(path)} |{cell(builds_on(name, crates))}|{cell(lenders(path))}|")
+        rows.append(f"| `{name}` | {description_of(root / 'crates' / name)} |{cell(builds_on(name, crates))}|")
     return "".join(f"{row}\n" for row in rows)
 
 
