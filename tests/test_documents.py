@@ -113,14 +113,14 @@ class Way(Cases):
     """The functions on the path of two lines in docs/internals/ARCHITECTURE.md."""
 
     def test_functions(self) -> None:
-        """Each is in the file that is named with it, and each row of the tables names one."""
+        """Each is in the file that is named with it, and each step of a path names one."""
         for title, least in (("The path of a line", 20), ("The path of a `bind`", 10)):
             way = section(ARCHITECTURE.read_text(), title)
             gone = [it for it in OF_SOURCE.findall(way) if not self.is_there(*it)]
             self.assertEqual(gone, [], "functions that are not there")
-            rows = [line for line in way.splitlines() if line.startswith("| `")]
-            self.assertEqual([it for it in rows if not OF_SOURCE.match(it.partition("| ")[2])], [], "rows that begin with no function")
-            self.assertGreater(len(rows), least)
+            steps = [line for line in way.splitlines() if re.match(r"\d+\. ", line)]
+            self.assertEqual([it for it in steps if not OF_SOURCE.match(it.partition(". ")[2])], [], "steps that begin with no function")
+            self.assertGreater(len(steps), least)
 
     def is_there(self, path: str, name: str) -> bool:
         file = CRATES / path
