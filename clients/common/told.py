@@ -112,10 +112,10 @@ def know_queue(held: Held, done: Done) -> bool:
     """How many events wait; whether the reply has told it."""
     reply = done.reply if isinstance(done.reply, dict) else {}
     left = reply.get("left" if done.word == "spin" else "queued")
-    is_told = done.word in ("spin", "status") and isinstance(left, int)
-    if is_told:
-        held.queued, held.is_queue_sure = left, True
-    return is_told
+    if done.word not in ("spin", "status") or not isinstance(left, int):
+        return False
+    held.queued, held.is_queue_sure = left, True
+    return True
 
 
 def know_read(held: Held, done: Done) -> None:

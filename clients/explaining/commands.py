@@ -164,8 +164,8 @@ def form_of(word: str, required: Mapping[str, str], optional: Mapping[str, str],
     name = "said_of_" + re.sub("(?=[A-Z])", "_", word).lower()
     said_of = getattr(reads, name, None) or getattr(said, name)
     words = {**NO_CLASS, **(NO_PROPERTY if "property" in required else {}), **REFUSED.get(word, {})}
-    keys = [{key: HOLDS[kind] for key, kind in kinds.items()} for kinds in (required, optional)]
-    return Form(said_of, REPLIES[reply], *keys, {code: words[code] for code in codes if code in words})
+    needed, other = ({key: HOLDS[kind] for key, kind in kinds.items()} for kinds in (required, optional))
+    return Form(said_of, REPLIES[reply], needed, other, {code: words[code] for code in codes if code in words})
 
 
 FORMS = {word: [form_of(word, *form) for form in forms] for word, forms in KNOWN.items()}

@@ -6,12 +6,13 @@ from dataclasses import dataclass
 from typing import Any, Callable, Collection, Dict, NoReturn
 
 from common.changes import LINE_CODES
+from common.objects import Misfit
 
 from . import replies
 from .commands import IS_META, IS_SPIN, IS_STATUS, Command
 from .faults import faults_in
 from .held import Holds, has, is_any, is_list, is_number, is_text, is_whole, json_object
-from .words import Misfit, arguments, coded, in_error, listed, misfit, plain, shown
+from .words import arguments, coded, in_error, listed, misfit, plain, shown
 
 NO_SESSION = "-"  # what a line names where its command names no session
 NO_COMMAND, NO_OBJECT = "E02", "E04"

@@ -6,13 +6,14 @@ from dataclasses import dataclass, field
 from typing import Callable, Iterator
 
 from common.files import Said
+from common.objects import Misfit
 
 from .commands import Command
 from .drawing import MARKS
 from .knowledge import Knowledge
 from .lines import NO_SESSION, Error, Line, OfFront, line_of
 from .refusing import further
-from .words import Misfit, counted, plain
+from .words import counted, plain
 
 
 @dataclass

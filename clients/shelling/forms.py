@@ -27,13 +27,17 @@ class Request:
     name: Optional[str] = None
 
 
+Reader = Callable[[Words, Scene], Request]
+"""Reads the words after a command's word."""
+
+
 @dataclass(frozen=True)
 class Form:
     """A short form: how it is written, what it does, and how the words after it are read."""
 
     usage: str
     does: str
-    read: Callable[[Words, Scene], Request]
+    read: Reader
 
 
 def given(**keys: Any) -> Dict[str, Any]:
@@ -49,12 +53,12 @@ def read_new(words: Words, scene: Scene) -> Request:
     return Request("new", keys, scene.name_at(words))
 
 
-def of_object(do: str, **more: Any) -> Callable[[Words, Scene], Request]:
+def of_object(do: str, **more: Any) -> Reader:
     """Reads a command of an object, with further keys."""
     return lambda words, scene: Request(do, {"object": scene.object_at(words), **more})
 
 
-def of_property(do: str) -> Callable[[Words, Scene], Request]:
+def of_property(do: str) -> Reader:
     """Reads a command of a property."""
 
     def read(words: Words, scene: Scene) -> Request:
@@ -64,12 +68,12 @@ def of_property(do: str) -> Callable[[Words, Scene], Request]:
     return read
 
 
-def of_nothing(do: str) -> Callable[[Words, Scene], Request]:
+def of_nothing(do: str) -> Reader:
     """Reads a command that has nothing but its word."""
     return lambda words, scene: Request(do, {})
 
 
-def of_name(do: str, key: str, wanted: str) -> Callable[[Words, Scene], Request]:
+def of_name(do: str, key: str, wanted: str) -> Reader:
     """Reads a command that has a name."""
     return lambda words, scene: Request(do, {key: words.take(NAME, wanted)})
 
@@ -218,14 +222,14 @@ def read_bindings(words: Words, scene: Scene) -> Request:
 
 
 OWN_WAYS = ("get",)  # commands that are typed otherwise
-PLAIN_READERS = {
+PLAIN_READERS: Dict[str, Callable[[str], Reader]] = {
     "nothing": of_nothing,
     "object": of_object,
     "property": of_property,
     "class": lambda do: of_name(do, "class", "a class"),
     "name": lambda do: of_name(do, "name", "a name"),
 }
-SPECIAL: Dict[str, Tuple[str, Callable[[Words, Scene], Request]]] = {
+SPECIAL: Dict[str, Tuple[str, Reader]] = {
     "new": ("new CLASS [in OBJECT] [as NAME]", read_new),
     "setParent": ("setParent OBJECT to OBJECT|null", read_set_parent),
     "children": ("children [OBJECT]", read_children),

@@ -8,9 +8,10 @@ from typing import IO, Any, Dict, List, Mapping, Optional
 
 import metad
 from common.asked import OBJECT_KEYS
+from common.objects import Misfit
 from explaining.commands import FORMS
 from explaining.refusing import further
-from explaining.words import CODES, ERRORS, Misfit, plain, shown
+from explaining.words import CODES, ERRORS, plain, shown
 
 from .known import Known
 from .prompting import Prompt

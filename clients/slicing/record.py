@@ -7,7 +7,7 @@ import json
 from dataclasses import dataclass
 from typing import Iterator, List, NamedTuple, Optional, Sequence
 
-from explaining.commands import LINE_BYTES
+from explaining.known_commands import LINE_BYTES
 from explaining.lines import NO_SESSION
 from common.ending import Stop
 

@@ -4,7 +4,7 @@ from __future__ import annotations
 
 from typing import Dict, Iterable, Iterator, List, Optional, Sequence
 
-from explaining.telling import Said
+from common.files import Said
 from explaining.words import counted
 
 from .comparing import Difference

@@ -1,12 +1,17 @@
 """The Python client over TLS and TCP: what it receives, how it ends, and what it says of certificates."""
 
 import asyncio
+import os
 import socket
 import ssl
 import threading
+from contextlib import suppress
+from unittest import mock
 
 import metad
 from metad import aio
+
+from tests.support.lines import text_of
 
 from .certificates import Authority
 from .fronts import PATIENCE, Client
@@ -95,6 +100,27 @@ class OverTls(NetworkCases):
             self.raised("a file that is not there", FileNotFoundError, metad.connect, place, tls=missing)
             with Client(path) as client:
                 self.assertEqual(client.name(), "c1", "nobody was let in before")
+
+    def test_monitor(self):
+        """A monitor reads lines over TLS, from whatever passes on those of a front, up to their end."""
+        told = [{"reply": 1, "session": "one"}, {"reply": TEXT, "session": "two"}]
+        context = ssl.SSLContext(ssl.PROTOCOL_TLS_SERVER)
+        context.load_cert_chain(*self.authority.server())
+
+        def write():
+            with listener.accept()[0] as link, context.wrap_socket(link, server_side=True) as sealed:
+                sealed.sendall("".join(f"{text_of(it)}\n" for it in told).encode())
+                with suppress(OSError):  # the client closes without TLS's own answer to the end
+                    sealed.unwrap()
+
+        with socket.create_server(("127.0.0.1", 0)) as listener:
+            listener.settimeout(PATIENCE)
+            thread = threading.Thread(target=write, daemon=True)
+            thread.start()
+            with mock.patch.dict(os.environ, SSL_CERT_FILE=str(self.authority.certificate)):
+                with metad.monitor(f"tls://localhost:{listener.getsockname()[1]}") as monitor:
+                    self.assertEqual(list(monitor), told)
+            thread.join(PATIENCE)
 
     def test_cut(self):
         """A front that ends cuts connections, and commands raise that at once."""

@@ -43,6 +43,7 @@ REPLIES = {
 }
 BY_NAME = ("way", "truth", "priority")  # kinds of optional keys that are given by their names only
 LISTS = ("texts", "values")
+OF_SESSIONS = ("reset",)  # what the sessions have as methods of their own, which do more than to give the command
 COMMANDS = '''\
 # {head}
 """The commands of the protocol: each function returns what is to be asked, with the kind of its reply.
@@ -80,13 +81,13 @@ from .asking import awaiting, batching, waiting
 
 
 class Waiting:
-    """The commands, each as a method that gives it and waits for the reply."""
+    """The commands, each as a method that gives it and waits for the reply; `reset` is written in `Session`."""
 
 {waiting}
 
 
 class Awaiting:
-    """The commands, each as a method that gives it and awaits the reply."""
+    """The commands, each as a method that gives it and awaits the reply; `reset` is written in `Session`."""
 
 {awaiting}
 
@@ -106,7 +107,11 @@ def commands() -> str:
 def session_commands() -> str:
     """The methods of both kinds of sessions, and of batches."""
     names = [name_of(it.word) for it in protocol.all_commands()]
-    made = {way: "\n".join(f"    {name} = {way}(commands.{name})" for name in names) for way in ("waiting", "awaiting", "batching")}
+    of_sessions = [name for name in names if name not in OF_SESSIONS]
+    made = {
+        way: "\n".join(f"    {name} = {way}(commands.{name})" for name in those)
+        for way, those in (("waiting", of_sessions), ("awaiting", of_sessions), ("batching", names))
+    }
     return METHODS.format(head=HEAD, **made)
 
 

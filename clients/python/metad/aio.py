@@ -36,7 +36,7 @@ from .descriptions import BindingInfo, ConnectionInfo
 from .dumping import Result, Steps, all_bindings, all_connections, commands_of, replaying, snapshot, text_of
 from .errors import ClassFileRefused, NotAnswered, OtherSession, Refused
 from .finding import proxies_of
-from .hearing import Hearing, OnCall, OnWarning
+from .hearing import Hearing, Listening, OnCall, OnWarning
 from .holding import START_SECONDS, Holder, class_words
 from .inside import TURNS, opened
 from .lines import Value
@@ -126,7 +126,7 @@ class Session(Awaiting, Hearing):
 
     async def reset(self) -> bool:
         """Puts the session back to how it is before its first command; nobody listens to single slots any more."""
-        done = await super().reset()
+        done = await self.ask(commands.reset())
         self._forget_listeners()
         return done
 
@@ -177,7 +177,7 @@ class Session(Awaiting, Hearing):
         """Gives the commands of a `dump_commands` to this session. Raises `NotFresh` if it has had objects before."""
         await self._gathered(replaying(given))
 
-    async def listen(self, from_: str, name: str, types: Sequence[str], told: Callable[..., object]) -> Heard:
+    async def listen(self, from_: str, name: str, types: Sequence[str], told: Listening) -> Heard:
         """Has a function called for what another session publishes under a name, with these types: as it comes in a live
         session, otherwise when this one spins. It needs a relay, see `with_relay`."""
         return await hear_post(self, from_, name, types, told)

@@ -16,7 +16,7 @@ from .descriptions import BindingInfo, ConnectionInfo
 from .dumping import Result, Steps, all_bindings, all_connections, commands_of, replaying, snapshot, text_of
 from .errors import NotAnswered, OtherSession, Refused
 from .finding import proxies_of
-from .hearing import Hearing, OnCall, OnWarning
+from .hearing import Hearing, Listening, OnCall, OnWarning
 from .holding import START_SECONDS, Holder, class_words
 from .lines import Value, command_line
 from .pairing import reply_of
@@ -115,7 +115,7 @@ class Session(Waiting, Hearing):
 
     def reset(self) -> bool:
         """Puts the session back to how it is before its first command; nobody listens to single slots any more."""
-        done = super().reset()
+        done = self.ask(commands.reset())
         self._forget_listeners()
         return done
 
@@ -176,7 +176,7 @@ class Session(Waiting, Hearing):
         """Gives the commands of a `dump_commands` to this session. Raises `NotFresh` if it has had objects before."""
         self._gathered(replaying(given))
 
-    def listen(self, from_: str, name: str, types: Sequence[str], told: Callable[..., object]) -> Heard:
+    def listen(self, from_: str, name: str, types: Sequence[str], told: Listening) -> Heard:
         """Has a function called for what another session publishes under a name, with these types: as it comes in a live
         session, otherwise when this one spins. It needs a relay, see `with_relay`."""
         return hear_post(self, from_, name, types, told)

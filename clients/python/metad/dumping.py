@@ -81,7 +81,11 @@ def one_level(shot: Snapshot, level: Sequence[int]) -> Steps[List[int]]:
 
 def all_connections(object: Optional[int] = None) -> Steps[List[ConnectionInfo]]:
     """Asks for all connections, or those of an object."""
-    return (yield from pages(lambda last: commands.connections(object, None if last is None else last["connection"])))
+
+    def ask(last: Optional[ConnectionInfo]) -> Asked[List[ConnectionInfo]]:
+        return commands.connections(object, None if last is None else last["connection"])
+
+    return (yield from pages(ask))
 
 
 def all_bindings() -> Steps[List[BindingInfo]]:
@@ -197,7 +201,7 @@ def commands_of(shot: Snapshot) -> List[Dict[str, Value]]:
 def in_place(shot: Snapshot, parent: Optional[int] = None) -> Iterator[Tuple[int, Optional[int]]]:
     """The objects that are in their places as soon as they are made in the order of their numbers, with their parents."""
     last = parent or 0
-    for number in shot.roots if parent is None else shot.children.get(parent, ()):
+    for number in shot.roots if parent is None else shot.children.get(parent, []):
         if number < last:
             return
         last = number

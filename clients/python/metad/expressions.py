@@ -47,16 +47,16 @@ class Expression:
         return _of_two("<", other, self)
 
     def __le__(self, other: Any) -> Expression:
-        return ~(self > other)
+        return ~_of_two("<", other, self)
 
     def __ge__(self, other: Any) -> Expression:
-        return ~(self < other)
+        return ~_of_two("<", self, other)
 
     def __eq__(self, other: Any) -> Expression:  # type: ignore[override]
         return _of_two("=", self, other)
 
     def __ne__(self, other: Any) -> Expression:  # type: ignore[override]
-        return ~(self == other)
+        return ~_of_two("=", self, other)
 
     def __invert__(self) -> Expression:
         return choose(self, False, True)

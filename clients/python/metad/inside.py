@@ -80,7 +80,9 @@ class InsideConnection(Connection):
 
     def _end(self) -> Fault:
         failure = self._inside.failure()
-        return partial(ServerGone, *failure) if failure else super()._end()
+        if failure:
+            return partial(ServerGone, *failure)
+        return super()._end()
 
 
 def opened(library: Optional[Word], classes: Optional[Dict[str, Value]], turns: int) -> InsideConnection:

@@ -17,13 +17,15 @@ NOBODY = "-"
 """The session of the answer to a line that cannot be attributed to any session."""
 
 ENCODER = json.JSONEncoder(ensure_ascii=False, separators=(",", ":"), default=as_json, allow_nan=False)
-scan = json.JSONDecoder().scan_once
+scan: Callable[[str, int], Tuple[Value, int]] = getattr(json.JSONDecoder(), "scan_once")
+"""Reads a value in a text from a place on: the value, and where it ends. The types of `json` do not name this."""
 
 FORMS: Dict[Tuple[str, ...], str] = {}
 """The lines of commands without their values, by the session, the word and the names of the keys."""
 
 FORMS_MOST = 1_000
-quoted = json.encoder.encode_basestring
+quoted: Callable[[str], str] = getattr(json.encoder, "encode_basestring")
+"""Writes a text as JSON. The types of `json` do not name this."""
 
 NO_COMMAND = b"{}\n"
 """A line that is no command: it is answered by `E02` for nobody, and enters no session."""
@@ -159,7 +161,7 @@ def encoder() -> Callable[[Value], str]:
     make = getattr(json.encoder, "c_make_encoder", None)
     if make is None:
         return ENCODER.encode
-    encode = make(None, as_json, json.encoder.encode_basestring, None, ":", ",", False, False, False)
+    encode = make(None, as_json, quoted, None, ":", ",", False, False, False)
     return lambda value: "".join(encode(value, 0))
 
 

@@ -8,7 +8,7 @@ from .asking import awaiting, batching, waiting
 
 
 class Waiting:
-    """The commands, each as a method that gives it and waits for the reply."""
+    """The commands, each as a method that gives it and waits for the reply; `reset` is written in `Session`."""
 
     new = waiting(commands.new)
     delete = waiting(commands.delete)
@@ -48,11 +48,10 @@ class Waiting:
     classes = waiting(commands.classes)
     describe = waiting(commands.describe)
     functors = waiting(commands.functors)
-    reset = waiting(commands.reset)
 
 
 class Awaiting:
-    """The commands, each as a method that gives it and awaits the reply."""
+    """The commands, each as a method that gives it and awaits the reply; `reset` is written in `Session`."""
 
     new = awaiting(commands.new)
     delete = awaiting(commands.delete)
@@ -92,7 +91,6 @@ class Awaiting:
     classes = awaiting(commands.classes)
     describe = awaiting(commands.describe)
     functors = awaiting(commands.functors)
-    reset = awaiting(commands.reset)
 
 
 class Batching:

@@ -88,16 +88,16 @@ class TlsLink:
         finally:
             self._sending.release()
 
-    def read_into(self, buffer: memoryview) -> int:
-        """Reads at least one byte into a buffer, and returns how many; 0 at the end."""
+    def recv(self, size: int) -> bytes:
+        """Reads at least one byte, and at most so many; nothing at the end."""
         while True:
             with self._using:
                 try:
-                    return cast(int, self._sealed.read(len(buffer), buffer))
+                    return self._sealed.read(size)
                 except ssl.SSLWantReadError:
                     pass
                 except (ssl.SSLZeroReturnError, ssl.SSLEOFError):
-                    return 0
+                    return b""
             self._send_rest(False)
             self._take()
 
@@ -136,7 +136,9 @@ class _Reading(io.RawIOBase):
         return True
 
     def readinto(self, buffer: memoryview) -> int:  # type: ignore[override]
-        return self._of.read_into(buffer)
+        data = self._of.recv(len(buffer))
+        buffer[: len(data)] = data
+        return len(data)
 
 
 class _Writing(io.RawIOBase):
