@@ -5,6 +5,7 @@ from __future__ import annotations
 
 import json
 import os
+import re
 import shutil
 import subprocess
 import sys
@@ -192,6 +193,54 @@ class Archive(Tools):
         ran = self.archive(self.repository, "top_c")
         self.assertEqual((ran.returncode, ran.stderr.count(b"\n")), (1, 1), ran.stderr)
         self.assertEqual(self.archive("--help").returncode, 0)
+
+
+class Installing(Tools):
+    """What the gate installs for its tests."""
+
+    PACKAGES = ("mypy", "flake8")
+
+    def setUp(self) -> None:
+        super().setUp()
+        self.calls = self.room / "calls"
+        for name in self.PACKAGES:
+            self.put(name, "#!/bin/sh\n")
+
+    def installs(self, user: int, status: int = 0) -> str:
+        """What `make python-needs` says for a user, where apt-get notes its words and ends with a status."""
+        self.calls.unlink(missing_ok=True)
+        self.put("id", f"#!/bin/sh\necho {user}\n")
+        self.put("apt-get", f'#!/bin/sh\necho "$*" >> "{self.calls}"\nexit {status}\n')
+        ran = self.ran("make", "-s", "-C", ROOT, "python-needs")
+        self.assertEqual((ran.returncode, ran.stderr), (0, b""))
+        return ran.stdout.decode()
+
+    def test_gate(self) -> None:
+        """`make test` makes all the targets that install what tests need."""
+        text = (ROOT / "Makefile").read_text()
+        targets = re.findall(r"^([a-z]+-needs):", text, re.MULTILINE)
+        ran = self.ran("make", "-n", "-C", ROOT, "test", "NEEDS=@true", "MAKE=echo making")
+        made = [line.split() for line in ran.stdout.decode().splitlines() if line.startswith("echo making")]
+        self.assertEqual(sorted(it for line in made for it in line if it.endswith("-needs")), sorted(targets), ran.stderr)
+        self.assertIn("python-needs", targets)
+
+    def test_there(self) -> None:
+        """Nothing is installed or said where all is there."""
+        self.assertEqual((self.installs(0), self.calls.exists()), ("", False))
+
+    def test_missing(self) -> None:
+        """Where mypy or flake8 is missing, root installs both from Debian; others are told what to install."""
+        for name in self.PACKAGES:
+            (self.path / name).rename(self.room / name)
+            with self.subTest(name):
+                self.assertEqual(self.installs(0), "")
+                update, install = self.calls.read_text().splitlines()
+                self.assertTrue(update.endswith("update -q"), update)
+                self.assertTrue(install.endswith(" install -y -q --no-install-recommends mypy flake8"), install)
+                self.assertIn("cannot be installed, so the test of the types in Python is skipped", self.installs(0, status=100))
+                self.assertIn("apt-get install mypy flake8\n", self.installs(1_000))
+                self.assertFalse(self.calls.exists(), "another user installs nothing")
+            (self.room / name).rename(self.path / name)
 
 
 class Needs(Tools):
