@@ -32,7 +32,7 @@ REFUSED = {  # commands after those, with what is wrong with them by docs/PROTOC
 }
 MEANING = re.compile(r"E\d\d: .*")
 TO_DO = {
-    "E02": "to do: compare it with the row of its command in PROTOCOL.md; an unknown key is a fault too",
+    "E02": "to do: compare it with the row of its command in PROTOCOL.md",
     "E04": "to do: forget the number; it never means another object",
 }
 

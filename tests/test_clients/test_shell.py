@@ -299,7 +299,7 @@ class Words(ShellCases):
         server = ("sh", "-c", f"read line; echo '{made}'; read line; echo '{failed}'; cat > /dev/null")
         said = self.said("new Probe as p\nstatus\np.ping()\n", server=server).splitlines()
         self.assertTrue(said[1].startswith("refused, E20: the session has failed"), said)
-        self.assertEqual(said[2:], ["    to do: `reset` the session, and make its objects again; other sessions go on", "not sent: p is gone: object 1 was deleted"])
+        self.assertEqual(said[2:], ["    to do: `reset` the session, and make its objects again", "not sent: p is gone: object 1 was deleted"])
 
     def test_sessions(self):
         """Names belong to their session. Lines of another session say whose they are."""

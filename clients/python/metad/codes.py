@@ -7,12 +7,9 @@ from .code_meanings import MEANINGS
 __all__ = ["ADVICE", "BINDING_ERRORS", "MEANINGS", "advice_on", "meaning_of"]
 
 ADVICE = {
-    "E01": (
-        "fix what writes the line. The answer is for the session `-`: only its place among the answers shows which "
-        "line it was"
-    ),
-    "E02": "compare it with the row of its command in PROTOCOL.md; an unknown key is a fault too",
-    "E03": "check that the server runs with the right class file; `meta` describes a class",
+    "E01": "fix what writes the line; only the place of the answer shows which line it was",
+    "E02": "compare it with the row of its command in PROTOCOL.md",
+    "E03": "check which class file the server runs with",
     "E04": "forget the number; it never means another object",
     "E05": "look it up with `meta`",
     "E06": "write it as `meta` does: a name and types in parentheses",
@@ -20,25 +17,22 @@ ADVICE = {
     "E08": "usually nothing: the connection exists",
     "E09": "leave `unique` out, and keep the number of the connection",
     "E10": "look at the table of functors",
-    "E11": "look with `meta` at what the class declares; fix the class file",
+    "E11": "look it up with `meta`",
     "E12": "move the parent out first",
-    "E13": "in slots that hear `destroyed()`, do not connect the sender to anything new",
+    "E13": "do not connect, move or delete it",
     "E14": (
-        "make room: delete, disconnect, `unbind`, `end`, `unpublish`, `leave`, `spin`; shorten the text or the "
-        "expression. For the warning look for a cycle of signals"
+        "make room: delete, disconnect, `unbind`, `end`, `unpublish`, `leave`, `spin`; shorten the text or expression; "
+        "for the warning look for a cycle of signals"
     ),
     "E15": "`unpublish` it first, or choose another name",
     "E16": "connect the signal within the session",
-    "E17": "match each `end` with a `begin`; their replies say how many are open",
+    "E17": "match each `end` with a `begin`",
     "E18": 'put `"bindable":true` into the class file',
     "E19": "`reset`, or go on in a new session",
-    "E20": "`reset` the session, and make its objects again; other sessions go on",
-    "E21": (
-        "if `status` shows that the session has failed, `reset` it and make its objects again; for the session `-` "
-        "send the line again"
-    ),
-    "E22": "give a value of the type; numbers in quotes are texts. A binding has no `arg`, and its `of` is a number",
-    "E23": "look for a slot that calls itself; `spin` again; otherwise start with more `--turns`",
+    "E20": "`reset` the session, and make its objects again",
+    "E21": "if the session has failed, `reset` it and make its objects again; for the session `-` send the line again",
+    "E22": "give a value of the type; numbers in quotes are texts, and bindings have no `arg`",
+    "E23": "look for a slot that calls itself; `spin` again, or give more `--turns`",
 }
 """What to do about each code, as docs/PROTOCOL.md has it."""
 
