@@ -30,15 +30,15 @@ SHOWN = (TUTORIAL, COOKBOOK, QT)  # the pages with recipes, programs and runs of
 WORDS_OF_RECIPE = 200
 WORDS_MOST = {
     "README.md": 1_200,
-    "docs/TUTORIAL.md": 3_000,
-    "docs/PROTOCOL.md": 7_250,
-    "docs/QT.md": 2_750,
-    "docs/COOKBOOK.md": 2_650,
-    "docs/OPERATING.md": 1_800,
-    "docs/LIBRARY.md": 900,
+    "docs/TUTORIAL.md": 2_850,
+    "docs/PROTOCOL.md": 6_500,
+    "docs/QT.md": 2_500,
+    "docs/COOKBOOK.md": 2_350,
+    "docs/OPERATING.md": 1_350,
+    "docs/LIBRARY.md": 800,
     "clients/python/README.md": 1_500,
-    **dict.fromkeys(("docs/FRONT.md", "docs/LIMITS.md"), 1_350),
-    **dict.fromkeys(("docs/SCALING.md", "docs/WEB.md", "docs/WORKERS.md"), 1_100),
+    **dict.fromkeys(("docs/FRONT.md", "docs/LIMITS.md"), 1_100),
+    **dict.fromkeys(("docs/SCALING.md", "docs/WEB.md", "docs/WORKERS.md"), 950),
     "clients/inspecting/README.md": 1_250,
 }
 RUN_BY_TESTS = re.compile(r"^```(?:session|part|console|shell|python)\b", re.MULTILINE)
