@@ -20,12 +20,13 @@ from .plain.classes import Classes
 from .plain.world import Server
 from .support.cases import ProgramCases
 from .support.lines import lines_of, text_of
+from .support.markdown import section
 from .support.program import ROOT
 from .support.seeds import seed_of
 
 PAGE = ROOT / "docs" / "SCALING.md"
 RUNS, GROUPS, SERVERS_MOST = 20, 8, 4
-ROW = re.compile(r"^\| (.*) \| (.*) \| ((?:measured|estimated)[^|]*) \|$", re.MULTILINE)
+ROW = re.compile(r"^\| (?!what )(.*) \| (.*) \|$", re.MULTILINE)
 SUM = re.compile(r"`([0-9,.*/()^ ]+) = ([0-9,.]+)`")
 COMMAND = re.compile(r"^```\n((?:(?!```).*\n)+)```$", re.MULTILINE)
 PING = '{"do":"invoke","object":1,"method":"ping()","args":[]}'
@@ -191,11 +192,10 @@ class Page(ProgramCases):
         self.assertTrue((ROOT / commands[2][-1]).is_file(), commands[2])
 
     def test_sums(self):
-        """Each figure is said to be measured or estimated, and an estimate is the result of its sum."""
-        rows = ROW.findall(PAGE.read_text())
-        self.assertEqual(len(rows), sum(it.startswith("| ") and "|---" not in it for it in PAGE.read_text().splitlines()) - 2)
-        estimated = [(what, value) for what, value, how in rows if how == "estimated"]
-        self.assertGreaterEqual(len(estimated), 10, "figures that are estimated")
+        """An estimate is the result of its sum, and what was measured is no sum."""
+        measured, estimated = map(ROW.findall, section(PAGE.read_text(), "What to expect").split("\n### Estimated\n"))
+        self.assertEqual([what for what, value in measured if SUM.search(value)], [], "figures that are measured and have a sum")
+        self.assertGreaterEqual(min(len(measured), len(estimated)), 10)
         for what, value in estimated:
             with self.subTest(what):
                 (left, right), *_ = SUM.findall(value)
