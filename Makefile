@@ -7,7 +7,8 @@
 #             it may, and otherwise says which; with the library of metad-web, for its tests
 # make qt-needs  installs the Debian packages that the tests of the Qt client need, where it may, and otherwise says which
 # make library-needs  installs the Debian packages that the tests of libmetad need, where it may, and otherwise says which
-# make python-needs  installs mypy for the test of the types in Python, and flake8 for make lint, where it may, and otherwise says so
+# make test-needs  installs the Debian packages of programs without which other tests are skipped, and flake8 for make lint, where
+#             it may, and otherwise says which
 # make test   proves everything from nothing, and runs every test
 # make tests  runs every test on bin/metad as it is; make rows, random, program, slice, memory, nests, spared,
 #             classes, clients, documents, surprises, phrases, machines, machines_files, hosting, scaling, measures, tools, embedded, test_lists and test_install run those of tests/test_rows and so on
@@ -35,7 +36,7 @@ PYTHON_OF_TESTS = 3.11
 NEEDS = @CC="$(CC)" sh tools/needs.sh
 TRY = (make try answers a session in about two minutes, not proved)
 
-.PHONY: all library library_of_tests try run front front-needs qt-needs library-needs python-needs test_front test budget needs_of_tests tests $(TESTS) soak test_lists test_install test_package libraries bench lists tables lint install uninstall dist deb clean
+.PHONY: all library library_of_tests try run front front-needs qt-needs library-needs test-needs test_front test budget needs_of_tests tests $(TESTS) soak test_lists test_install test_package libraries bench lists tables lint install uninstall dist deb clean
 
 all: bin/metad
 
@@ -114,13 +115,13 @@ qt-needs:
 library-needs:
 	@sh tools/library_needs.sh
 
-python-needs:
-	@sh tools/python_needs.sh
+test-needs:
+	@sh tools/test_needs.sh
 
 test:
 	$(NEEDS) rt cc python3=$(PYTHON_OF_TESTS)
 	@echo "Proving everything and running every test takes an hour or more on four processors $(TRY)"
-	$(MAKE) --no-print-directory budget front-needs qt-needs library-needs python-needs
+	$(MAKE) --no-print-directory budget front-needs qt-needs library-needs test-needs
 	rt ci
 	python3 tools/archive.py . $(LIBRARY)
 	mkdir -p bin

@@ -198,49 +198,69 @@ class Archive(Tools):
 class Installing(Tools):
     """What the gate installs for its tests."""
 
-    PACKAGES = ("mypy", "flake8")
+    PACKAGES = {  # of Debian, by their programs
+        "mypy": "mypy", "flake8": "flake8", "haproxy": "haproxy", "promtool": "prometheus", "dot": "graphviz", "strace": "strace",
+        "logrotate": "logrotate", "chromium": "chromium", "node": "nodejs", "tsc": "node-typescript", "groff": "groff",
+        "openssl": "openssl", "objdump": "binutils", "dpkg-deb": "dpkg-dev",
+    }  # fmt: skip
+    OTHERS = ("man", "chromium-browser", "google-chrome", "chrome")  # each may be there in place of one of these
 
     def setUp(self) -> None:
         super().setUp()
         self.calls = self.room / "calls"
+        for name in self.OTHERS:
+            (self.path / name).unlink(missing_ok=True)
         for name in self.PACKAGES:
             self.put(name, "#!/bin/sh\n")
+        text = (ROOT / "tools" / "test_needs.sh").read_text()
+        self.script = self.room / "test_needs.sh"  # which finds nothing but what is on the path of the test
+        self.script.write_text(re.sub("^PATH=.*$", "", text, flags=re.MULTILINE))
 
-    def installs(self, user: int, status: int = 0) -> str:
-        """What `make python-needs` says for a user, where apt-get notes its words and ends with a status."""
+    def said(self, user: int, status: int = 0) -> str:
+        """What the script says to a user, where apt-get notes its words and ends with a status."""
         self.calls.unlink(missing_ok=True)
         self.put("id", f"#!/bin/sh\necho {user}\n")
         self.put("apt-get", f'#!/bin/sh\necho "$*" >> "{self.calls}"\nexit {status}\n')
-        ran = self.ran("make", "-s", "-C", ROOT, "python-needs")
+        ran = self.ran("sh", self.script)
         self.assertEqual((ran.returncode, ran.stderr), (0, b""))
         return ran.stdout.decode()
 
     def test_gate(self) -> None:
         """`make test` makes all the targets that install what tests need."""
-        text = (ROOT / "Makefile").read_text()
-        targets = re.findall(r"^([a-z]+-needs):", text, re.MULTILINE)
+        targets = re.findall(r"^([a-z]+-needs):", (ROOT / "Makefile").read_text(), re.MULTILINE)
         ran = self.ran("make", "-n", "-C", ROOT, "test", "NEEDS=@true", "MAKE=echo making")
         made = [line.split() for line in ran.stdout.decode().splitlines() if line.startswith("echo making")]
         self.assertEqual(sorted(it for line in made for it in line if it.endswith("-needs")), sorted(targets), ran.stderr)
-        self.assertIn("python-needs", targets)
+        self.assertIn("test-needs", targets)
+        self.assertIn(b"tools/test_needs.sh", self.ran("make", "-n", "-C", ROOT, "test-needs").stdout)
 
     def test_there(self) -> None:
         """Nothing is installed or said where all is there."""
-        self.assertEqual((self.installs(0), self.calls.exists()), ("", False))
+        self.assertEqual((self.said(0), self.calls.exists()), ("", False))
 
     def test_missing(self) -> None:
-        """Where mypy or flake8 is missing, root installs both from Debian; others are told what to install."""
-        for name in self.PACKAGES:
+        """Root installs the package of each program that is missing, by one call."""
+        for name, package in self.PACKAGES.items():
             (self.path / name).rename(self.room / name)
             with self.subTest(name):
-                self.assertEqual(self.installs(0), "")
+                self.assertEqual(self.said(0), "")
                 update, install = self.calls.read_text().splitlines()
                 self.assertTrue(update.endswith("update -q"), update)
-                self.assertTrue(install.endswith(" install -y -q --no-install-recommends mypy flake8"), install)
-                self.assertIn("cannot be installed, so the test of the types in Python is skipped", self.installs(0, status=100))
-                self.assertIn("apt-get install mypy flake8\n", self.installs(1_000))
-                self.assertFalse(self.calls.exists(), "another user installs nothing")
+                self.assertTrue(install.endswith(f" install -y -q --no-install-recommends {package}"), install)
             (self.room / name).rename(self.path / name)
+
+    def test_not_installed(self) -> None:
+        """One line says what is missing, and which tests are skipped, where nothing may be installed or that fails."""
+        for name in ("mypy", "tsc"):
+            (self.path / name).unlink()
+        what = "mypy (types of the Python client), tsc (types of the client in JavaScript)"
+        advice = f"missing, so these tests are skipped: {what}: apt-get install mypy node-typescript\n"
+        self.assertEqual((self.said(1_000), self.calls.exists()), (advice, False), "another user")
+        self.assertEqual(self.said(0, status=100), f"cannot be installed, so these tests are skipped: {what}\n")
+        self.assertTrue(self.calls.read_text().endswith(" install -y -q --no-install-recommends mypy node-typescript\n"))
+        self.said(0)
+        (self.path / "apt-get").unlink()
+        self.assertEqual(self.ran("sh", self.script).stdout.decode(), advice, "another system")
 
 
 class Needs(Tools):
