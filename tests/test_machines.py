@@ -14,6 +14,7 @@ from tests.test_clients import CLIENTS
 from tests.test_clients.fronts import NEW, STATUS, Client, error, reply, front_help
 
 
+from .support.closing import CLOSED
 from .support.lines import text_of
 from .support.machines import FOLDER, MachineCases, addresses, example
 from .support.program import SECONDS
@@ -249,7 +250,7 @@ def answered(client):
     """Whether a client hears a line, and not the end."""
     try:
         return client.hear() != ""
-    except ConnectionError:
+    except CLOSED:
         return False
 
 

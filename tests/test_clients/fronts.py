@@ -14,6 +14,7 @@ from pathlib import Path
 from tempfile import TemporaryDirectory
 
 from tests.support.cases import ProgramCases
+from tests.support.closing import give, rest_of
 from tests.support.lines import text_of
 from tests.support.program import ROOT, SECONDS
 
@@ -61,6 +62,10 @@ class Client:
     def say(self, *lines):
         self.link.sendall("".join(f"{line}\n" for line in lines).encode())
 
+    def offer(self, *lines):
+        """Writes lines to a side that may have closed, as the test expects; returns whether it still took them."""
+        return give(self.link, "".join(f"{line}\n" for line in lines).encode())
+
     def hear(self):
         """The next line, empty at the end."""
         return self.reader.readline().decode().rstrip("\n")
@@ -80,10 +85,7 @@ class Client:
 
     def until_closed(self):
         """All that comes until the other side closes, with or without having read what this one wrote."""
-        try:
-            return self.reader.read()
-        except ConnectionError:
-            return b""
+        return rest_of(self.reader)
 
     def told(self):
         """The lines that come until the other side closes."""

@@ -6,6 +6,8 @@ import time
 from contextlib import contextmanager
 from pathlib import Path
 
+from tests.support.closing import rest_of
+
 from .fronts import FRONT, NEW, PATIENCE, Client, reply
 from .grouped import WorkerCases
 
@@ -61,13 +63,7 @@ class LimitedCases(WorkerCases):
 
     def closed_lines(self, client):
         """The lines that come until the front closes the connection, even if it has not read all."""
-        found = b""
-        try:
-            while piece := client.link.recv(65_536):
-                found += piece
-        except ConnectionError:
-            pass
-        return found.decode().splitlines()
+        return rest_of(client.reader).decode().splitlines()
 
     def check_wait(self, path, attack, what):
         """Others wait at most some times as long as alone while an attack goes on, and lose nothing."""

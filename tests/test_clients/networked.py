@@ -6,6 +6,8 @@ import ssl
 import unittest
 from contextlib import contextmanager
 
+from tests.support.closing import rest_of
+
 from .certificates import HAS_OPENSSL, Authority
 from .fronts import PATIENCE, Client, FrontCases
 from .stand_servers import wait_until_true
@@ -45,10 +47,7 @@ class NetworkClient(Client):
         self.reader = self.link.makefile("rb")
 
     def until_closed(self):
-        try:
-            return super().until_closed()
-        except ssl.SSLError:
-            return b""
+        return rest_of(self.reader, ssl.SSLError)
 
 
 @unittest.skipUnless(HAS_OPENSSL, "openssl makes the certificates")

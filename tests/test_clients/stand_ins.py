@@ -9,6 +9,8 @@ import time
 from contextlib import contextmanager
 from pathlib import Path
 
+from tests.support.closing import CLOSED, give
+
 from .fronts import FRONT, PATIENCE, FrontCases, Log
 
 WRITES = """import os, socket, sys
@@ -49,11 +51,7 @@ class Page:
 
     def say(self, data):
         """Writes bytes; returns whether the front takes them."""
-        try:
-            self.link.sendall(data)
-            return True
-        except ConnectionError:
-            return False
+        return give(self.link, data)
 
     def told(self, is_last=lambda _line: False):
         """The lines that the front sends, up to the last one or to the end."""
@@ -66,7 +64,7 @@ class Page:
                     return
             try:
                 piece = self.link.recv(1 << 20)
-            except ConnectionError:
+            except CLOSED:
                 piece = b""
             if not piece:
                 return

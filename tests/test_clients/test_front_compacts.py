@@ -17,6 +17,7 @@ from compacting.program import compacted
 from compacting.record import write
 from compacting.serving import Kept, Server
 
+from tests.support.closing import CLOSED
 from tests.support.lines import text_of
 from tests.support.program import ROOT
 from tests.support.protocol import all_commands
@@ -72,7 +73,7 @@ def answers_until_killed(client):
     try:
         while line := client.hear():
             lines.append(line)
-    except ConnectionError:
+    except CLOSED:
         pass
     return lines
 

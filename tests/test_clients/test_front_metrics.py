@@ -11,6 +11,7 @@ from contextlib import contextmanager
 from http.client import HTTPConnection
 from pathlib import Path
 
+from tests.support.closing import give
 from tests.support.documents import OPERATING_PAGE
 from tests.support.lines import text_of
 from tests.support.markdown import section
@@ -297,7 +298,7 @@ class Counts(MetricsCases):
             ("[rights]\ndefault = 'refuse'\n", "F20", b""),
         ):
             with self.bounded(text) as (path, _), Client(path) as other, Client(path) as client:
-                client.link.sendall(given)
+                give(client.link, given)  # which it may have refused already
                 self.assertEqual(json.loads(client.told()[-1])["error"], code, text)
                 other.told() if code in ("F15", "F20") else other.leave()
                 self.assertEqual(set(self.refusals()), {code}, text)

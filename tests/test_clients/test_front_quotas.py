@@ -5,7 +5,6 @@ import os
 import signal
 import socket
 import time
-from contextlib import suppress
 
 from tests.support.lines import text_of
 
@@ -82,8 +81,7 @@ class Users(LimitedCases):
         with self.limited(text) as (path, _):
             clients = [self.enterContext(Client(path)) for _ in range(4)]
             for client in clients:
-                with suppress(ConnectionError):  # of one that is closed already
-                    client.say(NEW)
+                client.offer(NEW)  # one that is refused may be closed already
             told = [client.hear() for client in clients]
             wanted = [reply(1, f"c{at}") for at in range(1, 5)]
             self.assertLessEqual(set(told), {*wanted, exceeded("F11", "uid.connections")}, text)

@@ -13,6 +13,7 @@ import subprocess
 import time
 from pathlib import Path
 
+from tests.support.closing import give, rest_of
 from tests.support.documents import BLOCK, WEB_PAGE
 from tests.support.pages import check_page
 
@@ -274,11 +275,8 @@ class Handshakes(NetworkCases):
             for data in (b'{"do":"status"}\n', b"GET / HTTP/1.1\r\n\r\n", os.urandom(4_096), b"\x16\x03\x01\xff\xff" + b"x" * 70_000):
                 with socket.create_connection((HERE, port), PATIENCE) as link:
                     link.settimeout(PATIENCE)
-                    try:
-                        link.sendall(data)
-                        told = link.makefile("rb").read()
-                    except ConnectionError:
-                        told = b""
+                    give(link, data)
+                    told = rest_of(link.makefile("rb"))
                 self.assertNotIn(b"reply", told)
             self.assertIn("corrupt", self.said_of(process, "handshake .* has failed"))
             with NetworkClient(port, context_of(self.authority)) as client:

@@ -14,6 +14,8 @@ from inspecting.pages import Leave, Pages
 from inspecting.serving import CONNECTIONS_MOST, NEWS_MOST, Handler
 from inspecting.world import World
 
+from tests.support.closing import give, has_closed
+
 from .fronts import PATIENCE, ClientCases
 
 TOKEN = "token"
@@ -54,10 +56,7 @@ class Connections(ClientCases):
 
     def is_closed(self, link, seconds=PATIENCE):
         """Whether the other side has closed, or does within a time, having said nothing more."""
-        try:
-            return bool(select.select([link], [], [], seconds)[0]) and link.recv(1) == b""
-        except ConnectionError:
-            return True
+        return bool(select.select([link], [], [], seconds)[0]) and has_closed(link)
 
     def test_most(self):
         """One connection too many is refused by 503 and closed, takes no thread, and there is room again when one has gone."""
@@ -120,9 +119,7 @@ class Connections(ClientCases):
             link.sendall(start)
             while not self.is_closed(link, 0.05):
                 self.assertLess(time.monotonic() - begun, PATIENCE, start)
-                try:
-                    link.sendall(b"x")
-                except ConnectionError:
+                if not give(link, b"x"):
                     break
             self.assertGreater(time.monotonic() - begun, 0.9, start)
 
@@ -151,8 +148,6 @@ class Connections(ClientCases):
         link.sendall(b"GET / HTTP/1.1\r\n")
         while not self.is_closed(link, 0.2):
             self.assertLess(sent, 30)
-            try:
-                link.sendall(b"a: " + b"x" * 60_000 + b"\r\n")
-            except ConnectionError:
+            if not give(link, b"a: " + b"x" * 60_000 + b"\r\n"):
                 break
             sent += 1

@@ -12,6 +12,7 @@ from pathlib import Path
 from explaining.held import LEVELS
 from inspecting.allowed import LINE_MOST, READING, WRITING, is_allowed, is_session, text_of, value_of
 
+from tests.support.closing import end_writing, give, rest_of
 from tests.support.seeds import SEED
 
 from .fronts import PATIENCE, Client, reply
@@ -44,15 +45,9 @@ class Forged(InspectCases):
     def sent(self, asker, request):
         """What is answered to a request as it is; nothing where the connection is closed without an answer."""
         with socket.create_connection((asker.host, asker.port), PATIENCE) as link:
-            told = b""
-            try:
-                link.sendall(request)
-                link.shutdown(socket.SHUT_WR)
-                while piece := link.recv(65_536):
-                    told += piece
-            except ConnectionError:
-                pass
-            return told
+            give(link, request)
+            end_writing(link)
+            return rest_of(link.makefile("rb"))
 
     def words_of(self, record):
         """The words of the commands that the server was given."""

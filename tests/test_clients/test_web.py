@@ -15,6 +15,7 @@ from concurrent.futures import ThreadPoolExecutor
 from pathlib import Path
 
 from tests.generators.sessions import CLASSES, life_of
+from tests.support.closing import give, rest_of
 from tests.support.documents import WEB_PAGE
 from tests.support.lines import text_of
 from tests.support.program import ROOT
@@ -398,11 +399,8 @@ class Files(WebCases):
                     if wanted == 101:
                         self.assertEqual(client.ask(NEW), reply(1, "c1"))
             with socket.create_connection(("127.0.0.1", port), PATIENCE) as link:
-                link.sendall(b"GET / HTTP/1.1\r\nHost: x\r\n\r\n")
-                try:
-                    self.assertNotIn(b"HTTP/1.1 200", link.recv(1_000))
-                except ConnectionError:
-                    pass
+                give(link, b"GET / HTTP/1.1\r\nHost: x\r\n\r\n")
+                self.assertNotIn(b"HTTP/1.1 200", rest_of(link.makefile("rb")))
 
 
 class Words(WebCases):

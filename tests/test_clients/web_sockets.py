@@ -14,6 +14,7 @@ import unittest
 from contextlib import contextmanager
 from pathlib import Path
 
+from tests.support.closing import CLOSED
 from tests.support.program import ROOT
 
 from .fronts import PATIENCE, FrontCases, Log
@@ -104,7 +105,7 @@ class WebSocket:
             elif size == 127:
                 (size,) = struct.unpack("!Q", self.reader.read(8))
             return head[0] & 0x0F, self.reader.read(size)
-        except ConnectionError:
+        except CLOSED:
             return None
 
     def hear(self):
