@@ -13,7 +13,7 @@ use Rattle.shared_rows.proofs.ForCallers.{changes_open, changes_twice, with_ther
 use Rattle.shared_rows.specs.Rows.{IsAtPosition, Keyed, row_under, rows_at, without}
 use Rattle.event_queue.specs.declared.event.Event.{Event}
 use Rattle.event_queue.specs.declared.event.QueuedEvent.{QueuedEvent}
-use Rattle.event_queue.specs.declared.object_counts.ObjectCounts.{ObjectCounts}
+use Rattle.event_queue.specs.Entries.{ObjectCounts}
 use Rattle.event_queue.specs.Queue.{object_of}
 use Rattle.event_queue.specs.Inside.{AreCounted, HasEvents, HasWaiting, IsCounted, KeepsMarks, count_of, events_at, events_of, is_dropped, waiting, waits}
 use Rattle.event_queue.proofs.LawLemmas.{filter_even}

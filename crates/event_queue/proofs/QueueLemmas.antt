@@ -12,7 +12,7 @@ use Rattle.shared_rows.proofs.ForCallers.{paired_at, paired_push, paired_set, le
 use Rattle.shared_rows.specs.Rows.{Keyed, rows_at}
 use Rattle.event_queue.specs.declared.event.Event.{Event}
 use Rattle.event_queue.specs.declared.event.QueuedEvent.{QueuedEvent}
-use Rattle.event_queue.specs.declared.object_counts.ObjectCounts.{ObjectCounts}
+use Rattle.event_queue.specs.Entries.{ObjectCounts}
 use Rattle.event_queue.specs.declared.table.Log.{Log}
 use Rattle.event_queue.specs.declared.table.TheConstants.{EVENTS}
 use Rattle.event_queue.specs.Queue.{IsSound, Queue, counts_of, dropped, empty_queue, has_room, noted, object_of, others, placed, enqueued, taken, with_lost}

@@ -1,6 +1,6 @@
 -- Where the row of an event stands among the rows of its place.
 use Rattle.std.proofs.Common.{◌≡◌, ◌≢◌, ◌∙◌, ℕ, suc, ◌+◌, ◌-◌, ◌*◌, ◌/◌, ◌^◌, ◌<◌, ◌≤◌, ◌==◌, Bool, true, false, not, nat_lt, List, [], ◌∷◌, ◌++◌, None, length}
-use Rattle.std.proofs.Common.{filter, get_or, refl, sym, ap, arith, rules}
+use Rattle.std.proofs.Common.{filter, get_or, inl, refl, sym, ap, arith, rules}
 use Rattle.std.proofs.lemmas.Grind.{common_steps}
 use Rattle.std.specs.List.{All, AllWithin}
 use Rattle.std.proofs.lemmas.Bool.{cases_lt, ne_eqb}
@@ -94,6 +94,32 @@ module _ (rows : List (Keyed QueuedEvent)) (event : Event) (number start : ℕ) 
 
   pub made_added : IsCountBelow rows (start + 2 ^ 62) (length rows) → (key : ℕ) → events_of (added rows key made) ≡ placed event (events_of rows)
   made_added = shown_added rows made start is in_end seated
+
+-- where all rows are below a number of the event's priority or a higher one, the event stands behind them
+module _ (rows : List (Keyed QueuedEvent)) (event : Event) (next start number : ℕ) (is : start ≡ rank_of (priority_of event) * 2 ^ 62)
+    (below : All (λ keyed. number_of keyed.row < next) rows) (room : next < start + 2 ^ 62) (least : number ≡ next - start) where
+  above_all : number < 2 ^ 62
+  above_all = omega (arith, room, least)
+
+  pub made_above : All (λ keyed. number_of keyed.row < number_of (record { number = number; event = event })) rows
+  made_above k d within = omega (arith, below k d within, numbered rows event number start is above_all behind_all, least)
+    where
+      behind_all : IsSeat rows (start + number) (start + 2 ^ 62)
+      behind_all k d within = inl (omega (arith, below k d within, least))
+
+  pub made_last : (key : ℕ) → events_of (added rows key (record { number = number; event = event })) ≡ placed event (events_of rows)
+  made_last = made_added rows event number start is above_all (λ k d within. inl (omega (arith, below k d within, least)))
+      (record {
+        in_range = omega arith;
+        below = λ k d low high. omega (arith, below k d high, room);
+        above = λ k d low high. absurd (omega (arith, low, high));
+      })
+
+-- rows rise, so all are below the number after the last one's
+pub below_next : (rows : List (Keyed QueuedEvent)) → IsSound number_of rows → (len at key next : ℕ) (row : QueuedEvent) → len ≡ length rows → len ≡ at + 1
+    → IsAtPosition rows at key row → next ≡ number_of row + 1 → All (λ keyed. number_of keyed.row < next) rows
+below_next rows sound len at key next row all is stands more k d within =
+    grind (arith, nat_tests, stands d, sound.rising k at d, within, all, is, more, cases_lt k at)
 
 module _ (rows : List (Keyed QueuedEvent)) (end : ℕ) where
   pub last_below : (count at key : ℕ) (row : QueuedEvent) → IsCountBelow rows end count → count ≡ at + 1 → IsAtPosition rows at key row → number_of row < end

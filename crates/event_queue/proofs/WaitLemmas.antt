@@ -7,7 +7,7 @@ use Rattle.std.proofs.lemmas.Bool.{eq-eqb, eqb-true}
 use Rattle.std.proofs.lemmas.List.Elements.{filter-append}
 use Rattle.std.proofs.lemmas.List.Sums.{sum_by-cons}
 use Rattle.event_queue.specs.declared.event.Event.{Event}
-use Rattle.event_queue.specs.declared.object_counts.ObjectCounts.{ObjectCounts}
+use Rattle.event_queue.specs.Entries.{ObjectCounts}
 use Rattle.event_queue.specs.Queue.{object_of, others, placed}
 use Rattle.event_queue.specs.Inside.{AreCounted, IsCounted, KeepsMarks, count_of, is_dropped, waiting, waits}
 use Rattle.event_queue.proofs.LawLemmas.{filter_turned}

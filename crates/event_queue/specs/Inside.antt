@@ -3,31 +3,20 @@ use Rattle.std.specs.Prelude.{◌≡◌, ℕ, ◌+◌, ◌*◌, ◌%◌, ◌^◌
 use Rattle.std.specs.Prelude.{if◌then◌else◌, List, [], length, map, filter, count_by, slice_index_or, find}
 use Rattle.std.specs.List.{All, AllWithin}
 use Rattle.std.specs.Option.{option_map_or}
-use Rattle.std.specs.Ordering.{nat_cmp, on}
-use Rattle.std.specs.declared.cmp.Ordering.{Ordering}
 use Rattle.shared_rows.specs.Table.{ChangesAt, Table}
 use Rattle.shared_rows.specs.Rows.{Keyed, rows_at}
 use Rattle.event_queue.specs.declared.event.Event.{Event}
 use Rattle.event_queue.specs.declared.event.QueuedEvent.{QueuedEvent}
 use Rattle.event_queue.specs.declared.object_counts.Count.{Count}
-use Rattle.event_queue.specs.declared.object_counts.Entry.{Entry}
-use Rattle.event_queue.specs.declared.object_counts.ObjectCounts.{ObjectCounts}
 use Rattle.event_queue.specs.declared.table.Log.{Log}
 use Rattle.event_queue.specs.declared.table.TheConstants.{EVENTS}
+use Rattle.event_queue.specs.Entries.{ObjectCounts}
 use Rattle.event_queue.specs.Queue.{Queue, object_of, priority_of, rank_of}
-
--- Entries are ordered by their objects.
-abbrev pub entry_cmp : Entry → Entry → Ordering
-entry_cmp = on (λ entry. entry.object) nat_cmp
-
--- Whether two entries are for the same object.
-abbrev pub is_of_same : Entry → Entry → Bool
-is_of_same = on (λ entry. entry.object) ◌==◌
 
 -- The count of the rows that name an object.
 abbrev pub count_at : ObjectCounts → ℕ → Count
 count_at objects object =
-    option_map_or (λ entry. entry.count) (find (λ entry. entry.object == object) objects.entries.links) (record { rows = 0; is_dropped = false })
+    option_map_or (λ entry. entry.count) (find (λ entry. entry.object == object) objects) (record { rows = 0; is_dropped = false })
 
 -- How many rows are counted for an object.
 abbrev pub count_of : ObjectCounts → ℕ → ℕ

@@ -1,14 +1,12 @@
 //! How many rows of one place name each object.
-ghost use Rattle.std.specs.Prelude.{◌≡◌, ◌+◌, ◌-◌, ◌^◌, ◌<◌, ◌==◌, ◌||◌, ℕ, OnOk, OnErr, false, if◌then◌else◌};
-ghost use Rattle.std.proofs.Common.{rules};
-ghost use Rattle.std.specs.Cmp.{partial_order_from_own_ties};
-ghost use Rattle.std.specs.Cmp.Rules.{comparing};
-ghost use Rattle.std.specs.Ordering.{as_partial_cmp};
-ghost use Rattle.event_queue.specs.Inside.{IsCounted, KeepsMarks, count_at, count_of, entry_cmp, is_dropped, is_of_same};
+ghost use Rattle.std.specs.Prelude.{◌≡◌, ◌+◌, ◌-◌, ◌^◌, ◌<◌, ◌==◌, ◌||◌, ℕ, Err, Ok, OnOk, OnErr, false, if◌then◌else◌};
+ghost use Rattle.shared_rows.specs.Links.{IsSeat, with_link};
+ghost use Rattle.event_queue.specs.Entries.{AreEntries, entry_cmp, of_object};
+ghost use Rattle.event_queue.specs.Inside.{IsCounted, KeepsMarks, count_at, count_of, is_dropped};
 
-use shared_rows::Links;
+use shared_rows::GapBuffer;
 use std::alloc::{AllocError, Global};
-use std::cmp::Ordering;
+use std::marker::Model;
 
 /// How many rows name an object.
 #[derive(Clone, Copy)]
@@ -18,49 +16,11 @@ pub(crate) struct Count {
     pub(crate) is_dropped: bool,
 }
 
-/// An object and its count. Entries are ordered by their objects alone.
+/// An object and its count.
 #[derive(Clone, Copy)]
 pub(crate) struct Entry {
     object: u32,
     count: Count,
-}
-
-impl PartialEq for Entry {
-    ghost eq = { is_of_same };
-
-    ghost laws = { Prim.search (comparing, rules) };
-
-    fn eq(&self, other: &Entry) -> bool {
-        self.object == other.object
-    }
-}
-
-impl Eq for Entry {
-    ghost laws = { Prim.search (comparing, rules) };
-}
-
-impl Ord for Entry {
-    ghost cmp = { entry_cmp };
-
-    ghost total = { Prim.search (comparing, rules) };
-
-    ghost matches_partial_cmp = { Prim.search (comparing, rules) };
-
-    ghost matches_eq = { Prim.search (comparing, rules) };
-
-    fn cmp(&self, other: &Entry) -> Ordering {
-        self.object.cmp(&other.object)
-    }
-}
-
-impl PartialOrd for Entry {
-    ghost partial_cmp = { as_partial_cmp entry_cmp };
-
-    ghost laws = { partial_order_from_own_ties (Prim.search (comparing, rules)) (Prim.search (comparing, rules)) };
-
-    fn partial_cmp(&self, other: &Entry) -> Option<Ordering> {
-        Some(self.cmp(other))
-    }
 }
 
 /// The count of an object that no row names.
@@ -69,12 +29,23 @@ const NO_ROWS: Count = Count {
     is_dropped: false,
 };
 
-/// How many rows name an object, for each object that any row names. An entry that changes is usually near
-/// the one that changed last. Dropping the events of an object marks its entry here and visits none of its
-/// rows.
+/// How many rows name an object, for each object that any row names. Entries are in the order of their objects.
+/// Dropping the events of an object marks its entry here and visits none of its rows.
 #[derive(Drop)]
 pub(crate) struct ObjectCounts {
-    entries: Links<Entry>,
+    entries: GapBuffer<Entry>,
+}
+
+impl Model for ObjectCounts {
+    ghost use Rattle.std.specs.Prelude.{List};
+    ghost use Rattle.event_queue.specs.declared.object_counts.Entry.{Entry};
+    ghost use Rattle.event_queue.specs.Entries.{AreEntries};
+
+    ghost Value = { List Entry };
+
+    ghost view = { λ objects. objects.entries.items };
+
+    ghost invariant = { λ objects. AreEntries objects.entries.items };
 }
 
 impl ObjectCounts {
@@ -82,24 +53,16 @@ impl ObjectCounts {
         ensures { (object : ℕ) → count_of result object ≡ 0 }
     {
         ObjectCounts {
-            entries: Links::new(alloc),
+            entries: GapBuffer::new(alloc),
         }
     }
 
     pub(crate) fn count(&self, object: u32) -> Count
         ensures { result ≡ count_at self.now object }
     {
-        let probe = Entry {
-            object,
-            count: NO_ROWS,
-        };
-        let Some(entry) = self.entries.first_from(probe) else {
-            return NO_ROWS;
-        };
-        if entry.object == object {
-            entry.count
-        } else {
-            NO_ROWS
+        match position(&self.entries, object) {
+            Ok(at) => self.entries.get(at).count,
+            Err(_) => NO_ROWS,
         }
     }
 
@@ -110,11 +73,18 @@ impl ObjectCounts {
         ensures marks { OnOk result ((other : ℕ) → is_dropped self.new other ≡ (if object == other then false else is_dropped self.old other)) }
         ensures err { OnErr result ((other : ℕ) → count_at self.new other ≡ count_at self.old other) }
     {
-        let count = Count {
-            rows: self.count(object).rows + 1,
-            is_dropped: false,
-        };
-        self.entries.insert(Entry { object, count })
+        match position(&self.entries, object) {
+            Ok(at) => {
+                let rows = self.entries.get(at).count.rows + 1;
+                let count = Count {
+                    rows,
+                    is_dropped: false,
+                };
+                replace_count(&mut self.entries, at, object, count);
+                Ok(())
+            }
+            Err(at) => insert_first(&mut self.entries, at, object),
+        }
     }
 
     /// Counts one row fewer for the object, and returns whether its events are dropped.
@@ -123,22 +93,20 @@ impl ObjectCounts {
         ensures counted { IsCounted self.old self.new object (count_of self.old object - 1) }
         ensures marks { KeepsMarks self.old self.new }
     {
-        let Count { rows, is_dropped } = self.count(object);
-        if rows <= 1 {
-            self.entries.remove(Entry {
-                object,
-                count: NO_ROWS,
-            });
-            return is_dropped;
+        let Ok(at) = position(&self.entries, object) else {
+            return false;
+        };
+        let count = self.entries.get(at).count;
+        if count.rows <= 1 {
+            self.entries.remove(at);
+            return count.is_dropped;
         }
-        self.set(
-            object,
-            Count {
-                rows: rows - 1,
-                is_dropped,
-            },
-        );
-        is_dropped
+        let fewer = Count {
+            rows: count.rows - 1,
+            is_dropped: count.is_dropped,
+        };
+        replace_count(&mut self.entries, at, object, fewer);
+        count.is_dropped
     }
 
     /// Drops the events of the object, and returns how many waited.
@@ -167,10 +135,73 @@ impl ObjectCounts {
         requires { 0 < count_of self.old object }
         ensures { (other : ℕ) → count_at self.new other ≡ (if object == other then count else count_at self.old other) }
     {
-        let old = Entry {
-            object,
-            count: self.count(object),
-        };
-        self.entries.replace(old, Entry { object, count });
+        if let Ok(at) = position(&self.entries, object) {
+            replace_count(&mut self.entries, at, object, count);
+        }
     }
+}
+
+/// Replaces the count of an object whose entry is at this position.
+fn replace_count(entries: &mut GapBuffer<Entry>, at: usize, object: u32, count: Count)
+    requires order { AreEntries entries.old.items }
+    requires seat { IsSeat entry_cmp entries.old.items (of_object object) (Ok at) }
+    ensures { entries.new.items ≡ with_link entry_cmp entries.old.items (record { object = object; count = count }) }
+{
+    entries.set(at, Entry { object, count });
+}
+
+/// Inserts an entry for the first row of an object, at the position where it belongs.
+fn insert_first(entries: &mut GapBuffer<Entry>, at: usize, object: u32) -> Result<(), AllocError>
+    requires order { AreEntries entries.old.items }
+    requires seat { IsSeat entry_cmp entries.old.items (of_object object) (Err at) }
+    ensures ok { OnOk result (entries.new.items
+        ≡ with_link entry_cmp entries.old.items (record { object = object; count = record { rows = 1; is_dropped = false } })) }
+    ensures err { OnErr result (entries.new.items ≡ entries.old.items) }
+{
+    entries.reserve()?;
+    let count = Count {
+        rows: 1,
+        is_dropped: false,
+    };
+    entries.insert_reserved(at, Entry { object, count });
+    Ok(())
+}
+
+/// The position of the entry of an object, or the one where it would be inserted. Successive objects usually have
+/// successive entries, so the first guess is as far after the first entry as the two objects' numbers differ.
+fn position(entries: &GapBuffer<Entry>, object: u32) -> Result<usize, usize>
+    requires { AreEntries entries.now.items }
+    ensures { IsSeat entry_cmp entries.now.items (of_object object) result }
+{
+    let Some(first) = entries.first() else {
+        return Err(0);
+    };
+    if object < first.object {
+        return Err(0);
+    }
+    let guess = ((object - first.object) as usize).min(entries.len() - 1);
+    let there = entries.get(guess).object;
+    if there == object {
+        return Ok(guess);
+    }
+    // Objects differ by no less than the positions of their entries. So if the entry there has a lower object, it
+    // is the last one.
+    if object > there {
+        return Err(guess + 1);
+    }
+    search(entries, object)
+}
+
+/// Finds the position of an entry by binary search.
+#[inline(never)]
+fn search(entries: &GapBuffer<Entry>, object: u32) -> Result<usize, usize>
+    requires { AreEntries entries.now.items }
+    ensures { IsSeat entry_cmp entries.now.items (of_object object) result }
+{
+    let at = entries.partition_point(|entry| entry.object < object);
+    if at == entries.len() {
+        return Err(at);
+    }
+    let there = entries.get(at).object;
+    if there == object { Ok(at) } else { Err(at) }
 }

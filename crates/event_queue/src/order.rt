@@ -1,9 +1,9 @@
 //! The events of a place in their order.
 ghost use Rattle.std.specs.Prelude.{◌≡◌, ◌+◌, ◌*◌, ◌^◌, ◌<◌, ◌≤◌, IfOk, OnOk, OnErr, drop, false, length};
-ghost use Rattle.std.specs.List.{slice_get};
+ghost use Rattle.std.specs.List.{All, slice_get};
 ghost use Rattle.shared_rows.specs.Table.{IsPlace};
 ghost use Rattle.shared_rows.specs.Rows.{IsSound, rows_at};
-ghost use Rattle.event_queue.specs.Queue.{placed};
+ghost use Rattle.event_queue.specs.Queue.{placed, priority_of, rank_of};
 ghost use Rattle.event_queue.specs.Inside.{AreCounted, HasEvents, HasWaiting, IsCountBelow, IsSeat, count_of, events_at, is_dropped, number_of, waiting};
 
 use crate::event::{Event, NUMBERS, QueuedEvent};
@@ -22,14 +22,47 @@ pub(crate) fn place_event(
     ensures err { OnErr result (rows.new ≡ rows.old) }
 {
     let start = event.priority().rank() * NUMBERS;
+    let next = after_last(rows, place);
+    if next > start + NUMBERS {
+        return insert_event(rows, place, event, start);
+    }
+    if next == start + NUMBERS {
+        return Err(AllocError);
+    }
+    let number = next.saturating_sub(start);
+    rows.push(place, QueuedEvent { number, event })?;
+    Ok(())
+}
+
+/// The number after that of the last event, or 0 if the place has none. It is above the numbers of all events.
+fn after_last(rows: &SharedRows<QueuedEvent>, place: usize) -> u64
+    requires { IsPlace rows.now place }
+    ensures { All (λ keyed. number_of keyed.row < result) (rows_at rows.now place) }
+{
+    let len = rows.len(place);
+    if len == 0 {
+        return 0;
+    }
+    let (_, last) = rows.at(place, len - 1);
+    last.number() + 1
+}
+
+/// Puts an event before those of a lower priority. `start` is the first number of its own priority.
+#[inline(never)]
+fn insert_event(
+    rows: &mut SharedRows<QueuedEvent>,
+    place: usize,
+    event: Event,
+    start: u64,
+) -> Result<(), AllocError>
+    requires place { IsPlace rows.old place }
+    requires start { start ≡ rank_of (priority_of event) * 2 ^ 62 }
+    ensures ok { OnOk result (HasEvents rows.old rows.new place (placed event (events_at rows.old place))) }
+    ensures err { OnErr result (rows.new ≡ rows.old) }
+{
     let before = count_below(rows, place, start + NUMBERS);
     let number = next_number(rows, place, before, start)?;
-    let posted = QueuedEvent { number, event };
-    if before == rows.len(place) {
-        rows.push(place, posted)?;
-    } else {
-        rows.insert(place, posted)?;
-    }
+    rows.insert(place, QueuedEvent { number, event })?;
     Ok(())
 }
 

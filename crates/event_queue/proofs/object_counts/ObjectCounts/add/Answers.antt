@@ -1,16 +1,40 @@
-use Rattle.std.proofs.Common.{◌∙◌, ◌+◌, ◌==◌, ap, cond}
+use Rattle.std.proofs.Common.{◌∙◌, ap, arith, refl}
 use Rattle.event_queue.specs.declared.object_counts.Count.{Count}
-use Rattle.event_queue.specs.Inside.{count_of}
-use Rattle.event_queue.proofs.EntryLemmas.{count_with, marks_then, on_ok, rows_then}
+use Rattle.event_queue.specs.Entries.{ObjectCounts}
+use Rattle.event_queue.specs.Inside.{count_at}
+use Rattle.event_queue.proofs.EntryLemmas.{count_was, marks_now, none, none_was, on_err, on_ok, one_more, order_either, still_entries}
 use Rattle.event_queue.proofs.object_counts.ObjectCounts.add.Goals as goal
 
-pub returns-clause-ok : goal.returns-clause-ok
-returns-clause-ok c =
-    on_ok c.insert.result c.insert.ensures.ok (λ with_entry other.
-    rows_then (c.args.object == other) _ _ _ (count_with c.args.self.now.entries.links c.insert.new.self.links _ with_entry other)
-    ∙ ap (λ (count : Count). cond (c.args.object == other) (count.rows + 1) (count_of c.args.self.now other)) c.count.ensures)
+pub overflow_add-rows : goal.overflow_add-rows
+overflow_add-rows c =
+    let was = count_was c.self.view_is c.args.object c.in-Ok.at c.get-rows.result c.in-Ok.ensures (c.get-rows.ensures c.get-rows.result) in
+    let rows = ap (λ (count : Count). count.rows) was in
+    omega (arith, c.requires, rows)
 
-pub returns-clause-marks : goal.returns-clause-marks
-returns-clause-marks c =
-    on_ok c.insert.result c.insert.ensures.ok (λ with_entry other.
-    marks_then (c.args.object == other) _ _ _ (count_with c.args.self.now.entries.links c.insert.new.self.links _ with_entry other))
+pub invariant_of-self : goal.invariant_of-self
+invariant_of-self c = still_entries c.self.inside.entries.items c.args.object c.self.invariant _ _ c.replace_count.ensures
+
+pub returns-in-Ok-clause-ok : goal.returns-in-Ok-clause-ok
+returns-in-Ok-clause-ok c =
+    let was = count_was c.self.view_is c.args.object c.in-Ok.at c.get-rows.result c.in-Ok.ensures (c.get-rows.ensures c.get-rows.result) in
+    one_more c.self.view_is c.args.object _ c.get-rows.result.count was refl c.replace_count.ensures
+
+pub returns-in-Ok-clause-marks : goal.returns-in-Ok-clause-marks
+returns-in-Ok-clause-marks c = marks_now c.self.view_is c.args.object _ c.replace_count.ensures
+
+pub invariant_of-self-in-Err : goal.invariant_of-self-in-Err
+invariant_of-self-in-Err c =
+    order_either c.self.inside.entries.items c.args.object _ _ c.self.invariant c.insert_first.result c.insert_first.ensures.ok c.insert_first.ensures.err
+
+pub returns-in-Err-clause-ok : goal.returns-in-Err-clause-ok
+returns-in-Err-clause-ok c =
+    on_ok c.insert_first.result c.insert_first.ensures.ok
+    (one_more c.self.view_is c.args.object _ none (none_was c.self.view_is c.args.object c.in-Err.at c.in-Err.ensures) refl)
+
+pub returns-in-Err-clause-marks : goal.returns-in-Err-clause-marks
+returns-in-Err-clause-marks c =
+    on_ok c.insert_first.result c.insert_first.ensures.ok (marks_now c.self.view_is c.args.object _)
+
+pub returns-in-Err-clause-err : goal.returns-in-Err-clause-err
+returns-in-Err-clause-err c =
+    on_err c.insert_first.result c.insert_first.ensures.err (λ same other. ap (λ (list : ObjectCounts). count_at list other) (same ∙ c.self.view_is))

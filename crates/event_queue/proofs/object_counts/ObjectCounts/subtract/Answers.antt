@@ -1,20 +1,56 @@
-use Rattle.std.proofs.Common.{◌∙◌, ◌≡◌, ◌-◌, ◌==◌, ap, cond, arith}
+use Rattle.std.proofs.Common.{◌∙◌, ap, refl}
 use Rattle.event_queue.specs.declared.object_counts.Count.{Count}
-use Rattle.event_queue.specs.Inside.{count_of}
-use Rattle.event_queue.proofs.EntryLemmas.{count_without, marks_left, none, rows_then}
+use Rattle.event_queue.proofs.EntryLemmas.{count_was, entry_gone, fewer_entries, last_gone, marks_after, marks_kept, none_fewer, none_was}
+use Rattle.event_queue.proofs.EntryLemmas.{one_fewer, still_entries}
 use Rattle.event_queue.proofs.object_counts.ObjectCounts.subtract.Goals as goal
 
-pub returns-then-rows-le1-clause-counted : goal.returns-then-rows-le1-clause-counted
-returns-then-rows-le1-clause-counted c other =
-    let few = c.if-rows-le1.true in
-    let is = ap (λ (count : Count). count.rows) c.count-rows.ensures in
-    let last : 0 ≡ count_of c.args.self.now c.args.object - 1 = omega (arith, few, is) in
-    rows_then (c.args.object == other) _ _ _ (count_without c.args.self.now.entries.links c.remove.new.self.links
-    (record { object = c.args.object; count = none }) (ap (λ list. list.links) c.remove.ensures) other)
-    ∙ ap (λ rows. cond (c.args.object == other) rows (count_of c.args.self.now other)) last
+pub returns-in_default-clause-was : goal.returns-in_default-clause-was
+returns-in_default-clause-was c =
+    ap (λ (count : Count). count.is_dropped) (none_was c.self.view_is c.args.object c.in_default.field-0 c.in_default.ensures)
 
-pub returns-then-rows-le1-clause-marks : goal.returns-then-rows-le1-clause-marks
-returns-then-rows-le1-clause-marks c other =
-    marks_left (c.args.object == other) _ _
-    (count_without c.args.self.now.entries.links c.remove.new.self.links
-    (record { object = c.args.object; count = none }) (ap (λ list. list.links) c.remove.ensures) other)
+pub returns-in_default-clause-counted : goal.returns-in_default-clause-counted
+returns-in_default-clause-counted c =
+    none_fewer c.self.view_is c.args.object (none_was c.self.view_is c.args.object c.in_default.field-0 c.in_default.ensures)
+
+pub returns-then-count-le1-clause-was : goal.returns-then-count-le1-clause-was
+returns-then-count-le1-clause-was c =
+    ap (λ (count : Count). count.is_dropped)
+    (count_was c.self.view_is c.args.object c.in-Ok.at c.get.result c.in-Ok.ensures (c.get.ensures c.get.result))
+
+pub returns-then-count-le1-clause-counted : goal.returns-then-count-le1-clause-counted
+returns-then-count-le1-clause-counted c =
+    last_gone c.self.view_is c.args.object c.get.result.count
+    (count_was c.self.view_is c.args.object c.in-Ok.at c.get.result c.in-Ok.ensures (c.get.ensures c.get.result))
+    c.if-count-le1.true
+    (ap (λ buffer. buffer.items) c.remove.ensures.others
+    ∙ entry_gone c.self.inside.entries.items c.args.object c.self.invariant c.in-Ok.at c.in-Ok.ensures)
+
+pub returns-then-count-le1-clause-marks : goal.returns-then-count-le1-clause-marks
+returns-then-count-le1-clause-marks c =
+    marks_after c.self.view_is c.args.object
+    (ap (λ buffer. buffer.items) c.remove.ensures.others
+    ∙ entry_gone c.self.inside.entries.items c.args.object c.self.invariant c.in-Ok.at c.in-Ok.ensures)
+
+pub invariant_of-self : goal.invariant_of-self
+invariant_of-self c =
+    fewer_entries c.self.inside.entries.items c.args.object c.self.invariant c.in-Ok.at _ c.in-Ok.ensures (ap (λ buffer. buffer.items) c.remove.ensures.others)
+
+pub returns-clause-was : goal.returns-clause-was
+returns-clause-was c =
+    ap (λ (count : Count). count.is_dropped)
+    (count_was c.self.view_is c.args.object c.in-Ok.at c.get.result c.in-Ok.ensures (c.get.ensures c.get.result))
+
+pub returns-clause-counted : goal.returns-clause-counted
+returns-clause-counted c =
+    one_fewer c.self.view_is c.args.object _ c.get.result.count
+    (count_was c.self.view_is c.args.object c.in-Ok.at c.get.result c.in-Ok.ensures (c.get.ensures c.get.result)) refl
+    c.replace_count.ensures
+
+pub returns-clause-marks : goal.returns-clause-marks
+returns-clause-marks c other some =
+    marks_kept c.self.view_is c.args.object _ c.get.result.count
+    (count_was c.self.view_is c.args.object c.in-Ok.at c.get.result c.in-Ok.ensures (c.get.ensures c.get.result)) refl
+    c.replace_count.ensures other
+
+pub invariant_of-self-2 : goal.invariant_of-self-2
+invariant_of-self-2 c = still_entries c.self.inside.entries.items c.args.object c.self.invariant _ _ c.replace_count.ensures
