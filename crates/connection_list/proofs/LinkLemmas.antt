@@ -106,6 +106,28 @@ module _ (links : List Link) (order : IsInOrder link_cmp links) (object : ℕ) (
       unless true kept = absurd (cc)
       unless false kept = refl
 
+-- a link with a smaller number is below another one, if the link after it has that one's object and signal
+pub below_next : (before there link : Link) → link_cmp before there ≡ Less → there.object ≡ link.object → there.signal ≡ link.signal
+    → before.number < link.number → is_lt (link_cmp before link) ≡ true
+below_next before there link less object signal number =
+    let least = before_other before there less in
+    ⊎_elim
+    (λ (below : before.object < link.object). grind (arith, nat_tests, below))
+    (λ (from : link.object ≤ before.object).
+    let same : before.object ≡ link.object = omega (arith, from, least.object, object) in
+    ⊎_elim
+    (λ (below : before.signal < link.signal). grind (arith, nat_tests, same, below))
+    (λ (above : link.signal ≤ before.signal).
+    let also : before.signal ≡ link.signal = omega (arith, above, least.signal (same ∙ sym object), signal) in
+    grind (arith, nat_tests, same, also, number))
+    (cases_lt before.signal link.signal))
+    (cases_lt before.object link.object)
+
+-- a link of the same object and signal is not below one with a smaller number or the same
+pub not_below_other : (there link : Link) → there.object ≡ link.object → there.signal ≡ link.signal → link.number ≤ there.number → link.key ≤ there.key
+    → is_lt (link_cmp there link) ≡ false
+not_below_other there link object signal number key = grind (arith, nat_tests, object, signal, number, key)
+
 -- where those below a link end, two neighbours tell
 pub parted_at : (links : List Link) → IsInOrder link_cmp links → (link : Link) (at : ℕ) → at ≤ length links
     → (0 < at → (d : Link) → is_lt (link_cmp (get_or links (at - 1) d) link) ≡ true)

@@ -1,5 +1,5 @@
 //! Links lead from an object to its connections.
-ghost use Rattle.std.specs.Prelude.{◌≡◌, ◌≤◌, ℕ, false, length, true};
+ghost use Rattle.std.specs.Prelude.{◌≡◌, ◌+◌, ◌≤◌, ℕ, IfSome, Some, false, length, true};
 ghost use Rattle.std.specs.List.{AllWithin};
 ghost use Rattle.std.specs.List.Sorted.{IsPartitionPoint};
 ghost use Rattle.std.specs.Ordering.{is_lt};
@@ -87,6 +87,42 @@ pub(crate) fn first_near(links: &Links<Link>, link: Link, near: &mut usize) -> O
     }
     *near = at + 1;
     Some(all.get(at))
+}
+
+/// The link at a position, if it is one of this signal of this object with a number above `after`, and the link
+/// before it has a number of at most `after`. As links are sorted, it is then the first with a number above `after`.
+#[inline(always)]
+pub(crate) fn follower(
+    links: &Links<Link>,
+    object: u32,
+    signal: u32,
+    after: u32,
+    at: usize,
+) -> Option<Link>
+    ensures first { IfSome result (λ there. first_from link_cmp links.now.links
+        (record { object = object; signal = signal; number = after + 1; key = 0 }) ≡ Some there) }
+    ensures ends { IfSome result (λ there. (there.object ≡ object) × (there.signal ≡ signal)) }
+    ensures sound { IsInOrder link_cmp links.now.links }
+{
+    let all = links.as_buffer();
+    if at == 0 || at >= all.len() {
+        return None;
+    }
+    let before = all.get(at - 1);
+    if before.number > after {
+        return None;
+    }
+    let there = all.get(at);
+    if there.object != object {
+        return None;
+    }
+    if there.signal != signal {
+        return None;
+    }
+    if there.number <= after {
+        return None;
+    }
+    Some(there)
 }
 
 /// How many links are less than `link`. The guess is tried first, then the number of all links, then a search.

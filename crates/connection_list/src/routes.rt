@@ -16,7 +16,7 @@ ghost use Rattle.connection_list.specs.Routes.{Gains, Loses, buckets_of, link_of
 use crate::buckets::Buckets;
 use crate::connection::{Connection, NewConnection};
 use crate::ends::{matches, same_ends};
-use crate::link::{Group, Link, first_near, group_of};
+use crate::link::{Group, Link, first_near, follower, group_of};
 use crate::pattern::{Pattern, Receiver};
 use shared_rows::{Links, SharedRows};
 use std::alloc::{AllocError, Global};
@@ -272,7 +272,53 @@ impl LazyRoutes {
 
     /// The key of the connection that an emission calls next. The position `near` is tried first. If a link
     /// is found, `near` becomes the position after it.
+    #[inline(always)]
     pub(crate) fn next_sent(
+        &self,
+        sender: u32,
+        signal: u32,
+        after: u32,
+        up_to: u32,
+        near: &mut usize,
+    ) -> Option<u32>
+        ensures { (rows : List (Keyed Connection)) → IsPlaceKept rows self.now
+            → result ≡ option_map (λ keyed. keyed.key) (find (λ keyed. is_next sender signal after up_to keyed.row) rows) }
+    {
+        match self.next_near(sender, signal, after, up_to, near) {
+            Some(key) => Some(key),
+            None => self.search_sent(sender, signal, after, up_to, near),
+        }
+    }
+
+    /// The key of the connection that an emission calls next, if its link is at the position `near`, right after the
+    /// link that was found last. Then `near` becomes the next position.
+    #[inline(always)]
+    fn next_near(
+        &self,
+        sender: u32,
+        signal: u32,
+        after: u32,
+        up_to: u32,
+        near: &mut usize,
+    ) -> Option<u32>
+        ensures { (rows : List (Keyed Connection)) → IsPlaceKept rows self.now
+            → IfSome result (λ key. Some key ≡ option_map (λ keyed. keyed.key) (find (λ keyed. is_next sender signal after up_to keyed.row) rows)) }
+    {
+        let Some(routes) = &self.made else {
+            return None;
+        };
+        let link = follower(routes.sent.bucket(sender), sender, signal, after, *near)?;
+        if link.number > up_to {
+            return None;
+        }
+        *near = near.wrapping_add(1);
+        Some(link.key)
+    }
+
+    /// Searches for the key of the connection that an emission calls next. If a link is found, `near` becomes the
+    /// position after it.
+    #[inline(never)]
+    fn search_sent(
         &self,
         sender: u32,
         signal: u32,

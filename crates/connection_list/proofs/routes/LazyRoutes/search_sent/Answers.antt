@@ -7,10 +7,10 @@ use Rattle.connection_list.specs.Rows.{is_next}
 use Rattle.connection_list.proofs.LinkLemmas.{from}
 use Rattle.connection_list.proofs.LazyLemmas.{all_of_none, seen_made}
 use Rattle.connection_list.proofs.RoutesLemmas.{find_none, next_key, no_next, none_above, none_next}
-use Rattle.connection_list.proofs.routes.LazyRoutes.next_sent.Goals as goal
-use Rattle.connection_list.proofs.routes.LazyRoutes.next_sent.Goals.{then-link-sender-via-then-link-sender}
-use Rattle.connection_list.proofs.routes.LazyRoutes.next_sent.Goals.{then-link-sender-via-else-link-sender+then-link-signal}
-use Rattle.connection_list.proofs.routes.LazyRoutes.next_sent.Goals.{then-link-sender-via-else-link-sender+else-link-signal+then-link-up_to}
+use Rattle.connection_list.proofs.routes.LazyRoutes.search_sent.Goals as goal
+use Rattle.connection_list.proofs.routes.LazyRoutes.search_sent.Goals.{then-link-sender-via-then-link-sender}
+use Rattle.connection_list.proofs.routes.LazyRoutes.search_sent.Goals.{then-link-sender-via-else-link-sender+then-link-signal}
+use Rattle.connection_list.proofs.routes.LazyRoutes.search_sent.Goals.{then-link-sender-via-else-link-sender+else-link-signal+then-link-up_to}
 
 pub returns-in_default : goal.returns-in_default
 returns-in_default c = λ rows kept.
