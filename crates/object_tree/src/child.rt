@@ -134,6 +134,7 @@ pub(crate) fn group(all: &GapBuffer<Child>, parent: u32, near: Near) -> Kids<'_>
 
 /// How many children have a later parent, given that `end` have this parent or a later one. `size` is a
 /// guess at how many have this parent.
+#[inline(always)]
 fn start_of(children: &GapBuffer<Child>, parent: u64, end: usize, size: usize) -> usize
     requires order { IsInOrder child_cmp children.now.items }
     requires parent { parent < 2 ^ 32 }

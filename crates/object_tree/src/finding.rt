@@ -148,13 +148,17 @@ impl Forests {
 }
 
 /// Appends the numbers of some children.
+#[inline(always)]
 fn append_numbers(found: &mut Vec<u32>, kids: Kids<'_>) -> Result<(), AllocError>
     requires { AreWithin kids }
     ensures { OnOk result (found.new.items ≡ found.old.items ++ map (λ child. child.number) (kids_of kids.entry)) }
 {
+    if kids.start == kids.end {
+        return Ok(());
+    }
     found.reserve(kids.end - kids.start)?;
     'kids: for at in kids.start..kids.end {
-        found.push(kids.all.get(at).number)?;
+        found.push_reserved(kids.all.get(at).number);
     }
     Ok(())
 }

@@ -106,6 +106,7 @@ impl BoundStores {
     }
 
     /// Whether a declared property shows this text.
+    #[inline(always)]
     pub fn shows_text(&self, place: usize, at: Property, wanted: &str) -> Result<bool, AllocError>
         requires place { IsPlace self.now.shelves.table place }
         requires graph { IsPlace self.now.graphs place }
@@ -133,12 +134,13 @@ impl BoundStores {
     }
 }
 
-/// Whether a value is this text.
+/// Whether a value is this text. Most texts differ in length, which is compared first.
+#[inline(always)]
 fn is_text(value: &Value, wanted: &str) -> bool
     ensures { result ≡ is_text wanted.now value.now }
 {
     match value {
-        Value::Text(text) => text.as_str() == wanted,
+        Value::Text(text) => text.len() == wanted.len() && text.as_str() == wanted,
         _ => false,
     }
 }

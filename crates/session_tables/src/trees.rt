@@ -122,6 +122,7 @@ impl Tables {
     }
 
     /// Whether an object has this text for its title, which is its property `objectName`.
+    #[inline(always)]
     fn is_titled(&self, place: usize, object: u32, wanted: &str) -> Result<bool, AllocError>
         requires { IsPlaced self.now place }
         ensures { IfOk result (λ is. is ≡ is_text wanted.now (title_of (state_at self.now place) object)) }

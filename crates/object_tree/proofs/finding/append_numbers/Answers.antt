@@ -1,4 +1,4 @@
-use Rattle.std.proofs.Common.{◌≡◌, ◌∙◌, ◌+◌, ◌∷◌, ◌++◌, [], map, sym, ap, append_assoc}
+use Rattle.std.proofs.Common.{◌≡◌, ◌∙◌, ◌+◌, ◌∷◌, ◌++◌, [], map, sym, ap, append_assoc, arith}
 use Rattle.std.specs.List.{slice_range}
 use Rattle.object_tree.specs.declared.child.Child.{Child}
 use Rattle.object_tree.proofs.ChildLemmas.{stretch_next}
@@ -10,6 +10,8 @@ kids-preserved c =
     let rest = slice_range all (c.kids.at + 1) c.args.kids.end in
     let next : slice_range all c.kids.at c.args.kids.end ≡ c.get.result ∷ rest =
     stretch_next all c.kids.at c.args.kids.end c.get.result c.kids-test.true c.requires.within
-    ∙ ap (λ (child : Child). child ∷ rest) (sym (c.get.ensures c.get.result)) in
-    rw c.in_ok-push.ensures.items (append_assoc c.kids.found.items (c.get.result.number ∷ []) (map (λ (child : Child). child.number) rest)
-    ∙ (ap (λ kids. c.kids.found.items ++ map (λ (child : Child). child.number) kids) (sym next) ∙ c.kids.invariant))
+    ∙ ap (λ (child : Child). child ∷ rest) (sym (c.get.ensures c.get.result)) in (
+      rw c.push_reserved.ensures.items (append_assoc c.kids.found.items (c.get.result.number ∷ []) (map (λ (child : Child). child.number) rest)
+          ∙ (ap (λ kids. c.kids.found.items ++ map (λ (child : Child). child.number) kids) (sym next) ∙ c.kids.invariant.0)),
+      omega (arith, c.kids.invariant.1, c.kids-test.true, c.push_reserved.ensures.len, c.push_reserved.ensures.capacity),
+    )
