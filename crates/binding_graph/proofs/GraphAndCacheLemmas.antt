@@ -4,8 +4,10 @@ use Rattle.std.proofs.Common.{inr, ◌⊎◌, ⊎_elim}
 use Rattle.std.proofs.lemmas.Bool.{both_ways, cases_Bool, or_right}
 use Rattle.property_store.specs.declared.property.Property.{Property}
 use Rattle.property_store.specs.Marks.{Marks, is_marked}
+use Rattle.property_store.specs.Pending.{AreMore, both}
 use Rattle.property_store.specs.Property.{is_property}
 use Rattle.property_store.specs.Store.{Store}
+use Rattle.property_store.proofs.ForCallers.{both_marked}
 use Rattle.term_core.specs.Term.{Term}
 use Rattle.binding_values.specs.declared.eval_result.CacheEntry.{CacheEntry}
 use Rattle.binding_values.specs.declared.eval_result.EvalResult.{EvalResult}
@@ -16,12 +18,11 @@ use Rattle.binding_values.specs.EvalResult.{at_hand}
 use Rattle.std.specs.Option.{option_map_or}
 use Rattle.binding_values.specs.Stored.{cell_in, scene_of}
 use Rattle.binding_values.proofs.ForCallers.{property_eq}
-use Rattle.binding_values.specs.Right.{AreMore, both}
 use Rattle.binding_values.proofs.ForCallers.{binding_is_marked, unbinding_is_marked}
 use Rattle.binding_graph.specs.declared.shown.Shown.{Shown}
 use Rattle.binding_graph.specs.Cache.{Cache, IsInStep}
 use Rattle.binding_graph.specs.Graph.{Graph, bound, shown_as, unbound}
-use Rattle.binding_graph.proofs.StepLemmas.{both_marked, more_in_step, stays_where_marked}
+use Rattle.binding_graph.proofs.StepLemmas.{more_in_step, stays_where_marked}
 
 -- what is kept where that of one property was let go
 

@@ -9,7 +9,7 @@ pub mod RemovalLemmas
 pub mod TouchedLemmas
 pub mod RowLemmas
 pub mod GoneLemmas
-pub mod DrainLemmas
 pub mod KnownLemmas
 pub mod SettlingLemmas
+pub mod AloneLemmas
 pub mod ForCallers

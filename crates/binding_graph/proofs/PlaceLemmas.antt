@@ -1,5 +1,6 @@
 -- The graphs of places, and what is kept of them.
-use Rattle.std.proofs.Common.{◌≡◌, ◌≢◌, ◌∙◌, ◌==◌, ℕ, zero, suc, Bool, true, false, not, List, [], ◌∷◌, Some, Result, Ok, Err, OnErr, OnOk, filter, is_some}
+use Rattle.std.proofs.Common.{◌≡◌, ◌≢◌, ◌∙◌, ◌==◌, ℕ, zero, suc, Bool, true, false, not, List, [], ◌∷◌, Option, Some, None, filter, is_some}
+use Rattle.std.proofs.Common.{Result, Ok, Err, IfNone, IfSome, OnErr, OnOk}
 use Rattle.std.proofs.Common.{cond, find, get_or, length, map, option_map, refl, set, sym, ap, subst, ⊎_elim, arith}
 use Rattle.std.proofs.lemmas.Bool.{both_ways, cases_Bool, eq-eqb, eqb-true}
 use Rattle.std.proofs.lemmas.List.{get_or-set_other, get_or-set_same, get_or_past, length-map}
@@ -7,13 +8,13 @@ use Rattle.shared_rows.specs.Table.{IsPlace, Table, opened, with_place}
 use Rattle.shared_rows.proofs.ForCallers.{default_pushed, with_same}
 use Rattle.property_store.specs.declared.property.Property.{Property}
 use Rattle.property_store.specs.Marks.{marks_at}
+use Rattle.property_store.specs.Pending.{IsDrained}
 use Rattle.property_store.specs.Property.{is_property}
 use Rattle.property_store.specs.Table.{StoresView, store_at}
 use Rattle.binding_values.specs.declared.binding.Binding.{Binding}
 use Rattle.binding_values.specs.Scene.{term_at}
 use Rattle.binding_graph.specs.Cache.{IsInStep, cache_at, no_cache}
 use Rattle.binding_graph.specs.Graph.{Graph, is_bound, no_graph, unbound}
-use Rattle.binding_graph.specs.Drained.{IsDrained}
 use Rattle.binding_graph.specs.Step.{InStep}
 use Rattle.binding_graph.specs.Table.{OthersKept, graph_at, with_graph}
 use Rattle.binding_graph.specs.GraphAndCache.{IsAt, StaysAt, GraphAndCache, no_graph_and_cache, split}
@@ -72,6 +73,20 @@ pub put_so : {T E : Type 0} (r : Result T E) (table : Table GraphAndCache) (plac
 put_so (Ok value) table place now new change stood same = with_pair_as table place new (change (graph_at (split table).graphs place))
     (same ∙ ap change (graph_now table place now stood))
 put_so (Err error) table place now new change stood same = tt
+
+-- so where only one of both may be
+pub put_if_some : (r : Option Bool) (table : Table GraphAndCache) (place : ℕ) (now new : GraphAndCache) (change : Graph → Graph)
+    → now ≡ pair_at table place → IfSome r (λ b. new.graph ≡ change now.graph)
+    → IfSome r (λ b. (split (with_place table place new)).graphs ≡ with_graph (split table).graphs place (change (graph_at (split table).graphs place)))
+put_if_some (Some b) table place now new change stood same = with_pair_as table place new (change (graph_at (split table).graphs place))
+    (same ∙ ap change (graph_now table place now stood))
+put_if_some None table place now new change stood same = tt
+
+pub back_if_none : (r : Option Bool) (table : Table GraphAndCache) (place : ℕ) (now new : GraphAndCache) → now ≡ pair_at table place
+    → IfNone r (new.graph ≡ now.graph) → IfNone r ((split (with_place table place new)).graphs ≡ (split table).graphs)
+back_if_none (Some b) table place now new stood same = tt
+back_if_none None table place now new stood same =
+    with_pair_as table place new (graph_at (split table).graphs place) (same ∙ graph_now table place now stood) ∙ with_same no_graph (split table).graphs place
 
 -- what is in step at each place
 

@@ -8,26 +8,26 @@ use Rattle.shared_rows.specs.Table.{IsPlace}
 use Rattle.shared_rows.proofs.ForCallers.{with_there}
 use Rattle.property_store.specs.declared.property.Property.{Property}
 use Rattle.property_store.specs.Marks.{Marks, has_marks, is_marked, marks_at}
+use Rattle.property_store.specs.Pending.{AreMore, IsDrained, both}
 use Rattle.property_store.specs.Store.{Store, without}
 use Rattle.property_store.specs.Table.{StoresView, store_at, with_store}
+use Rattle.property_store.proofs.ForCallers.{both_marked}
 use Rattle.binding_values.specs.declared.binding.Binding.{Binding}
 use Rattle.binding_values.specs.declared.eval_result.CacheEntry.{CacheEntry}
 use Rattle.binding_values.specs.EvalResult.{kept_of, known}
 use Rattle.binding_values.specs.Scene.{Cell}
 use Rattle.binding_values.specs.Stored.{fields_at, outcome_in, properties_in, scene_of}
 use Rattle.binding_values.proofs.ForCallers.{all_given}
-use Rattle.binding_values.specs.Right.{AreMore, both}
 use Rattle.binding_values.proofs.ForCallers.{AreAlikeBut, stays_right, stays_whole, cell_gone, kept_objects, removal_is_alike}
 use Rattle.binding_graph.specs.declared.change.Change.{Change}
 use Rattle.binding_graph.specs.declared.shown.Shown.{Shown}
 use Rattle.binding_graph.specs.Cache.{Cache, IsInStep, shown_by}
-use Rattle.binding_graph.specs.Drained.{IsDrained}
 use Rattle.binding_graph.specs.Graph.{Graph, all_shown, changes, has_turn, in_turn, is_open, notice, settled_changes, shown_as, shown_at, shown_now, warning}
 use Rattle.binding_graph.specs.Graph.{without_object}
 use Rattle.binding_graph.specs.GraphAndCache.{StaysKept}
 use Rattle.binding_graph.proofs.FoundLemmas.{shown_of}
 use Rattle.binding_graph.proofs.SettlingLemmas.{drained_in_step}
-use Rattle.binding_graph.proofs.StepLemmas.{both_marked, more_in_step, more_of_both, nothing_marked, same_shown}
+use Rattle.binding_graph.proofs.StepLemmas.{more_in_step, more_of_both, nothing_marked, same_shown}
 use Rattle.binding_graph.proofs.TouchedLemmas.{found_filter}
 
 -- what is kept is as right as before where the properties of the object are marked

@@ -5,9 +5,11 @@ use Rattle.std.specs.Option.{option_map_or}
 use Rattle.std.proofs.lemmas.Bool.{both_ways, false_from_ne_true, or_right}
 use Rattle.property_store.specs.declared.property.Property.{Property}
 use Rattle.property_store.specs.Marks.{Marks, has_marks, is_marked, marks_at}
+use Rattle.property_store.specs.Pending.{AreMore, IsDrained, both, only}
 use Rattle.property_store.specs.Property.{among}
 use Rattle.property_store.specs.Store.{IsSound, Store}
 use Rattle.property_store.specs.Table.{StoresView, store_at}
+use Rattle.property_store.proofs.ForCallers.{both_marked}
 use Rattle.binding_values.specs.declared.eval_result.CacheEntry.{CacheEntry}
 use Rattle.binding_values.specs.declared.eval_result.EvalResult.{EvalResult}
 use Rattle.binding_values.specs.Binds.{AreBindings}
@@ -15,16 +17,15 @@ use Rattle.binding_values.specs.EvalResult.{at_hand, kept_of}
 use Rattle.binding_values.specs.Scene.{Cell}
 use Rattle.binding_values.specs.Sorted.{IsRising}
 use Rattle.binding_values.specs.Stored.{cell_in, scene_of}
-use Rattle.binding_values.specs.Right.{AreMore, IsComplete, IsRightBut, IsWhole, both, only}
+use Rattle.binding_values.specs.Right.{IsComplete, IsRightBut, IsWhole}
 use Rattle.binding_values.proofs.ForCallers.{complete_is_known}
 use Rattle.binding_graph.specs.declared.shown.Shown.{Shown}
 use Rattle.binding_graph.specs.Cache.{Cache, IsInStep}
 use Rattle.binding_graph.specs.Rows.{AreMerged}
 use Rattle.binding_graph.specs.Graph.{Graph, all_shown, changes, shown_as, shown_at, shown_now}
-use Rattle.binding_graph.specs.Drained.{IsDrained}
 use Rattle.binding_graph.proofs.FoundLemmas.{found_in_all}
 use Rattle.binding_graph.proofs.ShownLemmas.{all_shown_sound}
-use Rattle.binding_graph.proofs.StepLemmas.{both_marked, more_in_step, nothing_marked, same_in_step}
+use Rattle.binding_graph.proofs.StepLemmas.{more_in_step, nothing_marked, same_in_step}
 use Rattle.binding_graph.proofs.TouchedLemmas.{changes_of_touched, merged_is_all}
 
 -- what was taken from the store is pending

@@ -11,18 +11,19 @@ use Rattle.signature_core.specs.declared.kind.Kind.{Kind}
 use Rattle.term_core.specs.Term.{Term}
 use Rattle.property_store.specs.declared.property.Property.{Property}
 use Rattle.property_store.specs.Marks.{AreMarked, HasMarks, Marks, all_marks, has_marks, is_marked, is_written, is_written_named, marks_at, no_marks}
+use Rattle.property_store.specs.Pending.{AreMore, both}
 use Rattle.property_store.specs.Named.{declared_at, written_named}
 use Rattle.property_store.specs.Property.{among, is_property}
 use Rattle.property_store.specs.Store.{Properties, Store, properties_of, without, written}
 use Rattle.property_store.specs.Table.{StoresView, fields_of, store_at}
-use Rattle.property_store.proofs.ForCallers.{filter_all, none_passes}
+use Rattle.property_store.proofs.ForCallers.{both_marked, filter_all, none_passes}
 use Rattle.binding_values.specs.declared.binding.Binding.{Binding}
 use Rattle.binding_values.specs.declared.eval_result.EvalResult.{EvalResult}
 use Rattle.binding_values.specs.declared.property.BindingError.TheVariants.{BindingLoop, EvaluationError}
 use Rattle.binding_values.specs.EvalResult.{Keeping, kept_of}
 use Rattle.binding_values.specs.Scene.{Cell, Outcome, Scene}
 use Rattle.binding_values.specs.Stored.{cell_in, scene_of}
-use Rattle.binding_values.specs.Right.{AreMore, DiffersAt, IsComplete, both}
+use Rattle.binding_values.specs.Right.{DiffersAt, IsComplete}
 use Rattle.binding_values.proofs.ForCallers.{complete_is_known, complete_is_right, unmarked_is_complete, AreAlikeBut, alike, stays_right, stays_whole}
 use Rattle.binding_values.proofs.ForCallers.{addition_is_marked, all_may_change, dynamic_is_nothing, no_dynamic_is_nothing, write_is_marked}
 use Rattle.binding_graph.specs.declared.shown.Shown.{Shown}
@@ -33,17 +34,7 @@ use Rattle.binding_graph.specs.Step.{NoDynamicStaysInStep, OpeningStaysInStep, R
 use Rattle.binding_graph.specs.Table.{graph_at}
 use Rattle.binding_graph.proofs.FoundLemmas.{found_in_all}
 
--- what one or the other marks
-
-pub both_marked : (a b : Marks) (q : Property) → is_marked (both a b) q ≡ (is_marked a q || is_marked b q)
-both_marked a b q = ap (λ here. (a.all || b.all) || here) (list_any-append (is_property q) a.each b.each)
-    ∙ exchanged a.all b.all (among q a.each) (among q b.each)
-  where
-    exchanged : (s t x y : Bool) → ((s || t) || (x || y)) ≡ ((s || x) || (t || y))
-    exchanged true t x y = refl
-    exchanged false true true y = refl
-    exchanged false true false y = refl
-    exchanged false false x y = refl
+-- where more is marked, more is marked with what is pending
 
 pub more_of_both : (marks more pending : Marks) → AreMore marks more → AreMore (both marks pending) (both more pending)
 more_of_both marks more pending are_more q on =

@@ -2,12 +2,13 @@
 use Rattle.std.specs.Prelude.{◌≡◌, ℕ, List, [], false, Option, option_map, slice_index_or}
 use Rattle.property_store.specs.declared.property.Property.{Property}
 use Rattle.property_store.specs.Marks.{Marks, all_marks, is_marked}
+use Rattle.property_store.specs.Pending.{both}
 use Rattle.property_store.specs.Store.{Store}
 use Rattle.binding_values.specs.declared.binding.Binding.{Binding}
 use Rattle.binding_values.specs.declared.eval_result.CacheEntry.{CacheEntry}
 use Rattle.binding_values.specs.EvalResult.{Keeping, kept_of, known}
 use Rattle.binding_values.specs.Stored.{cell_in, scene_of}
-use Rattle.binding_values.specs.Right.{IsRightBut, IsWhole, both}
+use Rattle.binding_values.specs.Right.{IsRightBut, IsWhole}
 use Rattle.binding_graph.specs.declared.shown.Shown.{Shown}
 use Rattle.binding_graph.specs.Graph.{Graph, shown_as, shown_at}
 

@@ -1,10 +1,9 @@
 -- How the logic stores graphs.
-use Rattle.std.specs.Prelude.{ℕ, Bool, List, refl}
-use Rattle.std.specs.Coded.{Coded, code_by, coded×, coded_bool, coded_list, coded_ℕ}
+use Rattle.std.specs.Prelude.{ℕ, List, refl}
+use Rattle.std.specs.Coded.{Coded, code_by, coded×, coded_list, coded_ℕ}
 use Rattle.shared_rows.specs.Table.{Table, table_code}
-use Rattle.property_store.specs.contracts.property.Property as property
-use Rattle.property_store.specs.declared.property.Property.{Property}
 use Rattle.property_store.specs.Marks.{Marks}
+use Rattle.property_store.specs.Pending.{coded_marks}
 use Rattle.binding_values.specs.declared.binding.Binding.{Binding}
 use Rattle.binding_values.specs.declared.eval_result.CacheEntry.{CacheEntry}
 use Rattle.binding_graph.specs.declared.shown.Shown.{Shown}
@@ -22,10 +21,6 @@ abbrev pub coded_graph : Coded Graph
 coded_graph =
     code_by (List Binding × (List Shown × ℕ)) (coded× coded_bindings (coded× coded_showing coded_ℕ))
     (λ g. (g.bindings, (g.last, g.depth))) (λ p. record { bindings = p.0; last = p.1.0; depth = p.1.1 }) (λ _. refl)
-
-abbrev pub coded_marks : Coded Marks
-coded_marks = code_by (Bool × List Property) (coded× coded_bool (coded_list property.the_row.coded))
-    (λ m. (m.all, m.each)) (λ p. record { all = p.0; each = p.1 }) (λ _. refl)
 
 abbrev pub coded_cache : Coded Cache
 coded_cache =

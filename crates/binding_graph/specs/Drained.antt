@@ -4,11 +4,6 @@ use Rattle.property_store.specs.Marks.{marks_at}
 use Rattle.property_store.specs.Store.{Store}
 use Rattle.property_store.specs.Table.{StoresView, with_store}
 
--- All stores are unchanged, and so are the marks of other places.
-pub record IsDrained (place : ℕ) (old new : StoresView) : Type 0 where
-  pub shelves : new.shelves ≡ old.shelves
-  pub others : (other : ℕ) → other ≢ place → marks_at new.marks other ≡ marks_at old.marks other
-
 -- One place has a different store, and the marks of other places are unchanged.
 pub record IsStored (place : ℕ) (store : Store) (old new : StoresView) : Type 0 where
   pub shelves : new.shelves ≡ with_store old.shelves place store

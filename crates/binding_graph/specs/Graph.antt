@@ -1,5 +1,5 @@
 -- What contracts see of the bindings of a place.
-use Rattle.std.specs.Prelude.{ℕ, suc, ◌-◌, ◌≤◌, ◌==◌, ◌&&◌, ◌++◌, Bool, true, false, not, nat_le, nat_lt, if◌then◌else◌, List, [], All}
+use Rattle.std.specs.Prelude.{ℕ, suc, ◌-◌, ◌≤◌, ◌==◌, ◌&&◌, ◌++◌, Bool, true, false, not, nat_le, nat_lt, if◌then◌else◌, List, [], ◌∷◌, All}
 use Rattle.std.specs.Prelude.{filter, filter_map, find, Option, Some, None, Ok, Err, option_and_then, option_map}
 use Rattle.std.specs.Option.{is_some, option_map_or}
 use Rattle.plain_types.specs.declared.code.Code.{Code}
@@ -106,6 +106,15 @@ in_turn written now = filter (has_turn written true) now ++ filter (has_turn wri
 -- The changes: first all warnings, then all notifications.
 abbrev pub changes : List Shown → List Shown → Option Property → List Change
 changes last now written = filter_map (warning last) (in_turn written now) ++ filter_map (notice last) (in_turn written now)
+
+-- The changes if only one property was written, which now has this value.
+abbrev pub change_alone : Property → Value → Bool → List Change
+change_alone at value true = record { at = at; told = message.Value value } ∷ []
+change_alone at value false = []
+
+-- The stored value; `Invalid` if the property does not exist.
+abbrev pub stored_value : Store → Property → Value
+stored_value store q = option_map_or (λ cell. cell.value) (cell_in store q) Invalid
 
 -- The changes that a settling announces; none in a group.
 abbrev pub settled_changes : Store → Graph → Option Property → List Change

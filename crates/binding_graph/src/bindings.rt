@@ -1,19 +1,20 @@
 //! The bindings of all places.
 #![tactic(auto, unfolding(crate::specs::Step::InStep))]
 
-ghost use Rattle.std.specs.Prelude.{◌≡◌, ◌+◌, ◌≤◌, [], IfOk, IsTrue, None, OnErr, OnOk, length};
+ghost use Rattle.std.specs.Prelude.{◌≡◌, ◌+◌, ◌≤◌, [], IfNone, IfOk, IfSome, IsTrue, None, OnErr, OnOk, Some, length};
 ghost use Rattle.std.specs.Option.{option_map};
 ghost use Rattle.std.specs.Result.{result_err};
 ghost use Rattle.shared_rows.specs.Table.{ChangesAt, IsPlace, MakesRoom, Opens};
 ghost use Rattle.plain_types.specs.Answers.{RefusedBy};
 ghost use Rattle.term_core.specs.Forms.{is_within_limits};
 ghost use Rattle.property_store.specs.Store.{without};
+ghost use Rattle.property_store.specs.Pending.{IsDrained};
 ghost use Rattle.property_store.specs.Table.{StoresView, store_at};
 ghost use Rattle.variant_value.specs.Values.{IsShort};
 ghost use Rattle.binding_graph.specs.Cache.{cache_at, no_cache};
-ghost use Rattle.binding_graph.specs.Drained.{IsDrained, IsStored};
+ghost use Rattle.binding_graph.specs.Drained.{IsStored};
 ghost use Rattle.binding_graph.specs.Graph.{IsSound, begin_refusal, begun, bind_refusal, bound, end_refusal, ended, is_bound, no_graph};
-ghost use Rattle.binding_graph.specs.Graph.{settled_changes, settled_graph, taken, unbound, value_in, without_object};
+ghost use Rattle.binding_graph.specs.Graph.{change_alone, settled_changes, settled_graph, stored_value, taken, unbound, value_in, without_object};
 ghost use Rattle.binding_graph.specs.Step.{InStep, LeavesInStep};
 ghost use Rattle.binding_values.specs.Scene.{term_at};
 ghost use Rattle.binding_values.specs.Stored.{is_bindable};
@@ -229,6 +230,24 @@ impl Bindings {
     {
         let graph = self.graphs.get_mut(place);
         graph.settle(self.alloc, stores, place, written)
+    }
+
+    /// Settles a place like `settle` after a write of a property, if no group is open and no other property may show
+    /// another value, and returns whether its value has changed. Otherwise, or if memory runs out, it returns `None`,
+    /// and the place is still to be settled. Only a text needs memory.
+    pub fn settle_alone(&mut self, place: usize, stores: &mut Stores, at: Property) -> Option<bool>
+        requires places { IsPlace self.old.graphs place × IsPlace stores.old.shelves.table place }
+        requires step { InStep stores.old self.old }
+        ensures told { IfSome result (λ is_change. change_alone at (stored_value (store_at stores.old.shelves place) at) is_change
+            ≡ settled_changes (store_at stores.old.shelves place) (graph_at self.old.graphs place) (Some at)) }
+        ensures ok { IfSome result (λ is_change. self.new.graphs
+            ≡ with_graph self.old.graphs place (settled_graph (store_at stores.old.shelves place) (graph_at self.old.graphs place))) }
+        ensures none { IfNone result (self.new.graphs ≡ self.old.graphs) }
+        ensures stores { IsDrained place stores.old stores.new }
+        ensures step { LeavesInStep place stores.new self.old self.new }
+    {
+        let graph = self.graphs.get_mut(place);
+        graph.settle_alone(self.alloc, stores, place, at)
     }
 
     /// Opens a group within those that are open, and returns how many there are now. More than `GROUPS` are

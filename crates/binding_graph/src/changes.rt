@@ -29,7 +29,7 @@ fn error_before(last: &Showing, shown: &Shown) -> Option<BindingError>
 }
 
 /// Whether a property showed this value before.
-fn is_value_before(last: &Showing, shown: &Shown) -> bool
+pub(crate) fn is_value_before(last: &Showing, shown: &Shown) -> bool
     ensures { result ≡ is_same (before last.now shown.now).value shown.now.value }
 {
     match last.at(shown.at) {

@@ -10,13 +10,12 @@ ghost use Rattle.binding_graph.specs.Graph.{IsSound, bind_refusal, bound, end_re
 ghost use Rattle.binding_graph.specs.Graph.{shown_at, shown_in, shown_now, unbound, value_in};
 ghost use Rattle.binding_graph.specs.GraphAndCache.{IsAt, StaysAt, no_graph_and_cache};
 
-use crate::pending::Pending;
 use crate::show::{show, show_kept, shown_as};
 use crate::showing::Showing;
 use crate::shown::Shown;
-use binding_values::{Binding, BindingError, Bound, KeptValues, cell_at};
+use binding_values::{Binding, BindingError, Bound, KeptIndex, cell_at};
 use plain_types::{Code, Fault};
-use property_store::{Property, Stores, default_of};
+use property_store::{Pending, Property, Stores, default_of};
 use signature_core::Kind;
 use std::alloc::{AllocError, Global};
 use std::marker::Model;
@@ -30,7 +29,7 @@ pub(crate) struct BindingGraph {
     pub(crate) bindings: Bound,
     pub(crate) last: Showing,
     pub(crate) depth: u32,
-    pub(crate) kept: KeptValues,
+    pub(crate) kept: KeptIndex,
     pub(crate) pending: Pending,
     pub(crate) evaluations: u64,
 }
@@ -60,7 +59,7 @@ impl BindingGraph {
             bindings: Bound::new(alloc),
             last: Showing::new(alloc),
             depth: 0,
-            kept: KeptValues::new(alloc),
+            kept: KeptIndex::new(alloc),
             pending: Pending::new(alloc),
             evaluations: 0,
         }

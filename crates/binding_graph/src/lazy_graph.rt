@@ -1,5 +1,5 @@
 //! The graph of one place, made when it is needed.
-ghost use Rattle.std.specs.Prelude.{◌≡◌, ◌+◌, IfOk, IsSome, IsTrue, None, OnErr, OnOk, length};
+ghost use Rattle.std.specs.Prelude.{◌≡◌, ◌+◌, IfNone, IfOk, IfSome, IsSome, IsTrue, None, OnErr, OnOk, Some, length};
 ghost use Rattle.std.specs.Option.{option_map};
 ghost use Rattle.std.specs.Result.{result_err};
 ghost use Rattle.shared_rows.specs.Table.{IsPlace};
@@ -7,11 +7,12 @@ ghost use Rattle.plain_types.specs.Answers.{RefusedBy};
 ghost use Rattle.term_core.specs.Forms.{is_within_limits};
 ghost use Rattle.binding_values.specs.Scene.{term_at};
 ghost use Rattle.property_store.specs.Store.{without};
+ghost use Rattle.property_store.specs.Pending.{IsDrained};
 ghost use Rattle.property_store.specs.Table.{store_at};
 ghost use Rattle.binding_graph.specs.Graph.{IsSound, begin_refusal, begun, bind_refusal, bound, end_refusal, ended, is_bound};
-ghost use Rattle.binding_graph.specs.Graph.{settled_changes, settled_graph, unbound, value_in, without_object};
+ghost use Rattle.binding_graph.specs.Graph.{change_alone, settled_changes, settled_graph, stored_value, unbound, value_in, without_object};
 ghost use Rattle.binding_graph.specs.Inside.{pair_of};
-ghost use Rattle.binding_graph.specs.Drained.{IsDrained, IsStored};
+ghost use Rattle.binding_graph.specs.Drained.{IsStored};
 ghost use Rattle.binding_graph.specs.GraphAndCache.{IsAt, StaysAt, no_graph_and_cache};
 
 use crate::change::Change;
@@ -175,6 +176,28 @@ impl LazyGraph {
             unreachable!()
         };
         inner.settle(alloc, stores, place, written)
+    }
+
+    pub(crate) fn settle_alone(
+        &mut self,
+        alloc: Global,
+        stores: &mut Stores,
+        place: usize,
+        at: Property,
+    ) -> Option<bool>
+        requires ready { IsPlace stores.old.shelves.table place }
+        requires step { IsAt stores.old place self.old }
+        ensures told { IfSome result (λ is_change. change_alone at (stored_value (store_at stores.old.shelves place) at) is_change
+            ≡ settled_changes (store_at stores.old.shelves place) self.old.graph (Some at)) }
+        ensures ok { IfSome result (λ is_change. self.new.graph ≡ settled_graph (store_at stores.old.shelves place) self.old.graph) }
+        ensures none { IfNone result (self.new.graph ≡ self.old.graph) }
+        ensures stores { IsDrained place stores.old stores.new }
+        ensures step { IsAt stores.new place self.new }
+    {
+        let Some(inner) = &mut self.made else {
+            return None;
+        };
+        inner.settle_alone(alloc, stores, place, at)
     }
 
     pub(crate) fn begin(

@@ -9,7 +9,6 @@ mod changes;
 mod graph;
 mod laws;
 mod lazy_graph;
-mod pending;
 mod removal;
 mod settling;
 mod show;

@@ -2,24 +2,23 @@
 ghost use Rattle.std.specs.Prelude.{◌≡◌, ◌≤◌, ℕ, IfOk, None, OnOk, length, true};
 ghost use Rattle.shared_rows.specs.Table.{IsPlace};
 ghost use Rattle.property_store.specs.Marks.{is_marked};
+ghost use Rattle.property_store.specs.Pending.{AreMore};
 ghost use Rattle.property_store.specs.Store.{without};
 ghost use Rattle.property_store.specs.Table.{store_at};
 ghost use Rattle.binding_values.specs.Stored.{fields_at};
-ghost use Rattle.binding_values.specs.Right.{AreMore};
 ghost use Rattle.binding_graph.specs.Graph.{settled_changes, settled_graph, without_object};
 ghost use Rattle.binding_graph.specs.Drained.{IsStored};
 ghost use Rattle.binding_graph.specs.GraphAndCache.{IsAt, StaysKept};
 
 use crate::change::Change;
 use crate::graph::BindingGraph;
-use crate::pending::{Pending, drain};
-use binding_values::KeptValues;
+use binding_values::KeptIndex;
 use plain_types::Items;
-use property_store::{Property, Stores};
+use property_store::{Pending, Property, Stores};
 use std::alloc::{AllocError, Global};
 
 /// Marks a property, and drops its cached result.
-fn forget(pending: &mut Pending, kept: &mut KeptValues, at: Property)
+fn forget(pending: &mut Pending, kept: &mut KeptIndex, at: Property)
     ensures marked { is_marked pending.new at ≡ true }
     ensures more { AreMore pending.old pending.new }
     ensures step { StaysKept pending.old kept.old pending.new kept.new }
@@ -33,7 +32,7 @@ fn forget(pending: &mut Pending, kept: &mut KeptValues, at: Property)
 
 /// Forgets the cached results of an object's properties, and that of the one that stands for names that it does
 /// not declare.
-fn forget_object(pending: &mut Pending, kept: &mut KeptValues, object: u32, count: usize)
+fn forget_object(pending: &mut Pending, kept: &mut KeptIndex, object: u32, count: usize)
     ensures marked { (number : ℕ) → number ≤ count → is_marked pending.new (record { object = object; number = number }) ≡ true }
     ensures step { StaysKept pending.old kept.old pending.new kept.new }
 {
@@ -77,7 +76,7 @@ impl BindingGraph {
         ensures stores { IsStored place (without object (store_at stores.old.shelves place)) stores.old stores.new }
         ensures step { IsAt stores.new place self.new }
     {
-        drain(&mut self.pending, stores, place);
+        self.pending.drain(stores, place);
         let count = declared(stores, place, object);
         forget_object(&mut self.pending, &mut self.kept, object, count);
         self.bindings.remove_object(object);

@@ -1,17 +1,17 @@
 //! The settling of a place: what all properties show now, by evaluating what changes reach.
-ghost use Rattle.std.specs.Prelude.{◌≡◌, ◌+◌, ◌<◌, IfOk, IsTrue, OnErr, OnOk, false, true};
+ghost use Rattle.std.specs.Prelude.{◌≡◌, ◌+◌, ◌<◌, IfNone, IfOk, IfSome, IsTrue, Ok, OnErr, OnOk, Some, false, true};
 ghost use Rattle.shared_rows.specs.Table.{IsPlace};
 ghost use Rattle.property_store.specs.Marks.{has_marks, marks_at};
+ghost use Rattle.property_store.specs.Pending.{IsDrained};
 ghost use Rattle.property_store.specs.Table.{store_at};
-ghost use Rattle.binding_graph.specs.Graph.{all_shown, begun, changes, settled_changes, settled_graph};
-ghost use Rattle.binding_graph.specs.Drained.{IsDrained};
+ghost use Rattle.binding_graph.specs.Graph.{all_shown, begun, change_alone, changes, settled_changes, settled_graph, stored_value};
 ghost use Rattle.binding_graph.specs.GraphAndCache.{IsAt};
 
 use crate::change::Change;
-use crate::changes::changes;
+use crate::changes::{changes, is_value_before};
 use crate::graph::BindingGraph;
-use crate::pending::drain;
-use crate::show::{show_all, show_touched};
+use crate::show::{show_all, show_touched, shown_as};
+use binding_values::cell_at;
 use plain_types::Items;
 use property_store::{Property, Stores};
 use std::alloc::{AllocError, Global};
@@ -101,7 +101,7 @@ impl BindingGraph {
         ensures stores { IsDrained place stores.old stores.new }
         ensures step { IsAt stores.new place self.new }
     {
-        drain(&mut self.pending, stores, place);
+        self.pending.drain(stores, place);
         let told = if self.pending.is_all() {
             self.refresh_all(alloc, stores, place, tells, written)
         } else {
@@ -134,6 +134,73 @@ impl BindingGraph {
             return Ok(Items::new(alloc));
         }
         self.refresh(alloc, stores, place, true, written)
+    }
+
+    /// Settles a place where this property alone is marked, if nothing has to be evaluated for it, and returns whether
+    /// its value is another one. Otherwise, or where memory runs out, it does nothing and returns `None`.
+    fn refresh_alone(
+        &mut self,
+        alloc: Global,
+        stores: &Stores,
+        place: usize,
+        at: Property,
+    ) -> Option<bool>
+        requires ready { IsPlace stores.now.shelves.table place }
+        requires taken { has_marks (marks_at stores.now.marks place) ≡ false }
+        requires step { IsAt stores.now place self.old }
+        ensures told { IfSome result (λ is_change. change_alone at (stored_value (store_at stores.now.shelves place) at) is_change
+            ≡ changes self.old.graph.last (all_shown (store_at stores.now.shelves place) self.old.graph.bindings) (Some at)) }
+        ensures ok { IfSome result (λ is_change.
+            self.new.graph ≡ record self.old.graph { last = all_shown (store_at stores.now.shelves place) self.old.graph.bindings }) }
+        ensures none { IfNone result (self.new.graph ≡ self.old.graph) }
+        ensures step { IsAt stores.now place self.new }
+    {
+        let _ = (self.bindings.len(), stores.count(place));
+        if !self.pending.is_only(at) {
+            return None;
+        }
+        if !self.kept.is_apart(stores, place, &self.bindings, at) {
+            return None;
+        }
+        let Some((kind, stored)) = cell_at(stores, place, at) else {
+            return None;
+        };
+        let Ok(value) = stored.copy(alloc) else {
+            return None;
+        };
+        let shown = shown_as(at, kind, Ok(value));
+        let is_change = !is_value_before(&self.last, &shown);
+        let Ok(()) = self.last.put(shown) else {
+            return None;
+        };
+        self.pending.clear();
+        Some(is_change)
+    }
+
+    /// Settles a place after a write of a property, if nothing has to be evaluated for it, and returns whether its
+    /// value is another one.
+    pub(crate) fn settle_alone(
+        &mut self,
+        alloc: Global,
+        stores: &mut Stores,
+        place: usize,
+        at: Property,
+    ) -> Option<bool>
+        requires ready { IsPlace stores.old.shelves.table place }
+        requires step { IsAt stores.old place self.old }
+        ensures told { IfSome result (λ is_change. change_alone at (stored_value (store_at stores.old.shelves place) at) is_change
+            ≡ settled_changes (store_at stores.old.shelves place) self.old.graph (Some at)) }
+        ensures ok { IfSome result (λ is_change. self.new.graph ≡ settled_graph (store_at stores.old.shelves place) self.old.graph) }
+        ensures none { IfNone result (self.new.graph ≡ self.old.graph) }
+        ensures stores { IsDrained place stores.old stores.new }
+        ensures step { IsAt stores.new place self.new }
+    {
+        let is_open = self.is_open();
+        if is_open {
+            return None;
+        }
+        self.pending.drain(stores, place);
+        self.refresh_alone(alloc, stores, place, at)
     }
 
     /// Opens a group; the outermost begins with what is shown now.

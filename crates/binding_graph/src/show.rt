@@ -14,7 +14,7 @@ ghost use Rattle.binding_values.specs.Right.{IsComplete};
 
 use crate::showing::Showing;
 use crate::shown::Shown;
-use binding_values::{BindingError, Bound, EvalCache, KeptValues, cell_at, outcome};
+use binding_values::{BindingError, Bound, EvalCache, KeptIndex, cell_at, outcome};
 use property_store::{Property, Stores, default_of};
 use signature_core::Kind;
 use std::alloc::{AllocError, Global};
@@ -62,7 +62,7 @@ pub(crate) fn show(
 /// Returns the cached result of a property, or else its stored value.
 fn known(
     alloc: Global,
-    kept: &KeptValues,
+    kept: &KeptIndex,
     at: Property,
     stored: &Value,
 ) -> Result<Result<Value, BindingError>, AllocError>
@@ -83,7 +83,7 @@ pub(crate) fn show_kept(
     stores: &Stores,
     place: usize,
     bindings: &Bound,
-    kept: &KeptValues,
+    kept: &KeptIndex,
     at: Property,
 ) -> Result<Option<Shown>, AllocError>
     requires ready { IsPlace stores.now.shelves.table place }
@@ -104,7 +104,7 @@ fn put_shown(
     stores: &Stores,
     place: usize,
     bindings: &Bound,
-    kept: &KeptValues,
+    kept: &KeptIndex,
     rows: &mut Vec<Shown>,
     at: Property,
 ) -> Result<(), AllocError>
@@ -124,7 +124,7 @@ fn show_object(
     stores: &Stores,
     place: usize,
     bindings: &Bound,
-    kept: &KeptValues,
+    kept: &KeptIndex,
     rows: &mut Vec<Shown>,
     position: usize,
 ) -> Result<(), AllocError>
@@ -150,7 +150,7 @@ pub(crate) fn show_all(
     stores: &Stores,
     place: usize,
     bindings: &Bound,
-    kept: &KeptValues,
+    kept: &KeptIndex,
 ) -> Result<Showing, AllocError>
     requires ready { IsPlace stores.now.shelves.table place }
     requires complete { IsComplete (scene_of (store_at stores.now.shelves place) bindings.now) (kept_of kept.now) }
@@ -170,7 +170,7 @@ fn show_each(
     stores: &Stores,
     place: usize,
     bindings: &Bound,
-    kept: &KeptValues,
+    kept: &KeptIndex,
     touched: &[Property],
     absent: &mut Vec<Property>,
 ) -> Result<Showing, AllocError>
@@ -206,7 +206,7 @@ pub(crate) fn show_touched(
     stores: &Stores,
     place: usize,
     bindings: &Bound,
-    kept: &KeptValues,
+    kept: &KeptIndex,
     touched: &mut [Property],
     absent: &mut Vec<Property>,
 ) -> Result<Showing, AllocError>

@@ -70,7 +70,9 @@ impl Showing {
     /// Inserts what a property shows, or replaces what it showed.
     pub(crate) fn put(&mut self, row: Shown) -> Result<(), AllocError>
         requires { IsOfKind row.kind row.value }
-        ensures { OnOk result (IsPut row self.old self.new) }
+        ensures put { OnOk result (IsPut row self.old self.new) }
+        ensures sound { OnOk result (AreShown self.new) }
+        ensures err { OnErr result (self.new ≡ self.old) }
     {
         self.rows.reserve(1)?;
         put_reserved(&mut self.rows, row);

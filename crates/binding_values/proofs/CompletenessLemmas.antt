@@ -3,11 +3,12 @@ use Rattle.std.proofs.Common.{◌≡◌, ◌∙◌, ◌⊎◌, Bool, true, false
 use Rattle.std.proofs.lemmas.Bool.{both_ways, false_from_ne_true}
 use Rattle.property_store.specs.declared.property.Property.{Property}
 use Rattle.property_store.specs.Marks.{Marks, is_marked, no_marks}
+use Rattle.property_store.specs.Pending.{AreMore}
 use Rattle.binding_values.specs.Scene.{Scene, plain, settled}
 use Rattle.binding_values.specs.declared.eval_result.EvalResult.{EvalResult}
 use Rattle.binding_values.specs.EvalResult.{IsClosed, IsKept, IsRight, IsUnbound, IsWithin, Keeping, known}
 use Rattle.binding_values.proofs.KeptLemmas.{fresh_unbound, hand_unbound, known_kept, known_none, known_unbound, none_some, same_evaluation, unbound_unkept}
-use Rattle.binding_values.specs.Right.{AreMore, IsClear, IsComplete, IsRightBut, IsSpread, IsWhole, unmarked}
+use Rattle.binding_values.specs.Right.{IsClear, IsComplete, IsRightBut, IsSpread, IsWhole, unmarked}
 
 -- a part of what is kept that has read none but its own is right too
 

@@ -142,6 +142,14 @@ one_gone before touched at rows gone q = kept_without at rows q
     by false true = refl
     by false false = refl
 
+-- Where nothing is kept of a property, it is let go already.
+pub gone_already : (at : Property) (rows : List CacheEntry) → kept_of rows at ≡ None → AreLetGo (kept_of rows) (at ∷ []) rows
+gone_already at rows none q = by (is_property q at) refl
+  where
+    by : (t : Bool) → is_property q at ≡ t → kept_of rows q ≡ cond (t || false) None (kept_of rows q)
+    by true e = ap (kept_of rows) (property_eq q at e) ∙ none
+    by false e = refl
+
 -- where nothing is kept of a property, nothing changes where it goes
 pub none_gone_more : (before : Keeping) (touched : List Property) (at : Property) (rows : List CacheEntry) → kept_of rows at ≡ None
     → AreLetGo before touched rows → AreLetGo before touched (without at rows)

@@ -2,10 +2,11 @@
 use Rattle.std.proofs.Common.{◌≡◌, ◌∙◌, ◌⊎◌, ◌||◌, Bool, true, false, cond, List, [], ◌∷◌, Option, Some, None, All, filter, map, refl, sym, ap, subst, inl, inr}
 use Rattle.std.proofs.Common.{⊎_elim, ◌++◌}
 use Rattle.std.proofs.lemmas.Bool.{both_ways, cases_Bool, false_from_ne_true}
-use Rattle.std.proofs.lemmas.List.Elements.{All-contains}
+use Rattle.std.proofs.lemmas.List.Elements.{All-cons, All-contains, All-nil}
 use Rattle.property_store.specs.declared.property.Property.{Property}
 use Rattle.property_store.specs.Property.{among, is_property}
 use Rattle.property_store.specs.Store.{Store}
+use Rattle.property_store.specs.Pending.{only}
 use Rattle.binding_values.specs.declared.binding.Binding.{Binding}
 use Rattle.binding_values.specs.declared.eval_result.CacheEntry.{CacheEntry}
 use Rattle.binding_values.specs.declared.eval_result.EvalResult.{EvalResult}
@@ -15,8 +16,9 @@ use Rattle.binding_values.specs.Run.{IsSettled}
 use Rattle.binding_values.specs.Scene.{Scene, term_at}
 use Rattle.binding_values.specs.Stored.{is_there, scene_of}
 use Rattle.binding_values.proofs.ReachedLemmas.{among_contains, longer_among}
-use Rattle.binding_values.specs.Right.{IsComplete, IsRightBut, IsSpread, IsWhole, only, unmarked}
+use Rattle.binding_values.specs.Right.{IsApart, IsComplete, IsRightBut, IsSpread, IsWhole, unmarked}
 use Rattle.binding_values.proofs.CompletenessLemmas.{rest_is_right}
+use Rattle.binding_values.proofs.FuelLemmas.{is_itself}
 
 pub still_settled : (scene : Scene) (less more : Keeping) → IsWithin less more → (q : Property) → IsSettled scene less q → IsSettled scene more q
 still_settled scene less more within q (inl kept) = inl (kept.0, within q kept.0 kept.1)
@@ -78,6 +80,17 @@ module _ (scene : Scene) (before : Keeping) (touched : List Property) (rows : Li
         by : IsKept before q ⊎ IsUnbound scene q → after q ≡ before q
         by (inl kept) = within q kept.0 (stays q kept.0 off kept.1) ∙ sym kept.1
         by (inr unbound) = none unbound (before q) refl
+
+-- Where nothing is kept of a property that is not bound, and nothing that is kept has read it.
+pub apart_so : (scene : Scene) (at : Property) (rows : List CacheEntry) → IsUnbound scene at → IsReached (kept_of rows) (at ∷ []) rows
+    → IsApart scene (kept_of rows) at
+apart_so scene at rows unbound reached = record {
+  absent = reached.gone at ∙ ap (λ t. cond (t || false) None (kept_of rows at)) (is_itself at);
+  complete = λ right whole.
+      let rest = rest_right scene (kept_of rows) (at ∷ []) rows reached right whole in
+      is_complete scene (kept_of rows) (at ∷ []) rows reached whole (kept_of rows) rest.0 (λ q kept is. is) rest.1
+      (All-cons (IsSettled scene (kept_of rows)) at [] (inr unbound) (All-nil (IsSettled scene (kept_of rows))));
+}
 
 -- where nothing is kept
 

@@ -8,12 +8,13 @@ use Rattle.term_evaluation.specs.declared.reading.Read.{Read}
 use Rattle.term_evaluation.specs.Met.{met_by}
 use Rattle.property_store.specs.declared.property.Property.{Property}
 use Rattle.property_store.specs.Marks.{Marks, is_marked}
+use Rattle.property_store.specs.Pending.{AreMore}
 use Rattle.binding_values.specs.declared.property.BindingError.TheVariants.{EvaluationError}
 use Rattle.binding_values.specs.Scene.{Cell, Scene, reader, settled, term_at}
 use Rattle.binding_values.specs.EvalResult.{Agrees, IsKept, IsRight, IsSteady, IsUnbound, Keeping, known}
 use Rattle.binding_values.proofs.KeptLemmas.{cell_there, known_steady, knows, same_evaluation, steady_reads}
 use Rattle.binding_values.proofs.MapLemmas.{each_given}
-use Rattle.binding_values.specs.Right.{AreMore, DiffersAt, IsRightBut, IsWhole}
+use Rattle.binding_values.specs.Right.{DiffersAt, IsRightBut, IsWhole}
 
 -- in a scene that agrees on all that is kept and read
 

@@ -4,6 +4,7 @@ use Rattle.variant_value.specs.declared.value.Value.{Value}
 use Rattle.property_store.specs.declared.field.Field.{Field}
 use Rattle.property_store.specs.declared.property.Property.{Property}
 use Rattle.property_store.specs.Marks.{Marks, is_marked, is_new, is_written, no_marks}
+use Rattle.property_store.specs.Pending.{AreMore}
 use Rattle.property_store.specs.Property.{is_property}
 use Rattle.property_store.specs.Store.{Store, added, changed, properties_of, with_dynamic, without_dynamic, written}
 use Rattle.binding_values.specs.declared.binding.Binding.{Binding}
@@ -11,7 +12,7 @@ use Rattle.binding_values.specs.Binds.{with_binding}
 use Rattle.binding_values.specs.EvalResult.{Agrees, IsClosed, IsRight, Keeping, known}
 use Rattle.binding_values.specs.Scene.{Scene, plain}
 use Rattle.binding_values.specs.Stored.{scene_of}
-use Rattle.binding_values.specs.Right.{AreMore, DiffersAt, IsComplete, IsRightBut, IsSpread, IsWhole, unmarked}
+use Rattle.binding_values.specs.Right.{DiffersAt, IsComplete, IsRightBut, IsSpread, IsWhole, unmarked}
 
 -- In a scene that agrees about everything that is cached and read, the cached results stay right.
 abbrev pub KeptStaysRight : Type 0

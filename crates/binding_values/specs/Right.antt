@@ -1,23 +1,12 @@
 -- When the cached results of a place are right.
-use Rattle.std.specs.Prelude.{◌≡◌, ◌⊎◌, ◌||◌, ◌++◌, ℕ, true, false, List, All, Some, None, if◌then◌else◌}
+use Rattle.std.specs.Prelude.{◌≡◌, ◌⊎◌, ◌∷◌, [], ℕ, true, false, List, All, Some, None, if◌then◌else◌}
 use Rattle.term_core.specs.declared.target.Target.{Target}
 use Rattle.property_store.specs.declared.property.Property.{Property}
 use Rattle.property_store.specs.Marks.{Marks, is_marked}
+use Rattle.property_store.specs.Pending.{only}
 use Rattle.binding_values.specs.Scene.{Scene, term_at}
 use Rattle.binding_values.specs.declared.eval_result.EvalResult.{EvalResult}
 use Rattle.binding_values.specs.EvalResult.{IsClosed, IsKept, IsRight, IsUnbound, IsWithin, Keeping}
-
--- Marks for exactly these properties.
-abbrev pub only : List Property → Marks
-only marks = record { all = false; each = marks }
-
--- The marks of both.
-abbrev pub both : Marks → Marks → Marks
-both a b = record { all = a.all || b.all; each = a.each ++ b.each }
-
--- Everything that is marked stays marked.
-abbrev pub AreMore : Marks → Marks → Type 0
-AreMore marks more = (q : Property) → is_marked marks q ≡ true → is_marked more q ≡ true
 
 -- Neither the property of a result nor any that it has read is marked.
 pub record IsClearAt (marks : Marks) (q : Property) (kept : EvalResult) : Type 0 where
@@ -41,6 +30,11 @@ pub record IsComplete (scene : Scene) (keeping : Keeping) : Type 0 where
   pub right : IsRight scene keeping
   pub closed : IsClosed scene keeping
   pub whole : (q : Property) → IsKept keeping q ⊎ IsUnbound scene q
+
+-- A property has no cached result, and if it alone is marked, all bound properties have right cached results.
+pub record IsApart (scene : Scene) (keeping : Keeping) (at : Property) : Type 0 where
+  pub absent : keeping at ≡ None
+  pub complete : IsRightBut scene (only (at ∷ [])) keeping → IsWhole scene (only (at ∷ [])) keeping → IsComplete scene keeping
 
 -- Two scenes differ only in marked properties.
 pub record DiffersAt (marks : Marks) (a b : Scene) : Type 0 where

@@ -1,9 +1,10 @@
 //! The index keeps results of bound properties from one change to the next, and which of them have read which
 //! property.
-ghost use Rattle.std.specs.Prelude.{◌≡◌, ◌+◌, ◌≤◌, ◌∷◌, [], All, Contains, OnOk, false, filter, length, not};
+ghost use Rattle.std.specs.Prelude.{◌≡◌, ◌+◌, ◌≤◌, ◌∷◌, [], All, Contains, IsTrue, List, OnOk, false, filter, length, not};
 ghost use Rattle.std.specs.Option.{option_map};
 ghost use Rattle.property_store.specs.declared.property.Property.{Property};
 ghost use Rattle.property_store.specs.Property.{is_property};
+ghost use Rattle.binding_values.specs.declared.eval_result.CacheEntry.{CacheEntry};
 ghost use Rattle.binding_values.specs.EvalResult.{IsWithin, Keeping, kept_of};
 ghost use Rattle.binding_values.specs.Keeping.{entries, standing};
 ghost use Rattle.binding_values.specs.Reached.{AreKeptToo, AreLetGo, HasReaders, IsLonger, IsReached, IsUnread, without};
@@ -57,6 +58,17 @@ impl KeptIndex {
         self.rows.at(at)
     }
 
+    /// Whether a change of a property reaches no result: none is kept of it, and none has read it.
+    pub(crate) fn reaches_nothing(&self, at: Property) -> bool
+        ensures { IsTrue result → IsReached (kept_of self.now) (at ∷ []) self.now }
+    {
+        let _ = self.rows.count();
+        if self.rows.at(at).is_some() {
+            return false;
+        }
+        is_unread(&self.readers, at)
+    }
+
     /// Drops the result of a property, and its row: call it if no result of the property is expected soon.
     pub fn forget(&mut self, at: Property)
         ensures { self.new ≡ filter (λ row. not (is_property at row.at)) self.old }
@@ -108,6 +120,17 @@ fn invalidate_all(rows: &mut KeptRows, touched: &[Property])
 {
     for at in touched {
         rows.invalidate(*at);
+    }
+}
+
+/// Whether no edge leads from a property.
+fn is_unread(readers: &Readers, read: Property) -> bool
+    ensures { IsTrue result → (rows : List CacheEntry) → IsUnread readers.now rows read }
+{
+    let start = readers.start_of(read, 0);
+    match readers.reader_at(read, start) {
+        Some(_) => false,
+        None => true,
     }
 }
 

@@ -1,65 +1,29 @@
-//! A place keeps results of its bound properties.
-ghost use Rattle.std.specs.Prelude.{◌≡◌, [], OnErr, OnOk, false, filter, not, true};
-ghost use Rattle.std.specs.Option.{option_map};
+//! The settling of the cached results of a place.
+ghost use Rattle.std.specs.Prelude.{◌≡◌, [], IsTrue, OnErr, OnOk, false, true};
 ghost use Rattle.shared_rows.specs.Table.{IsPlace};
-ghost use Rattle.property_store.specs.Property.{among, is_property};
+ghost use Rattle.property_store.specs.Property.{among};
+ghost use Rattle.property_store.specs.Pending.{only};
 ghost use Rattle.property_store.specs.Table.{store_at};
 ghost use Rattle.binding_values.specs.EvalResult.{kept_of};
 ghost use Rattle.binding_values.specs.Stored.{scene_of};
-ghost use Rattle.binding_values.specs.Right.{IsComplete, IsRightBut, IsWhole, only};
+ghost use Rattle.binding_values.specs.Right.{IsApart, IsComplete, IsRightBut, IsWhole};
 
 use crate::settling::{bound_in, resettle};
-use crate::{Bound, EvalResult, KeptIndex};
+use crate::{Bound, KeptIndex, expr_at};
 use property_store::{Property, Stores};
 use std::alloc::{AllocError, Global};
-use std::marker::Model;
 
-/// A place keeps results of its bound properties, and which of them have read which property.
-#[derive(Drop)]
-pub struct KeptValues {
-    kept: KeptIndex,
-}
-
-impl Model for KeptValues {
-    ghost use Rattle.std.specs.Prelude.{List};
-    ghost use Rattle.binding_values.specs.declared.eval_result.CacheEntry.{CacheEntry};
-    ghost use Rattle.binding_values.specs.Coded.{coded_eval_cache};
-
-    ghost Value = { List CacheEntry };
-
-    ghost coded = { coded_eval_cache };
-
-    ghost view = { λ values. values.kept };
-}
-
-impl KeptValues {
-    pub fn new(alloc: Global) -> KeptValues
-        ensures { result ≡ [] }
+impl KeptIndex {
+    /// Whether a change of a property leaves nothing to evaluate: it is not bound, no result of it is kept, and no
+    /// kept result has read it.
+    pub fn is_apart(&self, stores: &Stores, place: usize, bindings: &Bound, at: Property) -> bool
+        requires { IsPlace stores.now.shelves.table place }
+        ensures { IsTrue result → IsApart (scene_of (store_at stores.now.shelves place) bindings.now) (kept_of self.now) at }
     {
-        KeptValues {
-            kept: KeptIndex::new(alloc),
+        if expr_at(stores, place, bindings, at).is_some() {
+            return false;
         }
-    }
-
-    /// Returns the result of a property, where one is kept.
-    pub fn at(&self, at: Property) -> Option<&EvalResult>
-        ensures { option_map (λ kept. kept.now) result ≡ kept_of self.now at }
-    {
-        self.kept.at(at)
-    }
-
-    /// Drops the result of a property that was unbound or bound to another expression.
-    pub fn forget(&mut self, at: Property)
-        ensures { self.new ≡ filter (λ row. not (is_property at row.at)) self.old }
-    {
-        self.kept.forget(at);
-    }
-
-    /// Drops all results.
-    pub fn clear(&mut self)
-        ensures { self.new ≡ [] }
-    {
-        self.kept.clear();
+        self.reaches_nothing(at)
     }
 
     /// Evaluates the bound properties that touched properties reach, and no others. Appends what they reach to
@@ -80,7 +44,7 @@ impl KeptValues {
         ensures more { OnOk result ((q : Property) → among q touched.old.items ≡ true → among q touched.new.items ≡ true) }
         ensures err { OnErr result (self.new ≡ []) }
     {
-        let settled = resettle(alloc, stores, place, bindings, &mut self.kept, touched);
+        let settled = resettle(alloc, stores, place, bindings, self, touched);
         if settled.is_err() {
             self.clear();
         }

@@ -26,7 +26,6 @@ pub use eval_cache::EvalCache;
 pub use eval_result::{CacheEntry, EvalResult};
 pub use kept_index::KeptIndex;
 pub use kept_laws::{law_changes, law_keepings};
-pub use kept_values::KeptValues;
 pub use known::{cell_at, expr_at, is_bindable};
 pub use laws::{law_chains, law_values};
 pub use property::BindingError;

@@ -3,11 +3,12 @@ ghost use Rattle.std.specs.Prelude.{◌≡◌, All, IfOk, OnOk, false, map, true
 ghost use Rattle.shared_rows.specs.Table.{IsPlace};
 ghost use Rattle.property_store.specs.declared.property.Property.{Property};
 ghost use Rattle.property_store.specs.Property.{among};
+ghost use Rattle.property_store.specs.Pending.{only};
 ghost use Rattle.property_store.specs.Table.{store_at};
 ghost use Rattle.binding_values.specs.EvalResult.{IsClosed, IsRight, IsWithin, kept_of};
 ghost use Rattle.binding_values.specs.Run.{IsSettled};
 ghost use Rattle.binding_values.specs.Stored.{scene_of};
-ghost use Rattle.binding_values.specs.Right.{IsComplete, IsRightBut, IsWhole, only};
+ghost use Rattle.binding_values.specs.Right.{IsComplete, IsRightBut, IsWhole};
 
 use crate::{Bound, EvalCache, KeptIndex, expr_at, find};
 use property_store::{Property, Stores};

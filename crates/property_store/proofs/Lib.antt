@@ -14,5 +14,6 @@ pub mod WrittenLemmas
 pub mod TakenLemmas
 pub mod ComeLemmas
 pub mod DrainLemmas
+pub mod PendingLemmas
 pub mod SoundLemmas
 pub mod ForCallers

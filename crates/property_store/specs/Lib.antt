@@ -7,3 +7,4 @@ pub mod Table
 pub mod Chain
 pub mod Inside
 pub mod Storing
+pub mod Pending

@@ -1,7 +1,7 @@
 use Rattle.std.proofs.Common.{◌∙◌}
 use Rattle.std.proofs.lemmas.Bool.{or_right}
 use Rattle.property_store.specs.Marks.{is_marked}
-use Rattle.binding_graph.proofs.StepLemmas.{both_marked}
+use Rattle.property_store.proofs.ForCallers.{both_marked}
 use Rattle.binding_graph.proofs.GraphAndCacheLemmas.{forgotten_in_step, pending_in_step}
 use Rattle.binding_graph.proofs.removal.forget.Goals as goal
 

@@ -40,7 +40,7 @@ loop-at-preserved c = record {
     step q = elim c.match-branch-2.branch [
       | in-Some+in_ok-put w ↦ ap (λ now. shown_at now q) w.now-is
           ∙ touched_put (store_at c.args.stores.now.shelves c.args.place) c.args.bindings.now c.loop-at.now before c.loop-at.invariant.shown at w.put.new.self
-          w.in-Some.shown (sym c.in_ok-shown.ensures ∙ w.in-Some.is) w.in_ok-put.ensures q
+          w.in-Some.shown (sym c.in_ok-shown.ensures ∙ w.in-Some.is) w.in_ok-put.ensures.put q
       | in_default+in_ok-push w ↦ ap (λ now. shown_at now q) w.now-is ∙ touched_gone
           (store_at c.args.stores.now.shelves c.args.place) c.args.bindings.now c.loop-at.now before c.loop-at.invariant.shown at
           (sym c.in_ok-shown.ensures ∙ w.in_default.is) q

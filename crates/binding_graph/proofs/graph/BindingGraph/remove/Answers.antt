@@ -13,7 +13,7 @@ returns-then-is_open-clause-step c =
     c.drain.ensures.stores c.drop_object.ensures.stores c.take_written.ensures.shelves
     (record { bindings = c.self.inside.bindings; last = c.self.inside.last; depth = c.self.inside.depth })
     (record { kept = c.self.inside.kept; pending = c.self.inside.pending; evaluations = c.self.inside.evaluations })
-    c.forget_object.new.kept c.drain.new.pending c.forget_object.new.pending c.drain.ensures.taken
+    c.forget_object.new.kept c.drain.new.self c.forget_object.new.pending c.drain.ensures.taken
     (λ number within. c.forget_object.ensures.marked number (omega (arith, within, c.declared-count.ensures)))
     c.forget_object.ensures.step c.drain.ensures.kept (rw (← c.self.view_is) at c.requires.step))
 
@@ -24,7 +24,7 @@ refresh-requires-clause-step c =
     c.drain.ensures.stores c.drop_object.ensures.stores c.take_written.ensures.shelves
     (record { bindings = c.self.inside.bindings; last = c.self.inside.last; depth = c.self.inside.depth })
     (record { kept = c.self.inside.kept; pending = c.self.inside.pending; evaluations = c.self.inside.evaluations })
-    c.forget_object.new.kept c.drain.new.pending c.forget_object.new.pending c.drain.ensures.taken
+    c.forget_object.new.kept c.drain.new.self c.forget_object.new.pending c.drain.ensures.taken
     (λ number within. c.forget_object.ensures.marked number (omega (arith, within, c.declared-count.ensures)))
     c.forget_object.ensures.step c.drain.ensures.kept (rw (← c.self.view_is) at c.requires.step))
 

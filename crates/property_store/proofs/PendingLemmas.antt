@@ -1,13 +1,25 @@
--- Marks that are taken one by one.
+-- Marks that are taken one by one, and kept.
 use Rattle.std.proofs.Common.{◌≡◌, ◌∙◌, ◌+◌, ◌<◌, ◌||◌, ℕ, suc, Bool, true, false, cond, not, List, [], ◌∷◌, filter, length, refl, sym, ap, ⊎_elim, arith}
 use Rattle.std.proofs.lemmas.Bool.{both_ways, cases_Bool, or_cases, or_left, or_right}
+use Rattle.std.proofs.lemmas.List.Folds.{list_any-append}
 use Rattle.property_store.specs.declared.property.Property.{Property}
 use Rattle.property_store.specs.declared.written.Written.TheVariants as told
 use Rattle.property_store.specs.Marks.{IsTaken, Marks, is_marked}
 use Rattle.property_store.specs.Property.{among, is_property}
-use Rattle.binding_values.proofs.ForCallers.{property_eq}
-use Rattle.binding_values.specs.Right.{AreMore, both}
-use Rattle.binding_graph.proofs.StepLemmas.{both_marked}
+use Rattle.property_store.specs.Pending.{AreMore, both}
+use Rattle.property_store.proofs.ChainLemmas.{same_property}
+
+-- what one or the other marks
+
+pub both_marked : (a b : Marks) (q : Property) → is_marked (both a b) q ≡ (is_marked a q || is_marked b q)
+both_marked a b q = ap (λ here. (a.all || b.all) || here) (list_any-append (is_property q) a.each b.each)
+    ∙ exchanged a.all b.all (among q a.each) (among q b.each)
+  where
+    exchanged : (s t x y : Bool) → ((s || t) || (x || y)) ≡ ((s || x) || (t || y))
+    exchanged true t x y = refl
+    exchanged false true true y = refl
+    exchanged false true false y = refl
+    exchanged false false x y = refl
 
 -- how many marks are left
 abbrev pub left : Marks → ℕ
@@ -56,7 +68,7 @@ other_stays at q apart (p ∷ each) is = by (is_property at p) refl (is_property
 
     by : (its : Bool) → is_property at p ≡ its → (here : Bool) → is_property q p ≡ here → (here || among q each) ≡ true
         → (among q each ≡ true → among q rest ≡ true) → among q (cond (not its) (p ∷ rest) rest) ≡ true
-    by true e true f is later = absurd (both_ways (is_property at q) apart (ap (is_property at) (property_eq q p f) ∙ e))
+    by true e true f is later = absurd (both_ways (is_property at q) apart (ap (is_property at) (same_property q p f) ∙ e))
     by true e false f is later = later is
     by false e true f is later = or_left (is_property q p) _ f
     by false e false f is later = or_right (is_property q p) _ (later is)
@@ -73,4 +85,5 @@ one_taken old new before after at (none, here, rest) are_more marked q on =
         or_left (is_marked new q) _ (ap (λ marks. is_marked marks q) rest ∙ other_stays at q e old.each each)
 
     own : is_marked old q ≡ true → (is_marked new q || is_marked after q) ≡ true
-    own was = ⊎_elim (λ e. or_right (is_marked new q) _ (ap (is_marked after) (sym (property_eq at q e)) ∙ marked)) (apart was) (cases_Bool (is_property at q))
+    own was = ⊎_elim (λ e. or_right (is_marked new q) _ (ap (is_marked after) (sym (same_property at q e)) ∙ marked))
+        (apart was) (cases_Bool (is_property at q))

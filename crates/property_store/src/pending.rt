@@ -1,29 +1,30 @@
-//! Pending marks record the changes of a place's bindings since it was settled.
-ghost use Rattle.std.specs.Prelude.{◌≡◌, false, not, true};
+//! Marks that a caller keeps for a place: the written ones that it took over, and others that it adds.
+ghost use Rattle.std.specs.Prelude.{◌≡◌, ◌∷◌, [], IsTrue, false, not, true};
 ghost use Rattle.shared_rows.specs.Table.{IsPlace};
 ghost use Rattle.property_store.specs.Marks.{all_marks, has_marks, is_marked, marks_at, no_marks};
 ghost use Rattle.property_store.specs.Property.{among};
-ghost use Rattle.binding_values.specs.Right.{AreMore, both};
-ghost use Rattle.binding_graph.specs.Drained.{IsDrained};
+ghost use Rattle.property_store.specs.Pending.{AreMore, IsDrained, both, only};
 
-use property_store::{Property, Stores, Written, is_property};
+use crate::property::{Property, is_property};
+use crate::stores::Stores;
+use crate::written::Written;
 use std::alloc::Global;
 use std::marker::Model;
 use std::mem;
 
-/// At most this many properties are marked; where there are more, all are.
+/// At most this many properties are marked one by one. If there are more, all are marked.
 const MARKS: usize = 16384;
 
-/// The properties that are marked, or that all are.
+/// The properties of a place that are marked, or that all are.
 #[derive(Drop)]
-pub(crate) struct Pending {
+pub struct Pending {
     all: bool,
     each: Vec<Property>,
 }
 
 impl Model for Pending {
     ghost use Rattle.property_store.specs.Marks.{Marks};
-    ghost use Rattle.binding_graph.specs.Coded.{coded_marks};
+    ghost use Rattle.property_store.specs.Pending.{coded_marks};
 
     ghost Value = { Marks };
 
@@ -34,7 +35,7 @@ impl Model for Pending {
 
 impl Pending {
     /// All are marked.
-    pub(crate) fn new(alloc: Global) -> Pending
+    pub fn new(alloc: Global) -> Pending
         ensures { result ≡ all_marks }
     {
         Pending {
@@ -43,20 +44,41 @@ impl Pending {
         }
     }
 
-    pub(crate) fn is_all(&self) -> bool
+    pub fn is_all(&self) -> bool
         ensures { result ≡ self.now.all }
     {
         self.all
     }
 
-    pub(crate) fn is_empty(&self) -> bool
+    pub fn is_empty(&self) -> bool
         ensures { result ≡ not (has_marks self.now) }
     {
         !self.all && self.each.is_empty()
     }
 
+    /// Whether this property is marked, and no other.
+    pub fn is_only(&self, at: Property) -> bool
+        ensures { IsTrue result → self.now ≡ only (at ∷ []) }
+    {
+        if self.all {
+            return false;
+        }
+        match self.each.as_slice() {
+            [one] => is_property(*one, at),
+            _ => false,
+        }
+    }
+
+    /// Clears all marks. Allocates nothing.
+    pub fn clear(&mut self)
+        ensures { self.new ≡ no_marks }
+    {
+        self.all = false;
+        self.each.clear();
+    }
+
     /// Marks all properties. Allocates nothing.
-    pub(crate) fn mark_all(&mut self)
+    pub fn mark_all(&mut self)
         ensures { self.new ≡ all_marks }
     {
         self.all = true;
@@ -64,7 +86,7 @@ impl Pending {
     }
 
     /// Marks a property, or all of them if there are too many marks or memory runs out.
-    pub(crate) fn mark(&mut self, at: Property)
+    pub fn mark(&mut self, at: Property)
         ensures kept { AreMore self.old self.new }
         ensures marked { is_marked self.new at ≡ true }
     {
@@ -77,7 +99,7 @@ impl Pending {
     }
 
     /// Marks a property that may be marked already.
-    pub(crate) fn mark_once(&mut self, at: Property)
+    pub fn mark_once(&mut self, at: Property)
         ensures kept { AreMore self.old self.new }
         ensures marked { is_marked self.new at ≡ true }
     {
@@ -87,7 +109,7 @@ impl Pending {
     }
 
     /// Returns the properties in `each`, and clears all marks.
-    pub(crate) fn take(&mut self, alloc: Global) -> Vec<Property>
+    pub fn take(&mut self, alloc: Global) -> Vec<Property>
         ensures taken { result.items ≡ self.old.each }
         ensures none { self.new ≡ no_marks }
     {
@@ -97,7 +119,7 @@ impl Pending {
 
     /// Takes back a list for reuse, so that the next marks allocate nothing. If its capacity exceeds 16, the
     /// list is dropped.
-    pub(crate) fn give_back(&mut self, done: Vec<Property>)
+    pub fn give_back(&mut self, done: Vec<Property>)
         requires { self.old ≡ no_marks }
         ensures { self.new ≡ no_marks }
     {
@@ -106,26 +128,26 @@ impl Pending {
             self.each.clear();
         }
     }
+
+    /// Takes all marks of what was written at a place, and marks the same here.
+    pub fn drain(&mut self, stores: &mut Stores, place: usize)
+        requires { IsPlace stores.old.shelves.table place }
+        ensures stores { IsDrained place stores.old stores.new }
+        ensures taken { has_marks (marks_at stores.new.marks place) ≡ false }
+        ensures kept { AreMore (both (marks_at stores.old.marks place) self.old) self.new }
+    {
+        'marks: loop {
+            match stores.take_written(place) {
+                Written::None => return,
+                Written::One(at) => self.mark(at),
+                Written::All => self.mark_all(),
+            }
+        }
+    }
 }
 
 fn is_among(at: Property, each: &[Property]) -> bool
     ensures { result ≡ among at each.now }
 {
     each.iter().any(|one| is_property(at, *one))
-}
-
-/// Takes what was written at a place, and marks it.
-pub(crate) fn drain(pending: &mut Pending, stores: &mut Stores, place: usize)
-    requires { IsPlace stores.old.shelves.table place }
-    ensures stores { IsDrained place stores.old stores.new }
-    ensures taken { has_marks (marks_at stores.new.marks place) ≡ false }
-    ensures kept { AreMore (both (marks_at stores.old.marks place) pending.old) pending.new }
-{
-    'marks: loop {
-        match stores.take_written(place) {
-            Written::None => return,
-            Written::One(at) => pending.mark(at),
-            Written::All => pending.mark_all(),
-        }
-    }
 }

@@ -1,10 +1,11 @@
 use Rattle.std.proofs.Common.{[], sym, subst}
+use Rattle.property_store.specs.Pending.{only}
 use Rattle.property_store.specs.Table.{store_at}
 use Rattle.binding_values.specs.EvalResult.{kept_of}
 use Rattle.binding_values.specs.Stored.{scene_of}
-use Rattle.binding_values.specs.Right.{IsWhole, only}
+use Rattle.binding_values.specs.Right.{IsWhole}
 use Rattle.binding_values.proofs.SettlingLemmas.{bound_or_not}
-use Rattle.binding_values.proofs.kept_values.KeptValues.settle_all.Goals as goal
+use Rattle.binding_values.proofs.kept_index.KeptIndex.settle_all.Goals as goal
 
 pub settle-requires-clause-whole : goal.settle-requires-clause-whole
 settle-requires-clause-whole c =
