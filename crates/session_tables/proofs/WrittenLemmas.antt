@@ -1,5 +1,5 @@
 -- A value that is written in place of another.
-use Rattle.std.proofs.Common.{◌≡◌, ◌∙◌, ◌==◌, ℕ, Bool, true, false, cond, [], ◌∷◌, Option, Some, None, option_map, slice_get, refl, sym, ap}
+use Rattle.std.proofs.Common.{◌≡◌, ◌∙◌, ◌==◌, ℕ, Bool, true, false, cond, List, [], ◌∷◌, Option, Some, None, filter, not, option_map, slice_get, refl, sym, ap}
 use Rattle.std.specs.Option.{option_and_then, option_map_or}
 use Rattle.std.proofs.lemmas.List.{set-set}
 use Rattle.variant_value.specs.declared.value.Value.{Value}
@@ -8,7 +8,15 @@ use Rattle.property_store.specs.declared.field.Field.{Field}
 use Rattle.property_store.specs.Store.{Properties, Store, changed, field_at, fitting, properties_of, with_value, written}
 use Rattle.property_store.proofs.ForCallers.{changed_fields}
 use Rattle.property_store.specs.declared.property.Property.{Property}
-use Rattle.binding_graph.specs.Graph.{Graph, is_bound, taken, value_in}
+use Rattle.property_store.specs.Property.{is_property}
+use Rattle.property_store.specs.Table.{StoreTable, store_at, with_store}
+use Rattle.shared_rows.specs.Table.{IsPlace}
+use Rattle.shared_rows.proofs.ForCallers as column
+use Rattle.binding_values.specs.declared.binding.Binding.{Binding}
+use Rattle.binding_graph.specs.Graph.{Graph, all_shown, is_bound, is_open, no_graph, settled_graph, stored_value, taken, unbound, value_in}
+use Rattle.binding_graph.specs.Table.{Graphs, graph_at, with_graph}
+use Rattle.session_tables.specs.Bound.{bound_at, seen_of}
+use Rattle.session_tables.proofs.ShowingLemmas.{unbound_shown, value_seen}
 
 -- of two changes of an object, where the second makes the same without the first
 changed_twice : (first second : Properties → Properties) (object : ℕ) → ((of : Properties) → (first of).object ≡ of.object)
@@ -64,3 +72,34 @@ written_taken store graph q value fits = by (is_bound graph.bindings q)
     by : (bound : Bool) → written (cond bound (written store q.object q.number old) store) q.object q.number value ≡ written store q.object q.number value
     by true = over (fitting store q.object q.number old)
     by false = refl
+
+-- a property that is bound no longer shows what is stored
+unbound_not : (bindings : List Binding) (q : Property) → is_bound (filter (λ binding. not (is_property q binding.at)) bindings) q ≡ false
+unbound_not [] q = refl
+unbound_not (binding ∷ rest) q = by (is_property q binding.at) refl (unbound_not rest q)
+  where
+    kept : List Binding
+    kept = filter (λ binding. not (is_property q binding.at)) rest
+
+    by : (t : Bool) → is_property q binding.at ≡ t → is_bound kept q ≡ false → is_bound (cond (not t) (binding ∷ kept) kept) q ≡ false
+    by true e later = later
+    by false e later = rw e later
+
+pub written_shown : (stores new : StoreTable) (bindings after : Graphs) (place : ℕ) (q : Property) (store : Store) → IsPlace stores.table place
+    → IsPlace bindings.graphs place → new ≡ with_store stores place store
+    → after.graphs ≡ with_graph bindings.graphs place (settled_graph store (unbound (graph_at bindings.graphs place) q))
+    → (value_in (store_at new place) (bound_at (seen_of new after) place) q).0 ≡ stored_value store q
+written_shown stores new bindings after place q store shelf there first second =
+    ap (λ (shown : Value × _). shown.0) (value_seen (store_at new place) after.graphs (seen_of new after).graphs place q refl)
+    ∙ (ap (λ store. (value_in store (graph_at after.graphs place) q).0)
+    (ap (λ (shelves : StoreTable). store_at shelves place) first ∙ column.with_there [] stores.table place store shelf)
+    ∙ (ap (λ graph. (value_in store graph q).0)
+    (ap (λ graphs. graph_at graphs place) second ∙ column.with_there no_graph bindings.graphs place _ there)
+    ∙ ap (λ (shown : Value × _). shown.0) (unbound_shown store (settled_graph store graph) q (by (is_open graph)))))
+  where
+    graph : Graph
+    graph = unbound (graph_at bindings.graphs place) q
+
+    by : (deep : Bool) → is_bound (cond deep graph (record graph { last = all_shown store graph.bindings })).bindings q ≡ false
+    by true = unbound_not (graph_at bindings.graphs place).bindings q
+    by false = unbound_not (graph_at bindings.graphs place).bindings q

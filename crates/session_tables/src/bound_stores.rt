@@ -111,7 +111,7 @@ impl BoundStores {
         if self.bindings.count(place) == 0 {
             return Ok(());
         }
-        match settling::settle(&mut self.stores, &mut self.bindings, place, None) {
+        match self.bindings.settle(place, &mut self.stores, None) {
             Ok(told) => {
                 drop(told);
                 Ok(())

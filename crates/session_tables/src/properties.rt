@@ -76,7 +76,7 @@ impl Tables {
             Property { object, number },
             value,
         ) {
-            Ok(told) => Ok(WriteChanges::Several(told)),
+            Ok(changed) => Ok(changed),
             Err(error) => {
                 self.stores.bindings.clear(place);
                 Err(error)

@@ -8,13 +8,14 @@ ghost use Rattle.property_store.specs.Store.{fitting, without, written};
 ghost use Rattle.variant_value.specs.Values.{IsShort};
 ghost use Rattle.property_store.specs.Table.{store_at, with_store};
 ghost use Rattle.binding_graph.specs.Graph.{bind_refusal, bound, end_refusal, ended, no_graph};
-ghost use Rattle.binding_graph.specs.Graph.{settled_changes, settled_graph, taken, unbound, without_object};
+ghost use Rattle.binding_graph.specs.Graph.{settled_changes, settled_graph, stored_value, taken, unbound, without_object};
 ghost use Rattle.binding_graph.specs.Step.{InStep};
 ghost use Rattle.binding_values.specs.Stored.{is_bindable};
 ghost use Rattle.binding_graph.specs.Table.{graph_at, with_graph};
-ghost use Rattle.session_tables.specs.WriteChanges.{told_of};
+ghost use Rattle.session_tables.specs.WriteChanges.{changes_in, told_of};
 ghost use Rattle.session_tables.specs.Settled.{ChangesInStep, IsInStepAt, IsSettledAt, LeavesStores};
 
+use crate::write_changes::WriteChanges;
 use binding_graph::{Bindings, Change, law_steps};
 use plain_types::{Fault, Items};
 use property_store::{Property, Stores};
@@ -22,22 +23,27 @@ use std::alloc::AllocError;
 use term_core::Expr;
 use variant_value::Value;
 
-/// Settles a place.
-pub(crate) fn settle(
+/// Settles a place after a write of a property, and returns the changes.
+fn settle_written(
     stores: &mut Stores,
     bindings: &mut Bindings,
     place: usize,
-    written: Option<Property>,
-) -> Result<Items<Change>, AllocError>
+    at: Property,
+) -> Result<WriteChanges, AllocError>
     requires ready { IsInStepAt place stores.old bindings.old }
-    ensures told { IfOk result (λ told. told ≡ settled_changes (store_at stores.old.shelves place) (graph_at bindings.old.graphs place) written) }
+    ensures told { IfOk result (λ changed. changes_in at (stored_value (store_at stores.old.shelves place) at) changed
+        ≡ settled_changes (store_at stores.old.shelves place) (graph_at bindings.old.graphs place) (Some at)) }
     ensures ok { OnOk result (bindings.new.graphs
         ≡ with_graph bindings.old.graphs place (settled_graph (store_at stores.old.shelves place) (graph_at bindings.old.graphs place))) }
     ensures stores { stores.new.shelves ≡ stores.old.shelves }
     ensures err { OnErr result (bindings.new.graphs ≡ bindings.old.graphs) }
     ensures step { InStep stores.new bindings.new }
 {
-    bindings.settle(place, stores, written)
+    if let Some(is_change) = bindings.settle_alone(place, stores, at) {
+        return Ok(WriteChanges::alone(is_change));
+    }
+    let told = bindings.settle(place, stores, Some(at))?;
+    Ok(WriteChanges::Several(told))
 }
 
 /// Keeps what properties show, where nothing is bound. It looks again at what has changed since that was kept last.
@@ -81,7 +87,7 @@ pub(crate) fn bind(
 {
     note(stores, bindings, place)?;
     bindings.bind(place, stores, at, expr)?;
-    Ok(settle(stores, bindings, place, Some(at))?)
+    Ok(bindings.settle(place, stores, Some(at))?)
 }
 
 /// Binds a property no longer, which keeps the value that it shows, and tells what has changed by it.
@@ -102,7 +108,7 @@ pub(crate) fn unbind(
 {
     note(stores, bindings, place)?;
     bindings.take(place, stores, at)?;
-    settle(stores, bindings, place, Some(at))
+    bindings.settle(place, stores, Some(at))
 }
 
 /// Gives a declared property a value of its kind, which is bound no longer then, and tells what has changed
@@ -113,11 +119,12 @@ pub(crate) fn write(
     place: usize,
     at: Property,
     value: Value,
-) -> Result<Items<Change>, AllocError>
+) -> Result<WriteChanges, AllocError>
     requires ready { IsSettledAt place stores.old bindings.old }
     requires fits { fitting (store_at stores.old.shelves place) at.object at.number value ≡ Some value }
     requires short { IsShort value }
-    ensures told { IfOk result (λ told. told ≡ told_of (store_at stores.old.shelves place) (graph_at bindings.old.graphs place)
+    ensures told { IfOk result (λ changed. changes_in at (stored_value (written (store_at stores.old.shelves place) at.object at.number value) at) changed
+        ≡ told_of (store_at stores.old.shelves place) (graph_at bindings.old.graphs place)
         (written (store_at stores.old.shelves place) at.object at.number value) (unbound (graph_at bindings.old.graphs place) at) (Some at)) }
     ensures ok { OnOk result (bindings.new.graphs ≡ with_graph bindings.old.graphs place
         (settled_graph (written (store_at stores.old.shelves place) at.object at.number value) (unbound (graph_at bindings.old.graphs place) at))) }
@@ -129,7 +136,7 @@ pub(crate) fn write(
     note(stores, bindings, place)?;
     bindings.take(place, stores, at)?;
     let _ = stores.write(place, at.object, at.number, value);
-    settle(stores, bindings, place, Some(at))
+    settle_written(stores, bindings, place, at)
 }
 
 /// Takes an object out with its bindings, and tells what has changed by it.
@@ -168,6 +175,6 @@ pub(crate) fn end(
     ensures stays { LeavesStores place stores.old stores.new bindings.old bindings.new }
 {
     let left = bindings.end(place, stores)?;
-    let told = settle(stores, bindings, place, None)?;
+    let told = bindings.settle(place, stores, None)?;
     Ok((left, told))
 }

@@ -61,9 +61,9 @@ pub returns-in_err-settle-clause-stays : goal.returns-in_err-settle-clause-stays
 returns-in_err-settle-clause-stays c = record {
   stores = search rules;
   graphs =
-      changes_thrice c.args.bindings.now.graphs c.note.new.bindings.graphs c.bind.new.self.graphs c.settle.new.bindings.graphs c.args.place _ _
+      changes_thrice c.args.bindings.now.graphs c.note.new.bindings.graphs c.bind.new.self.graphs c.settle.new.self.graphs c.args.place _ _
       c.requires.ready.graph c.in_ok-note.ensures.ok c.in_ok-bind.ensures.ok
-      (λ there. column.changes_same no_graph c.bind.new.self.graphs c.settle.new.bindings.graphs c.args.place c.in_err-settle.ensures.err);
+      (λ there. column.changes_same no_graph c.bind.new.self.graphs c.settle.new.self.graphs c.args.place c.in_err-settle.ensures.err);
   step = search rules;
 }
 
@@ -74,7 +74,7 @@ returns-clause-told c =
     let store = store_at c.args.stores.now.shelves place in
     let its : graph_at c.bind.new.self.graphs place ≡ record (settled_graph store (graph_at old place))
     { bindings = with_binding (record { at = c.args.at; expr = c.args.expr }) (settled_graph store (graph_at old place)).bindings } =
-    changed_at store store old c.note.new.bindings.graphs c.bind.new.self.graphs c.settle.new.bindings.graphs place
+    changed_at store store old c.note.new.bindings.graphs c.bind.new.self.graphs c.settle.new.self.graphs place
     (with_binding (record { at = c.args.at; expr = c.args.expr })) c.requires.ready.graph c.in_ok-note.ensures.ok c.in_ok-bind.ensures.ok in
     c.in_ok-settle.ensures.told
     ∙ (ap (λ (stores : StoreTable). settled_changes (store_at stores place) (graph_at c.bind.new.self.graphs place) (Some c.args.at)) c.note.ensures.stores
@@ -86,7 +86,7 @@ returns-clause-ok c =
     let stores = c.args.stores.now.shelves in
     let place = c.args.place in
     let old = c.args.bindings.now.graphs in
-    settled_after (store_at stores place) (store_at stores place) old c.note.new.bindings.graphs c.bind.new.self.graphs c.settle.new.bindings.graphs place
+    settled_after (store_at stores place) (store_at stores place) old c.note.new.bindings.graphs c.bind.new.self.graphs c.settle.new.self.graphs place
     (with_binding (record { at = c.args.at; expr = c.args.expr })) c.requires.ready.graph c.in_ok-note.ensures.ok c.in_ok-bind.ensures.ok
     (c.in_ok-settle.ensures.ok ∙ ap (λ (stores : StoreTable). with_graph c.bind.new.self.graphs place
     (settled_graph (store_at stores place) (graph_at c.bind.new.self.graphs place))) c.note.ensures.stores)
@@ -95,8 +95,8 @@ pub returns-clause-stays : goal.returns-clause-stays
 returns-clause-stays c = record {
   stores = search rules;
   graphs =
-      changes_thrice c.args.bindings.now.graphs c.note.new.bindings.graphs c.bind.new.self.graphs c.settle.new.bindings.graphs c.args.place _ _
+      changes_thrice c.args.bindings.now.graphs c.note.new.bindings.graphs c.bind.new.self.graphs c.settle.new.self.graphs c.args.place _ _
       c.requires.ready.graph c.in_ok-note.ensures.ok c.in_ok-bind.ensures.ok
-      (λ there. column.changes_with no_graph c.bind.new.self.graphs c.settle.new.bindings.graphs c.args.place _ there c.in_ok-settle.ensures.ok);
+      (λ there. column.changes_with no_graph c.bind.new.self.graphs c.settle.new.self.graphs c.args.place _ there c.in_ok-settle.ensures.ok);
   step = search rules;
 }

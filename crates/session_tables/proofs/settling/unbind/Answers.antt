@@ -27,7 +27,7 @@ returns-clause-ok c =
     where_ok_too c.settle.result
     (λ is. settled_after (store_at c.args.stores.now.shelves c.args.place)
     (taken (store_at c.args.stores.now.shelves c.args.place) (graph_at c.args.bindings.now.graphs c.args.place) c.args.at)
-    c.args.bindings.now.graphs c.note.new.bindings.graphs c.take.new.self.graphs c.settle.new.bindings.graphs c.args.place
+    c.args.bindings.now.graphs c.note.new.bindings.graphs c.take.new.self.graphs c.settle.new.self.graphs c.args.place
     (filter (λ (binding : Binding). not (is_property c.args.at binding.at))) c.requires.ready.graph c.in_ok-note.ensures.ok c.in_ok-take.ensures.graph
     (is ∙ ap (λ store. with_graph c.take.new.self.graphs c.args.place (settled_graph store (graph_at c.take.new.self.graphs c.args.place))) (stored c)))
     c.settle.ensures.ok
@@ -37,9 +37,9 @@ returns-clause-stays c = record {
   layouts = search rules;
   stores = search rules;
   graphs =
-      changes_thrice c.args.bindings.now.graphs c.note.new.bindings.graphs c.take.new.self.graphs c.settle.new.bindings.graphs c.args.place _ _
+      changes_thrice c.args.bindings.now.graphs c.note.new.bindings.graphs c.take.new.self.graphs c.settle.new.self.graphs c.args.place _ _
       c.requires.ready.graph c.in_ok-note.ensures.ok c.in_ok-take.ensures.graph
-      (λ there. changes_either c.settle.result c.take.new.self.graphs c.settle.new.bindings.graphs c.args.place _ there c.settle.ensures.ok
+      (λ there. changes_either c.settle.result c.take.new.self.graphs c.settle.new.self.graphs c.args.place _ there c.settle.ensures.ok
       c.settle.ensures.err);
   step = search rules;
 }

@@ -6,10 +6,11 @@ use Rattle.property_store.specs.Table.{store_at, with_store}
 use Rattle.binding_values.specs.declared.binding.Binding.{Binding}
 use Rattle.binding_graph.specs.Graph.{unbound}
 use Rattle.session_tables.specs.Bound.{bound_at, seen_of, stored_at, with_bound}
-use Rattle.session_tables.specs.WriteChanges.{alone}
+use Rattle.session_tables.specs.WriteChanges.{alone, changes_in}
 use Rattle.session_tables.proofs.AloneLemmas.{alone_told, change_of, written_as}
-use Rattle.session_tables.proofs.HereLemmas.{changes_there, forgets_there, shelf_stands, state_put, tells_there, told_put}
+use Rattle.session_tables.proofs.HereLemmas.{changes_there, forgets_there, graph_stands, shelf_stands, state_put, tells_there, told_put}
 use Rattle.session_tables.proofs.SeenLemmas.{settled_seen}
+use Rattle.session_tables.proofs.WrittenLemmas.{written_shown}
 use Rattle.session_tables.proofs.tables.Tables.write.Goals as goal
 
 pub returns-then-is_idle-clause-told : goal.returns-then-is_idle-clause-told
@@ -32,9 +33,14 @@ pub returns-in-Ok-clause-told : goal.returns-in-Ok-clause-told
 returns-in-Ok-clause-told c =
     let its = c.self.inside.0.1.0 in
     let at : Property = record { object = c.args.object; number = c.args.number } in
-    c.in-Ok.ensures.told ∙ told_put its.stores.shelves its.bindings c.self.view_is c.requires.place c.write.new.stores.shelves c.write.new.bindings
+    ap (λ value. changes_in at value c.in-Ok.changed)
+    (written_shown its.stores.shelves c.write.new.stores.shelves its.bindings c.write.new.bindings c.args.place at
+    (written (store_at its.stores.shelves c.args.place) at.object at.number c.args.value)
+    (shelf_stands its.stores.shelves its.bindings c.self.view_is c.requires.place)
+    (graph_stands its.stores.shelves its.bindings c.self.view_is c.requires.place) c.in-Ok.ensures.stores c.in-Ok.ensures.ok)
+    ∙ (c.in-Ok.ensures.told ∙ told_put its.stores.shelves its.bindings c.self.view_is c.requires.place c.write.new.stores.shelves c.write.new.bindings
     (written (store_at its.stores.shelves c.args.place) at.object at.number c.args.value) (filter (λ (binding : Binding). not (is_property at binding.at)))
-    (Some at) c.in-Ok.ensures.stores c.in-Ok.ensures.ok
+    (Some at) c.in-Ok.ensures.stores c.in-Ok.ensures.ok)
 
 pub returns-in-Ok-clause-ok : goal.returns-in-Ok-clause-ok
 returns-in-Ok-clause-ok c =
