@@ -21,7 +21,7 @@ use Rattle.json_reading.specs.declared.field.Scalar.TheVariants.{Null, Truth, Nu
 use Rattle.json_reading.specs.declared.field.Field.{Field}
 use Rattle.json_reading.specs.declared.field.Field.TheVariants as field
 use Rattle.json_reading.specs.declared.field.Member.{Member}
-use Rattle.json_reading.specs.Faults.{HasNoItems, HasNoMembers}
+use Rattle.json_reading.specs.Faults.{HasNoItems}
 use Rattle.json_reading.specs.Members.{scalar_data, items_in, data_of, members_from, members_in}
 use Rattle.json_reading.specs.Spelling.{scalar_token, field_tokens, member_tokens, object_tokens, Fits, AllFit, IsSpelled, AreSpelled}
 
@@ -40,6 +40,7 @@ abbrev field_json : Field → Json
 field_json (field.Plain s) = scalar_json s
 field_json (field.List ss) = json.array (items_json ss.items)
 field_json (field.Tree v) = json.null
+field_json (field.Owned b) = json.null
 
 abbrev members_json : List Member → json.Members
 members_json [] = json.no_members
@@ -66,6 +67,7 @@ field_read : (f : Field) → IsSpelled f → of_json (field_json f) ≡ Some (da
 field_read (field.Plain s) h = scalar_read s h
 field_read (field.List ss) h = ap (option_map array) (items_read ss.items h)
 field_read (field.Tree v) h = absurd h
+field_read (field.Owned b) h = absurd h
 
 members_read : (found : Members) (ms : List Member) → AreSpelled ms → of_members (members_json ms) found ≡ Some (members_from found ms)
 members_read found [] h = refl
@@ -102,6 +104,7 @@ field_value (field.List ss) h rest =
     ap (λ ts. value 126 (token.begin_array ∷ ts)) (append_assoc (map scalar_token ss.items) (token.end_array ∷ []) rest)
     ∙ value-begin_array 126 left (omega arith) ∙ ap (parse_map json.array) (items_value 125 ss.items rest (length left) (omega arith))
 field_value (field.Tree v) h rest = absurd h
+field_value (field.Owned b) h rest = absurd h
 
 members_value : (ms : List Member) → AreSpelled ms → (rest : List Token) (n : ℕ) → length (member_tokens ms ++ token.end_object ∷ rest) ≤ n
     → members (value 126) n (member_tokens ms ++ token.end_object ∷ rest) ≡ Some (members_json ms, rest)
@@ -128,15 +131,15 @@ reads_members text ms h e =
 pub scalar_turn : (depth : ℕ) (s : Scalar) (rest : List Token) → Fits s → converted of_json (value depth (scalar_token s ∷ rest)) ≡ Some (scalar_data s, rest)
 scalar_turn depth s rest h = ap (converted of_json) (scalar_value depth s rest) ∙ ap (option_map (λ json. (json, rest))) (scalar_read s h)
 
+-- a value that is borrowed, likewise
+pub field_turn : (f : Field) → IsSpelled f → (rest : List Token) → converted of_json (value 126 (field_tokens f ++ rest)) ≡ Some (data_of f, rest)
+field_turn f h rest = ap (converted of_json) (field_value f h rest) ∙ ap (option_map (λ json. (json, rest))) (field_read f h)
+
 -- ---- tokens that no JSON has
 
 no_item_turns : (p : Parse Json) (ts : List Token) → items p 0 ts ≡ None
 unfolding items
 no_item_turns p ts = refl
-
-no_member_turns : (p : Parse Json) (ts : List Token) → members p 0 ts ≡ None
-unfolding members
-no_member_turns p ts = refl
 
 -- items stand in front of what ends no list
 pub no_items_behind : (ss : List Scalar) (rest : List Token) → HasNoItems rest → HasNoItems (map scalar_token ss ++ rest)
@@ -147,44 +150,12 @@ no_items_behind (s ∷ ss) rest none (suc turns) =
     items_more (value 125) (suc turns) (scalar_token s ∷ left) left (scalar_json s) (omega arith) (no_end s left) (scalar_value 125 s left)
     ∙ ap (parse_map (json.item (scalar_json s))) (no_items_behind ss rest none (suc turns - 1))
 
--- members stand in front of what ends no object
-pub no_members_behind : (ms : List Member) → AreSpelled ms → (rest : List Token) → HasNoMembers rest → HasNoMembers (member_tokens ms ++ rest)
-no_members_behind [] h rest none turns = none turns
-no_members_behind (m ∷ ms) h rest none zero = no_member_turns (value 126) _
-no_members_behind (m ∷ ms) h rest none (suc turns) =
-    let first = field_tokens m.value in
-    let left = member_tokens ms ++ rest in
-    let same = append_assoc first (member_tokens ms) rest in
-    members_more (value 126) (suc turns) m.key.now (token.key m.key.now ∷ ((first ++ member_tokens ms) ++ rest)) ((first ++ member_tokens ms) ++ rest) left
-    (field_json m.value) (omega arith) refl (ap (value 126) same ∙ field_value m.value h.0 left)
-    ∙ ap (parse_map (json.member m.key.now (field_json m.value))) (no_members_behind ms h.1 rest none (suc turns - 1))
-
 -- a list does not go on with a token that begins no value
 pub no_items_from : (ts : List Token) → after_end_array ts ≡ None → value 125 ts ≡ None → HasNoItems ts
 no_items_from ts going none turns = items_fail (value 125) turns ts going none
-
--- nor an object with no key, or with a key and no value
-pub no_members_from : (ts : List Token) → read_key ts ≡ None → HasNoMembers ts
-no_members_from ts none turns = members_no_key (value 126) turns ts none
-
-pub no_members_at : (key : List ℕ) (ts rest : List Token) → read_key ts ≡ Some (Some key, rest) → value 126 rest ≡ None → HasNoMembers ts
-no_members_at key ts rest named none turns = members_fail (value 126) turns key ts rest named none
 
 pub no_list : (ts : List Token) → HasNoItems ts → value 126 (token.begin_array ∷ ts) ≡ None
 no_list ts none = value-begin_array 126 ts (omega arith) ∙ ap (parse_map json.array) (none (length ts))
 
 pub nothing_read : (text : List ℕ) → value 127 (tokens text) ≡ None → read text ≡ None
 nothing_read text none = ap (λ o. option_and_then of_json (option_and_then (λ p. if_last p.0 p.1) o)) none
-
-pub no_object : (text : List ℕ) (ts : List Token) → tokens text ≡ token.begin_object ∷ ts → HasNoMembers ts → read text ≡ None
-no_object text ts is none =
-    nothing_read text (ap (value 127) is ∙ value-begin_object 127 ts (omega arith) ∙ ap (parse_map json.object) (none (length ts)))
-
--- nor is a text JSON in which more stands behind an object
-pub more_behind : (text : List ℕ) (ms : List Member) (t : Token) (rest : List Token) → AreSpelled ms
-    → tokens text ≡ token.begin_object ∷ (member_tokens ms ++ token.end_object ∷ (t ∷ rest)) → read text ≡ None
-more_behind text ms t rest h e =
-    let left = member_tokens ms ++ token.end_object ∷ (t ∷ rest) in
-    ap (λ ts. option_and_then of_json (option_and_then (λ p. if_last p.0 p.1) (value 127 ts))) e
-    ∙ ap (λ o. option_and_then of_json (option_and_then (λ p. if_last p.0 p.1) o))
-    (value-begin_object 127 left (omega arith) ∙ ap (parse_map json.object) (members_value ms h (t ∷ rest) (length left) (omega arith)))

@@ -1,5 +1,7 @@
 -- One member more, and what is found then.
-use Rattle.std.proofs.Common.{◌≡◌, ℕ, List, [], ◌∷◌, ◌++◌, Some, true, false, bytes_eq, true≢false, refl, sym, ap, ◌∙◌}
+use Rattle.std.proofs.Common.{◌≡◌, ℕ, zero, suc, ◌+◌, ◌<◌, List, [], ◌∷◌, ◌++◌, length, take, get_or}
+use Rattle.std.proofs.Common.{Some, true, false, bytes_eq, true≢false, refl, sym, ap, ◌∙◌, arith}
+use Rattle.std.proofs.lemmas.List.{take_more}
 use Rattle.std.proofs.lemmas.Slice.Eq.{bytes_eq-Decides}
 use Rattle.serde_json.specs.Data.{Data, null, boolean, number, string, array, object, Members, no_members, put}
 use Rattle.serde_json.specs.Find.{get_member, as_object}
@@ -34,3 +36,16 @@ found_before_last key ms m other =
     ap (get_member key) (members_from-push no_members ms m)
     ∙ get_member-put_other key m.key.now (data_of m.value) (members_in ms)
     (λ (e : key ≡ m.key.now). true≢false (sym ((bytes_eq-Decides m.key.now key).1 (sym e)) ∙ other))
+
+-- ---- members looked at from the last one on
+
+-- the member that is looked at is the last of those that are left
+pub looks_at_last : (ms : List Member) (left next : ℕ) (m : Member) → next ≡ left + 1 → left < length ms → m ≡ get_or ms left m
+    → take next ms ≡ take left ms ++ m ∷ []
+looks_at_last ms left next m is within item = ap (λ k. take k ms) is ∙ take_more ms left m within ∙ ap (λ y. take left ms ++ y ∷ []) (sym item)
+
+-- two looks at one place find the same member
+pub same_member : (ms : List Member) (place : ℕ) (m n : Member) → place < length ms → m ≡ get_or ms place m → n ≡ get_or ms place n → m ≡ n
+same_member [] place m n within first second = absurd (omega arith)
+same_member (o ∷ ms) zero m n within first second = first ∙ sym second
+same_member (o ∷ ms) (suc place) m n within first second = same_member ms place m n (omega arith) first second

@@ -51,6 +51,7 @@ field_ends : (f : Field) → IsSpelled f → ended false (field_tokens f) ≡ tr
 field_ends (field.Plain s) h = scalar_ends s
 field_ends (field.List ss) h = ends_push false (map scalar_token ss.items) end_array
 field_ends (field.Tree v) h = absurd h
+field_ends (field.Owned b) h = absurd h
 
 member_ends : (c : Bool) (m : Member) (ms : List Member) → AreSpelled (m ∷ ms) → ended c (member_tokens (m ∷ ms)) ≡ true
 member_ends c m [] h = fold-append _ false (field_tokens m.value) [] ∙ field_ends m.value h.0
@@ -138,6 +139,7 @@ unfolding ArePrintable
 field_printable (field.Plain s) h = scalars_printable (s ∷ []) (h, tt)
 field_printable (field.List ss) h = (tt, ArePrintable-push (map scalar_token ss.items) end_array (scalars_printable ss.items h) tt)
 field_printable (field.Tree v) h = absurd h
+field_printable (field.Owned b) h = absurd h
 
 members_printable : (ms : List Member) → AreSpelled ms → ArePrintable (member_tokens ms)
 unfolding ArePrintable

@@ -1,9 +1,11 @@
 -- The grammar's loops, a turn at a time, under the conversion to data.
-use Rattle.std.proofs.Common.{◌≡◌, ℕ, zero, suc, ◌-◌, ◌<◌, ◌≤◌, List, [], ◌∷◌, ◌++◌, length, Option, Some, None, option_map, option_and_then, refl, ap, ◌∙◌}
+use Rattle.std.proofs.Common.{◌≡◌, ℕ, zero, suc, ◌-◌, ◌<◌, ◌≤◌, List, [], ◌∷◌, ◌++◌, length, Option, Some, None}
+use Rattle.std.proofs.Common.{option_map, option_and_then, refl, ap, ◌∙◌, arith}
 use Rattle.json.specs.Token.{Token}
+use Rattle.json.specs.Token as token
 use Rattle.json.specs.Json as json
-use Rattle.json.specs.Json.{Parse, parse_map, after_end_array, read_key, items_step, items, members, if_last}
-use Rattle.json.proofs.Grammar.{items_end, items_more, members_end, members_no_key, members_more}
+use Rattle.json.specs.Json.{Parse, parse_map, after_end_array, read_key, items_step, items, members, value, if_last}
+use Rattle.json.proofs.Grammar.{items_end, items_more, members_end, members_no_key, members_more, value-begin_object}
 use Rattle.serde_json.specs.Data.{Data, array, object, Items, no_items, item, Members, no_members, put}
 use Rattle.serde_json.specs.Read.{of_json, of_items, of_members, converted}
 use Rattle.serde_json.specs.View.{view, items_view}
@@ -102,6 +104,14 @@ module _ (p : Parse json.Json) where
     pub members_over : (n : ℕ) (ts r : List Token) → length ts ≤ n → read_key ts ≡ Some (None, r)
         → converted (λ ms. of_members ms old) (members p n ts) ≡ Some (old, r)
     members_over n ts r enough e = ap (converted (λ ms. of_members ms old)) (members_end p n ts r enough e)
+
+-- ---- the object that is the whole text
+
+pub object_begun : (text ts : List Token) → text ≡ token.begin_object ∷ ts
+    → converted of_json (value 127 text) ≡ parse_map object (converted (λ ms. of_members ms no_members) (members (value 126) (length ts) ts))
+object_begun text ts is =
+    ap (λ all. converted of_json (value 127 all)) is ∙ ap (converted of_json) (value-begin_object 127 ts (omega arith))
+    ∙ converted-object (members (value 126) (length ts) ts)
 
 -- ---- a list that grows at its end
 

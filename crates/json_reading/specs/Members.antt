@@ -24,6 +24,7 @@ abbrev pub data_of : Field → Data
 data_of (field.Plain s) = scalar_data s
 data_of (field.List ss) = array (items_in ss.items)
 data_of (field.Tree v) = view v.now
+data_of (field.Owned b) = view b.value.json
 
 -- The members, each added to those before it.
 abbrev pub members_from : Members → List Member → Members

@@ -21,6 +21,7 @@ abbrev pub field_tokens : Field → List Token
 field_tokens (field.Plain s) = scalar_token s ∷ []
 field_tokens (field.List ss) = begin_array ∷ (map scalar_token ss.items ++ end_array ∷ [])
 field_tokens (field.Tree v) = []
+field_tokens (field.Owned b) = []
 
 abbrev pub member_tokens : List Member → List Token
 member_tokens [] = []
@@ -44,11 +45,12 @@ abbrev pub AllFit : List Scalar → Type 0
 AllFit [] = ⊤
 AllFit (s ∷ ss) = Fits s × AllFit ss
 
--- The value is not a tree.
+-- The value is neither a tree nor its own.
 abbrev pub IsSpelled : Field → Type 0
 IsSpelled (field.Plain s) = Fits s
 IsSpelled (field.List ss) = AllFit ss.items
 IsSpelled (field.Tree v) = ⊥
+IsSpelled (field.Owned b) = ⊥
 
 abbrev pub AreSpelled : List Member → Type 0
 AreSpelled [] = ⊤

@@ -19,6 +19,17 @@ impl Field<'_> {
             Field::Plain(scalar) => scalar_json(alloc, scalar),
             Field::List(scalars) => list_json(alloc, scalars),
             Field::Tree(value) => Value::clone(value),
+            Field::Owned(own) => Value::clone(own.json()),
+        }
+    }
+
+    /// The value: itself where the member owns it, which then has null, and else a copy.
+    pub fn take_json(&mut self, alloc: Global) -> Result<Value, AllocError>
+        ensures { IfOk result (λ json. view json ≡ data_of self.old) }
+    {
+        match self {
+            Field::Owned(own) => Ok(own.take()),
+            _ => self.to_json(alloc),
         }
     }
 

@@ -1,5 +1,6 @@
 //! Members and their values.
 
+use crate::own::Own;
 use serde_json::Value;
 
 /// The number of members that are given room at once: more than most objects have.
@@ -15,17 +16,19 @@ pub enum Scalar<'a> {
     Text(&'a str),
 }
 
-/// The value of a member: borrowed from the text, or any other value.
+/// The value of a member: borrowed from the text or from a tree, or its own.
 pub enum Field<'a> {
     Plain(Scalar<'a>),
     List(Vec<Scalar<'a>>),
     Tree(&'a Value),
+    /// An object.
+    Owned(Box<Own>),
 }
 
 impl<'a> Drop for Field<'a> {
     fn drop(self) {
         match self {
-            Field::Plain(_) | Field::List(_) | Field::Tree(_) => (),
+            Field::Plain(_) | Field::List(_) | Field::Tree(_) | Field::Owned(_) => (),
         }
     }
 }
@@ -55,6 +58,7 @@ impl<'a> Field<'a> {
             Field::Plain(scalar) => matches!(scalar, Scalar::Null),
             Field::List(_) => false,
             Field::Tree(value) => value.is_null(),
+            Field::Owned(own) => own.json().is_null(),
         }
     }
 
@@ -66,6 +70,7 @@ impl<'a> Field<'a> {
             Field::Plain(_) => false,
             Field::List(_) => true,
             Field::Tree(value) => value.is_array(),
+            Field::Owned(own) => own.json().is_array(),
         }
     }
 
@@ -77,6 +82,7 @@ impl<'a> Field<'a> {
             Field::Plain(Scalar::Truth(truth)) => Some(*truth),
             Field::Plain(_) | Field::List(_) => None,
             Field::Tree(value) => value.as_bool(),
+            Field::Owned(own) => own.json().as_bool(),
         }
     }
 
@@ -89,6 +95,7 @@ impl<'a> Field<'a> {
             Field::Plain(Scalar::Signed(number)) => u64::try_from(*number).ok(),
             Field::Plain(_) | Field::List(_) => None,
             Field::Tree(value) => value.as_u64(),
+            Field::Owned(own) => own.json().as_u64(),
         }
     }
 
@@ -98,7 +105,7 @@ impl<'a> Field<'a> {
     {
         match self {
             Field::Plain(Scalar::Text(text)) => Some(*text),
-            Field::Plain(_) | Field::List(_) => None,
+            Field::Plain(_) | Field::List(_) | Field::Owned(_) => None,
             Field::Tree(value) => value.as_str(),
         }
     }

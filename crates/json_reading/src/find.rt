@@ -1,9 +1,12 @@
 //! Looking for a member.
-ghost use Rattle.std.specs.Prelude.{◌≡◌, bytes_eq, option_map};
+ghost use Rattle.std.specs.Prelude.{◌≡◌, IfOk, bytes_eq, option_map};
 ghost use Rattle.serde_json.specs.Find.{get_member};
+ghost use Rattle.serde_json.specs.View.{view};
 ghost use Rattle.json_reading.specs.Members.{data_of, members_in};
 
 use crate::field::{Field, Member};
+use serde_json::Value;
+use std::alloc::{AllocError, Global};
 
 /// Whether a key is this word. Most are of another length, which is asked first.
 #[inline(always)]
@@ -27,4 +30,22 @@ pub fn value_at<'m, 'a>(members: &'m [Member<'a>], key: &str) -> Option<&'m Fiel
         }
     }
     None
+}
+
+/// The JSON of the last member with this key: itself where the member owns it, which then has null, and else a copy.
+pub fn take_at(
+    alloc: Global,
+    members: &mut [Member<'_>],
+    key: &str,
+) -> Result<Option<Value>, AllocError>
+    ensures { IfOk result (λ json. option_map view json ≡ get_member key.now (members_in members.old)) }
+{
+    let mut left = members.len();
+    'left: while left > 0 {
+        left -= 1;
+        if is_word(members[left].key, key) {
+            return Ok(Some(members[left].value.take_json(alloc)?));
+        }
+    }
+    Ok(None)
 }

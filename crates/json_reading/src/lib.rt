@@ -5,6 +5,7 @@
 mod copy;
 mod field;
 mod find;
+mod own;
 mod plain;
 mod read;
 mod scalar;
@@ -15,7 +16,8 @@ mod tree;
 mod value;
 
 pub use field::{Field, Member, Scalar};
-pub use find::{is_word, value_at};
+pub use find::{is_word, take_at, value_at};
+pub use own::Own;
 pub use plain::plain_members;
 pub use read::{name_at, text_at};
 pub use scan::scan_members;

@@ -12,10 +12,9 @@ use crate::token::token_members;
 use json::Scratch;
 use std::alloc::Global;
 
-/// The members of the text, where they are borrowed from it: where it is an object, no part of
-/// it is nested more deeply than a list of its members, and its numbers are whole and have 64 bits,
-/// with their sign. Whether a text is no JSON is answered where the tokens show it. Any other text is
-/// left to `serde_json`.
+/// The members of the text, where it is an object, no list among its members has parts in its parts, and its numbers
+/// are whole and have 64 bits, with their sign. What can be is borrowed from the text; the objects among its members
+/// are owned. Whether a text is no JSON is answered where the tokens show it. Any other text is left to `serde_json`.
 pub fn plain_members<'a>(
     alloc: Global,
     text: &'a str,
@@ -26,7 +25,6 @@ pub fn plain_members<'a>(
 {
     match scan_members(alloc, text) {
         Ok(members) => Ok(members),
-        Err(Stop::Nested) => Err(Stop::Nested),
         Err(Stop::Memory) => Err(Stop::Memory),
         Err(_) => token_members(alloc, text, scratch),
     }

@@ -1,25 +1,27 @@
-//! Reading an object by the tokens of `json`: white space and escapes too.
-ghost use Rattle.std.specs.Prelude.{FitsSigned, ◌≡◌, ◌++◌, ◌∷◌, ◌<◌, ◌^◌, decimal, map, Err, IfOk, IfSome, None, Some};
+//! Reading an object by the tokens of `json`: white space, escapes, and objects among its members too.
+ghost use Rattle.std.specs.Prelude.{FitsSigned, ◌≡◌, ◌++◌, ◌∷◌, ◌<◌, ◌^◌, decimal, length, map, Err, IfOk, IfSome, None, OnOk, Some};
 ghost use Rattle.std.specs.Int.{w64};
 ghost use Rattle.std.specs.Fmt.{signed_decimal};
-ghost use Rattle.json.specs.Token.{end_array, end_object, number};
-ghost use Rattle.json.specs.Json.{value};
+ghost use Rattle.json.specs.Token.{end_array, number};
+ghost use Rattle.json.specs.Json.{members, value};
 ghost use Rattle.json.specs.Reads.{token_of};
-ghost use Rattle.serde_json.specs.Data.{object};
-ghost use Rattle.serde_json.specs.Read.{read};
+ghost use Rattle.serde_json.specs.Data.{no_members, object};
+ghost use Rattle.serde_json.specs.Read.{converted, of_json, of_members, read};
 ghost use Rattle.json_reading.specs.declared.stop.Stop.TheVariants.{NotJson};
-ghost use Rattle.json_reading.specs.Faults.{BeginsNoValue, HasNoItems, HasNoMembers};
-ghost use Rattle.json_reading.specs.Members.{members_in};
-ghost use Rattle.json_reading.specs.Spelling.{scalar_token, field_tokens, member_tokens, Fits, AllFit, IsSpelled, AreSpelled};
+ghost use Rattle.json_reading.specs.Faults.{BeginsNoValue, HasNoItems};
+ghost use Rattle.json_reading.specs.Members.{data_of, members_in};
+ghost use Rattle.json_reading.specs.Spelling.{scalar_token, Fits, AllFit};
 
 use crate::field::{Field, Member, ROOM, Scalar};
+use crate::own::Own;
 use crate::scalar::{scan_negative, scan_number};
 use crate::stop::Stop;
+use crate::value::{MOST_NESTED, read_members};
 use json::{Reader, Scratch, Token};
 use std::alloc::Global;
 
 /// The members of the text, where it is an object whose numbers are whole and have 64 bits, with
-/// their sign. Texts with escapes are written to `scratch`.
+/// their sign, and whose lists have parts only in objects. Texts with escapes are written to `scratch`.
 pub fn token_members<'a>(
     alloc: Global,
     text: &'a str,
@@ -44,10 +46,10 @@ pub fn token_members<'a>(
 
 /// The members up to the brace that closes the object.
 fn rest_of_members<'a>(alloc: Global, reader: &mut Reader<'a>) -> Result<Vec<Member<'a>>, Stop>
-    ensures ok { IfOk result
-        (λ found. (reader.old ≡ member_tokens found.items ++ end_object ∷ reader.new)
-        × AreSpelled found.items) }
-    ensures not_json { result ≡ Err NotJson → HasNoMembers reader.old }
+    ensures ok { IfOk result (λ found. converted (λ ms. of_members ms no_members) (members (value 126) (length reader.old) reader.old)
+        ≡ Some (members_in found.items, reader.new)) }
+    ensures not_json { result ≡ Err NotJson
+        → converted (λ ms. of_members ms no_members) (members (value 126) (length reader.old) reader.old) ≡ None }
 {
     let mut found = Vec::with_capacity(alloc, ROOM)?;
     'members: while let Some(key) = reader.next_key()? {
@@ -59,12 +61,16 @@ fn rest_of_members<'a>(alloc: Global, reader: &mut Reader<'a>) -> Result<Vec<Mem
 
 /// The next value.
 fn token_field<'a>(alloc: Global, reader: &mut Reader<'a>) -> Result<Field<'a>, Stop>
-    ensures ok { IfOk result (λ found. (reader.old ≡ field_tokens found ++ reader.new)
-        × IsSpelled found) }
-    ensures not_json { result ≡ Err NotJson → value 126 reader.old ≡ None }
+    ensures ok { IfOk result (λ found. converted of_json (value 126 reader.old) ≡ Some (data_of found, reader.new)) }
+    ensures shorter { OnOk result (length reader.new < length reader.old) }
+    ensures not_json { result ≡ Err NotJson → converted of_json (value 126 reader.old) ≡ None }
 {
     match reader.next().ok_or(Stop::NotJson)? {
         Token::BeginArray => Ok(Field::List(token_items(alloc, reader)?)),
+        Token::BeginObject => {
+            let members = read_members(alloc, reader, MOST_NESTED - 2)?;
+            Ok(Field::Owned(Box::new(alloc, Own::object(members))?))
+        }
         token => Ok(Field::Plain(token_scalar(token)?)),
     }
 }

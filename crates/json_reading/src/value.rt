@@ -14,7 +14,7 @@ use serde_json::{Map, Value};
 use std::alloc::{AllocError, Global};
 
 /// How deep arrays and objects nest in what `serde_json` reads.
-const MOST_NESTED: usize = 127;
+pub(crate) const MOST_NESTED: usize = 127;
 
 /// The JSON that the text is, or none. The scratch serves for many texts: `serde_json`, which makes one for each
 /// text, reads only those with numbers that are not whole or have more than 64 bits with their sign.
@@ -101,7 +101,7 @@ fn read_items(alloc: Global, reader: &mut Reader<'_>, depth: usize) -> Result<Ve
 
 /// The members up to the brace that closes their object.
 #[cycle(value)]
-fn read_members(
+pub(crate) fn read_members(
     alloc: Global,
     reader: &mut Reader<'_>,
     depth: usize,

@@ -7,7 +7,7 @@ use std::test::Fail;
 /// A text, with the outcomes of scanning it and of reading its tokens.
 type Served = (&'static str, &'static str, &'static str);
 
-const TEXTS: [Served; 36] = [
+const TEXTS: [Served; 39] = [
     (r#"{"a":1}"#, "read", "read"),
     (
         r#"{"a":0,"b":"","c":null,"d":true,"e":false}"#,
@@ -35,7 +35,10 @@ const TEXTS: [Served; 36] = [
     (r#"{"a":[1 2]}"#, "form", "no JSON"),
     (r#"{"a":[1}"#, "form", "no JSON"),
     (r#"{"a":[1]]}"#, "form", "no JSON"),
-    (r#"{"a":{}}"#, "nested", "nested"),
+    (r#"{"a":{}}"#, "nested", "read"),
+    (r#"{"a":{"b":[{"c":[1,{}]}]},"d":1}"#, "nested", "read"),
+    (r#"{"a":{"b":1.5}}"#, "nested", "form"),
+    (r#"{"a":{"b":}}"#, "nested", "no JSON"),
     (r#"{"a":[[]]}"#, "nested", "nested"),
     (r#"{"a":[{}]}"#, "nested", "nested"),
     (r#"{"a":1,}"#, "form", "no JSON"),

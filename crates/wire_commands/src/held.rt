@@ -35,7 +35,7 @@ pub enum Held<'m, 'a> {
     /// The value is an array.
     List(&'m Field<'a>),
     /// A property of the object of this number.
-    Property(u32, &'a str),
+    Property(u32, &'m str),
     Any(&'m Field<'a>),
 }
 
@@ -249,5 +249,6 @@ fn signed_in(field: &Field<'_>) -> Option<i64>
         Field::Plain(Scalar::Signed(number)) => Some(*number),
         Field::Plain(_) | Field::List(_) => None,
         Field::Tree(value) => value.as_i64(),
+        Field::Owned(own) => own.json().as_i64(),
     }
 }

@@ -18,10 +18,11 @@ pub(crate) fn property_in<'m, 'a>(field: &'m Field<'a>) -> Option<Held<'m, 'a>>
     match field {
         Field::Plain(_) | Field::List(_) => None,
         Field::Tree(value) => property_named(value),
+        Field::Owned(own) => property_named(own.json()),
     }
 }
 
-fn property_named<'m, 'a>(json: &'a Value) -> Option<Held<'m, 'a>>
+fn property_named<'m, 'a>(json: &'m Value) -> Option<Held<'m, 'a>>
     ensures { option_map held_seen result ≡ property_in (view json.now) }
 {
     let object = json.get("object")?;

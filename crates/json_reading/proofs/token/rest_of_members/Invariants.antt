@@ -1,12 +1,15 @@
-use Rattle.std.proofs.Common.{◌≡◌, ◌++◌, length}
-use Rattle.json_reading.specs.Spelling.{member_tokens, AreSpelled}
+use Rattle.std.proofs.Common.{◌≡◌, ℕ, ◌≤◌, length}
+use Rattle.json.specs.Json.{members, value}
+use Rattle.serde_json.specs.Data.{no_members}
+use Rattle.serde_json.specs.Read.{converted, of_members}
+use Rattle.json_reading.specs.Members.{members_in}
 use Rattle.json_reading.proofs.token.rest_of_members.Given as goal
 
 abbrev pub invariant-members : goal.invariant-members
-invariant-members l = record {
-  tokens : l.initial.reader ≡ member_tokens l.found.items ++ l.reader;
-  spelled : AreSpelled l.found.items;
-}
+invariant-members l =
+    (n : ℕ) × (length l.reader ≤ n)
+    × (converted (λ ms. of_members ms no_members) (members (value 126) (length l.initial.reader) l.initial.reader)
+    ≡ converted (λ ms. of_members ms (members_in l.found.items)) (members (value 126) n l.reader))
 
 abbrev pub decreases-members : goal.decreases-members
 decreases-members l = length l.reader
