@@ -21,13 +21,13 @@ use Rattle.binding_values.specs.Scene.{Cell}
 use Rattle.binding_values.specs.Sorted.{IsRising}
 use Rattle.binding_values.specs.Stored.{cell_in, scene_of}
 use Rattle.binding_values.proofs.ForCallers.{is_itself, property_eq}
-use Rattle.binding_graph.specs.declared.change.Change.{Change}
-use Rattle.binding_graph.specs.declared.change.ChangeKind.TheVariants as message
-use Rattle.binding_graph.specs.declared.shown.Shown.{Shown}
+use Rattle.binding_values.specs.declared.change.Change.{Change}
+use Rattle.binding_values.specs.declared.change.ChangeKind.TheVariants as message
+use Rattle.binding_values.specs.declared.shown.Shown.{Shown}
 use Rattle.binding_graph.specs.Cache.{Cache, IsInStep}
-use Rattle.binding_graph.specs.Graph.{AreShown, Graph, all_shown, before, change_alone, changes, shown_as, shown_at, shown_now, stored_value}
+use Rattle.binding_values.specs.Graph.{AreShown, Graph, all_shown, before, change_alone, changes, shown_as, shown_at, shown_now, stored_value}
 use Rattle.binding_graph.specs.Rows.{AreMerged, IsPut}
-use Rattle.binding_graph.proofs.FitLemmas.{shown_now_fits}
+use Rattle.binding_values.proofs.ForCallers.{shown_now_fits}
 use Rattle.binding_graph.proofs.KnownLemmas.{shown_so}
 use Rattle.binding_graph.proofs.SettlingLemmas.{merged_so, told_so, touched_right, touched_whole}
 

@@ -14,10 +14,10 @@ use Rattle.property_store.specs.Store.{Store}
 use Rattle.binding_values.specs.declared.binding.Binding.{Binding}
 use Rattle.binding_values.specs.Sorted.{is_before}
 use Rattle.binding_values.proofs.ForCallers.{property_eq}
-use Rattle.binding_graph.specs.declared.shown.Shown.{Shown}
-use Rattle.binding_graph.specs.Graph.{AreShown, shown_at, shown_now}
+use Rattle.binding_values.specs.declared.shown.Shown.{Shown}
+use Rattle.binding_values.specs.Graph.{AreShown, shown_at, shown_now}
 use Rattle.binding_graph.specs.Rows.{AreMerged, IsNoted, is_gone, without_rows}
-use Rattle.binding_graph.proofs.TouchedLemmas.{found_filter}
+use Rattle.binding_values.proofs.ForCallers.{found_filter}
 
 -- one property more is noted
 pub noted_too : (last now old new : List Shown) (at q : Property) (before : Bool) → is_some (shown_at old q) ≡ (before && is_gone last now q)

@@ -19,9 +19,9 @@ use Rattle.std.specs.Option.{option_map_or}
 use Rattle.binding_values.specs.Stored.{cell_in, scene_of}
 use Rattle.binding_values.proofs.ForCallers.{property_eq}
 use Rattle.binding_values.proofs.ForCallers.{binding_is_marked, unbinding_is_marked}
-use Rattle.binding_graph.specs.declared.shown.Shown.{Shown}
+use Rattle.binding_values.specs.declared.shown.Shown.{Shown}
 use Rattle.binding_graph.specs.Cache.{Cache, IsInStep}
-use Rattle.binding_graph.specs.Graph.{Graph, bound, shown_as, unbound}
+use Rattle.binding_values.specs.Graph.{Graph, bound, shown_as, unbound}
 use Rattle.binding_graph.proofs.StepLemmas.{more_in_step, stays_where_marked}
 
 -- what is kept where that of one property was let go

@@ -13,10 +13,10 @@ use Rattle.binding_values.specs.Stored.{cell_in, outcome_in, scene_of}
 use Rattle.binding_values.proofs.ForCallers.{property_eq}
 use Rattle.binding_values.specs.Right.{IsComplete}
 use Rattle.binding_values.proofs.ForCallers.{complete_is_known}
-use Rattle.binding_graph.specs.declared.shown.Shown.{Shown}
+use Rattle.binding_values.specs.declared.shown.Shown.{Shown}
 use Rattle.binding_graph.specs.Rows.{IsPut}
-use Rattle.binding_graph.specs.Graph.{shown_as, shown_at, shown_now}
-use Rattle.binding_graph.proofs.FoundLemmas.{shown_of}
+use Rattle.binding_values.specs.Graph.{shown_as, shown_at, shown_now}
+use Rattle.binding_values.proofs.ForCallers.{shown_of}
 
 -- what is kept, or else what is stored, is the value
 pub kept_or_stored : (store : Store) (bindings : List Binding) (keeping : Keeping) → IsComplete (scene_of store bindings) keeping → (q : Property) (cell : Cell)

@@ -1,15 +1,9 @@
 pub mod PlaceLemmas
-pub mod FitLemmas
-pub mod ShownLemmas
-pub mod FoundLemmas
 pub mod StepLemmas
-pub mod ToldLemmas
 pub mod GraphAndCacheLemmas
 pub mod RemovalLemmas
-pub mod TouchedLemmas
 pub mod RowLemmas
 pub mod GoneLemmas
 pub mod KnownLemmas
 pub mod SettlingLemmas
 pub mod AloneLemmas
-pub mod ForCallers

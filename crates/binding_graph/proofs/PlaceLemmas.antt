@@ -14,7 +14,7 @@ use Rattle.property_store.specs.Table.{StoresView, store_at}
 use Rattle.binding_values.specs.declared.binding.Binding.{Binding}
 use Rattle.binding_values.specs.Scene.{term_at}
 use Rattle.binding_graph.specs.Cache.{IsInStep, cache_at, no_cache}
-use Rattle.binding_graph.specs.Graph.{Graph, is_bound, no_graph, unbound}
+use Rattle.binding_values.specs.Graph.{Graph, is_bound, no_graph, unbound}
 use Rattle.binding_graph.specs.Step.{InStep}
 use Rattle.binding_graph.specs.Table.{OthersKept, graph_at, with_graph}
 use Rattle.binding_graph.specs.GraphAndCache.{IsAt, StaysAt, GraphAndCache, no_graph_and_cache, split}

@@ -19,16 +19,16 @@ use Rattle.binding_values.specs.Scene.{Cell}
 use Rattle.binding_values.specs.Stored.{fields_at, outcome_in, properties_in, scene_of}
 use Rattle.binding_values.proofs.ForCallers.{all_given}
 use Rattle.binding_values.proofs.ForCallers.{AreAlikeBut, stays_right, stays_whole, cell_gone, kept_objects, removal_is_alike}
-use Rattle.binding_graph.specs.declared.change.Change.{Change}
-use Rattle.binding_graph.specs.declared.shown.Shown.{Shown}
+use Rattle.binding_values.specs.declared.change.Change.{Change}
+use Rattle.binding_values.specs.declared.shown.Shown.{Shown}
 use Rattle.binding_graph.specs.Cache.{Cache, IsInStep, shown_by}
-use Rattle.binding_graph.specs.Graph.{Graph, all_shown, changes, has_turn, in_turn, is_open, notice, settled_changes, shown_as, shown_at, shown_now, warning}
-use Rattle.binding_graph.specs.Graph.{without_object}
+use Rattle.binding_values.specs.Graph.{Graph, all_shown, changes, has_turn, in_turn, is_open, notice, settled_changes, shown_as, shown_at, shown_now, warning}
+use Rattle.binding_values.specs.Graph.{without_object}
 use Rattle.binding_graph.specs.GraphAndCache.{StaysKept}
-use Rattle.binding_graph.proofs.FoundLemmas.{shown_of}
+use Rattle.binding_values.proofs.ForCallers.{shown_of}
 use Rattle.binding_graph.proofs.SettlingLemmas.{drained_in_step}
 use Rattle.binding_graph.proofs.StepLemmas.{more_in_step, more_of_both, nothing_marked, same_shown}
-use Rattle.binding_graph.proofs.TouchedLemmas.{found_filter}
+use Rattle.binding_values.proofs.ForCallers.{found_filter}
 
 -- what is kept is as right as before where the properties of the object are marked
 

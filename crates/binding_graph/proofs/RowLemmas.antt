@@ -11,11 +11,11 @@ use Rattle.property_store.specs.declared.property.Property.{Property}
 use Rattle.property_store.specs.Property.{is_property}
 use Rattle.binding_values.specs.Sorted.{IsCountBefore, IsRising, is_before}
 use Rattle.binding_values.proofs.ForCallers.{property_eq, inserted, is_behind, is_other, is_property_sym, replaced, stands_so, stands_within, with_rising}
-use Rattle.binding_graph.specs.declared.shown.Shown.{Shown}
-use Rattle.binding_graph.specs.Graph.{AreShown, shown_at}
+use Rattle.binding_values.specs.declared.shown.Shown.{Shown}
+use Rattle.binding_values.specs.Graph.{AreShown, shown_at}
 use Rattle.binding_graph.specs.Rows.{IsPut}
 use Rattle.binding_graph.specs.Rows.{with_shown}
-use Rattle.binding_graph.proofs.TouchedLemmas.{behind_first, found_filter, none_behind, without_first}
+use Rattle.binding_values.proofs.ForCallers.{behind_first, found_filter, none_behind, without_first}
 
 module _ (new : Shown) (rows : List Shown) where
   abbrev below : List Shown

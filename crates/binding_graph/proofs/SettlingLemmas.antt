@@ -19,14 +19,14 @@ use Rattle.binding_values.specs.Sorted.{IsRising}
 use Rattle.binding_values.specs.Stored.{cell_in, scene_of}
 use Rattle.binding_values.specs.Right.{IsComplete, IsRightBut, IsWhole}
 use Rattle.binding_values.proofs.ForCallers.{complete_is_known}
-use Rattle.binding_graph.specs.declared.shown.Shown.{Shown}
+use Rattle.binding_values.specs.declared.shown.Shown.{Shown}
 use Rattle.binding_graph.specs.Cache.{Cache, IsInStep}
 use Rattle.binding_graph.specs.Rows.{AreMerged}
-use Rattle.binding_graph.specs.Graph.{Graph, all_shown, changes, shown_as, shown_at, shown_now}
-use Rattle.binding_graph.proofs.FoundLemmas.{found_in_all}
-use Rattle.binding_graph.proofs.ShownLemmas.{all_shown_sound}
+use Rattle.binding_values.specs.Graph.{Graph, all_shown, changes, shown_as, shown_at, shown_now}
+use Rattle.binding_values.proofs.ForCallers.{found_in_all}
+use Rattle.binding_values.proofs.ForCallers.{all_shown_sound}
 use Rattle.binding_graph.proofs.StepLemmas.{more_in_step, nothing_marked, same_in_step}
-use Rattle.binding_graph.proofs.TouchedLemmas.{changes_of_touched, merged_is_all}
+use Rattle.binding_values.proofs.ForCallers.{changes_of_touched, merged_is_all}
 
 -- what was taken from the store is pending
 

@@ -26,13 +26,13 @@ use Rattle.binding_values.specs.Stored.{cell_in, scene_of}
 use Rattle.binding_values.specs.Right.{DiffersAt, IsComplete}
 use Rattle.binding_values.proofs.ForCallers.{complete_is_known, complete_is_right, unmarked_is_complete, AreAlikeBut, alike, stays_right, stays_whole}
 use Rattle.binding_values.proofs.ForCallers.{addition_is_marked, all_may_change, dynamic_is_nothing, no_dynamic_is_nothing, write_is_marked}
-use Rattle.binding_graph.specs.declared.shown.Shown.{Shown}
+use Rattle.binding_values.specs.declared.shown.Shown.{Shown}
 use Rattle.binding_graph.specs.Cache.{Cache, IsInStep, cache_at, shown_by}
-use Rattle.binding_graph.specs.Graph.{Graph, all_shown, shown_as, shown_at, shown_now}
+use Rattle.binding_values.specs.Graph.{Graph, all_shown, shown_as, shown_at, shown_now}
 use Rattle.binding_graph.specs.Step.{AdditionStaysInStep, ClearingStaysInStep, DynamicStaysInStep, HasStore, InStep, NamedWriteStaysInStep}
 use Rattle.binding_graph.specs.Step.{NoDynamicStaysInStep, OpeningStaysInStep, RemovalStaysInStep, RoomStaysInStep, StaysInStep, WriteStaysInStep}
 use Rattle.binding_graph.specs.Table.{graph_at}
-use Rattle.binding_graph.proofs.FoundLemmas.{found_in_all}
+use Rattle.binding_values.proofs.ForCallers.{found_in_all}
 
 -- where more is marked, more is marked with what is pending
 

@@ -9,8 +9,8 @@ use Rattle.binding_values.specs.declared.eval_result.CacheEntry.{CacheEntry}
 use Rattle.binding_values.specs.EvalResult.{Keeping, kept_of, known}
 use Rattle.binding_values.specs.Stored.{cell_in, scene_of}
 use Rattle.binding_values.specs.Right.{IsRightBut, IsWhole}
-use Rattle.binding_graph.specs.declared.shown.Shown.{Shown}
-use Rattle.binding_graph.specs.Graph.{Graph, shown_as, shown_at}
+use Rattle.binding_values.specs.declared.shown.Shown.{Shown}
+use Rattle.binding_values.specs.Graph.{Graph, shown_as, shown_at}
 
 pub record Cache : Type 0 where
   -- The last result of each bound property.

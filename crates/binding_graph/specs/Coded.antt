@@ -6,11 +6,11 @@ use Rattle.property_store.specs.Marks.{Marks}
 use Rattle.property_store.specs.Pending.{coded_marks}
 use Rattle.binding_values.specs.declared.binding.Binding.{Binding}
 use Rattle.binding_values.specs.declared.eval_result.CacheEntry.{CacheEntry}
-use Rattle.binding_graph.specs.declared.shown.Shown.{Shown}
-use Rattle.binding_graph.specs.contracts.shown.Shown as shown
+use Rattle.binding_values.specs.declared.shown.Shown.{Shown}
+use Rattle.binding_values.specs.contracts.shown.Shown as shown
 use Rattle.binding_values.specs.Coded.{coded_bindings, coded_eval_cache}
 use Rattle.binding_graph.specs.Cache.{Cache}
-use Rattle.binding_graph.specs.Graph.{Graph}
+use Rattle.binding_values.specs.Graph.{Graph}
 use Rattle.binding_graph.specs.Table.{Graphs}
 use Rattle.binding_graph.specs.GraphAndCache.{GraphAndCache}
 

@@ -6,7 +6,7 @@ use Rattle.property_store.specs.Store.{Store}
 use Rattle.property_store.specs.Table.{StoresView, store_at}
 use Rattle.binding_values.specs.declared.eval_result.CacheEntry.{CacheEntry}
 use Rattle.binding_graph.specs.Cache.{Cache, IsInStep, no_cache}
-use Rattle.binding_graph.specs.Graph.{Graph, no_graph}
+use Rattle.binding_values.specs.Graph.{Graph, no_graph}
 use Rattle.binding_graph.specs.Table.{Graphs}
 
 pub record GraphAndCache : Type 0 where

@@ -1,10 +1,8 @@
-pub mod Graph
 pub mod Cache
 pub mod Table
 pub mod GraphAndCache
 pub mod Coded
 pub mod Step
-pub mod Fitting
 pub mod Drained
 pub mod Inside
 pub mod Rows

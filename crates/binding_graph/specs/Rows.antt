@@ -6,8 +6,8 @@ use Rattle.property_store.specs.Property.{among, is_property}
 use Rattle.property_store.specs.Store.{Store}
 use Rattle.binding_values.specs.declared.binding.Binding.{Binding}
 use Rattle.binding_values.specs.Sorted.{is_before}
-use Rattle.binding_graph.specs.declared.shown.Shown.{Shown}
-use Rattle.binding_graph.specs.Graph.{shown_at, shown_now}
+use Rattle.binding_values.specs.declared.shown.Shown.{Shown}
+use Rattle.binding_values.specs.Graph.{shown_at, shown_now}
 
 -- The rows with another one, which replaces that of the same property.
 abbrev pub with_shown : Shown → List Shown → List Shown

@@ -2,7 +2,7 @@
 use Rattle.std.specs.Prelude.{◌≡◌, ◌≢◌, ℕ, List, slice_index_or}
 use Rattle.shared_rows.specs.Table.{Table, with_place}
 use Rattle.binding_graph.specs.Cache.{Cache, cache_at}
-use Rattle.binding_graph.specs.Graph.{Graph, no_graph}
+use Rattle.binding_values.specs.Graph.{Graph, no_graph}
 
 pub record Graphs : Type 0 where
   pub graphs : Table Graph

@@ -1,12 +1,10 @@
 //! Changes are found by a comparison of two showings.
 ghost use Rattle.std.specs.Prelude.{◌≡◌, ◌++◌, IfOk, IsTrue, OnOk, filter, filter_map};
 ghost use Rattle.variant_value.specs.Values.{is_same};
-ghost use Rattle.binding_graph.specs.Graph.{before, changes, has_turn, is_same_error, notice, warning};
+ghost use Rattle.binding_values.specs.Graph.{before, changes, has_turn, is_same_error, notice, warning};
 
-use crate::change::{Change, ChangeKind};
 use crate::showing::Showing;
-use crate::shown::Shown;
-use binding_values::BindingError;
+use binding_values::{BindingError, Change, ChangeKind, Shown};
 use plain_types::Items;
 use property_store::{Property, default_of, is_property};
 use std::alloc::{AllocError, Global};

@@ -6,14 +6,13 @@ ghost use Rattle.shared_rows.specs.Table.{IsPlace};
 ghost use Rattle.plain_types.specs.Answers.{RefusedBy};
 ghost use Rattle.term_core.specs.Forms.{is_within_limits};
 ghost use Rattle.property_store.specs.Table.{store_at};
-ghost use Rattle.binding_graph.specs.Graph.{IsSound, bind_refusal, bound, end_refusal, ended, fresh, is_bound, is_open};
-ghost use Rattle.binding_graph.specs.Graph.{shown_at, shown_in, shown_now, unbound, value_in};
+ghost use Rattle.binding_values.specs.Graph.{IsSound, bind_refusal, bound, end_refusal, ended, fresh, is_bound, is_open};
+ghost use Rattle.binding_values.specs.Graph.{shown_at, shown_in, shown_now, unbound, value_in};
 ghost use Rattle.binding_graph.specs.GraphAndCache.{IsAt, StaysAt, no_graph_and_cache};
 
 use crate::show::{show, show_kept, shown_as};
 use crate::showing::Showing;
-use crate::shown::Shown;
-use binding_values::{Binding, BindingError, Bound, KeptIndex, cell_at};
+use binding_values::{Binding, BindingError, Bound, KeptIndex, Shown, cell_at};
 use plain_types::{Code, Fault};
 use property_store::{Pending, Property, Stores, default_of};
 use signature_core::Kind;

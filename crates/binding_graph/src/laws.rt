@@ -1,6 +1,6 @@
 //! These laws hold of shown values, and of stores and bindings that are in step. There is nothing to run in
 //! these functions: their clauses are theorems.
-ghost use Rattle.binding_graph.specs.Fitting.{ChangesFit, SettlingIsSound, ValuesAreShort};
+ghost use Rattle.binding_values.specs.Fitting.{ChangesFit, SettlingIsSound, ValuesAreShort};
 ghost use Rattle.binding_graph.specs.Step.{AdditionStaysInStep, ClearingStaysInStep, DynamicStaysInStep, NamedWriteStaysInStep};
 ghost use Rattle.binding_graph.specs.Step.{NoDynamicStaysInStep, OpeningStaysInStep, RemovalStaysInStep, RoomStaysInStep, WriteStaysInStep};
 

@@ -9,24 +9,20 @@ ghost use Rattle.binding_values.specs.Scene.{term_at};
 ghost use Rattle.property_store.specs.Store.{without};
 ghost use Rattle.property_store.specs.Pending.{IsDrained};
 ghost use Rattle.property_store.specs.Table.{store_at};
-ghost use Rattle.binding_graph.specs.Graph.{IsSound, begin_refusal, begun, bind_refusal, bound, end_refusal, ended, is_bound};
-ghost use Rattle.binding_graph.specs.Graph.{change_alone, settled_changes, settled_graph, stored_value, unbound, value_in, without_object};
+ghost use Rattle.binding_values.specs.Graph.{IsSound, begin_refusal, begun, bind_refusal, bound, end_refusal, ended, is_bound};
+ghost use Rattle.binding_values.specs.Graph.{change_alone, settled_changes, settled_graph, stored_value, unbound, value_in, without_object};
 ghost use Rattle.binding_graph.specs.Inside.{pair_of};
 ghost use Rattle.binding_graph.specs.Drained.{IsStored};
 ghost use Rattle.binding_graph.specs.GraphAndCache.{IsAt, StaysAt, no_graph_and_cache};
 
-use crate::change::Change;
 use crate::graph::BindingGraph;
-use binding_values::{Binding, BindingError};
+use binding_values::{Binding, BindingError, Change, GROUPS};
 use plain_types::{Code, Fault, Items};
 use property_store::{Property, Stores};
 use std::alloc::{AllocError, Global};
 use std::marker::Model;
 use term_core::Expr;
 use variant_value::Value;
-
-/// How many groups of a place are open at most.
-pub const GROUPS: u32 = 1000;
 
 /// A graph that takes no memory before its first binding or group.
 #[derive(Drop)]

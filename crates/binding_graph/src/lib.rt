@@ -4,7 +4,6 @@
 #![tactic(auto)]
 
 mod bindings;
-mod change;
 mod changes;
 mod graph;
 mod laws;
@@ -13,10 +12,7 @@ mod removal;
 mod settling;
 mod show;
 mod showing;
-mod shown;
 
 pub use binding_values::BINDINGS;
 pub use bindings::Bindings;
-pub use change::{Change, ChangeKind};
 pub use laws::{law_fitting, law_openings, law_steps};
-pub use lazy_graph::GROUPS;

@@ -6,13 +6,12 @@ ghost use Rattle.property_store.specs.Pending.{AreMore};
 ghost use Rattle.property_store.specs.Store.{without};
 ghost use Rattle.property_store.specs.Table.{store_at};
 ghost use Rattle.binding_values.specs.Stored.{fields_at};
-ghost use Rattle.binding_graph.specs.Graph.{settled_changes, settled_graph, without_object};
+ghost use Rattle.binding_values.specs.Graph.{settled_changes, settled_graph, without_object};
 ghost use Rattle.binding_graph.specs.Drained.{IsStored};
 ghost use Rattle.binding_graph.specs.GraphAndCache.{IsAt, StaysKept};
 
-use crate::change::Change;
 use crate::graph::BindingGraph;
-use binding_values::KeptIndex;
+use binding_values::{Change, KeptIndex};
 use plain_types::Items;
 use property_store::{Pending, Property, Stores};
 use std::alloc::{AllocError, Global};

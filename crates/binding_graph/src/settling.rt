@@ -4,14 +4,13 @@ ghost use Rattle.shared_rows.specs.Table.{IsPlace};
 ghost use Rattle.property_store.specs.Marks.{has_marks, marks_at};
 ghost use Rattle.property_store.specs.Pending.{IsDrained};
 ghost use Rattle.property_store.specs.Table.{store_at};
-ghost use Rattle.binding_graph.specs.Graph.{all_shown, begun, change_alone, changes, settled_changes, settled_graph, stored_value};
+ghost use Rattle.binding_values.specs.Graph.{all_shown, begun, change_alone, changes, settled_changes, settled_graph, stored_value};
 ghost use Rattle.binding_graph.specs.GraphAndCache.{IsAt};
 
-use crate::change::Change;
 use crate::changes::{changes, is_value_before};
 use crate::graph::BindingGraph;
 use crate::show::{show_all, show_touched, shown_as};
-use binding_values::cell_at;
+use binding_values::{Change, cell_at};
 use plain_types::Items;
 use property_store::{Property, Stores};
 use std::alloc::{AllocError, Global};

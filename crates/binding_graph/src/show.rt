@@ -6,15 +6,14 @@ ghost use Rattle.property_store.specs.declared.property.Property.{Property};
 ghost use Rattle.property_store.specs.Property.{among, is_property};
 ghost use Rattle.property_store.specs.Store.{Properties};
 ghost use Rattle.property_store.specs.Table.{store_at};
-ghost use Rattle.binding_graph.specs.Graph.{AreShown, all_shown, shown_as, shown_at, shown_now};
+ghost use Rattle.binding_values.specs.Graph.{AreShown, all_shown, shown_as, shown_at, shown_now};
 ghost use Rattle.binding_graph.specs.Rows.{AreAbsent};
 ghost use Rattle.binding_values.specs.EvalResult.{IsClosed, IsRight, kept_of};
 ghost use Rattle.binding_values.specs.Stored.{properties_of_object, scene_of};
 ghost use Rattle.binding_values.specs.Right.{IsComplete};
 
 use crate::showing::Showing;
-use crate::shown::Shown;
-use binding_values::{BindingError, Bound, EvalCache, KeptIndex, cell_at, outcome};
+use binding_values::{BindingError, Bound, EvalCache, KeptIndex, Shown, cell_at, outcome};
 use property_store::{Property, Stores, default_of};
 use signature_core::Kind;
 use std::alloc::{AllocError, Global};

@@ -5,11 +5,10 @@ ghost use Rattle.std.specs.Option.{is_some, option_map};
 ghost use Rattle.variant_value.specs.Values.{IsOfKind};
 ghost use Rattle.property_store.specs.Property.{among};
 ghost use Rattle.binding_graph.specs.Rows.{AreMerged, IsNoted, IsPut, is_gone, without_rows};
-ghost use Rattle.binding_graph.specs.Graph.{AreShown, shown_at};
+ghost use Rattle.binding_values.specs.Graph.{AreShown, shown_at};
 
 use crate::show::shown_as;
-use crate::shown::Shown;
-use binding_values::{count_before, is_at, row_at};
+use binding_values::{Shown, count_before, is_at, row_at};
 use property_store::Property;
 use signature_core::Kind;
 use std::alloc::{AllocError, Global};
@@ -24,14 +23,14 @@ pub(crate) struct Showing {
 
 impl Model for Showing {
     ghost use Rattle.std.specs.Prelude.{List};
-    ghost use Rattle.binding_graph.specs.declared.shown.Shown.{Shown};
+    ghost use Rattle.binding_values.specs.declared.shown.Shown.{Shown};
     ghost use Rattle.binding_graph.specs.Coded.{coded_showing};
 
     ghost Value = { List Shown };
 
     ghost coded = { coded_showing };
 
-    ghost use Rattle.binding_graph.specs.Graph.{AreShown};
+    ghost use Rattle.binding_values.specs.Graph.{AreShown};
 
     ghost view = { λ showing. showing.rows.items };
 

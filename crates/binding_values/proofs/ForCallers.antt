@@ -15,3 +15,9 @@ pub use Rattle.binding_values.proofs.StepLemmas.{AreAlikeBut, alike, stays_right
 pub use Rattle.binding_values.proofs.StoreLemmas.{addition_is_marked, all_may_change, binding_is_marked, cell_gone}
 pub use Rattle.binding_values.proofs.StoreLemmas.{cell_stays, dynamic_is_nothing, kept_objects, no_dynamic_is_nothing}
 pub use Rattle.binding_values.proofs.StoreLemmas.{removal_is_alike, unbinding_is_marked, write_is_marked}
+pub use Rattle.binding_values.proofs.FoundLemmas.{found_in_all, shown_of}
+pub use Rattle.binding_values.proofs.FitLemmas.{shown_now_fits}
+pub use Rattle.binding_values.proofs.ShownLemmas.{all_shown_sound, next_numbered, next_object, value_short}
+pub use Rattle.binding_values.proofs.ToldLemmas.{changes_fit, settling_sound}
+pub use Rattle.binding_values.proofs.TouchedLemmas.{behind_first, changes_of_touched, found_filter, merged_is_all, none_behind}
+pub use Rattle.binding_values.proofs.TouchedLemmas.{same_value, without_first}

@@ -18,3 +18,8 @@ pub mod CompletenessLemmas
 pub mod StepLemmas
 pub mod StoreLemmas
 pub mod SettlingLemmas
+pub mod FoundLemmas
+pub mod FitLemmas
+pub mod ShownLemmas
+pub mod ToldLemmas
+pub mod TouchedLemmas

@@ -14,3 +14,5 @@ pub mod Binds
 pub mod Coded
 pub mod Right
 pub mod KeptLaws
+pub mod Graph
+pub mod Fitting

@@ -5,6 +5,7 @@
 
 mod binding;
 mod bound;
+mod change;
 mod eval_cache;
 mod eval_result;
 mod kept_index;
@@ -18,10 +19,12 @@ mod property;
 mod readers;
 mod run;
 mod settling;
+mod shown;
 mod sorted;
 
 pub use binding::Binding;
 pub use bound::{BINDINGS, Bound};
+pub use change::{Change, ChangeKind};
 pub use eval_cache::EvalCache;
 pub use eval_result::{CacheEntry, EvalResult};
 pub use kept_index::KeptIndex;
@@ -30,4 +33,5 @@ pub use known::{cell_at, expr_at, is_bindable};
 pub use laws::{law_chains, law_values};
 pub use property::BindingError;
 pub use run::{find, outcome};
+pub use shown::{GROUPS, Shown};
 pub use sorted::{HasProperty, count_before, is_at, row_at};

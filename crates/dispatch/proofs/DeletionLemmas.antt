@@ -1,7 +1,7 @@
 -- Deleting by nested calls: a rule for each way that an item goes.
 use Rattle.std.proofs.Common.{◌≡◌, ◌<◌, ◌≤◌, ◌+◌, ℕ, true, false, List, [], ◌∷◌, length, map, drop, get_or, Some, None, Ok, refl, sym, ap, ◌∙◌, arith}
 use Rattle.std.proofs.lemmas.List.{drop_all, drop_more}
-use Rattle.binding_graph.specs.declared.change.Change.{Change}
+use Rattle.binding_values.specs.declared.change.Change.{Change}
 use Rattle.object_tree.specs.Changes.{marked}
 use Rattle.object_tree.specs.Rows.{children}
 use Rattle.session_model.specs.declared.call.TheConstants.{DESTROYED}

@@ -13,7 +13,7 @@ use crate::agenda::emit;
 use crate::call_context::CallContext;
 use crate::command_output::CommandOutput;
 use crate::functor_table::FunctorTable;
-use binding_graph::Change;
+use binding_values::Change;
 use plain_types::Items;
 use session_effects::{
     Announcement, NotifySignal, PendingAnnouncements, announcements, property_name, told_args,

@@ -20,7 +20,7 @@ use Rattle.object_tree.specs.Rows.{is_there, row_of}
 use Rattle.term_core.specs.declared.action.SingleAction.TheVariants as e
 use Rattle.term_core.specs.declared.target.Target.{Target}
 use Rattle.term_core.specs.Term.{Term}
-use Rattle.binding_graph.specs.declared.change.Change.{Change}
+use Rattle.binding_values.specs.declared.change.Change.{Change}
 use Rattle.property_store.specs.declared.property.Property.{Property as At}
 use Rattle.session_tables.specs.declared.write_changes.WriteChanges.{WriteChanges}
 use Rattle.session_tables.specs.declared.write_changes.WriteChanges.TheVariants.{Written}

@@ -5,7 +5,7 @@ use Rattle.std.specs.Option.{option_map_or}
 use Rattle.plain_types.specs.declared.fault.Fault.{Fault}
 use Rattle.plain_types.specs.declared.fault.Fault.TheVariants.{Refused, Memory}
 use Rattle.variant_value.specs.declared.value.Value.{Value}
-use Rattle.binding_graph.specs.declared.change.Change.{Change}
+use Rattle.binding_values.specs.declared.change.Change.{Change}
 use Rattle.property_store.specs.declared.property.Property.{Property}
 use Rattle.session_model.specs.Execution.{Execution, in_state}
 use Rattle.session_model.specs.Items.{Emit, Item, WarnOf, puts}

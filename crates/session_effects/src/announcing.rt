@@ -2,7 +2,7 @@
 ghost use Rattle.std.specs.Prelude.{◌≡◌, IfOk, map, option_and_then, option_map, slice_get, ℕ};
 ghost use Rattle.std.specs.Option.{option_copied};
 ghost use Rattle.class_table.specs.Lookup.{properties};
-ghost use Rattle.binding_graph.specs.declared.change.ChangeKind.TheVariants as t;
+ghost use Rattle.binding_values.specs.declared.change.ChangeKind.TheVariants as t;
 ghost use Rattle.session_model.specs.Showing.{property_at, told_as};
 ghost use Rattle.session_model.specs.State.{State, shown};
 ghost use Rattle.session_tables.specs.WriteChanges.{changes_in};
@@ -14,8 +14,7 @@ ghost use Rattle.session_effects.specs.Writing.{announced, items_of, name_of, no
 use crate::effects::Emission;
 use crate::methods::kinds_at;
 use crate::session_context::SessionContext;
-use binding_graph::{Change, ChangeKind};
-use binding_values::BindingError;
+use binding_values::{BindingError, Change, ChangeKind};
 use class_table::Property;
 use plain_types::{Items, Text};
 use property_store::Property as At;

@@ -11,10 +11,10 @@ use Rattle.term_core.specs.Forms.{binding_term_of}
 use Rattle.term_core.specs.Term.{Term}
 use Rattle.term_evaluation.specs.declared.reading.Read.{Read}
 use Rattle.term_evaluation.specs.Reading.{reads_of}
-use Rattle.binding_graph.specs.declared.change.Change.{Change}
+use Rattle.binding_values.specs.declared.change.Change.{Change}
 use Rattle.property_store.specs.declared.property.Property.{Property}
-use Rattle.binding_graph.specs.Graph as graph
-use Rattle.binding_graph.specs.Graph.{is_open}
+use Rattle.binding_values.specs.Graph as graph
+use Rattle.binding_values.specs.Graph.{is_open}
 use Rattle.binding_values.specs.Stored.{meant}
 use Rattle.session_model.specs.Binding.{Bound, asked_binding, bindable_property, reads_refusal, refusal_of}
 use Rattle.session_model.specs.Operations.{behind}

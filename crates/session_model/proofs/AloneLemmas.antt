@@ -14,17 +14,17 @@ use Rattle.property_store.specs.Store as store
 use Rattle.property_store.specs.Store.{Properties, Store, changed, properties_of, with_value, without}
 use Rattle.property_store.proofs.ForCallers.{without_others}
 use Rattle.term_core.specs.Term.{Term}
-use Rattle.binding_graph.specs.declared.change.Change.{Change}
-use Rattle.binding_graph.specs.declared.change.ChangeKind.TheVariants as message
+use Rattle.binding_values.specs.declared.change.Change.{Change}
+use Rattle.binding_values.specs.declared.change.ChangeKind.TheVariants as message
 use Rattle.property_store.specs.declared.property.Property.{Property}
-use Rattle.binding_graph.specs.declared.shown.Shown.{Shown}
-use Rattle.binding_graph.specs.Graph.{all_shown, before, changes, fresh, has_turn, in_turn, is_same_error, notice, shown_as, shown_at, shown_now, warning}
+use Rattle.binding_values.specs.declared.shown.Shown.{Shown}
+use Rattle.binding_values.specs.Graph.{all_shown, before, changes, fresh, has_turn, in_turn, is_same_error, notice, shown_as, shown_at, shown_now, warning}
 use Rattle.binding_values.specs.Scene.{Cell, Outcome, choose, evaluated, plain}
 use Rattle.property_store.specs.Property.{is_property}
 use Rattle.binding_values.specs.Sorted.{IsRising}
 use Rattle.binding_values.specs.Stored.{cell_in, cell_of, properties_in, scene_of}
 use Rattle.binding_values.proofs.ForCallers.{plain_rule, property_eq, all_given, is_other}
-use Rattle.binding_graph.proofs.ForCallers.{found_in_all, all_shown_sound, same_value}
+use Rattle.binding_values.proofs.ForCallers.{found_in_all, all_shown_sound, same_value}
 use Rattle.session_model.proofs.BindingLemmas.{found_number, graph_sound_none}
 use Rattle.session_model.proofs.QuietLemmas.{all_in_turn, changed_one, found_changed, none_made, quiet, rows_of_now}
 

@@ -1,6 +1,6 @@
 -- The rule of each command for bindings and groups: why it is refused, what it does where it is not, and what it
 -- keeps of a session.
-use Rattle.binding_graph.specs.Graph.{begin_refusal, bind_refusal, end_refusal, is_bound, is_open}
+use Rattle.binding_values.specs.Graph.{begin_refusal, bind_refusal, end_refusal, is_bound, is_open}
 use Rattle.property_store.specs.declared.property.Property.{Property}
 use Rattle.serde_json.specs.Data.{Data}
 use Rattle.std.proofs.Common.{Err, List, None, Ok, Some, [], ap, refl, true, ℕ, ◌∙◌, ◌≡◌}
@@ -28,7 +28,7 @@ use Rattle.session_model.specs.Showing.{comes_to, showing}
 use Rattle.session_model.specs.State.{State, with_binding, with_binding_taken, with_group, without_group}
 use Rattle.session_model.specs.Thread.{Settings, performs}
 use Rattle.session_model.specs.declared.line.Answer.TheVariants as a
-use Rattle.binding_graph.specs.Graph as graph
+use Rattle.binding_values.specs.Graph as graph
 
 module _ (settings : Settings) (self : List ℕ) (state : State) where
   module _ (target : ℕ) (property : List ℕ) (to : Data) where

@@ -18,14 +18,14 @@ use Rattle.property_store.specs.Store.{AreSound, Properties, Store, added, chang
 use Rattle.property_store.proofs.ForCallers.{converted_fits, with_value_sound, added_others, changed_fields, objects, without_others}
 use Rattle.binding_values.specs.declared.binding.Binding.{Binding}
 use Rattle.property_store.specs.declared.property.Property.{Property}
-use Rattle.binding_graph.specs.Graph as graph
-use Rattle.binding_graph.specs.Graph.{AreShown, Graph, begin_refusal, begun, bind_refusal, ended, is_bound, is_open, no_graph, unbound, without_object}
+use Rattle.binding_values.specs.Graph as graph
+use Rattle.binding_values.specs.Graph.{AreShown, Graph, begin_refusal, begun, bind_refusal, ended, is_bound, is_open, no_graph, unbound, without_object}
 use Rattle.binding_values.specs.Binds.{with_binding}
 use Rattle.property_store.specs.Property.{is_property}
 use Rattle.binding_values.specs.Sorted.{is_before}
 use Rattle.binding_values.specs.Stored.{is_bindable, numbered, properties_in, properties_of_object}
 use Rattle.binding_values.proofs.ForCallers.{fewer_sound, with_limited, property_eq, never_before, not_behind, with_rising}
-use Rattle.binding_graph.proofs.ForCallers.{all_shown_sound}
+use Rattle.binding_values.proofs.ForCallers.{all_shown_sound}
 use Rattle.session_model.specs.State.{closed}
 
 -- the properties that an object declares, where it is there

@@ -1,5 +1,5 @@
 -- Each object keeps the properties that its class declares.
-use Rattle.binding_graph.specs.Graph.{is_bound, unbound, value_in}
+use Rattle.binding_values.specs.Graph.{is_bound, unbound, value_in}
 use Rattle.class_table.specs.declared.class.Class.{Class}
 use Rattle.connection_list.specs.Rows.{has_number as has_connection_number}
 use Rattle.connection_list.specs.declared.connection.Connection.{Connection}

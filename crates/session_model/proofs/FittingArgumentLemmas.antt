@@ -22,8 +22,8 @@ use Rattle.property_store.specs.declared.dynamic.Named.{Named}
 use Rattle.property_store.specs.Store as stored
 use Rattle.property_store.specs.Store.{AreSound, Properties, dynamic_value, field_number, properties_of}
 use Rattle.property_store.proofs.ForCallers.{converted_fits, found}
-use Rattle.binding_graph.specs.Graph as graph
-use Rattle.binding_graph.proofs.ForCallers.{value_short}
+use Rattle.binding_values.specs.Graph as graph
+use Rattle.binding_values.proofs.ForCallers.{value_short}
 use Rattle.object_tree.specs.Rows.{is_there}
 use Rattle.stored_slots.specs.Functors.{AreArguments}
 use Rattle.session_model.specs.Methods.{Found, ◌>>=◌}

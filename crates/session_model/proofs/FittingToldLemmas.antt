@@ -25,14 +25,14 @@ use Rattle.property_store.specs.Store.{AreSound, Properties, properties_of}
 use Rattle.property_store.proofs.ForCallers.{found}
 use Rattle.binding_values.specs.Scene.{Cell}
 use Rattle.binding_values.specs.Stored.{cell_in, cell_of}
-use Rattle.binding_graph.specs.declared.change.Change.{Change}
-use Rattle.binding_graph.specs.declared.change.ChangeKind.{ChangeKind}
-use Rattle.binding_graph.specs.declared.change.ChangeKind.TheVariants as message
-use Rattle.binding_graph.specs.declared.shown.Shown.{Shown}
-use Rattle.binding_graph.specs.Fitting as graph_fitting
-use Rattle.binding_graph.specs.Graph as graph
-use Rattle.binding_graph.specs.Graph.{Graph, AreShown, is_open}
-use Rattle.binding_graph.proofs.ForCallers.{all_shown_sound, changes_fit}
+use Rattle.binding_values.specs.declared.change.Change.{Change}
+use Rattle.binding_values.specs.declared.change.ChangeKind.{ChangeKind}
+use Rattle.binding_values.specs.declared.change.ChangeKind.TheVariants as message
+use Rattle.binding_values.specs.declared.shown.Shown.{Shown}
+use Rattle.binding_values.specs.Fitting as graph_fitting
+use Rattle.binding_values.specs.Graph as graph
+use Rattle.binding_values.specs.Graph.{Graph, AreShown, is_open}
+use Rattle.binding_values.proofs.ForCallers.{all_shown_sound, changes_fit}
 use Rattle.stored_slots.specs.Functors.{AreArguments}
 use Rattle.session_model.specs.Execution.{Execution}
 use Rattle.session_model.specs.Fitting.{IsFittingItem, IsSent}

@@ -1,7 +1,7 @@
 -- What a session holds stays called by names, and what is still to be done sets only what has a name.
-use Rattle.binding_graph.specs.Graph.{is_bound, value_in}
-use Rattle.binding_graph.specs.declared.change.Change.{Change}
-use Rattle.binding_graph.specs.declared.change.ChangeKind.{ChangeKind}
+use Rattle.binding_values.specs.Graph.{is_bound, value_in}
+use Rattle.binding_values.specs.declared.change.Change.{Change}
+use Rattle.binding_values.specs.declared.change.ChangeKind.{ChangeKind}
 use Rattle.class_table.specs.Lookup.{methods}
 use Rattle.class_table.specs.declared.class.Class.{Class}
 use Rattle.class_table.specs.declared.class.Method.{Method}
@@ -79,7 +79,7 @@ use Rattle.term_core.specs.declared.action.SingleAction.TheVariants as e
 use Rattle.event_queue.specs.declared.event.Event.TheVariants as event
 use Rattle.serde_json.specs.Data as json
 use Rattle.session_model.specs.declared.line.Line.TheVariants as line
-use Rattle.binding_graph.specs.declared.change.ChangeKind.TheVariants as message
+use Rattle.binding_values.specs.declared.change.ChangeKind.TheVariants as message
 use Rattle.property_store.specs.Store as stored
 use Rattle.session_model.specs.Items as to_do
 use Rattle.variant_value.specs.declared.value.Value.TheVariants as v

@@ -9,17 +9,17 @@ use Rattle.property_store.specs.Store.{Properties, Store, changed, default_of, p
 use Rattle.property_store.proofs.ForCallers.{changed_fields}
 use Rattle.term_core.specs.declared.target.Target.{Target}
 use Rattle.binding_values.specs.declared.binding.Binding.{Binding}
-use Rattle.binding_graph.specs.declared.change.Change.{Change}
-use Rattle.binding_graph.specs.declared.change.ChangeKind.TheVariants as message
+use Rattle.binding_values.specs.declared.change.Change.{Change}
+use Rattle.binding_values.specs.declared.change.ChangeKind.TheVariants as message
 use Rattle.binding_values.specs.declared.property.BindingError.{BindingError}
 use Rattle.binding_values.specs.declared.property.BindingError.TheVariants.{BindingLoop, EvaluationError}
 use Rattle.property_store.specs.declared.property.Property.{Property}
-use Rattle.binding_graph.specs.declared.shown.Shown.{Shown}
-use Rattle.binding_graph.specs.Graph.{all_shown, before, changes, has_turn, in_turn, is_same_error, notice, shown_as, shown_now, warning}
+use Rattle.binding_values.specs.declared.shown.Shown.{Shown}
+use Rattle.binding_values.specs.Graph.{all_shown, before, changes, has_turn, in_turn, is_same_error, notice, shown_as, shown_now, warning}
 use Rattle.binding_values.specs.Scene.{Cell, plain}
 use Rattle.binding_values.specs.Stored.{bindable_number, cell_in, cell_of, fields_at, meant, properties_in}
 use Rattle.binding_values.proofs.ForCallers.{all_given}
-use Rattle.binding_graph.proofs.ForCallers.{found_in_all, shown_of, same_value}
+use Rattle.binding_values.proofs.ForCallers.{found_in_all, shown_of, same_value}
 use Rattle.session_model.proofs.BindingLemmas.{properties_changed}
 
 -- an error is the same as itself

@@ -10,14 +10,14 @@ use Rattle.std.proofs.lemmas.List.Elements.{filter_map-append}
 use Rattle.std.proofs.lemmas.List.Filters.{length-filter_both}
 use Rattle.variant_value.specs.declared.value.Value.{Value}
 use Rattle.variant_value.specs.Values.{is_same}
-use Rattle.binding_graph.specs.declared.change.Change.{Change}
-use Rattle.binding_graph.specs.declared.change.ChangeKind.{ChangeKind}
-use Rattle.binding_graph.specs.declared.change.ChangeKind.TheVariants as message
+use Rattle.binding_values.specs.declared.change.Change.{Change}
+use Rattle.binding_values.specs.declared.change.ChangeKind.{ChangeKind}
+use Rattle.binding_values.specs.declared.change.ChangeKind.TheVariants as message
 use Rattle.binding_values.specs.declared.property.BindingError.{BindingError}
 use Rattle.property_store.specs.declared.property.Property.{Property as At}
-use Rattle.binding_graph.specs.declared.shown.Shown.{Shown}
-use Rattle.binding_graph.specs.Graph as graph
-use Rattle.binding_graph.specs.Graph.{before, has_turn, in_turn, is_open, is_same_error, notice, shown_now, warning}
+use Rattle.binding_values.specs.declared.shown.Shown.{Shown}
+use Rattle.binding_values.specs.Graph as graph
+use Rattle.binding_values.specs.Graph.{before, has_turn, in_turn, is_open, is_same_error, notice, shown_now, warning}
 use Rattle.binding_values.specs.Stored.{properties_in}
 use Rattle.class_table.specs.declared.class.Property.{Property}
 use Rattle.session_model.specs.Execution.{Execution, begun, in_state}

@@ -28,9 +28,9 @@ use Rattle.variant_value.specs.declared.value.Value.{Value}
 use Rattle.term_core.specs.Forms.{is_within_limits}
 use Rattle.term_core.specs.Term.{Term}
 use Rattle.property_store.specs.declared.property.Property.{Property as At}
-use Rattle.binding_graph.specs.Graph as graph
-use Rattle.binding_graph.specs.Graph.{Graph, begin_refusal, begun, bind_refusal, bound, ended, is_bound, is_open, unbound, value_in}
-use Rattle.binding_graph.proofs.ForCallers.{value_short}
+use Rattle.binding_values.specs.Graph as graph
+use Rattle.binding_values.specs.Graph.{Graph, begin_refusal, begun, bind_refusal, bound, ended, is_bound, is_open, unbound, value_in}
+use Rattle.binding_values.proofs.ForCallers.{value_short}
 use Rattle.property_store.proofs.ForCallers.{objects, objects_added, objects_changed, objects_without, sound_added, sound_changed, sound_empty, sound_without}
 use Rattle.session_model.specs.State.{IsMeant, IsTied, IsWhole, OfDesk, State, closed, empty, fields_of, with_binding, with_binding_taken, with_blocking}
 use Rattle.session_model.specs.State.{with_connection, with_desk, with_event, with_functor_state, with_group, with_lost, with_object, with_parent}

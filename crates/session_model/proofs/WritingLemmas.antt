@@ -3,8 +3,8 @@ use Rattle.std.proofs.Common.{◌≡◌, ◌∙◌, ℕ, Bool, true, false, cond
 use Rattle.variant_value.specs.declared.value.Value.{Value}
 use Rattle.property_store.specs.Store.{changed, with_dynamic, without_dynamic}
 use Rattle.property_store.specs.declared.property.Property.{Property as At}
-use Rattle.binding_graph.specs.Graph as graph
-use Rattle.binding_graph.specs.Graph.{is_open}
+use Rattle.binding_values.specs.Graph as graph
+use Rattle.binding_values.specs.Graph.{is_open}
 use Rattle.session_model.specs.Execution.{Execution, in_state}
 use Rattle.session_model.specs.Items.{Next, puts}
 use Rattle.session_model.specs.Settings.{Settings}

@@ -10,8 +10,8 @@ use Rattle.term_core.specs.Term.{Term}
 use Rattle.term_evaluation.specs.declared.reading.Read.{Read}
 use Rattle.term_evaluation.specs.Reading.{reads_of}
 use Rattle.property_store.specs.declared.property.Property.{Property}
-use Rattle.binding_graph.specs.Graph as graph
-use Rattle.binding_graph.specs.Graph.{begin_refusal, bind_refusal, end_refusal, is_bound, is_open}
+use Rattle.binding_values.specs.Graph as graph
+use Rattle.binding_values.specs.Graph.{begin_refusal, bind_refusal, end_refusal, is_bound, is_open}
 use Rattle.binding_values.specs.Stored.{meant}
 use Rattle.property_store.specs.Store.{field_at, field_number, properties_of}
 use Rattle.session_model.specs.declared.line.Answer.TheVariants as a

@@ -15,7 +15,7 @@ use Rattle.object_tree.specs.declared.row.TheConstants.{OBJECTS, DEPTH}
 use Rattle.event_queue.specs.declared.table.TheConstants.{EVENTS}
 use Rattle.property_store.specs.declared.dynamic.TheConstants.{DYNAMIC}
 use Rattle.binding_values.specs.declared.bound.TheConstants.{BINDINGS}
-use Rattle.binding_graph.specs.declared.lazy_graph.TheConstants.{GROUPS}
+use Rattle.binding_values.specs.declared.shown.TheConstants.{GROUPS}
 use Rattle.session_model.specs.declared.call.TheConstants.{NESTED_SIGNALS, DESTROYED, OBJECT_NAME}
 
 -- The names that definitions use for the limits, each with its numeral.

@@ -1,7 +1,7 @@
 -- The descriptions of the properties of an object.
 use Rattle.std.specs.Prelude.{ℕ, suc, false, List, [], ◌∷◌, ◌++◌, Some, None, map}
 use Rattle.std.specs.Option.{unwrap_or}
-use Rattle.binding_graph.specs.Graph.{is_bound}
+use Rattle.binding_values.specs.Graph.{is_bound}
 use Rattle.class_table.specs.declared.class.Property.{Property}
 use Rattle.class_table.specs.Lookup.{properties}
 use Rattle.object_tree.specs.declared.row.Row.{Row}

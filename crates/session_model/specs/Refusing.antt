@@ -1,5 +1,5 @@
 -- Why a command is refused: the first reason that applies, for each command.
-use Rattle.binding_graph.specs.Graph.{begin_refusal, end_refusal}
+use Rattle.binding_values.specs.Graph.{begin_refusal, end_refusal}
 use Rattle.session_model.specs.Binding.{asked_binding, asked_property, binding_refusal}
 use Rattle.std.specs.Prelude.{ℕ, ◌&&◌, List, Option, None, is_some, if◌then◌else◌}
 use Rattle.std.specs.Option.{option_map_or, option_or}

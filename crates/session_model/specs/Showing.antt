@@ -3,13 +3,13 @@ use Rattle.std.specs.Prelude.{ℕ, List, [], ◌∷◌, length, take, slice_get,
 use Rattle.std.specs.List.{filter_map}
 use Rattle.std.specs.Option.{option_map_or}
 use Rattle.variant_value.specs.declared.value.Value.{Value}
-use Rattle.binding_graph.specs.declared.change.Change.{Change}
-use Rattle.binding_graph.specs.declared.change.ChangeKind.{ChangeKind}
-use Rattle.binding_graph.specs.declared.change.ChangeKind.TheVariants as message
+use Rattle.binding_values.specs.declared.change.Change.{Change}
+use Rattle.binding_values.specs.declared.change.ChangeKind.{ChangeKind}
+use Rattle.binding_values.specs.declared.change.ChangeKind.TheVariants as message
 use Rattle.property_store.specs.declared.property.Property.{Property as At}
-use Rattle.binding_graph.specs.declared.shown.Shown.{Shown}
-use Rattle.binding_graph.specs.Graph as graph
-use Rattle.binding_graph.specs.Graph.{all_shown, is_open}
+use Rattle.binding_values.specs.declared.shown.Shown.{Shown}
+use Rattle.binding_values.specs.Graph as graph
+use Rattle.binding_values.specs.Graph.{all_shown, is_open}
 use Rattle.class_table.specs.declared.class.Property.{Property}
 use Rattle.class_table.specs.Lookup.{properties}
 use Rattle.object_tree.specs.Rows.{row_of}

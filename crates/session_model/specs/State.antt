@@ -3,8 +3,8 @@ use Rattle.std.specs.Prelude.{◌≡◌, ◌+◌, ℕ, Bool, false, List, [], Op
 use Rattle.std.specs.List.{All}
 use Rattle.binding_values.specs.declared.property.BindingError.{BindingError}
 use Rattle.property_store.specs.declared.property.Property.{Property as At}
-use Rattle.binding_graph.specs.Graph as graph
-use Rattle.binding_graph.specs.Graph.{Graph, is_open, no_graph, value_in}
+use Rattle.binding_values.specs.Graph as graph
+use Rattle.binding_values.specs.Graph.{Graph, is_open, no_graph, value_in}
 use Rattle.binding_values.specs.Stored.{is_bindable}
 use Rattle.class_table.specs.declared.class.Class.{Class}
 use Rattle.class_table.specs.declared.class.Property.{Property}

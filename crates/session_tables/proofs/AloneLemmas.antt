@@ -19,10 +19,10 @@ use Rattle.property_store.specs.Store as stored
 use Rattle.property_store.specs.Table.{StoreTable, store_at, with_store}
 use Rattle.property_store.proofs.ForCallers.{converted_fits, with_value_sound, sound_changed}
 use Rattle.binding_values.specs.declared.binding.Binding.{Binding}
-use Rattle.binding_graph.specs.declared.change.Change.{Change}
-use Rattle.binding_graph.specs.declared.change.ChangeKind.TheVariants as message
+use Rattle.binding_values.specs.declared.change.Change.{Change}
+use Rattle.binding_values.specs.declared.change.ChangeKind.TheVariants as message
 use Rattle.property_store.specs.declared.property.Property.{Property}
-use Rattle.binding_graph.specs.Graph.{Graph, all_shown, change_alone, changes, is_bound, is_open, no_graph, value_in}
+use Rattle.binding_values.specs.Graph.{Graph, all_shown, change_alone, changes, is_bound, is_open, no_graph, value_in}
 use Rattle.binding_values.specs.Scene.{Cell}
 use Rattle.property_store.specs.Property.{is_property}
 use Rattle.binding_values.specs.Stored.{cell_in, cell_of}

@@ -10,7 +10,7 @@ use Rattle.connection_list.specs.Rows.{no_rows}
 use Rattle.event_queue.specs.Queue.{empty_queue}
 use Rattle.object_tree.specs.Forest.{empty_forest}
 use Rattle.publish_board.specs.Desk.{no_desk}
-use Rattle.binding_graph.specs.Graph.{Graph}
+use Rattle.binding_values.specs.Graph.{Graph}
 use Rattle.binding_graph.specs.Table.{Graphs}
 use Rattle.session_model.specs.Showing.{changes}
 use Rattle.session_tables.specs.declared.tables.Tables.{Tables}

@@ -6,8 +6,8 @@ use Rattle.property_store.specs.declared.property.Property.{Property}
 use Rattle.property_store.specs.Store.{Store}
 use Rattle.property_store.specs.Table.{StoreTable, store_at, with_store}
 use Rattle.binding_values.specs.declared.binding.Binding.{Binding}
-use Rattle.binding_graph.specs.Graph.{Graph, all_shown, is_open, no_graph, settled_graph}
-use Rattle.binding_graph.specs.Graph as shown
+use Rattle.binding_values.specs.Graph.{Graph, all_shown, is_open, no_graph, settled_graph}
+use Rattle.binding_values.specs.Graph as shown
 use Rattle.binding_graph.specs.Table.{Graphs, graph_at, with_graph}
 use Rattle.connection_list.specs.Rows.{Rows}
 use Rattle.event_queue.specs.Queue.{Queue}

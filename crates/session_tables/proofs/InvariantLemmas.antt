@@ -8,8 +8,8 @@ use Rattle.shared_rows.proofs.ForCallers as column
 use Rattle.property_store.specs.Store.{Properties, Store, changed}
 use Rattle.property_store.specs.Table.{StoreTable, StoresView, store_at, with_store}
 use Rattle.binding_values.specs.declared.binding.Binding.{Binding}
-use Rattle.binding_graph.specs.declared.shown.Shown.{Shown}
-use Rattle.binding_graph.specs.Graph.{Graph, all_shown, begun, ended, is_open, settled_graph}
+use Rattle.binding_values.specs.declared.shown.Shown.{Shown}
+use Rattle.binding_values.specs.Graph.{Graph, all_shown, begun, ended, is_open, settled_graph}
 use Rattle.binding_graph.specs.Step.{InStep}
 use Rattle.binding_graph.specs.Table.{Graphs, graph_at, with_graph}
 use Rattle.session_model.specs.State.{closed}

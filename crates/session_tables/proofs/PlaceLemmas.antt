@@ -11,11 +11,11 @@ use Rattle.shared_rows.proofs.ForCallers as column
 use Rattle.property_store.specs.Store.{Store}
 use Rattle.binding_graph.specs.Table.{graph_at, with_graph}
 use Rattle.binding_values.specs.declared.binding.Binding.{Binding}
-use Rattle.binding_graph.specs.declared.change.Change.{Change}
+use Rattle.binding_values.specs.declared.change.Change.{Change}
 use Rattle.property_store.specs.declared.property.Property.{Property}
-use Rattle.binding_graph.specs.declared.shown.Shown.{Shown}
-use Rattle.binding_graph.specs.Graph as graphs
-use Rattle.binding_graph.specs.Graph.{Graph, all_shown, is_open, no_graph, settled_changes, settled_graph}
+use Rattle.binding_values.specs.declared.shown.Shown.{Shown}
+use Rattle.binding_values.specs.Graph as graphs
+use Rattle.binding_values.specs.Graph.{Graph, all_shown, is_open, no_graph, settled_changes, settled_graph}
 use Rattle.session_tables.specs.Settled.{IsSettled}
 
 -- what is settled where something is bound keeps what is shown

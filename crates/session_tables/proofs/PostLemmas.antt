@@ -12,7 +12,7 @@ use Rattle.std.proofs.lemmas.List.Elements.{filter-append}
 use Rattle.std.proofs.lemmas.Option.{slice_get-get_or}
 use Rattle.event_queue.specs.Queue.{Queue, empty_queue}
 use Rattle.event_queue.specs.Table.{queue_at, with_queue}
-use Rattle.binding_graph.specs.Graph.{no_graph}
+use Rattle.binding_values.specs.Graph.{no_graph}
 use Rattle.connection_list.specs.Rows.{no_rows}
 use Rattle.object_tree.specs.declared.row.Row.{Row}
 use Rattle.object_tree.specs.Forest.{empty_forest}

@@ -6,7 +6,7 @@ use Rattle.std.proofs.lemmas.Bool.{cond-true, or_left, or_parts, or_right}
 use Rattle.std.proofs.lemmas.List.{get_or-set_other}
 use Rattle.std.proofs.lemmas.List.Folds.{list_any-append}
 use Rattle.class_table.specs.declared.class.Class.{Class}
-use Rattle.binding_graph.specs.Graph.{no_graph}
+use Rattle.binding_values.specs.Graph.{no_graph}
 use Rattle.connection_list.specs.Rows.{no_rows}
 use Rattle.event_queue.specs.Queue.{Queue, empty_queue, with_mismatched}
 use Rattle.object_tree.specs.Forest.{empty_forest}

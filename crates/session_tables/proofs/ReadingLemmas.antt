@@ -12,7 +12,7 @@ use Rattle.property_store.specs.Store.{IsSound, Properties, Store, declared_in, 
 use Rattle.property_store.proofs.ForCallers.{position_some}
 use Rattle.binding_values.specs.declared.property.BindingError.{BindingError}
 use Rattle.property_store.specs.declared.property.Property.{Property}
-use Rattle.binding_graph.specs.Graph.{Graph, is_bound, value_in}
+use Rattle.binding_values.specs.Graph.{Graph, is_bound, value_in}
 use Rattle.binding_values.specs.Scene.{Cell}
 use Rattle.binding_values.specs.Stored.{cell_in}
 use Rattle.session_tables.specs.Reading.{bound_named, named_in}

@@ -5,9 +5,9 @@ use Rattle.shared_rows.proofs.ForCallers as column
 use Rattle.property_store.specs.Store.{Store}
 use Rattle.property_store.specs.Table.{StoreTable, store_at, with_store}
 use Rattle.binding_values.specs.declared.binding.Binding.{Binding}
-use Rattle.binding_graph.specs.declared.change.Change.{Change}
+use Rattle.binding_values.specs.declared.change.Change.{Change}
 use Rattle.property_store.specs.declared.property.Property.{Property}
-use Rattle.binding_graph.specs.Graph.{Graph, all_shown, changes, is_open, no_graph, settled_graph}
+use Rattle.binding_values.specs.Graph.{Graph, all_shown, changes, is_open, no_graph, settled_graph}
 use Rattle.binding_graph.specs.Table.{Graphs, graph_at, with_graph}
 use Rattle.session_model.specs.State.{closed}
 use Rattle.session_tables.specs.Bound.{BoundShelves, ChangesBound, all_closed, bound_at, seen_of, with_bound}

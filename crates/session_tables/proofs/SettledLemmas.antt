@@ -1,7 +1,7 @@
 -- Graphs as contracts see them.
 use Rattle.std.proofs.Common.{◌≡◌, ◌∙◌, ℕ, zero, suc, Bool, true, false, cond, List, [], ◌∷◌, Result, Ok, Err, OnOk, get_or, map, refl, sym, ap}
 use Rattle.shared_rows.specs.Table.{Table}
-use Rattle.binding_graph.specs.Graph.{Graph, is_open, no_graph}
+use Rattle.binding_values.specs.Graph.{Graph, is_open, no_graph}
 use Rattle.binding_graph.specs.Table.{graph_at}
 use Rattle.session_model.specs.State.{closed}
 use Rattle.session_tables.specs.Bound.{all_closed}

@@ -9,8 +9,8 @@ use Rattle.term_core.specs.Term.{Term}
 use Rattle.binding_values.specs.declared.property.BindingError.{BindingError}
 use Rattle.binding_values.specs.declared.property.BindingError.TheVariants.{EvaluationError}
 use Rattle.property_store.specs.declared.property.Property.{Property}
-use Rattle.binding_graph.specs.declared.shown.Shown.{Shown}
-use Rattle.binding_graph.specs.Graph.{Graph, all_shown, fresh, is_bound, is_open, shown_as, shown_at, shown_now, settled_graph, taken, value_in}
+use Rattle.binding_values.specs.declared.shown.Shown.{Shown}
+use Rattle.binding_values.specs.Graph.{Graph, all_shown, fresh, is_bound, is_open, shown_as, shown_at, shown_now, settled_graph, taken, value_in}
 use Rattle.binding_values.specs.Scene.{Cell, Outcome, term_at}
 use Rattle.binding_values.specs.Stored.{cell_in, outcome_in, scene_of}
 use Rattle.binding_graph.specs.Table.{graph_at}

@@ -9,7 +9,7 @@ use Rattle.connection_list.specs.Rows.{Rows, no_rows}
 use Rattle.event_queue.specs.Queue.{Queue, empty_queue}
 use Rattle.object_tree.specs.Forest.{Forest, empty_forest}
 use Rattle.property_store.specs.Store.{Store}
-use Rattle.binding_graph.specs.Graph.{Graph, no_graph}
+use Rattle.binding_values.specs.Graph.{Graph, no_graph}
 use Rattle.session_tables.specs.Bound.{BoundShelves}
 use Rattle.publish_board.specs.Desk.{Desk, no_desk}
 use Rattle.session_model.specs.State.{State}

@@ -6,7 +6,7 @@ use Rattle.variant_value.specs.declared.value.Value.{Value}
 use Rattle.property_store.specs.declared.property.Property.{Property}
 use Rattle.property_store.specs.Store.{Store, fitting, written}
 use Rattle.property_store.specs.Table.{StoreTable, store_at, with_store}
-use Rattle.binding_graph.specs.Graph.{Graph, no_graph, settled_graph, taken}
+use Rattle.binding_values.specs.Graph.{Graph, no_graph, settled_graph, taken}
 use Rattle.binding_graph.specs.Table.{graph_at, with_graph}
 use Rattle.session_tables.proofs.ShowingLemmas.{taken_noted}
 use Rattle.session_tables.proofs.WrittenLemmas.{written_taken}

@@ -13,7 +13,7 @@ use Rattle.property_store.specs.Table.{StoreTable, store_at, with_store}
 use Rattle.shared_rows.specs.Table.{IsPlace}
 use Rattle.shared_rows.proofs.ForCallers as column
 use Rattle.binding_values.specs.declared.binding.Binding.{Binding}
-use Rattle.binding_graph.specs.Graph.{Graph, all_shown, is_bound, is_open, no_graph, settled_graph, stored_value, taken, unbound, value_in}
+use Rattle.binding_values.specs.Graph.{Graph, all_shown, is_bound, is_open, no_graph, settled_graph, stored_value, taken, unbound, value_in}
 use Rattle.binding_graph.specs.Table.{Graphs, graph_at, with_graph}
 use Rattle.session_tables.specs.Bound.{bound_at, seen_of}
 use Rattle.session_tables.proofs.ShowingLemmas.{unbound_shown, value_seen}

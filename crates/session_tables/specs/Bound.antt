@@ -3,7 +3,7 @@ use Rattle.std.specs.Prelude.{◌≡◌, ℕ, [], map}
 use Rattle.shared_rows.specs.Table.{ChangesAt, Table}
 use Rattle.property_store.specs.Store.{Store}
 use Rattle.property_store.specs.Table.{StoreTable, store_at, with_store}
-use Rattle.binding_graph.specs.Graph.{Graph, no_graph}
+use Rattle.binding_values.specs.Graph.{Graph, no_graph}
 use Rattle.binding_graph.specs.Table.{Graphs, graph_at, with_graph}
 use Rattle.session_model.specs.State.{closed}
 

@@ -5,7 +5,7 @@ use Rattle.shared_rows.specs.Table.{Table, table_code}
 use Rattle.property_store.specs.contracts.stores.Stores as stores
 use Rattle.property_store.specs.Table.{StoresView}
 use Rattle.binding_graph.specs.Coded.{coded_graph}
-use Rattle.binding_graph.specs.Graph.{Graph}
+use Rattle.binding_values.specs.Graph.{Graph}
 use Rattle.session_tables.specs.Bound.{BoundShelves}
 
 abbrev pub coded_bound : Coded BoundShelves

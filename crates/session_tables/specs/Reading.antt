@@ -6,7 +6,7 @@ use Rattle.variant_value.specs.declared.value.Value.{Value}
 use Rattle.property_store.specs.Named.{declared_at}
 use Rattle.property_store.specs.Store.{Store, dynamic_value, field_number, properties_of}
 use Rattle.property_store.specs.declared.property.Property.{Property}
-use Rattle.binding_graph.specs.Graph.{Graph, is_bound, value_in}
+use Rattle.binding_values.specs.Graph.{Graph, is_bound, value_in}
 
 -- The value of the property with a name: the value that a declared property shows, or that a dynamic one was set to.
 abbrev pub named_in : Store → Graph → ℕ → List ℕ → Option Value

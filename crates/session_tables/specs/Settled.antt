@@ -3,7 +3,7 @@ use Rattle.std.specs.Prelude.{◌≡◌, ◌==◌, ◌&&◌, ℕ, Bool, [], leng
 use Rattle.shared_rows.specs.Table.{ChangesAt, IsPlace}
 use Rattle.property_store.specs.Store.{Store}
 use Rattle.property_store.specs.Table.{StoresView, store_at}
-use Rattle.binding_graph.specs.Graph.{Graph, all_shown, is_open, no_graph}
+use Rattle.binding_values.specs.Graph.{Graph, all_shown, is_open, no_graph}
 use Rattle.binding_graph.specs.Step.{InStep}
 use Rattle.binding_graph.specs.Table.{Graphs, graph_at}
 

@@ -2,7 +2,7 @@
 use Rattle.std.specs.Prelude.{◌≡◌, ◌≤◌, ℕ, Bool, false, List, [], length, map, slice_index_or}
 use Rattle.shared_rows.specs.Table as places
 use Rattle.shared_rows.specs.Table.{ChangesAt, IsPlace, with_place}
-use Rattle.binding_graph.specs.Graph.{no_graph}
+use Rattle.binding_values.specs.Graph.{no_graph}
 use Rattle.binding_graph.specs.Table.{graph_at}
 use Rattle.session_tables.specs.Bound.{with_bound}
 use Rattle.class_table.specs.declared.class.Class.{Class}

@@ -2,10 +2,10 @@
 use Rattle.std.specs.Prelude.{ℕ, Bool, true, false, List, [], ◌∷◌, Option, if◌then◌else◌}
 use Rattle.variant_value.specs.declared.value.Value.{Value}
 use Rattle.property_store.specs.Store.{Store}
-use Rattle.binding_graph.specs.declared.change.Change.{Change}
-use Rattle.binding_graph.specs.declared.change.ChangeKind.TheVariants as message
+use Rattle.binding_values.specs.declared.change.Change.{Change}
+use Rattle.binding_values.specs.declared.change.ChangeKind.TheVariants as message
 use Rattle.property_store.specs.declared.property.Property.{Property}
-use Rattle.binding_graph.specs.Graph.{Graph, all_shown, changes, is_open}
+use Rattle.binding_values.specs.Graph.{Graph, all_shown, changes, is_open}
 use Rattle.session_tables.specs.declared.write_changes.WriteChanges.{WriteChanges}
 use Rattle.session_tables.specs.declared.write_changes.WriteChanges.TheVariants.{Nothing, Written, Several}
 use Rattle.session_tables.specs.Bound.{BoundShelves, bound_at, stored_at}

@@ -2,8 +2,8 @@
 ghost use Rattle.std.specs.Prelude.{◌≡◌, [], IfOk, IsTrue, OnOk, Some, None, if◌then◌else◌};
 ghost use Rattle.plain_types.specs.Answers.{RefusedBy};
 ghost use Rattle.term_core.specs.Forms.{is_within_limits};
-ghost use Rattle.binding_graph.specs.Graph as graph;
-ghost use Rattle.binding_graph.specs.Graph.{begin_refusal, bind_refusal, end_refusal, is_open};
+ghost use Rattle.binding_values.specs.Graph as graph;
+ghost use Rattle.binding_values.specs.Graph.{begin_refusal, bind_refusal, end_refusal, is_open};
 ghost use Rattle.binding_values.specs.Stored.{is_bindable};
 ghost use Rattle.session_model.specs.Binding.{asked_property, bindable_property};
 ghost use Rattle.session_model.specs.Showing.{changes, showing};
@@ -13,8 +13,7 @@ ghost use Rattle.session_tables.specs.Tables.{ChangesOnly, IsPlaced, state_at, w
 
 use crate::settling;
 use crate::tables::Tables;
-use binding_graph::Change;
-use binding_values::is_bindable;
+use binding_values::{Change, is_bindable};
 use plain_types::{Code, Fault, Items};
 use property_store::Property;
 use std::alloc::AllocError;

@@ -3,14 +3,15 @@ ghost use Rattle.std.specs.Prelude.{◌≡◌, ◌≤◌, [], IfOk, IsFalse, Non
 ghost use Rattle.shared_rows.specs.Table.{IsPlace, Opens, opened};
 ghost use Rattle.property_store.specs.Store.{IsSound, added, properties_of, without};
 ghost use Rattle.property_store.specs.Table.{fields_of, store_at};
-ghost use Rattle.binding_graph.specs.Graph.{no_graph, without_object};
+ghost use Rattle.binding_values.specs.Graph.{no_graph, without_object};
 ghost use Rattle.binding_graph.specs.Table.{graph_at};
 ghost use Rattle.session_tables.specs.Bound.{ChangesBound, bound_at, stored_at, with_bound};
 ghost use Rattle.session_tables.specs.Settled.{is_idle};
 ghost use Rattle.session_tables.specs.WriteChanges.{told_at};
 
 use crate::settling;
-use binding_graph::{Bindings, Change};
+use binding_graph::Bindings;
+use binding_values::Change;
 use plain_types::Items;
 use property_store::{Field, Stores};
 use std::alloc::{AllocError, Global};

@@ -5,7 +5,7 @@ ghost use Rattle.shared_rows.specs.Table.{IsPlace};
 ghost use Rattle.variant_value.specs.declared.value.Value.TheVariants.{Invalid};
 ghost use Rattle.variant_value.specs.Values.{IsShort};
 ghost use Rattle.property_store.specs.Store.{dynamic_names};
-ghost use Rattle.binding_graph.specs.Graph.{is_bound, value_in};
+ghost use Rattle.binding_values.specs.Graph.{is_bound, value_in};
 ghost use Rattle.binding_values.specs.Scene.{term_at};
 ghost use Rattle.session_model.specs.State.{is_text};
 ghost use Rattle.session_tables.specs.Bound.{bound_at, stored_at};

@@ -15,7 +15,7 @@ ghost use Rattle.session_tables.specs.Settled.{is_idle};
 ghost use Rattle.session_tables.specs.Tables.{AreLaid, AreStored, ChangesOnly, IsPlaced, state_at, with_state};
 
 use crate::tables::Tables;
-use binding_graph::Change;
+use binding_values::Change;
 use class_table::ClassTable;
 use plain_types::{Code, Fault, Items, Text};
 use property_store::Property;

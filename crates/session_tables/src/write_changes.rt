@@ -2,7 +2,7 @@
 ghost use Rattle.std.specs.Prelude.{◌≡◌};
 ghost use Rattle.session_tables.specs.WriteChanges.{alone};
 
-use binding_graph::Change;
+use binding_values::Change;
 use plain_types::Items;
 
 /// The changes of a write to a declared property that clients are notified of.

@@ -3,8 +3,8 @@ ghost use Rattle.std.specs.Prelude.{◌≡◌, ◌+◌, ◌<◌, [], OnOk, lengt
 ghost use Rattle.binding_graph.specs.Step.{InStep};
 ghost use Rattle.tests_of_bindings.specs.Opened.{AreTwo};
 
-use binding_graph::{Bindings, Change, ChangeKind, law_openings, law_steps};
-use binding_values::{BindingError, is_bindable};
+use binding_graph::{Bindings, law_openings, law_steps};
+use binding_values::{BindingError, Change, ChangeKind, is_bindable};
 use plain_types::{Code, Fault, Items, Text};
 use property_store::{Field, Property, Stores};
 use signature_core::Kind;

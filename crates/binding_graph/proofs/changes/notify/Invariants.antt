@@ -1,5 +1,5 @@
 use Rattle.std.proofs.Common.{◌≡◌, ◌++◌, drop, filter, filter_map}
-use Rattle.binding_graph.specs.Graph.{has_turn, notice}
+use Rattle.binding_values.specs.Graph.{has_turn, notice}
 use Rattle.binding_graph.proofs.changes.notify.Given as goal
 
 abbrev pub invariant-loop-shown : goal.invariant-loop-shown

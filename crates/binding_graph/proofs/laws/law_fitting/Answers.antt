@@ -1,5 +1,5 @@
-use Rattle.binding_graph.proofs.ShownLemmas.{value_short}
-use Rattle.binding_graph.proofs.ToldLemmas.{changes_fit, settling_sound}
+use Rattle.binding_values.proofs.ForCallers.{value_short}
+use Rattle.binding_values.proofs.ForCallers.{changes_fit, settling_sound}
 use Rattle.binding_graph.proofs.laws.law_fitting.Goals as goal
 
 pub returns : goal.returns

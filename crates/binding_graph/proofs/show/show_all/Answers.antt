@@ -3,9 +3,9 @@ use Rattle.std.specs.List.{flat_map}
 use Rattle.std.proofs.lemmas.List.{take_all}
 use Rattle.property_store.specs.Store.{Properties}
 use Rattle.property_store.specs.Table.{store_at}
-use Rattle.binding_graph.specs.Graph.{AreShown, shown_now}
+use Rattle.binding_values.specs.Graph.{AreShown, shown_now}
 use Rattle.binding_values.specs.Stored.{properties_of_object}
-use Rattle.binding_graph.proofs.ShownLemmas.{all_shown_sound, next_object}
+use Rattle.binding_values.proofs.ForCallers.{all_shown_sound, next_object}
 use Rattle.binding_graph.proofs.show.show_all.Goals as goal
 
 nothing : Properties

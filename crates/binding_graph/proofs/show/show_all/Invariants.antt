@@ -1,7 +1,7 @@
 use Rattle.std.proofs.Common.{◌≡◌, filter_map, take}
 use Rattle.std.specs.List.{flat_map}
 use Rattle.property_store.specs.Table.{store_at}
-use Rattle.binding_graph.specs.Graph.{shown_now}
+use Rattle.binding_values.specs.Graph.{shown_now}
 use Rattle.binding_values.specs.Stored.{properties_of_object}
 use Rattle.binding_graph.proofs.show.show_all.Given as goal
 

@@ -4,8 +4,8 @@ use Rattle.std.proofs.lemmas.List.Folds.{list_any_more}
 use Rattle.property_store.specs.declared.property.Property.{Property}
 use Rattle.property_store.specs.Property.{among, is_property}
 use Rattle.property_store.specs.Table.{store_at}
-use Rattle.binding_graph.specs.Graph.{shown_at, shown_now}
-use Rattle.binding_graph.proofs.FitLemmas.{shown_now_fits}
+use Rattle.binding_values.specs.Graph.{shown_at, shown_now}
+use Rattle.binding_values.proofs.ForCallers.{shown_now_fits}
 use Rattle.binding_graph.proofs.GoneLemmas.{absent_too, appended, present_too}
 use Rattle.binding_graph.proofs.KnownLemmas.{touched_gone, touched_put}
 use Rattle.binding_graph.proofs.show.show_each.Goals as goal

@@ -2,7 +2,7 @@ use Rattle.std.proofs.Common.{◌≡◌, if◌then◌else◌, None, take}
 use Rattle.property_store.specs.declared.property.Property.{Property}
 use Rattle.property_store.specs.Property.{among}
 use Rattle.property_store.specs.Table.{store_at}
-use Rattle.binding_graph.specs.Graph.{shown_at, shown_now}
+use Rattle.binding_values.specs.Graph.{shown_at, shown_now}
 use Rattle.binding_graph.specs.Rows.{AreAbsent}
 use Rattle.binding_graph.proofs.show.show_each.Given as goal
 

@@ -1,10 +1,10 @@
 use Rattle.std.proofs.Common.{◌≡◌, ◌∙◌, ◌++◌, ◌∷◌, [], List, Option, add-one, ap, append_assoc, drop, filter_map, suc, sym}
 use Rattle.property_store.specs.Table.{store_at}
 use Rattle.property_store.specs.declared.property.Property.{Property}
-use Rattle.binding_graph.specs.declared.shown.Shown.{Shown}
-use Rattle.binding_graph.specs.Graph.{shown_now}
+use Rattle.binding_values.specs.declared.shown.Shown.{Shown}
+use Rattle.binding_values.specs.Graph.{shown_now}
 use Rattle.binding_values.specs.Stored.{numbered}
-use Rattle.binding_graph.proofs.ShownLemmas.{next_numbered}
+use Rattle.binding_values.proofs.ForCallers.{next_numbered}
 use Rattle.binding_graph.proofs.show.show_object.Goals as goal
 
 pub loop-number-preserved : goal.loop-number-preserved

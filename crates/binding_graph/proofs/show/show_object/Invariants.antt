@@ -1,6 +1,6 @@
 use Rattle.std.proofs.Common.{◌≡◌, ◌++◌, ◌-◌, drop, filter_map, length}
 use Rattle.property_store.specs.Table.{store_at}
-use Rattle.binding_graph.specs.Graph.{shown_now}
+use Rattle.binding_values.specs.Graph.{shown_now}
 use Rattle.binding_values.specs.Stored.{numbered}
 use Rattle.binding_graph.proofs.show.show_object.Given as goal
 

@@ -7,8 +7,8 @@ use Rattle.property_store.specs.Property.{among}
 use Rattle.property_store.specs.Store.{Store}
 use Rattle.property_store.specs.Table.{store_at}
 use Rattle.binding_values.specs.declared.binding.Binding.{Binding}
-use Rattle.binding_graph.specs.declared.shown.Shown.{Shown}
-use Rattle.binding_graph.specs.Graph.{shown_at, shown_now}
+use Rattle.binding_values.specs.declared.shown.Shown.{Shown}
+use Rattle.binding_values.specs.Graph.{shown_at, shown_now}
 use Rattle.binding_graph.specs.Rows.{AreAbsent}
 use Rattle.binding_graph.proofs.show.show_touched.Goals as goal
 

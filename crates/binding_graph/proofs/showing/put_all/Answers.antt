@@ -1,7 +1,7 @@
 use Rattle.std.proofs.Common.{◌≡◌, ◌∙◌, ◌+◌, ◌∷◌, Some, ap, arith, rules, subst, sym}
 use Rattle.std.specs.Option.{option_map_or}
 use Rattle.std.specs.Vec.Iter.{into_iter_items, into_iter_len}
-use Rattle.binding_graph.specs.Graph.{AreShown, shown_at}
+use Rattle.binding_values.specs.Graph.{AreShown, shown_at}
 use Rattle.binding_graph.proofs.RowLemmas.{merged_next, rest_shown}
 use Rattle.binding_graph.proofs.showing.put_all.Goals as goal
 

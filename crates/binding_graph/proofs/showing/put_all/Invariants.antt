@@ -3,7 +3,7 @@ use Rattle.std.specs.Option.{option_map_or}
 use Rattle.std.specs.Vec.{vec_capacity}
 use Rattle.std.specs.Vec.Iter.{into_iter_items, into_iter_len}
 use Rattle.property_store.specs.declared.property.Property.{Property}
-use Rattle.binding_graph.specs.Graph.{AreShown, shown_at}
+use Rattle.binding_values.specs.Graph.{AreShown, shown_at}
 use Rattle.binding_graph.proofs.showing.put_all.Given as goal
 
 -- what is shown with those rows that are left

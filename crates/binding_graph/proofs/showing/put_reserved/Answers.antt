@@ -1,7 +1,7 @@
 use Rattle.std.proofs.Common.{◌≡◌, ◌∙◌, ap, if◌then◌else◌, not, set, subst, sym, true}
 use Rattle.std.specs.Result.{is_ok}
 use Rattle.std.specs.List.{insert}
-use Rattle.binding_graph.specs.Graph.{AreShown, shown_at}
+use Rattle.binding_values.specs.Graph.{AreShown, shown_at}
 use Rattle.binding_graph.specs.Rows.{with_shown}
 use Rattle.binding_graph.proofs.RowLemmas.{are_shown_with, found_with, insert_with, set_with}
 use Rattle.binding_graph.proofs.showing.put_reserved.Goals as goal

@@ -1,8 +1,8 @@
 use Rattle.std.proofs.Common.{◌∙◌, not, subst, sym, rules}
 use Rattle.std.specs.Option.{is_some}
 use Rattle.std.proofs.lemmas.Fn.{filter_same}
-use Rattle.binding_graph.specs.declared.shown.Shown.{Shown}
-use Rattle.binding_graph.specs.Graph.{AreShown, shown_at}
+use Rattle.binding_values.specs.declared.shown.Shown.{Shown}
+use Rattle.binding_values.specs.Graph.{AreShown, shown_at}
 use Rattle.binding_graph.proofs.GoneLemmas.{all_stay, stay_shown}
 use Rattle.binding_graph.proofs.showing.remove_all.Goals as goal
 

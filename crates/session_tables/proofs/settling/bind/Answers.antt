@@ -2,10 +2,10 @@ use Rattle.std.proofs.Common.{◌≡◌, ◌∙◌, None, Option, Some, ap, rule
 use Rattle.std.proofs.lemmas.Result.{err_from_is_err_and}
 use Rattle.plain_types.specs.declared.code.Code.{Code}
 use Rattle.plain_types.specs.contracts.items.Items as items
-use Rattle.binding_graph.specs.contracts.change.Change as change
+use Rattle.binding_values.specs.contracts.change.Change as change
 use Rattle.property_store.specs.Table.{StoreTable, store_at}
 use Rattle.shared_rows.proofs.ForCallers as column
-use Rattle.binding_graph.specs.Graph.{bind_refusal, no_graph, settled_changes, settled_graph}
+use Rattle.binding_values.specs.Graph.{bind_refusal, no_graph, settled_changes, settled_graph}
 use Rattle.binding_values.specs.Binds.{with_binding}
 use Rattle.binding_graph.specs.Table.{graph_at, with_graph}
 use Rattle.session_tables.proofs.PlaceLemmas.{changed_at, changes_thrice, if_some_then, none_refused}

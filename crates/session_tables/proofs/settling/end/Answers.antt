@@ -1,7 +1,7 @@
 use Rattle.std.proofs.Common.{rules}
 use Rattle.shared_rows.proofs.ForCallers as column
 use Rattle.property_store.specs.Table.{store_at}
-use Rattle.binding_graph.specs.Graph.{no_graph}
+use Rattle.binding_values.specs.Graph.{no_graph}
 use Rattle.session_tables.proofs.PlaceLemmas.{settled_once}
 use Rattle.session_tables.proofs.settling.end.Goals as goal
 

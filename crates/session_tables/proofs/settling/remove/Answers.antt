@@ -3,7 +3,7 @@ use Rattle.shared_rows.proofs.ForCallers as column
 use Rattle.property_store.specs.Store.{without}
 use Rattle.property_store.specs.Table.{store_at}
 use Rattle.binding_values.specs.declared.binding.Binding.{Binding}
-use Rattle.binding_graph.specs.Graph.{no_graph, settled_changes, settled_graph, without_object}
+use Rattle.binding_values.specs.Graph.{no_graph, settled_changes, settled_graph, without_object}
 use Rattle.binding_graph.specs.Table.{graph_at}
 use Rattle.session_tables.proofs.PlaceLemmas.{at_noted, settled_at_once, told_after}
 use Rattle.session_tables.proofs.settling.remove.Goals as goal

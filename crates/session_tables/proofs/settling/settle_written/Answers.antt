@@ -1,6 +1,6 @@
 use Rattle.std.proofs.Common.{◌∙◌, Some, ap, sym}
 use Rattle.property_store.specs.Table.{store_at}
-use Rattle.binding_graph.specs.Graph.{settled_changes, settled_graph, stored_value}
+use Rattle.binding_values.specs.Graph.{settled_changes, settled_graph, stored_value}
 use Rattle.binding_graph.specs.Table.{graph_at, with_graph}
 use Rattle.session_tables.specs.WriteChanges.{changes_in}
 use Rattle.session_tables.proofs.AloneLemmas.{alone_changes}

@@ -1,6 +1,6 @@
 use Rattle.std.proofs.Common.{◌≡◌, ◌∙◌, Some, ap, filter, not, rules}
 use Rattle.property_store.specs.Table.{store_at}
-use Rattle.binding_graph.specs.Graph.{settled_graph, taken}
+use Rattle.binding_values.specs.Graph.{settled_graph, taken}
 use Rattle.binding_graph.specs.Table.{graph_at, with_graph}
 use Rattle.binding_values.specs.declared.binding.Binding.{Binding}
 use Rattle.property_store.specs.Property.{is_property}

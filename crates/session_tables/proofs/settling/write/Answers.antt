@@ -3,7 +3,7 @@ use Rattle.shared_rows.proofs.ForCallers as column
 use Rattle.property_store.specs.Store.{written}
 use Rattle.property_store.specs.Table.{StoreTable, store_at, with_store}
 use Rattle.binding_values.specs.declared.binding.Binding.{Binding}
-use Rattle.binding_graph.specs.Graph.{settled_graph, stored_value}
+use Rattle.binding_values.specs.Graph.{settled_graph, stored_value}
 use Rattle.property_store.specs.Property.{is_property}
 use Rattle.binding_graph.specs.Table.{graph_at, with_graph}
 use Rattle.session_tables.specs.WriteChanges.{changes_in}

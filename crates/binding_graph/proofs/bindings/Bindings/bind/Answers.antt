@@ -1,6 +1,6 @@
 use Rattle.std.proofs.Common.{subst}
 use Rattle.plain_types.specs.Answers.{RefusedBy}
-use Rattle.binding_graph.specs.Graph.{Graph, bind_refusal, bound}
+use Rattle.binding_values.specs.Graph.{Graph, bind_refusal, bound}
 use Rattle.binding_graph.specs.GraphAndCache.{no_graph_and_cache}
 use Rattle.binding_graph.proofs.PlaceLemmas.{graph_now, others_kept, place_there, put_back, put_so, stays_with}
 use Rattle.binding_graph.proofs.bindings.Bindings.bind.Goals as goal

@@ -1,5 +1,5 @@
 use Rattle.std.proofs.Common.{◌∙◌, ap, refl, subst, sym}
-use Rattle.binding_graph.specs.Graph.{no_graph}
+use Rattle.binding_values.specs.Graph.{no_graph}
 use Rattle.binding_graph.specs.Cache.{no_cache}
 use Rattle.property_store.specs.Table.{store_at}
 use Rattle.property_store.specs.Marks.{marks_at}

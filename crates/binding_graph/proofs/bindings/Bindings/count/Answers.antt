@@ -1,5 +1,5 @@
 use Rattle.std.proofs.Common.{◌∙◌, ap, subst}
-use Rattle.binding_graph.specs.Graph.{Graph, IsSound}
+use Rattle.binding_values.specs.Graph.{Graph, IsSound}
 use Rattle.binding_graph.specs.GraphAndCache.{no_graph_and_cache}
 use Rattle.binding_graph.proofs.PlaceLemmas.{graph_now}
 use Rattle.std.proofs.Common.{length}

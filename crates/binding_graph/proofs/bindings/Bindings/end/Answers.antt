@@ -1,6 +1,6 @@
 use Rattle.std.proofs.Common.{◌≡◌, ◌∙◌, Result, Ok, Err, IfOk, OnOk, ℕ, ap, subst}
 use Rattle.std.specs.Result.{result_err}
-use Rattle.binding_graph.specs.Graph.{Graph, end_refusal, ended}
+use Rattle.binding_values.specs.Graph.{Graph, end_refusal, ended}
 use Rattle.binding_graph.specs.GraphAndCache.{no_graph_and_cache}
 use Rattle.binding_graph.proofs.PlaceLemmas.{graph_now, others_kept, place_there, put_back, put_so, stays_with}
 use Rattle.binding_graph.proofs.bindings.Bindings.end.Goals as goal

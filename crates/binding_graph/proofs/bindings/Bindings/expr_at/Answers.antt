@@ -1,6 +1,6 @@
 use Rattle.std.proofs.Common.{◌∙◌, ap}
 use Rattle.binding_values.specs.Scene.{term_at}
-use Rattle.binding_graph.specs.Graph.{Graph}
+use Rattle.binding_values.specs.Graph.{Graph}
 use Rattle.binding_graph.specs.GraphAndCache.{no_graph_and_cache}
 use Rattle.binding_graph.proofs.PlaceLemmas.{graph_now}
 use Rattle.binding_graph.proofs.bindings.Bindings.expr_at.Goals as goal

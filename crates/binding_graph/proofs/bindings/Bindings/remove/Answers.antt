@@ -2,7 +2,7 @@ use Rattle.std.proofs.Common.{◌≡◌, IfOk, None, subst, sym}
 use Rattle.shared_rows.proofs.ForCallers as column
 use Rattle.property_store.specs.Store.{without}
 use Rattle.property_store.specs.Table.{store_at}
-use Rattle.binding_graph.specs.Graph.{Graph, no_graph, settled_changes, settled_graph, without_object}
+use Rattle.binding_values.specs.Graph.{Graph, no_graph, settled_changes, settled_graph, without_object}
 use Rattle.binding_graph.specs.GraphAndCache.{IsAt, no_graph_and_cache, split}
 use Rattle.binding_graph.proofs.PlaceLemmas.{at_place, graph_now, others_kept, place_there, put_in_step, put_so, with_pair}
 use Rattle.binding_graph.proofs.StepLemmas.{stands_elsewhere}

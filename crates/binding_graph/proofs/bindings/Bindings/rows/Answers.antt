@@ -1,5 +1,5 @@
 use Rattle.std.proofs.Common.{◌∙◌, ap}
-use Rattle.binding_graph.specs.Graph.{Graph}
+use Rattle.binding_values.specs.Graph.{Graph}
 use Rattle.binding_graph.specs.GraphAndCache.{no_graph_and_cache}
 use Rattle.binding_graph.proofs.PlaceLemmas.{graph_now}
 use Rattle.binding_graph.proofs.bindings.Bindings.rows.Goals as goal

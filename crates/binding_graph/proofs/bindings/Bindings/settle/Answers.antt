@@ -1,6 +1,6 @@
 use Rattle.std.proofs.Common.{◌≡◌, IfOk, subst, sym}
 use Rattle.property_store.specs.Table.{store_at}
-use Rattle.binding_graph.specs.Graph.{Graph, settled_changes, settled_graph}
+use Rattle.binding_values.specs.Graph.{Graph, settled_changes, settled_graph}
 use Rattle.binding_graph.specs.GraphAndCache.{IsAt, no_graph_and_cache}
 use Rattle.binding_graph.proofs.PlaceLemmas.{at_place, graph_now, others_kept, place_there, put_back, put_so, with_in_step}
 use Rattle.binding_graph.proofs.bindings.Bindings.settle.Goals as goal

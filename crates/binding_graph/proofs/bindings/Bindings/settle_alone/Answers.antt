@@ -1,6 +1,6 @@
 use Rattle.std.proofs.Common.{◌≡◌, IfSome, Some, subst, sym}
 use Rattle.property_store.specs.Table.{store_at}
-use Rattle.binding_graph.specs.Graph.{Graph, change_alone, settled_changes, settled_graph, stored_value}
+use Rattle.binding_values.specs.Graph.{Graph, change_alone, settled_changes, settled_graph, stored_value}
 use Rattle.binding_graph.specs.GraphAndCache.{IsAt, no_graph_and_cache}
 use Rattle.binding_graph.proofs.PlaceLemmas.{at_place, back_if_none, graph_now, others_kept, place_there, put_if_some, with_in_step}
 use Rattle.binding_graph.proofs.bindings.Bindings.settle_alone.Goals as goal

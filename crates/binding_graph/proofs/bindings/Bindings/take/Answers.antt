@@ -1,5 +1,5 @@
 use Rattle.std.proofs.Common.{◌∙◌, ap, sym}
-use Rattle.binding_graph.specs.Graph.{unbound}
+use Rattle.binding_values.specs.Graph.{unbound}
 use Rattle.binding_graph.specs.Table.{graph_at}
 use Rattle.binding_graph.specs.GraphAndCache.{no_graph_and_cache, split}
 use Rattle.binding_graph.proofs.StepLemmas.{write_in_step}

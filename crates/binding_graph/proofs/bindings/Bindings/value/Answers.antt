@@ -3,9 +3,9 @@ use Rattle.variant_value.specs.declared.value.Value.{Value}
 use Rattle.variant_value.specs.Values.{IsShort}
 use Rattle.binding_values.specs.declared.property.BindingError.{BindingError}
 use Rattle.property_store.specs.Table.{store_at}
-use Rattle.binding_graph.specs.Graph.{Graph, value_in}
+use Rattle.binding_values.specs.Graph.{Graph, value_in}
 use Rattle.binding_graph.specs.GraphAndCache.{IsAt, no_graph_and_cache}
-use Rattle.binding_graph.proofs.ShownLemmas.{value_short}
+use Rattle.binding_values.proofs.ForCallers.{value_short}
 use Rattle.binding_graph.proofs.PlaceLemmas.{at_place, graph_now}
 use Rattle.binding_graph.proofs.bindings.Bindings.value.Goals as goal
 

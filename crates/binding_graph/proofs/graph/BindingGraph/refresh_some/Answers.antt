@@ -2,8 +2,8 @@ use Rattle.std.proofs.Common.{◌≡◌, ◌∙◌, ap, subst, sym}
 use Rattle.property_store.specs.Marks.{marks_at}
 use Rattle.property_store.specs.Table.{store_at}
 use Rattle.binding_values.specs.Sorted.{IsRising}
-use Rattle.binding_graph.specs.Graph.{all_shown}
-use Rattle.binding_graph.specs.declared.shown.Shown.{Shown}
+use Rattle.binding_values.specs.Graph.{all_shown}
+use Rattle.binding_values.specs.declared.shown.Shown.{Shown}
 use Rattle.binding_graph.proofs.GoneLemmas.{merged_present}
 use Rattle.binding_graph.proofs.SettlingLemmas.{merged_so, told_so, touched_right, touched_whole}
 use Rattle.binding_graph.proofs.StepLemmas.{complete_in_step}

@@ -2,7 +2,7 @@ use Rattle.std.proofs.Common.{◌≡◌, ◌∙◌, IsTrue, None, ap₂, arith, 
 use Rattle.std.proofs.lemmas.Result.{IfOk-weaker}
 use Rattle.property_store.specs.Store.{without}
 use Rattle.property_store.specs.Table.{store_at}
-use Rattle.binding_graph.specs.Graph.{Graph, all_shown, changes, settled_changes, without_object}
+use Rattle.binding_values.specs.Graph.{Graph, all_shown, changes, settled_changes, without_object}
 use Rattle.binding_graph.proofs.RemovalLemmas.{hidden_in_step, let_go_in_step, removed_told}
 use Rattle.binding_graph.proofs.graph.BindingGraph.remove.Goals as goal
 

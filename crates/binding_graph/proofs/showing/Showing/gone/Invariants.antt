@@ -2,7 +2,7 @@ use Rattle.std.proofs.Common.{◌≡◌, ◌&&◌, take}
 use Rattle.std.specs.Option.{is_some}
 use Rattle.property_store.specs.declared.property.Property.{Property}
 use Rattle.property_store.specs.Property.{among}
-use Rattle.binding_graph.specs.Graph.{shown_at}
+use Rattle.binding_values.specs.Graph.{shown_at}
 use Rattle.binding_graph.specs.Rows.{is_gone}
 use Rattle.binding_graph.proofs.showing.Showing.gone.Given as goal
 

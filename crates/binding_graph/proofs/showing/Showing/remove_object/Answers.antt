@@ -4,8 +4,8 @@ use Rattle.std.proofs.lemmas.List.Elements.{All-filter}
 use Rattle.std.proofs.lemmas.List.Kept.{AllPairs-filter}
 use Rattle.variant_value.specs.Values.{IsOfKind}
 use Rattle.binding_values.specs.Sorted.{is_before}
-use Rattle.binding_graph.specs.declared.shown.Shown.{Shown}
-use Rattle.binding_graph.specs.Graph.{AreShown}
+use Rattle.binding_values.specs.declared.shown.Shown.{Shown}
+use Rattle.binding_values.specs.Graph.{AreShown}
 use Rattle.binding_graph.proofs.showing.Showing.remove_object.Goals as goal
 
 pub invariant_of-self : goal.invariant_of-self

@@ -2,7 +2,7 @@ use Rattle.std.proofs.Common.{◌≡◌, ◌∙◌, [], sym, ap}
 use Rattle.shared_rows.proofs.ForCallers as column
 use Rattle.property_store.specs.Store.{added}
 use Rattle.property_store.specs.Table.{StoreTable, fields_of, store_at, with_store}
-use Rattle.binding_graph.specs.Graph.{no_graph, settled_graph}
+use Rattle.binding_values.specs.Graph.{no_graph, settled_graph}
 use Rattle.binding_graph.specs.Table.{graph_at}
 use Rattle.session_tables.specs.Bound.{bound_at, seen_of}
 use Rattle.session_tables.proofs.BoundLemmas.{closed_place}

@@ -1,5 +1,5 @@
 use Rattle.std.proofs.Common.{[], refl}
-use Rattle.binding_graph.specs.Graph.{no_graph}
+use Rattle.binding_values.specs.Graph.{no_graph}
 use Rattle.session_tables.proofs.SeenLemmas.{put_seen}
 use Rattle.session_tables.proofs.bound_stores.BoundStores.clear.Goals as goal
 

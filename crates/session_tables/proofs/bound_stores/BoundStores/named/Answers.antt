@@ -2,7 +2,7 @@ use Rattle.std.proofs.Common.{◌≡◌, ◌∙◌, Some, Option, Bor, option_ma
 use Rattle.property_store.specs.Store.{IsSound, named_value, properties_of}
 use Rattle.variant_value.specs.declared.value.Value.{Value}
 use Rattle.binding_values.specs.declared.property.BindingError.{BindingError}
-use Rattle.binding_graph.specs.Graph.{value_in}
+use Rattle.binding_values.specs.Graph.{value_in}
 use Rattle.binding_graph.specs.Table.{graph_at}
 use Rattle.session_tables.specs.Bound.{BoundShelves, bound_at, stored_at}
 use Rattle.session_tables.proofs.ShowingLemmas.{value_seen}

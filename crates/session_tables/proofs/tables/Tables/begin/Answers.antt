@@ -1,7 +1,7 @@
 use Rattle.std.proofs.Common.{◌≡◌, ◌∙◌, suc, refl, sym, ap, arith}
 use Rattle.shared_rows.proofs.ForCallers as column
 use Rattle.property_store.specs.Table.{store_at}
-use Rattle.binding_graph.specs.Graph.{Graph, begun, no_graph}
+use Rattle.binding_values.specs.Graph.{Graph, begun, no_graph}
 use Rattle.binding_graph.specs.Table.{graph_at}
 use Rattle.session_tables.specs.Bound.{bound_at, seen_of, stored_at}
 use Rattle.session_tables.proofs.HereLemmas.{bindings_change, graph_stands, state_put}

@@ -1,7 +1,7 @@
 use Rattle.std.proofs.Common.{◌∙◌, Some}
 use Rattle.property_store.specs.Table.{store_at}
 use Rattle.binding_values.specs.Binds.{with_binding}
-use Rattle.binding_graph.specs.Graph.{bound}
+use Rattle.binding_values.specs.Graph.{bound}
 use Rattle.session_tables.specs.Bound.{bound_at, seen_of, stored_at}
 use Rattle.session_tables.proofs.HereLemmas.{bindings_change, forgets_bindings, state_put, told_put}
 use Rattle.session_tables.proofs.SeenLemmas.{settled_seen, settled_store}

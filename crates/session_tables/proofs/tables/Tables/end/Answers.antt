@@ -1,6 +1,6 @@
 use Rattle.std.proofs.Common.{◌∙◌, sym, ap}
 use Rattle.property_store.specs.Table.{store_at}
-use Rattle.binding_graph.specs.Graph.{ended, settled_graph}
+use Rattle.binding_values.specs.Graph.{ended, settled_graph}
 use Rattle.binding_graph.specs.Table.{graph_at}
 use Rattle.session_model.specs.State.{closed}
 use Rattle.session_tables.specs.Bound.{bound_at, seen_of, stored_at}

@@ -2,7 +2,7 @@ use Rattle.std.proofs.Common.{◌∙◌, Some, filter, not, sym, ap}
 use Rattle.property_store.specs.Property.{is_property}
 use Rattle.property_store.specs.Table.{store_at}
 use Rattle.binding_values.specs.declared.binding.Binding.{Binding}
-use Rattle.binding_graph.specs.Graph.{taken, unbound}
+use Rattle.binding_values.specs.Graph.{taken, unbound}
 use Rattle.binding_graph.specs.Table.{graph_at}
 use Rattle.session_tables.specs.Bound.{bound_at, seen_of, stored_at, with_bound}
 use Rattle.session_tables.proofs.HereLemmas.{changes_there, forgets_there, state_put, told_put}

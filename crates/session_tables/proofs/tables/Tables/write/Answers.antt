@@ -4,7 +4,7 @@ use Rattle.property_store.specs.Property.{is_property}
 use Rattle.property_store.specs.Store.{changed, fitting, with_value, written}
 use Rattle.property_store.specs.Table.{store_at, with_store}
 use Rattle.binding_values.specs.declared.binding.Binding.{Binding}
-use Rattle.binding_graph.specs.Graph.{unbound}
+use Rattle.binding_values.specs.Graph.{unbound}
 use Rattle.session_tables.specs.Bound.{bound_at, seen_of, stored_at, with_bound}
 use Rattle.session_tables.specs.WriteChanges.{alone, changes_in}
 use Rattle.session_tables.proofs.AloneLemmas.{alone_told, change_of, written_as}

@@ -3,11 +3,11 @@ use Rattle.std.specs.Prelude.{All, IfSome, Option}
 use Rattle.variant_value.specs.Values.{IsOfKind, IsShort}
 use Rattle.property_store.specs.Store.{Store}
 use Rattle.property_store.specs.Store as store
-use Rattle.binding_graph.specs.declared.change.ChangeKind.{ChangeKind}
-use Rattle.binding_graph.specs.declared.change.ChangeKind.TheVariants.{Error, Value}
+use Rattle.binding_values.specs.declared.change.ChangeKind.{ChangeKind}
+use Rattle.binding_values.specs.declared.change.ChangeKind.TheVariants.{Error, Value}
 use Rattle.property_store.specs.declared.property.Property.{Property}
-use Rattle.binding_graph.specs.Graph.{Graph, settled_changes, settled_graph, value_in}
-use Rattle.binding_graph.specs.Graph as graph
+use Rattle.binding_values.specs.Graph.{Graph, settled_changes, settled_graph, value_in}
+use Rattle.binding_values.specs.Graph as graph
 use Rattle.binding_values.specs.Stored.{cell_in}
 
 -- The value of a property is short.

@@ -20,12 +20,12 @@ use Rattle.binding_values.specs.declared.binding.Binding.{Binding}
 use Rattle.binding_values.specs.declared.property.BindingError.{BindingError}
 use Rattle.binding_values.specs.declared.property.BindingError.TheVariants.{EvaluationError}
 use Rattle.property_store.specs.declared.property.Property.{Property}
-use Rattle.binding_graph.specs.declared.shown.Shown.{Shown}
-use Rattle.binding_graph.specs.Graph.{shown_as, shown_now}
+use Rattle.binding_values.specs.declared.shown.Shown.{Shown}
+use Rattle.binding_values.specs.Graph.{shown_as, shown_now}
 use Rattle.binding_values.specs.Scene.{Cell, Outcome, choose, evaluated, passed_on, plain, reader, reading, settled, term_at}
 use Rattle.property_store.specs.Property.{among, is_property}
 use Rattle.binding_values.specs.Stored.{cell_in, cell_of, is_there, outcome_in, scene_of}
-use Rattle.binding_values.proofs.ForCallers.{by_unmet, plain_rule}
+use Rattle.binding_values.proofs.FuelLemmas.{by_unmet, plain_rule}
 
 -- what is converted of a short value is of the kind
 settled_fits : (kind : Kind) (r : Answer BindingError) → IfOk r IsShort → IfOk (settled kind r) (IsOfKind kind)

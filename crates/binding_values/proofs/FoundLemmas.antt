@@ -14,9 +14,9 @@ use Rattle.property_store.specs.Store.{Store, properties_of}
 use Rattle.binding_values.specs.declared.binding.Binding.{Binding}
 use Rattle.binding_values.specs.Scene.{Cell, Outcome}
 use Rattle.binding_values.specs.Stored.{cell_in, cell_of, numbered, outcome_in, properties_in, properties_of_object}
-use Rattle.binding_values.proofs.ForCallers.{is_itself, property_eq}
-use Rattle.binding_graph.specs.declared.shown.Shown.{Shown}
-use Rattle.binding_graph.specs.Graph.{all_shown, shown_as, shown_at, shown_now}
+use Rattle.binding_values.proofs.FuelLemmas.{is_itself, property_eq}
+use Rattle.binding_values.specs.declared.shown.Shown.{Shown}
+use Rattle.binding_values.specs.Graph.{all_shown, shown_as, shown_at, shown_now}
 
 -- a property that has a cell is among those that are there
 numbered_among : (object number : ℕ) (fields : List Field) (k : ℕ) (field : Field) → slice_get fields k ≡ Some field

@@ -11,12 +11,12 @@ use Rattle.variant_value.specs.Values.{IsOfKind, is_same}
 use Rattle.term_core.specs.Term.{Term}
 use Rattle.property_store.specs.Store.{Store, default_of, written}
 use Rattle.binding_values.specs.declared.binding.Binding.{Binding}
-use Rattle.binding_graph.specs.declared.change.Change.{Change}
-use Rattle.binding_graph.specs.declared.change.ChangeKind.TheVariants as message
+use Rattle.binding_values.specs.declared.change.Change.{Change}
+use Rattle.binding_values.specs.declared.change.ChangeKind.TheVariants as message
 use Rattle.property_store.specs.declared.property.Property.{Property}
 use Rattle.binding_values.specs.declared.property.BindingError.{BindingError}
 use Rattle.binding_values.specs.declared.property.BindingError.TheVariants.{BindingLoop, EvaluationError}
-use Rattle.binding_graph.specs.declared.shown.Shown.{Shown}
+use Rattle.binding_values.specs.declared.shown.Shown.{Shown}
 use Rattle.binding_values.specs.Scene.{Outcome, term_at}
 use Rattle.property_store.specs.Property.{is_property}
 use Rattle.binding_values.specs.Binds.{AreBindings, put_refusal, with_binding}

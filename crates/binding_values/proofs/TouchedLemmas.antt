@@ -17,11 +17,12 @@ use Rattle.property_store.specs.Property.{among, is_property}
 use Rattle.binding_values.specs.declared.property.BindingError.{BindingError}
 use Rattle.binding_values.specs.declared.property.BindingError.TheVariants.{BindingLoop, EvaluationError}
 use Rattle.binding_values.specs.Sorted.{IsRising, is_before}
-use Rattle.binding_values.proofs.ForCallers.{is_itself, property_eq, before_trans, is_behind, is_other, is_property_sym}
-use Rattle.binding_graph.specs.declared.change.Change.{Change}
-use Rattle.binding_graph.specs.declared.change.ChangeKind.TheVariants as message
-use Rattle.binding_graph.specs.declared.shown.Shown.{Shown}
-use Rattle.binding_graph.specs.Graph.{changes, has_turn, in_turn, is_same_error, notice, shown_at, warning}
+use Rattle.binding_values.proofs.FuelLemmas.{is_itself, property_eq}
+use Rattle.binding_values.proofs.SortedLemmas.{before_trans, is_behind, is_other, is_property_sym}
+use Rattle.binding_values.specs.declared.change.Change.{Change}
+use Rattle.binding_values.specs.declared.change.ChangeKind.TheVariants as message
+use Rattle.binding_values.specs.declared.shown.Shown.{Shown}
+use Rattle.binding_values.specs.Graph.{changes, has_turn, in_turn, is_same_error, notice, shown_at, warning}
 
 abbrev Rising : List Shown → Type 0
 Rising rows = IsRising (λ (shown : Shown). shown.at) rows

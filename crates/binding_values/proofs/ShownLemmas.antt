@@ -15,16 +15,16 @@ use Rattle.property_store.proofs.ForCallers.{default_short, found}
 use Rattle.binding_values.specs.declared.binding.Binding.{Binding}
 use Rattle.binding_values.specs.declared.property.BindingError.{BindingError}
 use Rattle.property_store.specs.declared.property.Property.{Property}
-use Rattle.binding_graph.specs.declared.shown.Shown.{Shown}
-use Rattle.binding_graph.specs.Graph.{AreShown, Graph, all_shown, fresh, is_bound, is_open, shown_at, shown_in, shown_now, value_in}
+use Rattle.binding_values.specs.declared.shown.Shown.{Shown}
+use Rattle.binding_values.specs.Graph.{AreShown, Graph, all_shown, fresh, is_bound, is_open, shown_at, shown_in, shown_now, value_in}
 use Rattle.binding_values.specs.Binds.{AreBindings}
-use Rattle.binding_graph.specs.Graph as graph
+use Rattle.binding_values.specs.Graph as graph
 use Rattle.binding_values.specs.Scene.{Cell}
 use Rattle.property_store.specs.Property.{is_property}
 use Rattle.binding_values.specs.Sorted.{is_before}
 use Rattle.binding_values.specs.Stored.{cell_in, numbered, properties_in, properties_of_object}
-use Rattle.binding_graph.proofs.FitLemmas.{shown_now_fits}
-use Rattle.binding_values.proofs.ForCallers.{all_given, pairs_append, pairs_given}
+use Rattle.binding_values.proofs.FitLemmas.{shown_now_fits}
+use Rattle.binding_values.proofs.MapLemmas.{all_given, pairs_append, pairs_given}
 
 before_later : (a b c d : ℕ) → a < c → (nat_lt a c || (a == c && nat_lt b d)) ≡ true
 before_later a b c d less = grind (arith, nat_tests)

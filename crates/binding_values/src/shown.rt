@@ -1,11 +1,15 @@
 //! A property shows a value.
 ghost use Rattle.std.specs.Prelude.{◌≡◌, IfOk};
 
-use binding_values::{BindingError, HasProperty};
+use crate::property::BindingError;
+use crate::sorted::HasProperty;
 use property_store::Property;
 use signature_core::Kind;
 use std::alloc::{AllocError, Global};
 use variant_value::Value;
+
+/// How many groups of a place are open at most.
+pub const GROUPS: u32 = 1000;
 
 /// A property shows its value, or in error the default of its kind, and the error.
 pub struct Shown {
@@ -36,7 +40,7 @@ impl HasProperty for Shown {
 
 impl Shown {
     /// The value, with the error that it stands for.
-    pub(crate) fn into_value(self) -> (Value, Option<BindingError>)
+    pub fn into_value(self) -> (Value, Option<BindingError>)
         ensures { result ≡ (self.value, self.error) }
     {
         let Shown {
@@ -49,7 +53,7 @@ impl Shown {
     }
 
     /// An equal one in memory of its own.
-    pub(crate) fn copy(&self, alloc: Global) -> Result<Shown, AllocError>
+    pub fn copy(&self, alloc: Global) -> Result<Shown, AllocError>
         ensures { IfOk result (λ shown. shown ≡ self.now) }
     {
         Ok(Shown {

@@ -1,5 +1,5 @@
 //! Changes.
-use binding_values::BindingError;
+use crate::property::BindingError;
 use property_store::Property;
 use variant_value::Value;
 

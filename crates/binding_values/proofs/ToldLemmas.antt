@@ -7,20 +7,20 @@ use Rattle.std.proofs.lemmas.List.Elements.{All-append, All-filter, All-nil}
 use Rattle.variant_value.specs.Values.{IsOfKind, is_same}
 use Rattle.property_store.specs.Store.{Store}
 use Rattle.property_store.specs.Store as store
-use Rattle.binding_graph.specs.declared.change.Change.{Change}
-use Rattle.binding_graph.specs.declared.change.ChangeKind.TheVariants as message
+use Rattle.binding_values.specs.declared.change.Change.{Change}
+use Rattle.binding_values.specs.declared.change.ChangeKind.TheVariants as message
 use Rattle.binding_values.specs.declared.property.BindingError.{BindingError}
 use Rattle.property_store.specs.declared.property.Property.{Property}
-use Rattle.binding_graph.specs.declared.shown.Shown.{Shown}
-use Rattle.binding_graph.specs.Fitting.{IsFitting}
-use Rattle.binding_graph.specs.Graph.{Graph, all_shown, before, changes, has_turn, in_turn, is_open, is_same_error, notice, settled_changes, settled_graph}
-use Rattle.binding_graph.specs.Graph.{shown_as, shown_now, warning}
-use Rattle.binding_graph.specs.Graph as graph
+use Rattle.binding_values.specs.declared.shown.Shown.{Shown}
+use Rattle.binding_values.specs.Fitting.{IsFitting}
+use Rattle.binding_values.specs.Graph.{Graph, all_shown, before, changes, has_turn, in_turn, is_open, is_same_error, notice, settled_changes, settled_graph}
+use Rattle.binding_values.specs.Graph.{shown_as, shown_now, warning}
+use Rattle.binding_values.specs.Graph as graph
 use Rattle.binding_values.specs.Scene.{Cell, Outcome}
 use Rattle.binding_values.specs.Stored.{cell_in, outcome_in, properties_in}
-use Rattle.binding_graph.proofs.FitLemmas.{shown_now_fits}
-use Rattle.binding_values.proofs.ForCallers.{all_given}
-use Rattle.binding_graph.proofs.ShownLemmas.{all_shown_sound}
+use Rattle.binding_values.proofs.FitLemmas.{shown_now_fits}
+use Rattle.binding_values.proofs.MapLemmas.{all_given}
+use Rattle.binding_values.proofs.ShownLemmas.{all_shown_sound}
 
 -- what a property shows is of the kind that it has
 record IsShownThere (s : Store) (shown : Shown) : Type 0 where
