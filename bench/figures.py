@@ -5,6 +5,7 @@ from __future__ import annotations
 from dataclasses import dataclass, replace
 from typing import Callable, Iterable, Tuple
 
+import binding_inputs as bound
 import inputs
 from lines import CELL_DESCRIBED, METHODS, demonstration_classes, lamps, usual_classes
 
@@ -181,17 +182,17 @@ def followed(bindings):
     """The figure of a property that is set, which so many others follow in a chain."""
     rounds = max(1, LINES // bindings)
     name = f"a binding, in a chain of {bindings:,}"
-    return Figure(name, "evaluation", rounds, lambda times: inputs.chain(bindings, times * rounds), bindings)
+    return Figure(name, "evaluation", rounds, lambda times: bound.chain(bindings, times * rounds), bindings)
 
 
 def paired(bindings):
     """The figure of a property that is set and read by one of so many bindings."""
-    return line(f"set of what one of {bindings:,} bindings reads", lambda lines: inputs.pairs(bindings, lines))
+    return line(f"set of what one of {bindings:,} bindings reads", lambda lines: bound.pairs(bindings, lines))
 
 
-UNREAD = line("set of an int that no binding reads", lambda lines: inputs.unread(0, lines))
-UNREAD_BESIDE = line("set of an int that no binding reads, next to one binding", lambda lines: inputs.unread(1, lines))
-GROUPED = line("set of an int that no binding reads, in a group", lambda lines: inputs.grouped(1, lines))
+UNREAD = line("set of an int that no binding reads", lambda lines: bound.unread(0, lines))
+UNREAD_BESIDE = line("set of an int that no binding reads, next to one binding", lambda lines: bound.unread(1, lines))
+GROUPED = line("set of an int that no binding reads, in a group", lambda lines: bound.grouped(1, lines))
 
 
 def unheard(sessions):
@@ -244,8 +245,8 @@ NONE_FOUND = line("findAll below an object without children", lambda lines: inpu
 ALL_FOUND = many_at_once("findAll, of {:,}", "object", inputs.all_found, NONE_FOUND, 4 * LINES)
 NO_CONNECTIONS = line("connections of a session without any", lambda lines: inputs.connections_listed(0, lines))
 CONNECTIONS_LISTED = many_at_once("connections, of {:,}", "connection", inputs.connections_listed, NO_CONNECTIONS, LINES)
-NO_BINDINGS = line("bindings of a session without any", lambda lines: inputs.bindings_listed(0, lines))
-BINDINGS_LISTED = many_at_once("bindings, of {:,}", "binding", inputs.bindings_listed, NO_BINDINGS, LINES)
+NO_BINDINGS = line("bindings of a session without any", lambda lines: bound.bindings_listed(0, lines))
+BINDINGS_LISTED = many_at_once("bindings, of {:,}", "binding", bound.bindings_listed, NO_BINDINGS, LINES)
 ARRIVED = many_at_once("a post, in {:,} sessions", "arrival", inputs.posted, unheard(FEW), LINES)
 
 HEARD = heard(f"a call, of a signal with {EARS:,} receivers")

@@ -7,29 +7,26 @@ from itertools import chain as all_of
 from random import Random
 
 from lines import (
-    begin,
-    bindings_told,
     called,
     child,
     children,
     connect,
     connections_told,
+    cut_short,
     delete,
     disconnect,
     disconnect_ends,
-    end,
     find,
     find_all,
     find_none,
-    follow,
     join,
     look_around,
     meta,
     new,
     note,
     noted,
-    pair,
     ping,
+    post,
     publish,
     read,
     read_tag,
@@ -37,16 +34,22 @@ from lines import (
     ring,
     set_tag,
     set_x,
-    set_y,
     spin,
+    status,
     title,
+    without_key,
     write,
+    write_fraction,
     write_list,
 )
 
 CHILDREN_OF_EACH = 4
 SETS = 10  # of what is published, before each session that hears it takes its events
 WAITING = 8  # events that wait in each of these sessions
+TEXT_BYTES = 4_096  # as long as a text may be
+AT_ONCE = 100  # events of random priorities that are posted before they are taken
+EARS = 10  # which they call
+PRIORITIES = (-1, 0, 1)
 BLANKS_AND_ESCAPES = {",": ", ", ":": ": ", "lamp": "l\\u0061mp", "objectName": "object\\u004eame"}
 
 
@@ -94,6 +97,40 @@ def with_lists(lines):
     yield from (write_list("a", number) for number in range(lines))
 
 
+def with_fractions(lines):
+    """Lines that would write a negative number with a fraction to a declared int, and are refused."""
+    yield new("a", 1, "Cell")
+    yield from (write_fraction("a", number) for number in range(lines))
+
+
+def without_json(lines):
+    """Lines that are not JSON, because their last byte is missing."""
+    yield new("a", 1)
+    yield from (cut_short("a", f"lamp {number}") for number in range(lines))
+
+
+def without_keys(lines):
+    """Lines that are JSON, in which a key is missing."""
+    yield new("a", 1)
+    yield from (without_key("a", f"lamp {number}") for number in range(lines))
+
+
+def long_texts(lines):
+    """An object whose name, as long as it may be, is written and read again and again."""
+    yield new("a", 1)
+    for number in range(lines // 2):
+        text = f"lamp {number} ".ljust(TEXT_BYTES, "x")
+        yield write("a", text)
+        yield read("a", text)
+
+
+def counts(lines):
+    """Lines that ask for the status of a session that holds a few things."""
+    yield from connections("a", 3)
+    yield post("a", 2)
+    yield from [status("a", objects=2, connections=3, queued=1)] * lines
+
+
 def metas(lines, *described):
     """Lines that ask for a class with as many methods as there may be, or for another one that is described."""
     return (meta("a", *described) for _ in range(lines))
@@ -110,6 +147,11 @@ def values_in_turn(write_value, read_value, lines):
 def ints(lines):
     """A declared int, which is set and read."""
     return values_in_turn(set_x, lambda session, value: read_x(session, 1, value), lines)
+
+
+def negatives(lines):
+    """A declared int, which is set to negative numbers and read."""
+    return values_in_turn(lambda session, value: set_x(session, -value), lambda session, value: read_x(session, 1, -value), lines)
 
 
 def tags(lines):
@@ -249,6 +291,27 @@ def posted_and_taken(times):
     yield from [ping("a"), spin("a", 1, noted("a", 1))] * times
 
 
+def posted_with_priorities(rounds):
+    """In each round events for random Ears, with random priorities, are posted and then taken."""
+    random = Random("priorities")
+    yield from numbered("a", 1, ["Ear"] * EARS)
+    for _ in range(rounds):
+        events = [(random.choice(PRIORITIES), random.randint(1, EARS)) for _ in range(AT_ONCE)]
+        yield from (post("a", receiver, priority=priority) for priority, receiver in events)
+        in_order = [receiver for _, receiver in sorted(events, key=lambda it: -it[0])]
+        yield spin("a", AT_ONCE, called("a", "hear(int)", in_order, 5, sender=0))
+
+
+def posted_at_random(ears, events, rounds):
+    """In each round so many events for random ones of so many Ears are posted and then taken."""
+    random = Random("receivers")
+    yield from numbered("a", 1, ["Ear"] * ears)
+    for _ in range(rounds):
+        receivers = [random.randint(1, ears) for _ in range(events)]
+        yield from (post("a", receiver) for receiver in receivers)
+        yield spin("a", events, called("a", "hear(int)", receivers, 5, sender=0))
+
+
 def rings(count, times):
     """A bell that rings so many times through so many connections to one ear."""
     yield from connections("a", count)
@@ -325,57 +388,6 @@ def chains_by_notify(chains, length, times):
         yield set_x("a", value, calls, first)
 
 
-# Bindings.
-
-
-def bindings_listed(count, looks):
-    """Links, each bound to be one more than the one before, listed again and again."""
-    yield from numbered("a", 1, ["Link"] * (count + 1))
-    yield begin("a")
-    yield from (follow("a", number, number - 1) for number in range(2, count + 2))
-    yield end("a")
-    yield from [bindings_told("a", range(2, count + 2))] * looks
-
-
-def chain(length, times):
-    """A Link that is set so many times, and so many others that are each bound to be one more than the one before.
-
-    They are bound in a group, so that the chain is not evaluated for each of them.
-    """
-    last = length + 1
-    yield from numbered("a", 1, ["Link"] * last)
-    yield begin("a")
-    yield from (follow("a", number, number - 1) for number in range(2, last + 1))
-    yield end("a")
-    yield from (set_x("a", value) for value in range(1, times + 1))
-    yield read_x("a", last, times + length)
-
-
-def pairs(bindings, times):
-    """A Pair that is set so many times, next to others. Each has a binding of its own, so many in all, which are made in a
-    group."""
-    yield from numbered("a", 1, ["Pair"] * bindings)
-    yield begin("a")
-    yield from (pair("a", number) for number in range(1, bindings + 1))
-    yield end("a")
-    yield from (set_y("a", value) for value in range(1, times + 1))
-    yield read_x("a", 1, times + 1)
-
-
-def unread(bindings, times):
-    """A Link that no binding reads, set so many times in a session with so many bindings of other Links."""
-    yield from numbered("a", 1, ["Link"] * (bindings + 2))
-    yield from (follow("a", number, number - 1) for number in range(3, bindings + 3))
-    yield from (set_x("a", value) for value in range(1, times + 1))
-
-
-def grouped(bindings, times):
-    """The same in a group, which does not end."""
-    yield from unread(bindings, 0)
-    yield begin("a")
-    yield from (set_x("a", value) for value in range(1, times + 1))
-
-
 # Publications and joins.
 
 
@@ -416,14 +428,14 @@ def posted(sessions, times):
     yield from (set_x("a", value) for value in range(1, WAITING + times + 1))
 
 
-def listened(sessions, times):
+def listened(sessions, times, sets=SETS):
     """A Cell that is set some times over, after which so many sessions that have joined it take their events; so many
     times."""
     yield from publisher()
     yield from listeners(sessions, "a")
-    for first in range(1, SETS * times + 1, SETS):
-        values = range(first, first + SETS)
+    for first in range(1, sets * times + 1, sets):
+        values = range(first, first + sets)
         yield from (set_x("a", value) for value in values)
         for number in range(sessions):
             name = f"l{number}"
-            yield spin(name, SETS, "".join(called(name, "hear(int)", [1], value, sender=0) for value in values))
+            yield spin(name, sets, "".join(called(name, "hear(int)", [1], value, sender=0) for value in values))

@@ -115,6 +115,16 @@ def reply(session, value):
     return ENCODE({"reply": value, "session": session}) + "\n"
 
 
+def refusal(session, code):
+    """The line that refuses a command."""
+    return ENCODE({"error": code, "session": session}) + "\n"
+
+
+def in_error(session, number):
+    """The line that warns that a binding of the property x has nothing to read any more."""
+    return ENCODE({"object": number, "property": "x", "session": session, "warning": "EvaluationError"}) + "\n"
+
+
 def called(session, slot, receivers, *args, sender=1):
     """The lines for one call of each receiver."""
     keys = {"args": args, "call": slot, "sender": sender, "session": session}
@@ -132,8 +142,9 @@ def child(session, parent, number):
     return new(session, number, parent=parent)
 
 
-def delete(session, number):
-    return command(session, "delete", object=number), reply(session, True)
+def delete(session, number, told=""):
+    """An object is deleted, which brings these lines before the reply."""
+    return command(session, "delete", object=number), told + reply(session, True)
 
 
 def write(session, value):
@@ -163,10 +174,25 @@ def read_tag(session, value):
     return command(session, "get", object=1, property="tag"), reply(session, value)
 
 
+def sum_of(forms):
+    """The expression that adds up some forms, at least one."""
+    half = len(forms) // 2
+    return {"+": [sum_of(forms[:half]), sum_of(forms[half:])]} if half else forms[0]
+
+
+def bind(session, number, to):
+    """The property x of an object is bound."""
+    return command(session, "bind", object=number, property="x", to=to), reply(session, True)
+
+
+def unbind(session, number):
+    """The property x of an object, which is bound, is so no longer."""
+    return command(session, "unbind", object=number, property="x"), reply(session, True)
+
+
 def follow(session, number, other):
     """A Link is bound to be one more than another one."""
-    to = {"+": [{"prop": "x", "of": other}, {"const": 1}]}
-    return command(session, "bind", object=number, property="x", to=to), reply(session, True)
+    return bind(session, number, {"+": [{"prop": "x", "of": other}, {"const": 1}]})
 
 
 def begin(session):
@@ -179,10 +205,14 @@ def end(session):
     return command(session, "end"), reply(session, 0)
 
 
-def pair(session, number):
-    """A Pair is bound to be one more than what else it has."""
-    to = {"+": [{"prop": "y"}, {"const": 1}]}
-    return command(session, "bind", object=number, property="x", to=to), reply(session, True)
+def pair(session, number, more=1):
+    """A Pair is bound to be so much more than what else it has."""
+    return bind(session, number, {"+": [{"prop": "y"}, {"const": more}]})
+
+
+def follow_y(session, number, other):
+    """A Pair is bound to be one more than what another one has besides."""
+    return bind(session, number, {"+": [{"prop": "y", "of": other}, {"const": 1}]})
 
 
 def set_y(session, value):
@@ -197,7 +227,23 @@ def read_x(session, number, value):
 def write_list(session, number):
     """A list where a text belongs, which is refused."""
     line = command(session, "set", object=1, property="objectName", value=[number, "lamp", True])
-    return line, ENCODE({"error": "E22", "session": session}) + "\n"
+    return line, refusal(session, "E22")
+
+
+def write_fraction(session, number):
+    """A negative number with a fraction where a whole number belongs, which is refused."""
+    return command(session, "set", object=1, property="x", value=-number - 0.5), refusal(session, "E22")
+
+
+def cut_short(session, value):
+    """A line that would set the name of the first object, without its last byte, so that it is not JSON."""
+    line, _ = write(session, value)
+    return line[:-2] + "\n", refusal("-", "E01")
+
+
+def without_key(session, value):
+    """A line that would set a property of the first object, and does not say which one."""
+    return command(session, "set", object=1, value=value), refusal(session, "E02")
 
 
 def connect(session, sender, receiver, number, signal="rang(int)", method="hear(int)", **kind):
@@ -233,6 +279,11 @@ def note(session):
 def ring(session, calls=""):
     """The first object, a Bell, rings, which makes these calls."""
     return command(session, "invoke", object=1, method="rang(int)", args=[5]), calls + reply(session, True)
+
+
+def post(session, receiver, **priority):
+    """An Ear is called by an event, which may have a priority."""
+    return command(session, "invoke", object=receiver, method="hear(int)", args=[5], type="queued", **priority), reply(session, True)
 
 
 def spin(session, events, calls=""):
@@ -284,6 +335,12 @@ def bindings_told(session, objects, name="x"):
 def look_around(session):
     """A look for objects in a session that has none."""
     return command(session, "children"), reply(session, [])
+
+
+def status(session, **counts):
+    """What a session holds, where it has these counts and no others."""
+    kinds = ("bindings", "connections", "group", "joins", "lost", "mismatched", "objects", "publications", "queued")
+    return command(session, "status"), reply(session, {**dict.fromkeys(kinds, 0), **counts})
 
 
 def meta(session, described=PANEL_DESCRIBED):

@@ -13,7 +13,7 @@ from functools import partial
 from pathlib import Path
 from typing import Any, Callable, Dict, Iterable, Iterator, List, Tuple
 
-from lines import ENCODE, called, class_file, command, reply
+from lines import ENCODE, called, class_file, command, reply, sum_of
 
 DESCRIBED = Path(__file__).with_name("worst.txt")
 
@@ -73,12 +73,6 @@ def sums(leaves: int) -> dict:
     """So many numbers added up."""
     half = leaves // 2
     return {"+": [sums(half), sums(leaves - half)]} if half else {"const": 1}
-
-
-def added(forms: List[dict]) -> dict:
-    """The sum of some forms, at least one."""
-    half = len(forms) // 2
-    return {"+": [added(forms[:half]), added(forms[half:])]} if half else forms[0]
 
 
 def as_large_as_may_be(leaf: dict) -> dict:
@@ -257,7 +251,7 @@ def below(parents: List[int], top: int) -> int:
 
 
 BUILT_IN = (int, len, list, min, range, set, sorted, sum)
-OF_LINES = (After, Refused, added, below, binary, calls, chains, children_of, deep_classes, ends, errors, joined, ran, spun, star, to, warns)
+OF_LINES = (After, Refused, below, binary, calls, chains, children_of, deep_classes, ends, errors, joined, ran, spun, star, sum_of, to, warns)
 NAMES_OF_LINES: Names = {
     **{it.__name__: it for it in (*BUILT_IN, *OF_LINES)},
     **{"after": After, "large": as_large_as_may_be, "refused": Refused, "__builtins__": {}},

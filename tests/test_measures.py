@@ -3,6 +3,7 @@
 from __future__ import annotations
 
 import contextlib
+import inspect
 import io
 import json
 import os
@@ -16,18 +17,26 @@ from tempfile import NamedTemporaryFile
 from typing import Dict, List, Optional, Tuple
 from unittest import mock
 
+from .plain.classes import Classes
+from .plain.lines import answer
+from .plain.world import Server
 from .support import protocol
 from .support.cases import Cases, ProgramCases
 from .support.differences import difference
 from .support.program import ROOT, SECONDS, library
+from .support.small_inputs import HELPERS, Line, small_inputs
 
 sys.path.insert(0, str(ROOT / "bench"))
 
 import bench  # isort: skip  # noqa: E402
+import binding_inputs  # isort: skip  # noqa: E402
+import counting  # isort: skip  # noqa: E402
+import inputs  # isort: skip  # noqa: E402
 import marks  # isort: skip  # noqa: E402
 import worst  # isort: skip  # noqa: E402
 import worst_lines  # isort: skip  # noqa: E402
 from figures import FIGURES, Figure, Ratio  # isort: skip  # noqa: E402
+from lines import demonstration_classes, usual_classes  # isort: skip  # noqa: E402
 
 PAGE, SCALING = (ROOT / "docs" / name for name in ("internals/MEASURES.md", "SCALING.md"))
 COUNTED = "set and get, in 1 session"
@@ -99,6 +108,35 @@ class Marks(Cases):
     def test_guards_of_counts(self) -> None:
         """Guards are rounded up."""
         self.assertEqual([marks.guard_of(it) for it in (0.0, 0.38, 2.5, 99.0, 100, 4_000)], [0.01, 0.4, 2.58, 102, 103, 4_120])
+
+
+class Inputs(ProgramCases):
+    """The expected output of the inputs that are counted, in small sizes."""
+
+    def test_each(self) -> None:
+        """Each function that gives an input gives one here."""
+        functions = (it for module in (inputs, binding_inputs) for it in inspect.getmembers(module, inspect.isfunction))
+        own = {name for name, it in functions if it.__module__ in (inputs.__name__, binding_inputs.__name__)}
+        self.assertEqual({name for name, _ in small_inputs()} | HELPERS, own)
+
+    def test_told(self) -> None:
+        """The plain program and the built one write what is expected, byte for byte."""
+        cases = [(name, list(lines)) for name, lines in small_inputs()]
+        self.assertEqual([name for name, lines in cases if len(lines) < 3], [])
+        self.check_each(cases, self.fault_of)
+
+    def fault_of(self, lines: List[Line]) -> Optional[str]:
+        """What differs in what the plain program or the built one writes for these lines."""
+        given, wanted = ("".join(texts).encode() for texts in zip(*lines))
+        classes = demonstration_classes() if b"Probe" in given or b'"tag"' in given else usual_classes()
+        server = Server(Classes(json.loads(classes)["classes"]), int(counting.TURNS))
+        by_plain = b"".join(answer(server, line) for line in given.splitlines())
+        with NamedTemporaryFile("w", prefix="metad-input-") as file:
+            file.write(classes)
+            file.flush()
+            words = [self.program, file.name, "--turns", counting.TURNS]
+            ran = subprocess.run(words, input=given, capture_output=True, timeout=SECONDS)
+        return difference(wanted, by_plain) or difference(wanted, ran.stdout)
 
 
 class Dearest(ProgramCases):
