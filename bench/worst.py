@@ -1,19 +1,20 @@
 #!/usr/bin/env python3
 """Counts the instructions of the most expensive lines of each command, in sessions at their limits.
 
-Usage: worst.py PROGRAM [--only WORDS] [--calls N] [--write]. Of each run valgrind's callgrind counts the last line alone.
-The same line is counted in an empty session: its reading and its answer. Beyond that a line may take so much for itself and
-for each action, call, event, evaluation of a binding, end of an object and arriving post that it causes, and so much for
-each row that it must look at; everything else may cost nothing. All output is compared with the expected one. The status is
-1 if a line takes more than it may. With --only only states with these words in their names are counted. With --write the
-table of docs/internals/MEASURES.md is written again, which has the lines that take at least three times what they may: of
-each state one for each command. A line that takes too long is not counted.
+Of each run valgrind's callgrind counts the last line alone, or some lines together. The same is counted in an empty session:
+the reading and the answer. Beyond that a line may take so much for itself and for each action, call, event, evaluation of a
+binding, end of an object and arriving post that it causes, and so much for each row that it must look at. All output is
+compared with the expected one. For a few lines the memory that they need is measured too, without valgrind.
+
+Each count has a guard, 1.03 times what was written down, and may have a goal. A count over its guard is a regression, and the
+status is 1. Goals, and what a line may take, are shown and decide nothing. With --write counts and guards are written to
+worst.json, and the lines that take at least three times what they may to the table of docs/internals/MEASURES.md: of each
+state one for each command. A line that takes too long is not counted.
 """
 
 from __future__ import annotations
 
 import argparse
-import itertools
 import json
 import os
 import signal
@@ -21,19 +22,19 @@ import subprocess
 import sys
 import time
 from collections.abc import Callable, Iterable, Iterator
-from dataclasses import dataclass
+from concurrent.futures import ThreadPoolExecutor
+from functools import lru_cache
 from pathlib import Path
 from tempfile import TemporaryDirectory
 
+import worst_marks
 from counting import CALLGRIND, COLLECTED, HOW_TO_COUNT, Fault, has_valgrind
 from lines import command
 from worst_lines import Line, Sizes, State, Worst, states
+from worst_marks import Cost
 
-PAGE = Path(__file__).resolve().parent.parent / "docs" / "internals" / "MEASURES.md"
-HEAD = "| state | line | lines | rows | does | instructions | alone | share |\n" + "|---" * 8 + "|\n"
-PAGE_HEAD = "| session | line: times what it may take |\n|---|---|\n"
-ITSELF, ROW = 3_000, 300  # instructions that are allowed
-FAR = 3  # the page has lines that take at least so many times what they may
+COLUMNS = ("state", "line", "lines", "rows", "does", "instructions", "alone", "share", "guard", "goal", "KiB")
+HEAD = "| " + " | ".join(COLUMNS) + " |\n" + "|---" * len(COLUMNS) + "|\n"
 THERE = [command(session, "status") for session in "abc"]  # the sessions are there then
 COUNTS_LATER = [*CALLGRIND, "--instr-atstart=no"]
 COUNT_NOW = ["callgrind_control", "-i", "on"]
@@ -48,11 +49,12 @@ class TooLong(Exception):
 
 
 class Run:
-    """A run of the program below callgrind, with which it is talked over pipes."""
+    """A run of the program, below callgrind or not, with which it is talked over pipes."""
 
-    def __init__(self, program: str, room: Path, turns: int) -> None:
+    def __init__(self, program: str, room: Path, turns: int, is_counted: bool = True) -> None:
         self.log = room / "log"
-        words = [*COUNTS_LATER, f"--log-file={self.log}", program, str(room / "classes"), "--turns", str(turns)]
+        below = [*COUNTS_LATER, f"--log-file={self.log}"] if is_counted else []
+        words = [*below, program, str(room / "classes"), "--turns", str(turns)]
         self.process = subprocess.Popen(words, stdin=subprocess.PIPE, stdout=subprocess.PIPE, bufsize=0)
 
     def __enter__(self) -> Run:
@@ -96,6 +98,11 @@ class Run:
         """Whether it waits for a line."""
         return Path(f"/proc/{self.process.pid}/stat").read_text().rpartition(")")[2].split()[0] == "S"
 
+    def peak(self) -> int:
+        """The peak of resident memory so far, in KiB."""
+        status = Path(f"/proc/{self.process.pid}/status").read_text()
+        return int(next(line.split()[1] for line in status.splitlines() if line.startswith("VmHWM")))
+
     def count(self) -> None:
         """From here on instructions are counted."""
         told = subprocess.run([*COUNT_NOW, str(self.process.pid)], capture_output=True, text=True)
@@ -126,108 +133,112 @@ def behind(program: str, room: Path, state: State, line: Worst, turns: int) -> i
         return None
 
 
-def alone(program: str, room: Path, line: Worst) -> int:
-    """How many instructions a line takes in an empty session, where the class that it names does not exist."""
-    keys = json.loads(line.line)
-    given = command(**{**keys, **({"class": "None"} if "class" in keys else {})})
-    with Run(program, room, 1) as run:
-        run.answer("".join(THERE), lambda said: said.count(b"\n") == len(THERE))
-        run.count()
-        run.answer(given, lambda said: said.endswith(b"\n"))
-        return run.counted()
+def memory(program: str, room: Path, state: State, line: Worst, turns: int) -> int:
+    """By how many KiB a line raises the peak of resident memory after a state."""
+    with Run(program, room, turns, is_counted=False) as run:
+        run.do(state.before())
+        before = run.peak()
+        run.talk(line.line, line.told)
+        return run.peak() - before
 
 
-@dataclass(frozen=True)
-class Row:
-    """A line with what it takes after its state and alone; None where it takes too long."""
-
-    state: str
-    line: Worst
-    taken: int | None
-    alone: int
-
-    @property
-    def share(self) -> float:
-        """How much it takes of what it may, beyond what it takes alone."""
-        may = ITSELF * self.line.does + ROW * self.line.rows
-        return float("inf") if self.taken is None else max(0, self.taken - self.alone) / may
-
-    def text(self) -> str:
-        taken, share = ("-", "-") if self.taken is None else (f"{self.taken:,}", f"{self.share:.2f}")
-        numbers = [f"{it:,}" for it in (self.line.told.count("\n"), self.line.rows, self.line.does)]
-        return "| " + " | ".join((self.state, self.line.name, *numbers, taken, f"{self.alone:,}", share)) + " |"
+@lru_cache(maxsize=None)
+def alone(program: str, classes: str, line: str) -> int:
+    """How many instructions a line takes, or some, in an empty session, where the classes that they name do not exist."""
+    keys = [json.loads(it) for it in line.splitlines()]
+    given = "".join(command(**{**it, **({"class": "None"} if "class" in it else {})}) for it in keys)
+    with TemporaryDirectory(prefix="metad-worst-") as room:
+        Path(room, "classes").write_text(classes)
+        with Run(program, Path(room), 1) as run:
+            run.answer("".join(THERE), lambda said: said.count(b"\n") == len(THERE))
+            run.count()
+            run.answer(given, lambda said: said.count(b"\n") >= len(keys) and said.endswith(b"\n"))
+            return run.counted()
 
 
-def rows_of(program: str, state: State, turns: int, room: Path) -> Iterator[Row]:
-    """The rows of a state."""
-    (room / "classes").write_text(state.classes())
-    for line in state.worst:
-        yield Row(state.name, line, behind(program, room, state, line, turns), alone(program, room, line))
+def cost_of(program: str, turns: int, found: tuple[State, Worst]) -> Cost:
+    """What a line takes after a state."""
+    state, line = found
+    classes = state.classes()
+    with TemporaryDirectory(prefix="metad-worst-") as folder:
+        room = Path(folder)
+        (room / "classes").write_text(classes)
+        taken = behind(program, room, state, line, turns)
+        kept = memory(program, room, state, line, turns) if line.keeps else None
+    return Cost(state.name, line.name, line.rows, line.does, taken, alone(program, classes, line.line), kept)
 
 
-def table(program: str, sizes: Sizes, words: str, room: Path) -> Iterator[Row]:
-    """The rows of the table, which are printed one by one."""
-    for state in states(sizes):
-        if words in state.name:
-            for row in rows_of(program, state, sizes.turns, room):
-                print(row.text(), flush=True)
-                yield row
-
-
-def kind_of(line: Worst) -> str:
-    """The command of a line, or what it does if it calls a slot for its actions."""
-    return json.loads(line.line)["do"] if line.name.startswith("`") else line.name
-
-
-def chosen(rows: list[Row]) -> list[Row]:
-    """Of each state and each command in it the line that takes most of what it may, if that is far too much."""
-    most = {(row.state, kind_of(row.line)): row for row in sorted(rows, key=lambda it: it.share)}
-    return [it for it in rows if it.share >= FAR and it in most.values()]
-
-
-def page_rows(rows: list[Row]) -> Iterator[str]:
-    """The rows of the page, one for each state that has such a line."""
-    for state, found in itertools.groupby(chosen(rows), key=lambda it: it.state):
-        lines = (f"{it.line.name}: {'takes too long' if it.taken is None else f'{it.share:,.0f}'}" for it in found)
-        yield f"| {state} | {'; '.join(lines)} |\n"
-
-
-def write_page(rows: list[Row]) -> None:
-    """Writes the table of the page again."""
-    before, head, after = PAGE.read_text().partition(PAGE_HEAD)
-    if not head:
-        raise Fault(f"{PAGE.name} has no table with this head: {PAGE_HEAD}")
-    PAGE.write_text(before + head + "".join(page_rows(rows)) + "\n" + after.partition("\n\n")[2])
+def counted(given: argparse.Namespace, lines: list[tuple[State, Worst]], turns: int) -> Iterator[Cost]:
+    """What each of these lines takes, in their order; each is printed with its mark, and some are counted at once."""
+    known = worst_marks.read()
+    print(HEAD, end="", flush=True)
+    with ThreadPoolExecutor(given.lanes) as pool:
+        waiting = [pool.submit(cost_of, given.program, turns, it) for it in lines]
+        try:
+            for (_, line), found in zip(lines, waiting):
+                cost = found.result()
+                print(worst_marks.text_of(cost, line.told.count("\n"), known.get(cost.name)), flush=True)
+                yield cost
+        finally:
+            for it in waiting:
+                it.cancel()
 
 
 def options() -> argparse.Namespace:
     """The words of the command line."""
-    parser = argparse.ArgumentParser(description="Counts the instructions of the most expensive lines of each command.")
-    parser.add_argument("program", help="the built program")
-    parser.add_argument("--only", default="", help="words in the names of the states that are counted")
-    parser.add_argument("--calls", type=int, default=Sizes.calls, help=f"of slots that do much, {Sizes.calls:,} at first")
-    parser.add_argument("--write", action="store_true", help="writes the table of docs/internals/MEASURES.md")
+
+    def path(word: str) -> str:
+        if not Path(word).is_file():
+            raise argparse.ArgumentTypeError(f"there is no file {word}")
+        return str(Path(word).resolve())
+
+    def lanes(word: str) -> int:
+        if not word.isdecimal() or int(word) == 0:
+            raise argparse.ArgumentTypeError(f"{word} is not a number of lines")
+        return int(word)
+
+    parser = argparse.ArgumentParser(description=__doc__, formatter_class=argparse.RawDescriptionHelpFormatter)
+    parser.add_argument("program", type=path, help="the built program")
+    parser.add_argument("--only", action="append", metavar="WORDS", help="counts only states with these words in their names; may be repeated")
+    parser.add_argument("--lanes", type=lanes, default=os.cpu_count() or 1, metavar="N", help="how many lines are counted at once (%(default)s)")
+    parser.add_argument("--calls", type=int, default=Sizes.calls, help="calls of slots that do much; other counts than the usual one have no guards")
+    parser.add_argument("--write", action="store_true", help="writes down the counts of this run and guards made from them")
     given = parser.parse_args()
-    if given.only and given.write:
-        parser.error("only a whole table is written")
+    if given.write and given.calls != Sizes.calls:
+        parser.error("only counts of the usual sizes are written")
     return given
+
+
+def measure(given: argparse.Namespace) -> list[str]:
+    """Prints everything; answers the regressions."""
+    sizes = Sizes(calls=given.calls)
+    everything = [(state, line) for state in states(sizes) for line in state.worst]
+    lines = [it for it in everything if given.only is None or any(words in it[0].name for words in given.only)]
+    costs, known = list(counted(given, lines, sizes.turns)), worst_marks.read()
+    print(f"\n{sum(it.share > 1 for it in costs)} of {len(costs)} lines take more than they may")
+    goals = worst_marks.reached(costs, known)
+    print(f"{sum(goals)} of {len(goals)} goals are reached")
+    faults = [f"{it.state}: {it.line}: {said}" for it in costs for said in worst_marks.faults_of(it, known.get(it.name))]
+    if given.write:
+        worst_marks.write(worst_marks.merged(costs, known, [(state.name, line.name) for state, line in everything]))
+        print(f"{len(costs)} counts and new guards are written down; with the guards before:")
+    print("\n".join(["regressions:", *faults] if faults else ["all guards are kept"]))
+    return [] if given.write else faults
 
 
 def main() -> int:
     given = options()
     if not has_valgrind():
         sys.exit(HOW_TO_COUNT)
-    print(HEAD, end="", flush=True)
-    with TemporaryDirectory(prefix="metad-worst-") as room:
-        try:
-            rows = list(table(str(Path(given.program).resolve()), Sizes(calls=given.calls), given.only, Path(room)))
-            if given.write:
-                write_page(rows)
-        except Fault as fault:
-            sys.exit(str(fault))
-    over = sum(row.share > 1 for row in rows)
-    print(f"\n{over} of {len(rows)} lines take more than they may")
-    return 1 if over else 0
+    try:
+        return 1 if measure(given) else 0
+    except Fault as fault:
+        sys.exit(str(fault))
+    except BrokenPipeError:
+        sys.stdout = None  # nothing more can be written
+        return 1
+    except KeyboardInterrupt:
+        return 130
 
 
 if __name__ == "__main__":

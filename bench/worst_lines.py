@@ -13,7 +13,7 @@ from functools import partial
 from pathlib import Path
 from typing import Any, Callable, Dict, Iterable, Iterator, List, Tuple
 
-from lines import ENCODE, called, class_file, command, reply, sum_of
+from lines import ENCODE, called, class_file, command, refusal, reply, sum_of
 
 DESCRIBED = Path(__file__).with_name("worst.txt")
 
@@ -36,6 +36,7 @@ class Sizes:
     bindings: int = 1_024
     publications: int = 1_024
     joins: int = 1_024
+    sessions: int = 1_000  # that join one signal
     classes: int = 1_024
     calls: int = 10_000  # of a slot that does as much as it may
     turns: int = 1_000_000
@@ -43,10 +44,11 @@ class Sizes:
 
 @dataclass(frozen=True)
 class Worst:
-    """A line that is counted, with its expected output.
+    """A line that is counted, or some lines that are counted together, with the expected output.
 
     By its meaning it looks at so many rows, and does so much: itself, and each action, call, event, evaluation of a binding,
-    end of an object and post that arrives of all that it brings about.
+    end of an object and post that arrives of all that it brings about. Where it needs much memory for what it keeps, that is
+    so many bytes.
     """
 
     name: str
@@ -54,6 +56,7 @@ class Worst:
     told: str
     rows: int = 0
     does: int = 1
+    keeps: int = 0
 
 
 @dataclass(frozen=True)
@@ -105,6 +108,8 @@ NODE = {
         {"sig": "tie(int)", "body": TIE * (ACTIONS // 2)},
         {"sig": "seek(int)", "body": [CHILD] * ACTIONS},
         {"sig": "look()", "body": [CHILD]},
+        {"sig": "step(int)", "body": [{"set": "x", "to": {"+": [{"prop": "x"}, {"const": 1}]}}]},
+        {"sig": "flip(int)", "body": [{"set": "x", "to": {"-": [{"const": 1}, {"prop": "x"}]}}]},
         {"sig": "work(int)", "body": [{"set": "x", "to": as_large_as_may_be({"arg": 0})}] * ACTIONS},
         {"sig": "all(int)", "body": EACH},
     ],
@@ -112,6 +117,14 @@ NODE = {
         {"name": "x", "type": "int", "notify": "xChanged(int)", "bindable": True},
         {"name": "y", "type": "int", "bindable": True},
     ],
+}
+TEXTS = f"({','.join(['QString'] * 10)})"  # as many parameters as there may be
+FRESH = {"cat": [{"prop": "objectName"}, {"const": "end"}]}
+TALKER = {
+    "name": "Talker",
+    "super": "QObject",
+    "signals": [f"said{TEXTS}"],
+    "slots": [{"sig": "say(int)", "body": [{"emit": f"said{TEXTS}", "args": [FRESH] * 10}]}, {"sig": f"hear{TEXTS}", "body": []}],
 }
 SIGNALS = [f"{LONG}{number:03}(int)" for number in range(100)]
 SLOTS = [f"{LONG}{number:03}(int)" for number in range(100, 253)]
@@ -151,7 +164,7 @@ HUB_PROPERTIES = [
 
 
 def usual_classes() -> str:
-    return class_file(map(ENCODE, (NODE, HUB)))
+    return class_file(map(ENCODE, (NODE, HUB, TALKER)))
 
 
 def deep_classes(count: int) -> str:
@@ -256,22 +269,28 @@ NAMES_OF_LINES: Names = {
     **{it.__name__: it for it in (*BUILT_IN, *OF_LINES)},
     **{"after": After, "large": as_large_as_may_be, "refused": Refused, "__builtins__": {}},
     **{"ACTIONS": ACTIONS, "EACH": EACH, "HUB_DESCRIBED": HUB_DESCRIBED, "HUB_MEMBERS": HUB_MEMBERS, "HUB_PROPERTIES": HUB_PROPERTIES, "LONG": LONG},
-    **{"NAMES": NAMES, "SIGNALS": SIGNALS, "SLOTS": SLOTS},
+    **{"NAMES": NAMES, "SIGNALS": SIGNALS, "SLOTS": SLOTS, "TEXTS": TEXTS},
 }
 
 
 # How the description is read.
 
 EACH_OF = re.compile(r"(\w+) in (.*?): (.*)")
-GIVEN = re.compile(r"(?:(\w): )?(\w+) (.+)")
+GIVEN = re.compile(r"(?:(\w|\{.+?\}): )?(\w+) (.+)")
+SESSION = re.compile(r"\{(.+)\}")
 IN_NAME = re.compile(r"\{([^{}]+?)(:,)?\}")
+
+
+def compiled(text: str) -> Any:
+    """An expression of the description."""
+    return compile(text.strip(), str(DESCRIBED), "eval")
 
 
 @dataclass(frozen=True)
 class Given:
     """A command of the description with its answer, for the values of its names."""
 
-    session: str
+    session: Any
     word: str
     keys: Any
     answer: Any
@@ -281,19 +300,21 @@ class Given:
         found = GIVEN.fullmatch(given)
         if found is None:
             raise ValueError(f"no command: {given}")
-        return cls(found[1] or "a", found[2], *(compile(it.strip(), str(DESCRIBED), "eval") for it in (found[3], answer)))
+        computed = SESSION.fullmatch(found[1] or "a")
+        session = computed[1] if computed else repr(found[1] or "a")
+        return cls(compiled(session), found[2], compiled(found[3]), compiled(answer))
 
     def line(self, names: Names, **more: Any) -> Line:
         """The line, and its output."""
-        keys, answer = (eval(it, names, more) for it in (self.keys, self.answer))
+        session, keys, answer = (eval(it, names, more) for it in (self.session, self.keys, self.answer))
         told = ""
         if isinstance(answer, After):
             told, answer = answer.told, answer.answer
         if isinstance(answer, Refused):
-            told += ENCODE({"error": answer.code, "session": self.session}) + "\n"
+            told += refusal(session, answer.code)
         else:
-            told += reply(self.session, answer)
-        return command(self.session, self.word, **keys), told
+            told += reply(session, answer)
+        return command(session, self.word, **keys), told
 
 
 def made(parents: List[int]) -> Lines:
@@ -356,9 +377,14 @@ class Reading:
             name, values, given = found.groups()
             self.steps.append(partial(repeated, name, values, Given.read(*given.split(" | ")), self.names))
         else:
-            name, given, answer, *more = line.split(" | ")
-            numbers = [self.value(it) for it in more]
-            self.worst.append(Worst(self.named(name), *Given.read(given, answer).line(self.names), *numbers))
+            name, _, lines = line.partition(" | ")
+            self.worst.append(self.counted(self.named(name), lines.split(" && ")))
+
+    def counted(self, name: str, lines: List[str]) -> Worst:
+        """Lines that are counted together; the last of them has the numbers."""
+        *first, (given, answer, *numbers) = (it.split(" | ") for it in lines)
+        made = [Given.read(*it).line(self.names) for it in (*first, (given, answer))]
+        return Worst(name, *map("".join, zip(*made)), *map(self.value, numbers))
 
     def before(self) -> Lines:
         """The commands before the counted one."""

@@ -33,14 +33,14 @@ import binding_inputs  # isort: skip  # noqa: E402
 import counting  # isort: skip  # noqa: E402
 import inputs  # isort: skip  # noqa: E402
 import marks  # isort: skip  # noqa: E402
-import worst  # isort: skip  # noqa: E402
 import worst_lines  # isort: skip  # noqa: E402
+import worst_marks  # isort: skip  # noqa: E402
 from figures import FIGURES, Figure, Ratio  # isort: skip  # noqa: E402
 from lines import demonstration_classes, usual_classes  # isort: skip  # noqa: E402
 
 PAGE, SCALING = (ROOT / "docs" / name for name in ("internals/MEASURES.md", "SCALING.md"))
 COUNTED = "set and get, in 1 session"
-FEW = {"objects": 120, "levels": 9, "connections": 410, "events": 400, "bindings": 12, "publications": 6, "joins": 5, "classes": 20}
+FEW = {"objects": 120, "levels": 9, "connections": 410, "events": 400, "bindings": 12, "publications": 6, "joins": 5, "sessions": 6, "classes": 20}
 SMALL = worst_lines.Sizes(**FEW, calls=10, turns=1_000)
 AT_LIMITS = ["a session at all its limits", "a signal that brings about 961 calls"]  # the last states
 BYTES = {"another session": 400.0}
@@ -148,7 +148,7 @@ class Dearest(ProgramCases):
     def test_commands(self) -> None:
         """Each command of the protocol has a line, and each line has an answer."""
         lines = [line for state in self.states for line in state.worst]
-        counted = {json.loads(line.line)["do"] for line in lines}
+        counted = {json.loads(it)["do"] for line in lines for it in line.line.splitlines()}
         self.assertEqual(counted, {do for do, *_ in protocol.commands()})
         self.assertEqual([line.name for line in lines if not line.told.endswith("\n")], [])
         names = [state.name for state in self.states]
@@ -167,7 +167,7 @@ class Dearest(ProgramCases):
         self.check_each(cases, self.fault_of)
 
     def fault_of(self, case: Tuple[str, str, str]) -> Optional[str]:
-        """What differs in a run of a state and a line."""
+        """What differs in a run of a state and a line, or lines."""
         classes, given, wanted = case
         with NamedTemporaryFile("w", prefix="metad-worst-") as file:
             file.write(classes)
@@ -177,31 +177,71 @@ class Dearest(ProgramCases):
         return difference(wanted.encode(), ran.stdout.encode())
 
 
-class Chosen(Cases):
-    """The lines that bench/worst.py writes on the page."""
+class Costs(Cases):
+    """bench/worst.json, which has what these lines took, and the table of the page that is made from it."""
 
-    def row(self, state: str, name: str, do: str, taken: Optional[int]) -> worst.Row:
+    def setUp(self) -> None:
+        self.known = worst_marks.read()
+
+    def cost(self, state: str, line: str, taken: Optional[int], **more: int) -> worst_marks.Cost:
         """A line that may take 3,600 instructions, next to the 400 that it takes in an empty session."""
-        return worst.Row(state, worst_lines.Worst(name, json.dumps({"do": do}), "", rows=2), taken, 400)
+        return worst_marks.Cost(state, line, rows=2, does=1, taken=taken, alone=400, **more)
+
+    def test_guards(self) -> None:
+        """A guard is at least 1.03 times the count next to it, and no more than one step above that; of memory 512 KiB more."""
+        for it in self.known.values():
+            for count, guard, more in ((it.taken, it.guard, 0), (it.memory, it.memory_guard, 512)):
+                self.assertEqual(count is None, guard is None, it)
+                if count is not None and guard is not None:
+                    self.assertTrue(1.03 * count - 1e-6 <= guard - more <= 1.03 * count + 1, it)
+
+    def test_faults(self) -> None:
+        """What is over its guard is a fault, and so is a line that takes too long or has no guard; a goal decides nothing."""
+        mark = self.cost("many", "`get`", 1_000, memory=100, guard=1_030, memory_guard=615, goal=10)
+        over = ["it is over its guard of 1,030 instructions", "it is over its guard of 615 KiB"]
+        for taken, memory, faults in ((1_030, 615, []), (1_031, 615, over[:1]), (1_030, 616, over[1:]), (None, 1, over[:1])):
+            self.assertEqual(list(worst_marks.faults_of(self.cost("many", "`get`", taken, memory=memory), mark)), faults)
+        self.assertEqual(list(worst_marks.faults_of(mark, None)), ["it has no guard"])
+
+    def test_goals(self) -> None:
+        """A goal is reached by what is at most that; a line without one is not counted."""
+        known = {it.name: it for it in (self.cost("a", "`get`", 9, goal=10), self.cost("b", "`get`", 9, goal=10), self.cost("c", "`get`", 9))}
+        made = [self.cost(state, "`get`", taken) for state, taken in (("a", 10), ("b", 11), ("c", 1), ("new", 1))]
+        self.assertEqual(worst_marks.reached(made, known), [True, False])
+
+    def test_merged(self) -> None:
+        """A run of some lines leaves the marks of the others as they are; goals stay, and what is no line any more goes."""
+        first, other, old = (self.cost(name, "`get`", 1_000, guard=1_030, goal=10) for name in ("first", "other", "old"))
+        known = {it.name: it for it in (old, other, first)}
+        made = worst_marks.merged([self.cost("first", "`get`", 2_000, memory=100)], known, [first.name, other.name, ("new", "`get`")])
+        self.assertEqual(made, [self.cost("first", "`get`", 2_000, memory=100, guard=2_060, memory_guard=615, goal=10), other])
 
     def test_chosen(self) -> None:
         """Of each state and command the worst line is written, if it takes at least three times what it may."""
-        rows = [
-            self.row("many", "`set` of one", "set", 400 + 4 * 3_600),
-            self.row("many", "`set` of another", "set", 400 + 5 * 3_600),
-            self.row("many", "`get`", "get", 400 + 3 * 3_600 - 1),
-            self.row("many", "a slot", "invoke", 400 + 3 * 3_600),
-            self.row("more", "`set` of one", "set", None),
-            self.row("few", "`set` of one", "set", 400),
+        costs = [
+            self.cost("many", "`set` of one", 400 + 4 * 3_600),
+            self.cost("many", "`set` of another", 400 + 5 * 3_600),
+            self.cost("many", "`get`", 400 + 3 * 3_600 - 1),
+            self.cost("many", "a slot", 400 + 3 * 3_600),
+            self.cost("more", "`set` of one", None),
+            self.cost("few", "`set` of one", 400),
         ]
-        self.assertEqual(list(worst.page_rows(rows)), ["| many | `set` of another: 5; a slot: 3 |\n", "| more | `set` of one: takes too long |\n"])
+        rows = ["| many | `set` of another: 5; a slot: 3 |\n", "| more | `set` of one: takes too long |\n"]
+        self.assertEqual(list(worst_marks.page_rows(costs)), rows)
 
     def test_page(self) -> None:
-        """The page has the place for them, and what they may take."""
+        """The page has the place for them, and what lines may take."""
         text = PAGE.read_text()
-        self.assertEqual(text.count(worst.PAGE_HEAD), 1)
-        self.assertIn(f"plus {worst.ITSELF:,} for itself", text)
-        self.assertIn(f"plus {worst.ROW:,} for each row", text)
+        self.assertEqual(text.count(worst_marks.PAGE_HEAD), 1)
+        self.assertIn(f"plus {worst_marks.ITSELF:,} for itself", text)
+        self.assertIn(f"plus {worst_marks.ROW:,} for each row", text)
+
+    def test_words(self) -> None:
+        """Wrong words are answered by a usage line and status 2."""
+        program = str(ROOT / "bench" / "worst.py")
+        for words in ([], ["no program"], [program, "--lanes", "0"], [program, "--calls", "7", "--write"], [program, "--all"]):
+            ran = subprocess.run([sys.executable, program, *words], capture_output=True, text=True, timeout=SECONDS)
+            self.assertEqual((ran.returncode, ran.stdout, ran.stderr.partition(" ")[0]), (2, "", "usage:"), words)
 
 
 class Fixed(ProgramCases):
