@@ -24,6 +24,14 @@ GROWTH = ("figure", "per", "small", "large", "ratio", "goals")  # the columns of
 LINES = ("figure", "per", "count", "goal")
 MEMORY = ("figure", "unit", "count", "goal")
 
+GOALS_OF_MEMORY = {
+    "another Cell": 600,
+    "another binding": 550,
+    "another queued event": 90,
+    "another join": 80,
+    "a call, until its command ends": 80,
+}  # in bytes
+
 ROOM = 1.03  # a guard is so many times the count that it was made from
 SMALLEST = 0.01  # and at least so much more than that, which is the last digit that is shown
 
@@ -97,10 +105,14 @@ def of_run(figures: Iterable[Figure | Ratio], values: Dict[str, float], known: D
 
 
 def write(marks: List[Mark], sessions: Dict[str, float]) -> None:
-    """Writes down marks, here and on the page, which has the bytes of sessions too."""
+    """Writes down marks, here and on the page, which has the bytes of sessions and of what they hold too."""
     MARKS.write_text("[\n" + ",\n".join(json.dumps(asdict(it)) for it in marks) + "\n]\n")
-    memory = [Mark(name, "bytes", rounded(value), None, None) for name, value in sessions.items()]
-    write_page({it.name: it for it in marks}, memory)
+    write_page({it.name: it for it in marks}, marks_of_memory(sessions))
+
+
+def marks_of_memory(sessions: Dict[str, float]) -> List[Mark]:
+    """The marks of bytes of sessions and of what they hold, which have goals and no guards."""
+    return [Mark(name, "bytes", round(value), None, GOALS_OF_MEMORY.get(name)) for name, value in sessions.items()]
 
 
 def table_of(columns: Iterable[str], rows: Iterable[Iterable[str]]) -> str:

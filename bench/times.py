@@ -4,19 +4,51 @@ import shutil
 import subprocess
 import time
 from dataclasses import dataclass
+from functools import partial
 from pathlib import Path
+from typing import Callable, Iterable
 
+import held_inputs as held
 import inputs
 from counting import Fault
-from figures import Figure
+from figures import Figure, Line
+from lines import demonstration_classes, usual_classes
 
 RUNS = 5
 PATIENCE = 60
 MANY_SESSIONS = 100_000
+SOME_SESSIONS = 100
+
+
+@dataclass(frozen=True)
+class Held:
+    """Things that the program needs memory for; `lines` gives the input with so many, each so often.
+
+    The memory of one is the difference between few and many. Both numbers are powers of two, so that tables which double
+    when they are full are full in both.
+    """
+
+    lines: Callable[[int], Iterable[Line]]
+    few: int = held.MOST // 8
+    many: int = held.MOST
+    often: int = 1
+    classes: Callable[[], str] = usual_classes
+
+
+def in_sessions(lines, **more):
+    """Things that are in some sessions, because those in one would take little memory."""
+    return Held(partial(lines, SOME_SESSIONS), often=SOME_SESSIONS, **more)
+
 
 SESSIONS = {
-    "another session, without objects": inputs.idle,
-    "another session, with a named object": inputs.once_each,
+    "another session, without objects": Held(inputs.idle, 1, MANY_SESSIONS),
+    "another session, with a named object": Held(inputs.once_each, 1, MANY_SESSIONS),
+    "another Cell": in_sessions(held.many_cells, classes=demonstration_classes),
+    "another binding": in_sessions(held.many_bindings, classes=demonstration_classes),
+    "another queued event": in_sessions(held.many_events),
+    "another join": in_sessions(held.many_joins),
+    "another connection": in_sessions(held.many_connections),
+    "a call, until its command ends": Held(held.many_calls, held.RELAYS // 8, held.RELAYS, held.MOST),
 }
 
 
@@ -66,11 +98,12 @@ def time_of(program, figure, of_others, room):
     return Time(figure.shared_out(more, figure.often - 1, of_others), peak_of(program, room))
 
 
-def bytes_of_session(program, lines, room):
-    """How many bytes another session takes, by the peaks of one and of many; `lines` gives the input of so many."""
-    figure = Figure("another session", "session", 1, lines)
+def bytes_of_session(program, things, room):
+    """How many bytes another one of these things takes, by the peaks of few and of many."""
+    figure = Figure("memory", "thing", 1, things.lines, classes=lambda times: things.classes())
     peaks = []
-    for sessions in (1, MANY_SESSIONS):
-        room.fill(figure, sessions)
+    for count in (things.few, things.many):
+        room.fill(figure, count)
         peaks.append(peak_of(program, room))
-    return 1_024 * (peaks[1] - peaks[0]) / (MANY_SESSIONS - 1)
+        room.check()
+    return 1_024 * (peaks[1] - peaks[0]) / ((things.many - things.few) * things.often)

@@ -31,8 +31,10 @@ sys.path.insert(0, str(ROOT / "bench"))
 import bench  # isort: skip  # noqa: E402
 import binding_inputs  # isort: skip  # noqa: E402
 import counting  # isort: skip  # noqa: E402
+import held_inputs  # isort: skip  # noqa: E402
 import inputs  # isort: skip  # noqa: E402
 import marks  # isort: skip  # noqa: E402
+import times  # isort: skip  # noqa: E402
 import worst_lines  # isort: skip  # noqa: E402
 import worst_marks  # isort: skip  # noqa: E402
 from figures import FIGURES, Figure, Ratio  # isort: skip  # noqa: E402
@@ -44,6 +46,8 @@ FEW = {"objects": 120, "levels": 9, "connections": 410, "events": 400, "bindings
 SMALL = worst_lines.Sizes(**FEW, calls=10, turns=1_000)
 AT_LIMITS = ["a session at all its limits", "a signal that brings about 961 calls"]  # the last states
 BYTES = {"another session": 400.0}
+MODULES = (inputs, binding_inputs, held_inputs)
+USUAL = re.compile(rb'"(?:Bell|Ear|Link|Pair|Panel)"')  # classes that the demonstration does not have
 
 
 class Marks(Cases):
@@ -67,11 +71,15 @@ class Marks(Cases):
                 self.assertTrue(least - 1e-9 <= it.guard <= least + step, it)
 
     def test_tables(self) -> None:
-        """The page shows counts and goals as they are; the bytes of sessions, which have no marks, follow."""
+        """The page shows counts and goals as they are; the bytes of sessions and of what they hold, which have no marks, follow."""
         (shown,) = re.findall(r"<!-- tables: counts -->\n\n(.*?)\n<!-- end of tables -->", PAGE.read_text(), re.DOTALL)
         made = marks.tables_of(self.known, [])
         self.assertEqual(shown[: len(made)], made)
-        self.assertRegex(shown[len(made) :], r"\A(\| another session, [^|]* \| bytes \| \d+ \| - \|\n){2}\Z")
+        memory = [row.strip("| ").split(" | ") for row in shown[len(made) :].splitlines()]
+        self.assertEqual([(name, unit) for name, unit, *_ in memory], [(name, "bytes") for name in times.SESSIONS])
+        for name, unit, count, goal in memory:
+            mark = marks.Mark(name, unit, int(count.strip("*").replace(",", "")), None, marks.GOALS_OF_MEMORY.get(name))
+            self.assertEqual([name, unit, count, goal], marks.row_of(mark, unit))
 
     def test_each_once(self) -> None:
         """Each figure is in one table: with its ratio if it has one. So all counts are on the page."""
@@ -115,8 +123,8 @@ class Inputs(ProgramCases):
 
     def test_each(self) -> None:
         """Each function that gives an input gives one here."""
-        functions = (it for module in (inputs, binding_inputs) for it in inspect.getmembers(module, inspect.isfunction))
-        own = {name for name, it in functions if it.__module__ in (inputs.__name__, binding_inputs.__name__)}
+        functions = [it for module in MODULES for it in inspect.getmembers(module, inspect.isfunction)]
+        own = {name for name, it in functions if it.__module__ in {module.__name__ for module in MODULES}}
         self.assertEqual({name for name, _ in small_inputs()} | HELPERS, own)
 
     def test_told(self) -> None:
@@ -128,7 +136,7 @@ class Inputs(ProgramCases):
     def fault_of(self, lines: List[Line]) -> Optional[str]:
         """What differs in what the plain program or the built one writes for these lines."""
         given, wanted = ("".join(texts).encode() for texts in zip(*lines))
-        classes = demonstration_classes() if b"Probe" in given or b'"tag"' in given else usual_classes()
+        classes = usual_classes() if USUAL.search(given) else demonstration_classes()
         server = Server(Classes(json.loads(classes)["classes"]), int(counting.TURNS))
         by_plain = b"".join(answer(server, line) for line in given.splitlines())
         with NamedTemporaryFile("w", prefix="metad-input-") as file:

@@ -10,12 +10,13 @@ from .program import ROOT
 sys.path.insert(0, str(ROOT / "bench"))
 
 import binding_inputs  # isort: skip  # noqa: E402
+import held_inputs  # isort: skip  # noqa: E402
 import inputs  # isort: skip  # noqa: E402
 
 Line = Tuple[str, str]
 HELPERS = {
     *("numbered", "spelled", "values_in_turn", "family", "come_and_go", "connections", "random_ends", "tie_cells", "other_sessions"),
-    *("other_connections", "publisher", "listeners", "in_group", "bound_pairs", "same_as"),
+    *("other_connections", "publisher", "listeners", "in_group", "bound_pairs", "same_as", "names_of"),
 }  # functions that give parts of inputs
 
 
@@ -24,6 +25,7 @@ def small_inputs() -> Iterator[Tuple[str, Iterable[Line]]]:
     yield from small_objects()
     yield from small_calls()
     yield from small_bindings()
+    yield from small_held()
 
 
 def small_objects() -> Iterator[Tuple[str, Iterable[Line]]]:
@@ -71,3 +73,11 @@ def small_bindings() -> Iterator[Tuple[str, Iterable[Line]]]:
     for it in (*own, *changed, binding_inputs.bindings_listed, binding_inputs.diamonds):
         yield it.__name__, it(6, 8)
     yield "diamonds", binding_inputs.diamonds(40, 2)
+
+
+def small_held() -> Iterator[Tuple[str, Iterable[Line]]]:
+    """Small inputs of what memory is measured for."""
+    of_few = (held_inputs.many_cells, held_inputs.many_events, held_inputs.many_joins, held_inputs.many_connections)
+    yield from ((it.__name__, it(2, 5)) for it in of_few)
+    yield "many_bindings", held_inputs.many_bindings(2, 5, 8)
+    yield "many_calls", held_inputs.many_calls(2, 3, 5)
