@@ -149,9 +149,9 @@ def listens(path):
 
 
 class ClientCases(ProgramCases):
-    """Tests that have a folder of their own, and have to end in a time."""
+    """Tests that have a folder of their own, and have to end in a time, also on a machine that does much else."""
 
-    seconds = SECONDS
+    seconds = 3 * SECONDS
 
     def setUp(self):
         self.room = self.enterContext(TemporaryDirectory(prefix="metad-clients-"))
@@ -197,8 +197,6 @@ class Log:
 
 class FrontCases(ClientCases):
     """Tests of a front, with many clients and servers at once."""
-
-    seconds = 3 * SECONDS
 
     def wait_for(self, path, process):
         """Waits until a front listens."""

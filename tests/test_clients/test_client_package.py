@@ -140,9 +140,9 @@ class Package(ClientCases):
         if shutil.which("mypy") is None:
             self.skipTest("mypy is not on the path")
         Path(self.room, "program.py").write_text(TYPED)
-        own = {**os.environ, "MYPYPATH": os.pathsep.join(map(str, (PYTHON, CLIENTS)))}
+        own = {**os.environ, "MYPYPATH": os.pathsep.join(map(str, (PYTHON, CLIENTS, self.room)))}
         tools = [word for tool in ("checking", "common", "explaining", "shelling", "slicing") for word in ("-p", tool)]
-        words = ["mypy", "--strict", "--no-error-summary", "--cache-dir", self.room]
-        for what in (["-p", "metad", "-m", "build_package"], ["program.py"], tools):
-            ran = subprocess.run([*words, *what], cwd=self.room, env=own, capture_output=True, text=True, timeout=self.seconds)
-            self.assertEqual((ran.returncode, ran.stdout, ran.stderr), (0, "", ""), what)
+        words = ["mypy", "--strict", "--no-error-summary", "--cache-dir", Path(self.room, "cache")]
+        words += ["-p", "metad", "-m", "build_package", "-m", "program", *tools]
+        ran = subprocess.run(words, cwd=self.room, env=own, capture_output=True, text=True, timeout=self.seconds)
+        self.assertEqual((ran.returncode, ran.stdout, ran.stderr), (0, "", ""))

@@ -14,7 +14,7 @@ from typing import Any, Dict, Iterator, List, Optional, Sequence
 from .errors import ClassFileRefused
 from .programs import Word
 
-CHECK_SECONDS = 10.0  # in which a class file has to be checked, else it is not explained why it is refused
+CHECK_SECONDS = 60.0  # in which a class file has to be checked, else it is not explained why it is refused
 
 
 def tool_beside(name: str) -> Optional[str]:
