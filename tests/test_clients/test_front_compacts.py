@@ -107,7 +107,6 @@ class CompactCases(WorkerCases):
     """Tests of fronts that shorten records."""
 
     front_program = FRONT
-    seconds = 100
 
     def start(self, *options, before=(), server=None):
         """A front with records that are shortened."""

@@ -53,8 +53,6 @@ BROKEN = POISON.replace('"poison" in line', "os.path.exists(sys.argv[1])")
 class Killed(WorkerCases):
     """Workers that are killed at any moment, with a record."""
 
-    seconds = 100
-
     def run_killed(self, kind, options):
         seed, kills, at = seed_of(self), 0, 0
         while kills < KILLS // 2:
