@@ -103,7 +103,8 @@ fn run(
     served
 }
 
-/// The sockets at which others connect, each with the kind of connections: clients last.
+/// The sockets at which others connect, each with the kind of connections. That of the clients is made last: whoever finds
+/// it finds all others.
 fn listeners(options: &Options, kept: &mut Kept) -> Result<Vec<(Listener, Comers)>, Ended> {
     let mut bind = |path: &PathBuf, mode| {
         let (listener, bound) = listening(path, mode)?;
@@ -111,8 +112,8 @@ fn listeners(options: &Options, kept: &mut Kept) -> Result<Vec<(Listener, Comers
         Ok::<_, Ended>(Listener::Unix(listener))
     };
     let clients = match options.socket.as_os_str() == PASSED {
-        true => passed()?.into_iter().map(Listener::Unix).collect(),
-        false => vec![bind(&options.socket, options.mode)?],
+        true => Some(passed()?.into_iter().map(Listener::Unix).collect()),
+        false => None,
     };
     let mut all = Vec::new();
     if let Some(path) = &options.monitor {
@@ -133,6 +134,10 @@ fn listeners(options: &Options, kept: &mut Kept) -> Result<Vec<(Listener, Comers
     for (address, comers) in options.network.doors() {
         all.push((Listener::Tcp(listening_over_network(address)?), comers));
     }
+    let clients: Vec<Listener> = match clients {
+        Some(listeners) => listeners,
+        None => vec![bind(&options.socket, options.mode)?],
+    };
     all.extend(clients.into_iter().map(|listener| (listener, Comers::Clients)));
     Ok(all)
 }

@@ -77,6 +77,26 @@ class Faults(FrontCases):
         finally:
             os.close(number)
 
+    def test_clients_last(self):
+        """Whoever finds the socket of the clients finds all others, also if those take long to make: their folder is locked."""
+        path, folder = Path(self.room, "socket"), Path(self.room, "others")
+        folder.mkdir()
+        monitors, metrics = folder / "monitors", folder / "metrics"
+        number = os.open(folder, os.O_RDONLY)
+        try:
+            fcntl.flock(number, fcntl.LOCK_EX)
+            words = [FRONT, "--quiet", "--monitor", monitors, "--metrics", metrics, path, self.program]
+            with subprocess.Popen(words, stderr=subprocess.DEVNULL) as process:
+                try:
+                    self.wait_for(path, process)
+                    for place in (monitors, metrics):
+                        Client(place).leave()
+                finally:
+                    process.terminate()
+                self.assertEqual(process.wait(PATIENCE), 0, "its end")
+        finally:
+            os.close(number)
+
     def test_no_files(self):
         """If the system lets no client in, and none is connected that could leave, the front tries again on its own."""
         with self.front() as (path, process):
