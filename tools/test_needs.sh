@@ -37,6 +37,7 @@ if [ "$(id -u)" != 0 ] || ! command -v apt-get > /dev/null 2>&1; then
     echo "missing, so these tests are skipped: $missing: apt-get install $packages"
     exit 0
 fi
-# a new machine may not have the lists of packages yet
+# no package may ask a question, and a new machine may not have the lists of packages yet
+export DEBIAN_FRONTEND=noninteractive
 apt-get -o DPkg::Lock::Timeout=300 update -q > /dev/null
 apt-get -o DPkg::Lock::Timeout=300 install -y -q --no-install-recommends $packages > /dev/null || echo "cannot be installed, so these tests are skipped: $missing"
