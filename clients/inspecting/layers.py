@@ -87,8 +87,8 @@ def ranks_of(count: int, links: Sequence[Link]) -> List[int]:
             has_before.add(end)
     rank = [0] * count
     for node in order:
-        for it in out.get(node, ()):
-            rank[it] = max(rank[it], rank[node] + 1)
+        for end in out.get(node, ()):
+            rank[end] = max(rank[end], rank[node] + 1)
     for node in order:
         if node in out and node not in has_before:
             rank[node] = min(rank[it] for it in out[node]) - 1

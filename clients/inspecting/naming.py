@@ -3,9 +3,12 @@
 from __future__ import annotations
 
 from functools import lru_cache
-from typing import Any, List, Tuple
+from typing import List, Tuple, Union
 
 from .session import Session
+
+Key = Tuple[Union[str, int], ...]
+"""What names are ordered by: pieces of letters and numbers by turns."""
 
 
 def split_digits(name: str) -> List[str]:
@@ -20,7 +23,7 @@ def split_digits(name: str) -> List[str]:
 
 
 @lru_cache(maxsize=16_384)
-def in_order(name: str) -> Tuple[Any, ...]:
+def in_order(name: str) -> Key:
     """A key that sorts c2 before c10."""
     return tuple(int(part) if part.isdecimal() and part.isascii() else part for part in split_digits(name))
 

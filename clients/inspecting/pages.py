@@ -146,8 +146,8 @@ class Pages:
 
     def tree(self, world: World, asked: Asked) -> Optional[Json]:
         closed: Set[int] = {int(it) for it in asked.get("closed", "").split(",") if it.isdecimal() and len(it) < 16}
-        more = asked.get("sought", ""), asked.get("class", ""), number_in(asked, "chosen")
-        found = views.tree(world, asked["session"], *part_of(asked), closed, *more)
+        sought, class_name, chosen = asked.get("sought", ""), asked.get("class", ""), number_in(asked, "chosen")
+        found = views.tree(world, asked["session"], *part_of(asked), closed, sought, class_name, chosen)
         return self.with_wanted(world, found, asked["session"], None)
 
     def object(self, world: World, asked: Asked) -> Optional[Json]:

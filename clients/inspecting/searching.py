@@ -5,7 +5,7 @@ from __future__ import annotations
 import time
 from dataclasses import dataclass
 from itertools import islice
-from typing import Any, Callable, Dict, FrozenSet, Iterator, Optional, Tuple
+from typing import Any, Callable, Dict, FrozenSet, Iterator, List, Optional, Tuple
 
 from common.values import UNKNOWN
 
@@ -136,7 +136,8 @@ def row_of(session: Session, kind: str, number: Optional[int], text: str) -> Jso
 def search(world: World, query: Query, clock: Callable[[], float] = time.monotonic) -> Json:
     """Looks through all sessions in the order of their names. The world is locked for one session at a time, so that a long
     search does not delay what the front sends."""
-    until, rows, looked_at = clock() + SECONDS_MOST, [], 0
+    until, looked_at = clock() + SECONDS_MOST, 0
+    rows: List[Json] = []
     with world.lock:
         names = sorted(world.sessions, key=in_order)
     for name in names if query.needle else ():

@@ -3,7 +3,8 @@
 from __future__ import annotations
 
 from dataclasses import dataclass
-from typing import Any, Callable, Dict, List, Optional, Sequence, Set, Tuple
+from functools import partial
+from typing import Any, Callable, Dict, List, Optional, Sequence, Set, Tuple, Union
 
 from common.connections import Connection
 from common.objects import ROOT
@@ -15,7 +16,7 @@ from .described import chain_of, properties_of
 from .effects import cell_of
 from .evaluating import settle_errors
 from .forms import formula
-from .naming import in_order, label
+from .naming import Key, in_order, label
 from .session import Session
 from .world import BEHIND, MILLION, World
 
@@ -81,7 +82,7 @@ def session_row(session: Session, second: int) -> Json:
     }
 
 
-SORTS: Dict[str, Callable[[Session, int], Any]] = {
+SORTS: Dict[str, Callable[[Session, int], Union[Key, int]]] = {
     "name": lambda it, _second: in_order(it.name),
     "objects": lambda it, _second: -len(it.objects.classes),
     "connections": lambda it, _second: -len(it.connections),
@@ -172,8 +173,9 @@ def flattened(session: Session, closed: Set[int]) -> List[Tuple[int, int]]:
     return found + [(it, -1) for it in objects.adrift()]
 
 
-def tree_row(session: Session, number: int, level: int) -> Json:
+def tree_row(session: Session, row: Tuple[int, int]) -> Json:
     objects = session.objects
+    number, level = row
     return {
         "object": number,
         "level": level,
@@ -200,7 +202,7 @@ def tree(
         rows = [(number, 0) for number, _ in rows if session.objects.classes.get(number) == class_name]
     known = is_tree_known(session)
     whole = known and is_whole(session)
-    shown = Part(start, count, chosen).of(rows, lambda it: tree_row(session, *it), lambda it: it[0])
+    shown = Part(start, count, chosen).of(rows, partial(tree_row, session), lambda it: it[0])
     return {**shown, "known": known, "whole": whole, "failed": session.failed}
 
 
