@@ -245,3 +245,9 @@ class Connection(WebSocketServerProtocol):
     def fail_connection(self, code: int = 1006, reason: str = "") -> None:
         """Closes the connection because of what the browser has sent, with a reason for each code."""
         super().fail_connection(code, reason or REASONS.get(code, ""))
+
+
+async def serve_web_socket(web_socket: WebSocketServerProtocol) -> None:
+    """Serves an open WebSocket of the library, which makes a `Connection` for each."""
+    assert isinstance(web_socket, Connection)
+    await web_socket.serve()

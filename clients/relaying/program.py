@@ -136,8 +136,9 @@ def bound(place: Address) -> socket.socket:
 async def serve(given: argparse.Namespace, context: Optional[ssl.SSLContext]) -> int:
     """Serves browsers until a signal ends it."""
     from websockets.legacy.server import serve as listen
+    from websockets.typing import Subprotocol
 
-    from .connection import LINE_MOST, Connection, Relay
+    from .connection import LINE_MOST, Connection, Relay, serve_web_socket
 
     loop, over = asyncio.get_running_loop(), asyncio.Event()
     loop.set_exception_handler(tell_fault)
@@ -145,13 +146,13 @@ async def serve(given: argparse.Namespace, context: Optional[ssl.SSLContext]) ->
         loop.add_signal_handler(number, over.set)
     pages = None if given.files is None else Pages(given.files, CLIENT)
     relay = Relay(given.socket, given.clients, Doorkeeper(given.origin, given.listen.is_local, context is not None), pages)
-    how = {"ssl": context, "ssl_handshake_timeout": SECONDS_OF_HANDSHAKE} if context else {}
+    door = bound(given.listen)
     server = await listen(
-        Connection.serve, sock=bound(given.listen), create_protocol=partial(Connection, relay=relay), subprotocols=["metad"],
+        serve_web_socket, sock=door, create_protocol=partial(Connection, relay=relay), subprotocols=[Subprotocol("metad")],
         compression=None, server_header=None, max_size=LINE_MOST, max_queue=MESSAGES, ping_interval=PING_SECONDS,
-        ping_timeout=PONG_SECONDS, **how,
+        ping_timeout=PONG_SECONDS, ssl=context, ssl_handshake_timeout=SECONDS_OF_HANDSHAKE if context else None,
     )  # fmt: skip
-    tell_place(server.sockets[0].getsockname()[:2], context is not None, pages is not None)
+    tell_place(door.getsockname()[:2], context is not None, pages is not None)
     await over.wait()
     await end(server)
     return 0
