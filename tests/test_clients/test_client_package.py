@@ -19,6 +19,7 @@ from tests.support.program import SECONDS
 
 from . import CLIENTS, PYTHON
 from .fronts import ClientCases
+from .web_sockets import python_with_web_sockets
 
 PIP = "import pip"
 
@@ -136,13 +137,16 @@ class Package(ClientCases):
             self.assertEqual(len(wheel.namelist()), 4, "its files; three are about the wheel")
 
     def test_types(self):
-        """mypy finds no fault in its types and those of the tools, and knows those of replies where it is used."""
+        """mypy finds no fault in its types and those of all tools, and knows those of replies where it is used. The relay is
+        left out where no Python has websockets, whose types it needs."""
         if shutil.which("mypy") is None:
             self.skipTest("mypy is not on the path")
         Path(self.room, "program.py").write_text(TYPED)
         own = {**os.environ, "MYPYPATH": os.pathsep.join(map(str, (PYTHON, CLIENTS, self.room)))}
-        tools = [word for tool in ("checking", "common", "explaining", "shelling", "slicing") for word in ("-p", tool)]
+        python = python_with_web_sockets()
+        tools = {it.parent.name for it in CLIENTS.glob("*/__init__.py")} - ({"relaying"} if python is None else set())
         words = ["mypy", "--strict", "--no-error-summary", "--cache-dir", Path(self.room, "cache")]
-        words += ["-p", "metad", "-m", "build_package", "-m", "program", *tools]
+        words += ["-p", "metad", "-m", "build_package", "-m", "program", *(word for tool in sorted(tools) for word in ("-p", tool))]
+        words += [] if python is None else ["--python-executable", python]
         ran = subprocess.run(words, cwd=self.room, env=own, capture_output=True, text=True, timeout=self.seconds)
         self.assertEqual((ran.returncode, ran.stdout, ran.stderr), (0, "", ""))
