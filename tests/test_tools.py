@@ -201,7 +201,7 @@ class Installing(Tools):
     PACKAGES = {  # of Debian, by their programs
         "mypy": "mypy", "flake8": "flake8", "haproxy": "haproxy", "promtool": "prometheus", "dot": "graphviz", "strace": "strace",
         "logrotate": "logrotate", "chromium": "chromium", "node": "nodejs", "tsc": "node-typescript", "groff": "groff",
-        "openssl": "openssl", "objdump": "binutils", "dpkg-deb": "dpkg-dev",
+        "openssl": "openssl", "socat": "socat", "objdump": "binutils", "dpkg-deb": "dpkg-dev",
     }  # fmt: skip
     OTHERS = ("man", "chromium-browser", "google-chrome", "chrome")  # each may be there in place of one of these
 

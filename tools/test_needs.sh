@@ -27,6 +27,7 @@ need nodejs "the client in JavaScript" node
 need node-typescript "types of the client in JavaScript" tsc
 need groff "the manual page" man groff
 need openssl "TLS" openssl
+need socat "recipes" socat
 need binutils "packages" objdump
 need dpkg-dev "packages for Debian" dpkg-deb
 
