@@ -15,6 +15,7 @@ INSTRUCTIONS, ALLOCATIONS = "instructions", "allocations"
 
 LINES = 20_000
 SOME_LINES = 10_000
+FEWER_LINES = 3_000
 SESSIONS = 10_000
 MANY_SESSIONS = 100_000
 LISTENERS = 100
@@ -23,8 +24,11 @@ CONNECTIONS = 16_384  # as many as a session may have; it may have as many event
 OTHER_CONNECTIONS = 15_000
 FEW = 16
 EARS = 1_000
+EVENTS = 1_000
 BINDINGS = 1_000
 MOST_BINDINGS = 1_024  # as many as a session may have
+REACHED = (33, 330, 1_023)  # bindings that a set reaches, each of which reads many properties
+NEXT_TO = (10, 100, 1_000)  # bindings of others
 RINGS = 20
 TREES = 2
 METAS = 300
@@ -185,9 +189,42 @@ def followed(bindings):
     return Figure(name, "evaluation", rounds, lambda times: bound.chain(bindings, times * rounds), bindings)
 
 
+def fanned(bindings):
+    """The figure of a property that is set, which so many others follow at once."""
+    rounds = max(1, LINES // bindings)
+    name = f"a binding, in a fan of {bindings:,}"
+    return Figure(name, "evaluation", rounds, lambda times: bound.fan(bindings, times * rounds), bindings)
+
+
+def scattered(bindings):
+    """The figure of a property that is set, which reaches so many bindings that read many properties each."""
+    rounds = max(1, MOST_BINDINGS // bindings)
+    name = f"a binding that reads {bound.READS} scattered properties, of {bindings:,} that a set reaches"
+    return Figure(name, "evaluation", rounds, lambda times: bound.diamonds(bindings, times * rounds), bindings)
+
+
 def paired(bindings):
     """The figure of a property that is set and read by one of so many bindings."""
-    return line(f"set of what one of {bindings:,} bindings reads", lambda lines: bound.pairs(bindings, lines))
+    one = f"one of {bindings:,} bindings" if bindings > 1 else "the only binding"
+    return line(f"set of what {one} reads", lambda lines: bound.pairs(bindings, lines))
+
+
+def next_to(name, lines):
+    """Makes the figure of lines that bind and unbind, next to so many bindings of others."""
+    return lambda bindings: line(f"{name}, next to {bindings:,} bindings", lambda count: lines(bindings, count), FEWER_LINES)
+
+
+def gone_next_to(name, lines, told):
+    """Makes the figure of objects that are made, bound or read, and deleted, next to so many bindings of others."""
+    rounds = FEWER_LINES // 3
+    name = f"new, bind and delete of an object that is {name}, next to {{:,}} bindings"
+    return lambda bindings: line_told(name.format(bindings), lambda times: lines(bindings, times), rounds, told)
+
+
+def three(name, make, sizes, things):
+    """The figures of something next to few things, next to more and next to many, and by how much it grows to the last."""
+    few, more, many = sizes
+    return [make(more), *grown(name, make, few, many, things)]
 
 
 UNREAD = line("set of an int that no binding reads", lambda lines: bound.unread(0, lines))
@@ -208,12 +245,20 @@ def unheard_under(names):
     return line(name, lambda lines: inputs.unheard_under(names, JOINS, lines), max(RINGS, SOME_LINES // names))
 
 
-def listened(sessions):
+def listened(sessions, sets=inputs.SETS):
     """The cost of a line of output where so many sessions have joined a property that is set."""
-    told = inputs.SETS + (inputs.SETS + 1) * sessions
+    told = sets + (sets + 1) * sessions
     rounds = max(1, LINES // told)
-    name = f"{inputs.SETS} sets that are published, and a spin in each of {sessions:,} sessions"
-    return Figure(name, "line told", rounds * told, lambda times: inputs.listened(sessions, times * rounds))
+    published = f"{sets} sets that are published" if sets > 1 else "a set that is published"
+    name = f"{published}, and a spin in each of {sessions:,} sessions"
+    return Figure(name, "line told", rounds * told, lambda times: inputs.listened(sessions, times * rounds, sets))
+
+
+def taken_at_random(ears):
+    """The cost of a line of output where events for random ones of so many objects are posted and taken."""
+    told, rounds = 2 * EVENTS + 1, LINES // (2 * EVENTS)
+    name = f"events of {ears:,} random receivers, posted and taken"
+    return line_told(name, lambda times: inputs.posted_at_random(ears, EVENTS, times), rounds, told)
 
 
 def class_file(count):
@@ -247,6 +292,12 @@ NO_CONNECTIONS = line("connections of a session without any", lambda lines: inpu
 CONNECTIONS_LISTED = many_at_once("connections, of {:,}", "connection", inputs.connections_listed, NO_CONNECTIONS, LINES)
 NO_BINDINGS = line("bindings of a session without any", lambda lines: bound.bindings_listed(0, lines))
 BINDINGS_LISTED = many_at_once("bindings, of {:,}", "binding", bound.bindings_listed, NO_BINDINGS, LINES)
+WITH_PRIORITIES = line_told(
+    "events of random priorities, posted and taken",
+    inputs.posted_with_priorities,
+    LINES // (2 * inputs.AT_ONCE),
+    2 * inputs.AT_ONCE + 1,
+)
 ARRIVED = many_at_once("a post, in {:,} sessions", "arrival", inputs.posted, unheard(FEW), LINES)
 
 HEARD = heard(f"a call, of a signal with {EARS:,} receivers")
@@ -271,7 +322,13 @@ FIGURES = [
     Figure("new, set and get in each of many sessions", "line", 3 * SESSIONS, lambda times: inputs.once_each(times * SESSIONS)),
     line("set and get, with blanks and escapes", lambda lines: inputs.spelled(inputs.in_turn(1, lines)), LINES),
     line("set of a list, which is refused", inputs.with_lists),
+    line("set of a negative number with a fraction, which is refused", inputs.with_fractions),
+    line("a line that is not JSON", inputs.without_json),
+    line("a line that is JSON, without a key of its command", inputs.without_keys),
     line("set and get of a declared int", inputs.ints, LINES, demonstration_classes),
+    line("set and get of a negative int", inputs.negatives, LINES, demonstration_classes),
+    line(f"set and get of texts of {inputs.TEXT_BYTES:,} bytes", inputs.long_texts, FEWER_LINES),
+    line("status", inputs.counts),
     line("set and get of a dynamic property", inputs.tags, LINES, demonstration_classes),
     *grown("set of an int", set_beside, 1, OBJECTS, "objects"),
     IN_TREES,
@@ -300,7 +357,14 @@ FIGURES = [
     chained(1),
     chained(CHAINS),
     *grown("a binding", followed, 2 * FEW, BINDINGS, "in a chain"),
+    *three("a binding", fanned, NEXT_TO, "in a fan"),
+    *three("a binding that reads scattered properties", scattered, REACHED, "reached"),
+    paired(1),
     *grown("set of what a binding reads", paired, 10, MOST_BINDINGS, "bindings"),
+    *three("bind and unbind", next_to("bind and unbind", bound.bound_and_unbound), NEXT_TO, "bindings"),
+    *three("bind of what is bound", next_to("bind of what is bound", bound.bound_again), NEXT_TO, "bindings"),
+    *three("deletion of a bound object", gone_next_to("bound", bound.bound_and_deleted, 3), NEXT_TO, "bindings"),
+    *three("deletion of an object that is read", gone_next_to("read", bound.read_and_deleted, 4), NEXT_TO, "bindings"),
     UNREAD,
     UNREAD_BESIDE,
     Ratio("set of what no binding reads: from no binding to one", UNREAD_BESIDE, UNREAD),
@@ -308,12 +372,15 @@ FIGURES = [
     Ratio("set of what no binding reads: from outside a group to one", GROUPED, UNREAD_BESIDE),
     SENT_AND_SPUN,
     line_told("a queued signal, posted and taken", inputs.posted_and_taken, SOME_LINES, 3, demonstration_classes),
+    WITH_PRIORITIES,
+    *grown("events of random receivers", taken_at_random, FEW, OBJECTS, "receivers"),
     *grown("an event", POSTED, FEW, CONNECTIONS, "at once"),
     *grown("set of what is published", unheard, FEW, MANY_SESSIONS, "sessions"),
     unheard_under(1),
     unheard_under(JOINS),
     *grown("a post", ARRIVED, FEW, SESSIONS, "sessions"),
     *grown("sets and spins", listened, LISTENERS, SESSIONS, "sessions"),
+    listened(LISTENERS, sets=1),
     NONE_SEEN,
     *grown("children", SEEN, FEW, OBJECTS, "objects"),
     NONE_SEARCHED,

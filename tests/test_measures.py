@@ -66,7 +66,7 @@ class Marks(Cases):
         """A guard is at least 1.03 times the count next to it, and no more than one step of the last digit above that."""
         for it in self.known.values():
             if it.guard is not None:
-                step = 1 if it.count >= 100 else 0.02
+                step = 1 if it.guard >= 100 else 0.02
                 least = 1.03 * it.count
                 self.assertTrue(least - 1e-9 <= it.guard <= least + step, it)
 
