@@ -195,6 +195,12 @@ class Costs(Cases):
         """A line that may take 3,600 instructions, next to the 400 that it takes in an empty session."""
         return worst_marks.Cost(state, line, rows=2, does=1, taken=taken, alone=400, **more)
 
+    def test_lines(self) -> None:
+        """Each mark has a line, in the same order, with the numbers that the description gives it."""
+        described = [(state.name, line.name, line.rows, line.does) for state in worst_lines.states(worst_lines.Sizes()) for line in state.worst]
+        marked = [(*it.name, it.rows, it.does) for it in self.known.values()]
+        self.assertEqual(marked, [it for it in described if it[:2] in self.known])
+
     def test_guards(self) -> None:
         """A guard is at least 1.03 times the count next to it, and no more than one step above that; of memory 512 KiB more."""
         for it in self.known.values():
