@@ -62,7 +62,7 @@ def verdict(said, count, goal):
 
 
 def show_times(program, room):
-    """Prints how long what the figures count takes, and the memory; answers the bytes of sessions and of what they hold."""
+    """Prints the times of what the figures count, and the memory; returns the bytes of sessions and of what they hold."""
     nanoseconds = {}
     print(f"\n{'times, which decide nothing':{NAMES}} {'ns':>9} {'KiB':>9}")
     for it in (it for it in FIGURES if isinstance(it, Figure) and it.counts_instructions):

@@ -1,4 +1,4 @@
-"""The inputs whose memory is measured: so many things of one kind in each of some sessions, lines with their expected output.
+"""The inputs whose memory is measured: many things of one kind in each of some sessions, as lines with their expected output.
 
 Their classes are those of the demonstration, or the usual ones where there are Bells and Ears.
 """
@@ -23,7 +23,7 @@ def names_of(sessions: int) -> Iterator[str]:
 
 
 def many_cells(sessions: int, count: int) -> Lines:
-    """Cells that nothing was done with."""
+    """Cells that were only made."""
     for name in names_of(sessions):
         yield from numbered(name, 1, ["Cell"] * count)
 

@@ -121,7 +121,7 @@ def refusal(session, code):
 
 
 def in_error(session, number):
-    """The line that warns that a binding of the property x has nothing to read any more."""
+    """The line that warns that what a binding of the property x reads is gone."""
     return ENCODE({"object": number, "property": "x", "session": session, "warning": "EvaluationError"}) + "\n"
 
 
@@ -143,7 +143,7 @@ def child(session, parent, number):
 
 
 def delete(session, number, told=""):
-    """An object is deleted, which brings these lines before the reply."""
+    """An object is deleted; these lines come before the reply."""
     return command(session, "delete", object=number), told + reply(session, True)
 
 
@@ -186,7 +186,7 @@ def bind(session, number, to):
 
 
 def unbind(session, number):
-    """The property x of an object, which is bound, is so no longer."""
+    """The property x of an object is unbound."""
     return command(session, "unbind", object=number, property="x"), reply(session, True)
 
 

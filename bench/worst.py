@@ -49,7 +49,7 @@ class TooLong(Exception):
 
 
 class Run:
-    """A run of the program, below callgrind or not, with which it is talked over pipes."""
+    """A run of the program, under callgrind or not, that reads and writes pipes."""
 
     def __init__(self, program: str, room: Path, turns: int, is_counted: bool = True) -> None:
         self.log = room / "log"
@@ -210,7 +210,7 @@ def options() -> argparse.Namespace:
 
 
 def measure(given: argparse.Namespace) -> list[str]:
-    """Prints everything; answers the regressions."""
+    """Prints everything; returns the regressions."""
     sizes = Sizes(calls=given.calls)
     everything = [(state, line) for state in states(sizes) for line in state.worst]
     lines = [it for it in everything if given.only is None or any(words in it[0].name for words in given.only)]

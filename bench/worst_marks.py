@@ -1,4 +1,4 @@
-"""What the most expensive lines took when they were last counted, with a guard and perhaps a goal for each.
+"""What the most expensive lines took when they were last counted; each has a guard, and may have a goal.
 
 `worst.json` has them, and the table of docs/internals/MEASURES.md is made from it.
 """
@@ -48,7 +48,7 @@ class Cost:
 
     @property
     def share(self) -> float:
-        """How much it takes of what it may, beyond what it takes alone."""
+        """How many times the allowance it takes, beyond what it takes alone."""
         may = ITSELF * self.does + ROW * self.rows
         return float("inf") if self.taken is None else max(0, self.taken - self.alone) / may
 
@@ -67,7 +67,7 @@ def text_of(cost: Cost, lines: int, mark: Cost | None) -> str:
 
 
 def faults_of(cost: Cost, mark: Cost | None) -> Iterator[str]:
-    """Why a run fails with what a line took, given its mark."""
+    """Why a run fails because of what a line took, by its mark."""
     if mark is None:
         yield "it has no guard"
         return
@@ -78,7 +78,7 @@ def faults_of(cost: Cost, mark: Cost | None) -> Iterator[str]:
 
 
 def reached(costs: Iterable[Cost], known: Dict[Name, Cost]) -> List[bool]:
-    """Of each line that has a goal whether it has reached it."""
+    """Whether each line that has a goal has reached it."""
     goals = {name: it.goal for name, it in known.items() if it.goal is not None}
     return [it.taken is not None and it.taken <= goals[it.name] for it in costs if it.name in goals]
 
