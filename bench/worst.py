@@ -7,9 +7,9 @@ binding, end of an object and arriving post that it causes, and so much for each
 compared with the expected one. For a few lines the memory that they need is measured too, without valgrind.
 
 Each count has a guard, 1.03 times what was written down, and may have a goal. A count over its guard is a regression, and the
-status is 1. Goals, and what a line may take, are shown and decide nothing. With --write counts and guards are written to
-worst.json, and the lines that take at least three times what they may to the table of docs/internals/MEASURES.md: of each
-state one for each command. A line that takes too long is not counted.
+status is 1. Goals, and what a line may take, are shown and decide nothing. With --write each count is written to worst.json with
+its guard, and the lines that take at least three times what they may to the table of docs/internals/MEASURES.md: of each state
+one for each command. A line that takes too long is not counted.
 """
 
 from __future__ import annotations
@@ -184,7 +184,7 @@ def counted(given: argparse.Namespace, lines: list[tuple[State, Worst]], turns: 
                 it.cancel()
 
 
-def options() -> argparse.Namespace:
+def options(words: list[str] | None = None) -> argparse.Namespace:
     """The words of the command line."""
 
     def path(word: str) -> str:
@@ -202,25 +202,36 @@ def options() -> argparse.Namespace:
     parser.add_argument("--only", action="append", metavar="WORDS", help="counts only states with these words in their names; may be repeated")
     parser.add_argument("--lanes", type=lanes, default=os.cpu_count() or 1, metavar="N", help="how many lines are counted at once (%(default)s)")
     parser.add_argument("--calls", type=int, default=Sizes.calls, help="calls of slots that do much; other counts than the usual one have no guards")
-    parser.add_argument("--write", action="store_true", help="writes down the counts of this run and guards made from them")
-    given = parser.parse_args()
+    parser.add_argument("--new", action="store_true", help="counts only lines that have no guard")
+    parser.add_argument("--write", action="store_true", help="writes down each count at once, and a guard made from it")
+    given = parser.parse_args(words)
     if given.write and given.calls != Sizes.calls:
         parser.error("only counts of the usual sizes are written")
     return given
 
 
+def is_wanted(given: argparse.Namespace, name: worst_marks.Name, known: dict[worst_marks.Name, Cost]) -> bool:
+    """Whether a line is to be counted."""
+    is_named = given.only is None or any(words in name[0] for words in given.only)
+    return is_named and not (given.new and name in known)
+
+
 def measure(given: argparse.Namespace) -> list[str]:
     """Prints everything; returns the regressions."""
-    sizes = Sizes(calls=given.calls)
+    sizes, known = Sizes(calls=given.calls), worst_marks.read()
     everything = [(state, line) for state in states(sizes) for line in state.worst]
-    lines = [it for it in everything if given.only is None or any(words in it[0].name for words in given.only)]
-    costs, known = list(counted(given, lines, sizes.turns)), worst_marks.read()
+    names = [(state.name, line.name) for state, line in everything]
+    wanted = [found for found, name in zip(everything, names) if is_wanted(given, name, known)]
+    costs: list[Cost] = []
+    for cost in counted(given, wanted, sizes.turns):
+        costs.append(cost)
+        if given.write:
+            worst_marks.write(worst_marks.merged(costs, known, names))
     print(f"\n{sum(it.share > 1 for it in costs)} of {len(costs)} lines take more than they may")
     goals = worst_marks.reached(costs, known)
     print(f"{sum(goals)} of {len(goals)} goals are reached")
     faults = [f"{it.state}: {it.line}: {said}" for it in costs for said in worst_marks.faults_of(it, known.get(it.name))]
     if given.write:
-        worst_marks.write(worst_marks.merged(costs, known, [(state.name, line.name) for state, line in everything]))
         print(f"{len(costs)} counts and new guards are written down; with the guards before:")
     print("\n".join(["regressions:", *faults] if faults else ["all guards are kept"]))
     return [] if given.write else faults

@@ -35,6 +35,7 @@ import held_inputs  # isort: skip  # noqa: E402
 import inputs  # isort: skip  # noqa: E402
 import marks  # isort: skip  # noqa: E402
 import times  # isort: skip  # noqa: E402
+import worst  # isort: skip  # noqa: E402
 import worst_lines  # isort: skip  # noqa: E402
 import worst_marks  # isort: skip  # noqa: E402
 from figures import FIGURES, Figure, Ratio  # isort: skip  # noqa: E402
@@ -229,6 +230,14 @@ class Costs(Cases):
         known = {it.name: it for it in (old, other, first)}
         made = worst_marks.merged([self.cost("first", "`get`", 2_000, memory=100)], known, [first.name, other.name, ("new", "`get`")])
         self.assertEqual(made, [self.cost("first", "`get`", 2_000, memory=100, guard=2_060, memory_guard=615, goal=10), other])
+
+    def test_wanted(self) -> None:
+        """With words only states are counted that have them in their names, and with --new only lines without a guard."""
+        known = {("a chain", "`get`"): self.cost("a chain", "`get`", 1_000)}
+        lines = [(state, line) for state in ("a chain", "a star") for line in ("`get`", "`set`")]
+        for words, wanted in (([], lines), (["--new"], lines[1:]), (["--only", "chain"], lines[:2]), (["--only", "chain", "--new"], lines[1:2])):
+            given = worst.options([__file__, *words])
+            self.assertEqual([it for it in lines if worst.is_wanted(given, it, known)], wanted, words)
 
     def test_chosen(self) -> None:
         """Of each state and command the worst line is written, if it takes at least three times what it may."""
