@@ -25,9 +25,9 @@ use Rattle.class_table.specs.declared.fault.ClassFaultKind.{ClassFaultKind}
 use Rattle.class_table.specs.declared.fault.ClassFaultKind.TheVariants.{BadNotify, DeclaredTwice, Limit}
 use Rattle.class_table.specs.declared.fault.Stop.{Stop}
 use Rattle.class_table.specs.declared.fault.Stop.TheVariants as stop
-use Rattle.class_table.specs.Declaring.{SignedMethod, are_signals, body_in, class_below, class_with, is_declared_once, is_signal_at, is_within_limits}
+use Rattle.class_table.specs.Declaring.{SignedMethod, are_signals, body_in, class_below, class_with, extending, is_declared_once}
 use Rattle.class_table.specs.Declaring.{may_stand, method_of, new_names, new_signatures, notify_of, number_of, property_of, signal_named, signal_of, signed_of}
-use Rattle.class_table.specs.Declaring.{slot_of, tells}
+use Rattle.class_table.specs.Declaring.{is_signal_at, is_within_limits, slot_of, tells}
 use Rattle.class_table.specs.Faults.{Gives}
 use Rattle.class_table.specs.Lookup.{is_same, methods, names, index_of, properties, signatures}
 use Rattle.class_table.specs.Sound.{IsMethod, is_told, is_told_by, FitsBehind}
@@ -214,27 +214,18 @@ module _ (base : List Method) (new : List SignedMethod) (own : List Method) (sam
       by (Some text) h = of (signal_named base new written.kind text) (named written.kind text) h
 
 -- a class that was checked may stand behind the others
-fits_behind : (classes : List Class) (base : ℕ) (name : List ℕ) (method_offset property_offset : ℕ) (new : List SignedMethod) (written : List WrittenProperty)
+fits_behind : (classes : List Class) (base : ℕ) (name : List ℕ) (new : List SignedMethod) (written : List WrittenProperty)
     (own_methods : List Method) (own_properties : List Property)
     → base < length classes
     → index_of name classes ≡ None
-    → method_offset ≡ length (methods classes base)
-    → property_offset ≡ length (properties classes base)
     → is_declared_once (methods classes base) new (properties classes base) written ≡ true
-    → method_offset + length new ≤ METHODS
-    → property_offset + length written ≤ PROPERTIES
+    → length (methods classes base) + length new ≤ METHODS
+    → length (properties classes base) + length written ≤ PROPERTIES
     → each method_of new ≡ Ok own_methods
     → each (property_of (methods classes base) new) written ≡ Ok own_properties
-    → FitsBehind classes (record {
-      name = name;
-      superclass = Some base;
-      method_offset = method_offset;
-      property_offset = property_offset;
-      methods = own_methods;
-      properties = own_properties;
-    })
+    → FitsBehind classes (extending classes base name own_methods own_properties)
 unfolding is_declared_once
-fits_behind classes base name method_offset property_offset new written own_methods own_properties there free m_is p_is once few_m few_p ms ps =
+fits_behind classes base name new written own_methods own_properties there free once few_m few_p ms ps =
     let same_m : signatures own_methods ≡ new_signatures new = each-keeps method_of (λ n. n.signature) (λ m. m.signature) method_keeps new own_methods ms in
     let same_p : names own_properties ≡ new_names written = each-keeps (property_of (methods classes base) new) (λ w. w.name) (λ p. p.name)
     (property_keeps (methods classes base) new) written own_properties ps in
@@ -247,8 +238,8 @@ fits_behind classes base name method_offset property_offset new written own_meth
       is_new = free;
       below = refl;
       base_is_there = λ b e. (let is : base ≡ b = cc in let P : ℕ → Type 0 = λ n. n < length classes in subst P is there);
-      method_offset = m_is;
-      property_offset = p_is;
+      method_offset = refl;
+      property_offset = refl;
       few_methods = omega (arith, length-append (methods classes base) own_methods);
       few_properties = omega (arith, length-append (properties classes base) own_properties);
       methods_once = rw (map-append (λ m. m.signature) (methods classes base) own_methods, same_m) two.0;
@@ -271,28 +262,15 @@ module _ (classes : List Class) (base : ℕ) (written : WrittenClass) (there : b
           (nat_le (length (properties classes base) + length written.properties) PROPERTIES) within
 
       first : (ps : Read (List Property)) → each (property_of (methods classes base) new) written.properties ≡ ps → (ms : Read (List Method))
-          → each method_of new ≡ ms → (ps >>= λ own_properties. ms >>=
-          λ own_methods. Ok (record {
-            name = written.name;
-            superclass = Some base;
-            method_offset = length (methods classes base);
-            property_offset = length (properties classes base);
-            methods = own_methods;
-            properties = own_properties;
-          })) ≡ Ok class → FitsBehind classes class
+          → each method_of new ≡ ms
+          → (ps >>= λ own_properties. ms >>= λ own_methods. Ok (extending classes base written.name own_methods own_properties)) ≡ Ok class
+          → FitsBehind classes class
       first (Err k) a ms b h = absurd (cc)
       first (Ok ps) a (Err k) b h = absurd (cc)
       first (Ok ps) a (Ok ms) b h =
-          let is : (record {
-            name = written.name;
-            superclass = Some base;
-            method_offset = length (methods classes base);
-            property_offset = length (properties classes base);
-            methods = ms;
-            properties = ps;
-          }) ≡ class = cc in
-          subst (FitsBehind classes) is (fits_behind classes base written.name (length (methods classes base))
-          (length (properties classes base)) new written.properties ms ps there free refl refl once (leb-true _ _ few.0) (leb-true _ _ few.1) b a)
+          let is : extending classes base written.name ms ps ≡ class = cc in
+          subst (FitsBehind classes) is (fits_behind classes base written.name new written.properties ms ps there free once
+          (leb-true _ _ few.0) (leb-true _ _ few.1) b a)
 
   fits_below : (class : Class) → class_below classes base written ≡ Ok class → FitsBehind classes class
   unfolding class_below

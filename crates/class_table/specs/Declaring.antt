@@ -121,19 +121,23 @@ may_stand base new held written =
     provided (is_declared_once base new held written) DeclaredTwice (
     provided (is_within_limits base new held written) Limit (Ok tt))
 
+-- The class of this name that extends the class with this index by these methods and properties.
+abbrev pub extending : List Class → ℕ → List ℕ → List Method → List Property → Class
+extending classes base name own_methods own_properties = record {
+  name = name;
+  superclass = Some base;
+  method_offset = length (methods classes base);
+  property_offset = length (properties classes base);
+  methods = own_methods;
+  properties = own_properties;
+}
+
 -- The class with these methods, and with the properties in JSON.
 abbrev pub class_with : List Class → ℕ → WrittenClass → List SignedMethod → Read Class
 class_with classes base written new =
     each (property_of (methods classes base) new) written.properties >>= λ own_properties.
     each method_of new >>= λ own_methods.
-    Ok (record {
-      name = written.name;
-      superclass = Some base;
-      method_offset = length (methods classes base);
-      property_offset = length (properties classes base);
-      methods = own_methods;
-      properties = own_properties;
-    })
+    Ok (extending classes base written.name own_methods own_properties)
 
 -- The class that is declared below a superclass.
 unfoldable pub class_below : List Class → ℕ → WrittenClass → Read Class

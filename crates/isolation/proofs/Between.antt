@@ -1,14 +1,14 @@
 -- Lists between a slice and the whole.
-use Rattle.std.proofs.Common.{◌≡◌, Bool, true, false, cond, List, [], ◌∷◌, refl, sym, ap, ap₂, ◌∙◌}
-use Rattle.std.proofs.lemmas.Bool.{both_ways, false_from_ne_true, or_left, or_right, or_parts}
-use Rattle.isolation.specs.Machine.{Effect, Machine, IsLawful, Tagged}
+use Rattle.std.proofs.Common.{◌≡◌, Bool, true, false, List, [], ◌∷◌, refl, sym, ap, ◌∙◌}
+use Rattle.std.proofs.lemmas.Bool.{both_ways, false_from_ne_true, or_left, or_parts}
+use Rattle.isolation.specs.Machine.{Machine, IsLawful, Tagged}
 use Rattle.isolation.specs.World.{after, is_in}
 use Rattle.isolation.specs.Influence.{Agree}
 use Rattle.isolation.specs.Slice.{KeepsAtLeast, Slice, kept, matters, slice, with_mark}
 use Rattle.isolation.specs.Laws.{BetweenLaw, SameFor}
 use Rattle.isolation.proofs.Worlds.{strangers}
-use Rattle.isolation.proofs.LeftOut.{effect-kept, Agree-kept, Agree-left_out}
-use Rattle.isolation.proofs.Sliced.{is_in-members, unknown_to_members}
+use Rattle.isolation.proofs.LeftOut.{Agree-left_out}
+use Rattle.isolation.proofs.Sliced.{is_in-members, same_before, unknown_to_members}
 
 module _ {Name State Command Line Post : Type 0} (m : Machine Name State Command Line Post) (lawful : IsLawful m) where
   -- a command of a session that no member joins changes no member, where it is done and where it is not
@@ -26,14 +26,7 @@ module _ {Name State Command Line Post : Type 0} (m : Machine Name State Command
       → Agree (λ name. is_in m name (with_mark mark t.session rest).members) world other
       → ((next : Name → State) → Agree (λ name. is_in m name rest.members) (after m world t) next → SameFor m s (after m world t) ts next (kept mores ts))
       → SameFor m s world (t ∷ ts) other (kept (more ∷ mores) (t ∷ ts))
-  between_step s world other t ts rest true true mores is listed within agree later =
-      let does_same = effect-kept m lawful (λ name. is_in m name (t.session ∷ rest.members)) world other t agree (or_left _ _ (lawful.itself t.session)) in
-      let agrees = Agree-kept m lawful (λ name. is_in m name (t.session ∷ rest.members)) world other t agree (or_left _ _ (lawful.itself t.session)) in
-      let same = later (after m other t) (λ name in_rest. agrees name (or_right (m.same name t.session) _ in_rest)) in
-      record {
-        lines = ap₂ (λ (e : Effect State Line Post) (entries : List (List Line)). cond (m.same s t.session) (e.lines ∷ entries) entries) does_same same.lines;
-        state = same.state;
-      }
+  between_step s world other t ts rest true true mores is listed within agree later = same_before m lawful s world other t ts rest.members mores agree later
   between_step s world other t ts rest true false mores is listed within agree later = absurd (cc (within refl))
   between_step s world other t ts rest false more mores is listed within agree later =
       let parts = or_parts (is_in m t.session rest.members) _ (sym is) in

@@ -66,20 +66,27 @@ module _ {Name State Command Line Post : Type 0} (m : Machine Name State Command
         let listed = is_in-members s (after m world t) ts in
         is_in-with_mark (matters m world rest.members t.session) t.session rest s listed
 
+    -- a command of a member before what two lists tell alike
+    pub same_before : (s : Name) (world other : Name → State) (t : Tagged Name Command) (ts : List (Tagged Name Command)) (members : List Name)
+        (marks : List Bool) → Agree (λ name. is_in m name (t.session ∷ members)) world other
+        → ((next : Name → State) → Agree (λ name. is_in m name members) (after m world t) next → SameFor m s (after m world t) ts next (kept marks ts))
+        → SameFor m s world (t ∷ ts) other (t ∷ kept marks ts)
+    same_before s world other t ts members marks agree later =
+        let does_same = effect-kept m lawful (λ name. is_in m name (t.session ∷ members)) world other t agree (or_left _ _ (lawful.itself t.session)) in
+        let agrees = Agree-kept m lawful (λ name. is_in m name (t.session ∷ members)) world other t agree (or_left _ _ (lawful.itself t.session)) in
+        let same = later (after m other t) (λ name in_rest. agrees name (or_right (m.same name t.session) _ in_rest)) in
+        record {
+          lines = ap₂ (λ (e : Effect State Line Post) (entries : List (List Line)). cond (m.same s t.session) (e.lines ∷ entries) entries) does_same same.lines;
+          state = same.state;
+        }
+
     -- one more command before a run, by its mark
     kept_step : (s : Name) (world other : Name → State) (t : Tagged Name Command) (ts : List (Tagged Name Command)) (rest : Slice Name) (mark : Bool)
         → mark ≡ matters m world rest.members t.session → is_in m s rest.members ≡ true
         → Agree (λ name. is_in m name (with_mark mark t.session rest).members) world other
         → ((next : Name → State) → Agree (λ name. is_in m name rest.members) (after m world t) next
         → SameFor m s (after m world t) ts next (kept rest.marks ts)) → SameFor m s world (t ∷ ts) other (kept (with_mark mark t.session rest).marks (t ∷ ts))
-    kept_step s world other t ts rest true is listed agree later =
-        let does_same = effect-kept m lawful (λ name. is_in m name (t.session ∷ rest.members)) world other t agree (or_left _ _ (lawful.itself t.session)) in
-        let agrees = Agree-kept m lawful (λ name. is_in m name (t.session ∷ rest.members)) world other t agree (or_left _ _ (lawful.itself t.session)) in
-        let same = later (after m other t) (λ name in_rest. agrees name (or_right (m.same name t.session) _ in_rest)) in
-        record {
-          lines = ap₂ (λ (e : Effect State Line Post) (entries : List (List Line)). cond (m.same s t.session) (e.lines ∷ entries) entries) does_same same.lines;
-          state = same.state;
-        }
+    kept_step s world other t ts rest true is listed agree later = same_before s world other t ts rest.members rest.marks agree later
     kept_step s world other t ts rest false is listed agree later =
         let parts = or_parts (is_in m t.session rest.members) _ (sym is) in
         let unknown = λ (r : Name) (in_rest : is_in m r rest.members ≡ true). unknown_to_members world rest.members t.session parts.1 r lawful in_rest in

@@ -3,7 +3,6 @@ use Rattle.binding_values.specs.Graph.{is_bound, unbound, value_in}
 use Rattle.class_table.specs.declared.class.Class.{Class}
 use Rattle.connection_list.specs.Rows.{has_number as has_connection_number}
 use Rattle.connection_list.specs.declared.connection.Connection.{Connection}
-use Rattle.event_queue.specs.declared.event.Event.{Event}
 use Rattle.object_tree.specs.Changes.{added, changed, marked, moved, orphaned, removed, reparented, with_blocked}
 use Rattle.object_tree.specs.Forest.{Forest}
 use Rattle.object_tree.specs.Refusing.{keeps_parent}
@@ -30,7 +29,6 @@ use Rattle.session_model.specs.State.{IsDeclared, State, fields_of, with_binding
 use Rattle.session_model.specs.Thread.{Settings, arrives}
 use Rattle.session_model.specs.Writing.{Declared, Dynamic, Nothing, Removed, Writing, with_writing}
 use Rattle.session_model.specs.declared.operation.Operation.{Operation}
-use Rattle.session_model.specs.declared.line.Line.{Line}
 use Rattle.session_model.specs.declared.post.Post.{Post}
 use Rattle.variant_value.specs.declared.value.Value.{Value}
 use Rattle.session_model.specs.declared.operation.Operation.TheVariants as d
@@ -140,18 +138,6 @@ module _ (classes : List Class) (state : State) (declared : IsDeclared classes s
           ap (option_map (λ of. of.fields)) (added_others state.store (state.forest.last_number + 1) (fields_of classes class) row.number apart) ∙ has
 
 module _ (classes : List Class) (doing : Execution) (declared : IsDeclared classes doing.state) where
-  told_declared : (said : Line) → IsDeclared classes (line_told doing said).state
-  unfolding line_told
-  told_declared said = declared
-
-  posting_declared : (more : List Post) → IsDeclared classes (posting doing more).state
-  unfolding posting
-  posting_declared more = declared
-
-  turn_declared : IsDeclared classes (turn_taken doing).state
-  unfolding turn_taken
-  turn_declared = declared
-
   used_up_declared : IsDeclared classes (used_up doing).state
   unfolding used_up
   used_up_declared = cond_both doing.spent doing _ (λ (new : Execution). IsDeclared classes new.state) (λ spent. declared) (λ fresh. declared)
@@ -160,22 +146,6 @@ module _ (classes : List Class) (doing : Execution) (declared : IsDeclared class
   unfolding single_shot_broken
   shot_declared row = cond_both row.single (in_state doing (without_connections doing.state (has_connection_number row.number))) doing
       (λ (new : Execution). IsDeclared classes new.state) (λ single. declared) (λ lasting. declared)
-
-  severed_declared : (target : ℕ) → IsDeclared classes (severed doing target).state
-  unfolding severed
-  severed_declared target = declared
-
-  posted_declared : (event : Event) → IsDeclared classes (enqueued doing event).state
-  unfolding enqueued
-  posted_declared event = declared
-
-  lost_declared : IsDeclared classes (lost doing).state
-  unfolding lost
-  lost_declared = declared
-
-  first_declared : IsDeclared classes (first_taken doing).state
-  unfolding first_taken
-  first_declared = declared
 
   pub operation_declared : (operation : Operation) → IsDeclared classes (with_operation doing.state operation)
   operation_declared (d.Connect new unique) = declared
@@ -192,33 +162,30 @@ module _ (classes : List Class) (doing : Execution) (declared : IsDeclared class
   unfolding dying
   dying_declared target = each_marked (Has classes doing.state) doing.state.forest target declared
 
-  stepped_declared : (number next : ℕ) → IsDeclared classes (stepped doing number next).state
-  unfolding stepped
-  stepped_declared number next = declared
-
   gone_declared : (target : ℕ) → IsDeclared classes (without_object doing.state target)
   gone_declared target = each_removed (Has classes doing.state) (Has classes (without_object doing.state target)) doing.state.forest target
       (λ number class apart has. ap (option_map (λ of. of.fields)) (without_others doing.state.store target number apart) ∙ has) declared
 
 -- with each change
 holds : (classes : List Class) → Holds (λ old new. IsDeclared classes old.state → IsDeclared classes new.state)
+unfolding line_told posting turn_taken enqueued lost first_taken severed stepped
 holds classes = record {
   same = λ doing declared. declared;
   both = λ one two three first second declared. second (first declared);
-  tells = λ doing said declared. told_declared classes doing declared said;
-  publishes = λ doing more declared. posting_declared classes doing declared more;
-  takes_turn = λ doing declared. turn_declared classes doing declared;
+  tells = λ doing said declared. declared;
+  publishes = λ doing more declared. declared;
+  takes_turn = λ doing declared. declared;
   uses_up = λ doing declared. used_up_declared classes doing declared;
   shoots = λ doing row declared. shot_declared classes doing declared row;
-  posts = λ doing event declared. posted_declared classes doing declared event;
-  loses = λ doing declared. lost_declared classes doing declared;
-  takes = λ doing declared. first_declared classes doing declared;
+  posts = λ doing event declared. declared;
+  loses = λ doing declared. declared;
+  takes = λ doing declared. declared;
   does = λ doing operation declared. change_declared classes doing declared operation;
   writes = λ doing target writing declared. declared_with_writing classes doing.state declared target writing;
   marks = λ doing target declared. dying_declared classes doing declared target;
-  severs = λ doing target declared. severed_declared classes doing declared target;
+  severs = λ doing target declared. declared;
   goes = λ doing target declared. gone_declared classes doing declared target;
-  steps = λ doing number next declared. stepped_declared classes doing declared number next;
+  steps = λ doing number next declared. declared;
 }
 
 pub item_declared : (settings : Settings) (item : Item) (doing : Execution) → IsDeclared settings.classes doing.state

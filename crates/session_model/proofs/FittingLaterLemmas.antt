@@ -9,15 +9,12 @@ use Rattle.plain_types.specs.declared.callee.Callee.TheVariants as callee
 use Rattle.connection_list.specs.declared.connection.Connection.{Connection}
 use Rattle.connection_list.specs.Ends.{matches, touches}
 use Rattle.connection_list.specs.Rows.{has_number, numbered}
-use Rattle.event_queue.specs.declared.event.Event.{Event}
 use Rattle.object_tree.specs.Rows.{is_there}
 use Rattle.stored_slots.specs.Functors.{AreArguments}
 use Rattle.connection_list.proofs.ForCallers.{all_stepped}
 use Rattle.session_model.specs.declared.operation.Operation.{Operation}
 use Rattle.session_model.specs.declared.operation.Operation.TheVariants as d
-use Rattle.session_model.specs.declared.line.Line.{Line}
 use Rattle.session_model.specs.declared.line.Line.TheVariants.{Warning}
-use Rattle.session_model.specs.declared.post.Post.{Post}
 use Rattle.session_model.specs.Agenda.{step}
 use Rattle.session_model.specs.Arriving.{kinds_of}
 use Rattle.session_model.specs.Operations.{operation_done, with_operation}
@@ -80,18 +77,6 @@ module _ (G : ℕ → ℕ → Type 0) (number : ℕ) (Q : Connection → Type 0)
   abbrev Stay : Execution → Execution → Type 0
   Stay old new = Stays old.state new.state
 
-  told_stays : (doing : Execution) (said : Line) → Stay doing (line_told doing said)
-  unfolding line_told
-  told_stays doing said = record { classes = λ all. all; last = omega arith; calls = λ given all. all }
-
-  posting_stays : (doing : Execution) (more : List Post) → Stay doing (posting doing more)
-  unfolding posting
-  posting_stays doing more = record { classes = λ all. all; last = omega arith; calls = λ given all. all }
-
-  turn_stays : (doing : Execution) → Stay doing (turn_taken doing)
-  unfolding turn_taken
-  turn_stays doing = record { classes = λ all. all; last = omega arith; calls = λ given all. all }
-
   used_up_stays : (doing : Execution) → Stay doing (used_up doing)
   unfolding used_up
   used_up_stays doing = cond_both doing.spent doing (record doing { spent = true; lines = doing.lines ++ Warning TurnsUsedUp None ∷ [] }) (Stay doing)
@@ -111,18 +96,6 @@ module _ (G : ℕ → ℕ → Type 0) (number : ℕ) (Q : Connection → Type 0)
     calls = λ given all. all_stepped object next (λ (row : Connection). row.number ≡ number → Q row)
         (λ row holds same. stateless row next (holds same)) doing.state.connections.rows all;
   }
-
-  posted_stays : (doing : Execution) (event : Event) → Stay doing (enqueued doing event)
-  unfolding enqueued
-  posted_stays doing event = record { classes = λ all. all; last = omega arith; calls = λ given all. all }
-
-  lost_stays : (doing : Execution) → Stay doing (lost doing)
-  unfolding lost
-  lost_stays doing = record { classes = λ all. all; last = omega arith; calls = λ given all. all }
-
-  first_stays : (doing : Execution) → Stay doing (first_taken doing)
-  unfolding first_taken
-  first_stays doing = record { classes = λ all. all; last = omega arith; calls = λ given all. all }
 
   done_stays : (doing : Execution) (operation : Operation) → Stay doing (operation_done doing operation)
   unfolding operation_done
@@ -150,17 +123,18 @@ module _ (G : ℕ → ℕ → Type 0) (number : ℕ) (Q : Connection → Type 0)
   }
 
   stay : Holds Stay
+  unfolding line_told posting turn_taken enqueued lost first_taken
   stay = record {
     same = λ doing. record { classes = λ all. all; last = omega arith; calls = λ given all. all };
     both = λ one two three. both_stay one.state two.state three.state;
-    tells = told_stays;
-    publishes = posting_stays;
-    takes_turn = turn_stays;
+    tells = λ doing said. record { classes = λ all. all; last = omega arith; calls = λ given all. all };
+    publishes = λ doing more. record { classes = λ all. all; last = omega arith; calls = λ given all. all };
+    takes_turn = λ doing. record { classes = λ all. all; last = omega arith; calls = λ given all. all };
     uses_up = used_up_stays;
     shoots = shot_stays;
-    posts = posted_stays;
-    loses = lost_stays;
-    takes = first_stays;
+    posts = λ doing event. record { classes = λ all. all; last = omega arith; calls = λ given all. all };
+    loses = λ doing. record { classes = λ all. all; last = omega arith; calls = λ given all. all };
+    takes = λ doing. record { classes = λ all. all; last = omega arith; calls = λ given all. all };
     does = done_stays;
     writes = λ doing target writing. writing_stays doing.state target writing;
     marks = dying_stays;

@@ -94,55 +94,30 @@ after one two three first second = record {
   joins = λ test held. first.joins test (second.joins test held);
 }
 
+-- where each bound is known to have grown no further
+less : (old new : Bounds) → new.turns ≤ old.turns → new.turns + new.taken ≤ old.turns + old.taken → new.living ≤ old.living → new.objects ≤ old.objects
+    → new.connections ≤ old.connections → new.properties ≤ old.properties
+    → ((test : Join → Bool) → list_any test new.joins ≡ true → list_any test old.joins ≡ true) → Fewer old new
+less old new turns taken living objects connections properties joins =
+    record { turns = turns; taken = taken; living = living; objects = objects; connections = connections; properties = properties; joins = joins }
+
 turns_less : (old : Bounds) (turns taken : ℕ) → turns ≤ old.turns → turns + taken ≤ old.turns + old.taken
     → Fewer old (record old { turns = turns; taken = taken })
 turns_less old turns taken fewer both = let like = as_before old in
-    record {
-      turns = fewer;
-      taken = both;
-      living = like.living;
-      objects = like.objects;
-      connections = like.connections;
-      properties = like.properties;
-      joins = like.joins;
-    }
+    less old (record old { turns = turns; taken = taken }) fewer both like.living like.objects like.connections like.properties like.joins
 
 objects_less : (old : Bounds) (living objects : ℕ) → living ≤ old.living → objects ≤ old.objects
     → Fewer old (record old { living = living; objects = objects })
 objects_less old living objects fewer some = let like = as_before old in
-    record {
-      turns = like.turns;
-      taken = like.taken;
-      living = fewer;
-      objects = some;
-      connections = like.connections;
-      properties = like.properties;
-      joins = like.joins;
-    }
+    less old (record old { living = living; objects = objects }) like.turns like.taken fewer some like.connections like.properties like.joins
 
 connections_less : (old : Bounds) (connections : ℕ) → connections ≤ old.connections → Fewer old (record old { connections = connections })
 connections_less old connections fewer = let like = as_before old in
-    record {
-      turns = like.turns;
-      taken = like.taken;
-      living = like.living;
-      objects = like.objects;
-      connections = fewer;
-      properties = like.properties;
-      joins = like.joins;
-    }
+    less old (record old { connections = connections }) like.turns like.taken like.living like.objects fewer like.properties like.joins
 
 properties_less : (old : Bounds) (properties : ℕ) → properties ≤ old.properties → Fewer old (record old { properties = properties })
 properties_less old properties fewer = let like = as_before old in
-    record {
-      turns = like.turns;
-      taken = like.taken;
-      living = like.living;
-      objects = like.objects;
-      connections = like.connections;
-      properties = fewer;
-      joins = like.joins;
-    }
+    less old (record old { properties = properties }) like.turns like.taken like.living like.objects like.connections fewer like.joins
 
 pub same : (doing : Execution) → Shrinks doing doing
 same doing = as_before (bounds doing)

@@ -13,7 +13,7 @@ use Rattle.connection_list.proofs.ForCallers.{all_stepped}
 use Rattle.event_queue.specs.declared.event.Event.{Event}
 use Rattle.event_queue.specs.declared.event.Event.TheVariants as event
 use Rattle.event_queue.specs.declared.event.QueuedCall.{QueuedCall}
-use Rattle.event_queue.specs.Queue.{has_room, object_of}
+use Rattle.event_queue.specs.Queue.{Queue, has_room, object_of}
 use Rattle.object_tree.specs.Refusing.{object_refusal}
 use Rattle.object_tree.specs.Rows.{is_there}
 use Rattle.session_model.specs.declared.line.Line.{Line}
@@ -169,17 +169,18 @@ module _ (agenda : List Item) (doing : Execution) (under : IsUnderWay agenda doi
   staying number stands = untied_staying number agenda
       (of_row (IsGoing agenda) doing.state.forest.rows number stands.row stands.found under.going ∙ stands.living)
 
+  -- the queue may change if each event in it is still forgotten before its object goes
+  queue_under : (queue : Queue) → IsWhole (record doing.state { queue = queue }) → All (IsForgottenInTime agenda) queue.events
+      → IsUnderWay agenda (record doing.state { queue = queue })
+  queue_under queue whole forgotten =
+      record { whole = whole; going = under.going; in_time = under.in_time; forgotten = forgotten; withdrawn = under.withdrawn }
+
   -- an event may be posted for an object that is not let go before the event is forgotten
   posted_under : (event : Event) → is_there doing.state.forest.rows (object_of event) ≡ true → is_untied_first agenda (object_of event) ≡ true
       → IsUnderWay agenda (enqueued doing event).state
   unfolding enqueued
-  posted_under event there untied = record {
-    whole = whole_with_event doing.state event there under.whole;
-    going = under.going;
-    in_time = under.in_time;
-    forgotten = each_posted (IsForgottenInTime agenda) doing.state.queue event untied under.forgotten;
-    withdrawn = under.withdrawn;
-  }
+  posted_under event there untied = queue_under _ (whole_with_event doing.state event there under.whole)
+      (each_posted (IsForgottenInTime agenda) doing.state.queue event untied under.forgotten)
 
   -- as for one that lives
   pub meant_under : (event : Event) → object_refusal doing.state.forest.rows (object_of event) ≡ None → IsUnderWay agenda (enqueued doing event).state
@@ -189,13 +190,7 @@ module _ (agenda : List Item) (doing : Execution) (under : IsUnderWay agenda doi
 
   pub lost_under : IsUnderWay agenda (lost doing).state
   unfolding lost
-  lost_under = record {
-    whole = whole_with_lost doing.state under.whole;
-    going = under.going;
-    in_time = under.in_time;
-    forgotten = under.forgotten;
-    withdrawn = under.withdrawn;
-  }
+  lost_under = queue_under _ (whole_with_lost doing.state under.whole) under.forgotten
 
   -- a connection that stands has a receiver for which a call may be posted, also when the connection is
   -- broken before
@@ -208,13 +203,7 @@ module _ (agenda : List Item) (doing : Execution) (under : IsUnderWay agenda doi
 
   pub first_taken_under : IsUnderWay agenda (first_taken doing).state
   unfolding first_taken
-  first_taken_under = record {
-    whole = whole_without_first doing.state under.whole;
-    going = under.going;
-    in_time = under.in_time;
-    forgotten = each_taken (IsForgottenInTime agenda) doing.state.queue under.forgotten;
-    withdrawn = under.withdrawn;
-  }
+  first_taken_under = queue_under _ (whole_without_first doing.state under.whole) (each_taken (IsForgottenInTime agenda) doing.state.queue under.forgotten)
 
   -- properties may be written, which leaves all else
   pub writing_under : (target : ℕ) (writing : Writing) → IsFit doing.state target writing → IsUnderWay agenda (with_writing doing.state target writing)

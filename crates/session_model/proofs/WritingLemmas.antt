@@ -1,7 +1,7 @@
 -- The rules by which properties are written: one for each way that it goes.
 use Rattle.std.proofs.Common.{◌≡◌, ◌∙◌, ℕ, Bool, true, false, cond, List, [], None, Option, refl, ap}
 use Rattle.variant_value.specs.declared.value.Value.{Value}
-use Rattle.property_store.specs.Store.{changed, with_dynamic, without_dynamic}
+use Rattle.property_store.specs.Store.{with_dynamic, without_dynamic}
 use Rattle.property_store.specs.declared.property.Property.{Property as At}
 use Rattle.binding_values.specs.Graph as graph
 use Rattle.binding_values.specs.Graph.{is_open}

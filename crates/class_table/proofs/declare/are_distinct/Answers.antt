@@ -17,11 +17,11 @@ returns-then-not-branch c =
     let texts = c.args.texts.now in
     let index = c.loop-text.text-index in
     let text = c.text-item.result in
-    let at : Some text ≡ slice_get texts index = sym (slice_get_read texts (length texts) index text refl c.loop-text-test.true c.text-item.is) in
     let same : c.as_str.result.now ≡ text = search rules in
     let seen : list_any (bytes_eq c.as_str.result.now) (take index texts) ≡ true = sym (c.loop-text.invariant.0 c.as_str.result)
     ∙ (turned _ c.in_ok-insert.field-0 c.in_ok-insert.ensures.added).0 c.if-not-branch.true in
-    ap Ok (seen_twice texts index text at c.loop-text.invariant.1 (subst (λ t. list_any (bytes_eq t) (take index texts) ≡ true) same seen))
+    ap Ok (seen_twice texts index text (sym (slice_get_read texts (length texts) index text refl c.loop-text-test.true c.text-item.is))
+    c.loop-text.invariant.1 (subst (λ t. list_any (bytes_eq t) (take index texts) ≡ true) same seen))
 
 pub loop-text-preserved : goal.loop-text-preserved
 loop-text-preserved c =

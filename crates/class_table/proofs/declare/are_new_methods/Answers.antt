@@ -10,15 +10,13 @@ pub returns : goal.returns
 returns c =
     let base = methods c.args.table.now c.args.base in
     let new = c.args.signed.now in
-    let given = c.in_ok-texts.texts.items in
     let texts = c.as_slice.result.now in
-    let same : given ≡ texts = search rules in
-    let free = sym c.are_not_inherited.ensures ∙ c.if-not-are_not_inherited.false in
+    let same : c.in_ok-texts.texts.items ≡ texts = search rules in
     let listed : map (λ n. text_of n.signature) new ≡ texts =
-    same_value (map (λ n. text_of n.signature) new) given (Ok (map (λ n. text_of n.signature) new)) refl c.in_ok-texts.ensures ∙ same in
+    same_value (map (λ n. text_of n.signature) new) _ (Ok (map (λ n. text_of n.signature) new)) refl c.in_ok-texts.ensures ∙ same in
     let is : are_distinct_methods (signatures base ++ new_signatures (map signed_seen new)) ≡ is_distinct bytes_eq texts =
     new_methods_once base new c.requires.once
-    ∙ (ap (λ b. b && are_distinct_methods (new_signatures (map signed_seen new))) free
+    ∙ (ap (λ b. b && are_distinct_methods (new_signatures (map signed_seen new))) (sym c.are_not_inherited.ensures ∙ c.if-not-are_not_inherited.false)
     ∙ (methods_by_text new c.requires.normal ∙ ap (is_distinct bytes_eq) listed)) in
     let P : Bool → Type 0 = λ b. Gives (λ b. b) c.are_distinct.result (Ok b) in
     subst P (sym is) c.are_distinct.ensures

@@ -10,14 +10,13 @@ pub returns : goal.returns
 returns c =
     let base = properties c.args.table.now c.args.base in
     let new = c.args.forms.now in
-    let given = c.in_ok-texts.texts.items in
     let texts = c.as_slice.result.now in
-    let same : given ≡ texts = search rules in
-    let free = sym c.names_are_not_inherited.ensures ∙ c.if-not-names_are_not_inherited.false in
-    let listed : map (λ n. n.name.now) new ≡ texts = same_value (map (λ n. n.name.now) new) given (Ok (map (λ n. n.name.now) new)) refl c.in_ok-texts.ensures
+    let same : c.in_ok-texts.texts.items ≡ texts = search rules in
+    let listed : map (λ n. n.name.now) new ≡ texts = same_value (map (λ n. n.name.now) new) _ (Ok (map (λ n. n.name.now) new)) refl c.in_ok-texts.ensures
     ∙ same in
     let is : are_distinct_properties (names base ++ new_names (map property_seen new)) ≡ is_distinct bytes_eq texts =
     new_properties_once base new c.requires ∙
-    (ap (λ b. b && are_distinct_properties (new_names (map property_seen new))) free ∙ (properties_by_text new ∙ ap (is_distinct bytes_eq) listed)) in
+    (ap (λ b. b && are_distinct_properties (new_names (map property_seen new))) (sym c.names_are_not_inherited.ensures ∙ c.if-not-names_are_not_inherited.false)
+    ∙ (properties_by_text new ∙ ap (is_distinct bytes_eq) listed)) in
     let P : Bool → Type 0 = λ b. Gives (λ b. b) c.are_distinct.result (Ok b) in
     subst P (sym is) c.are_distinct.ensures

@@ -5,10 +5,6 @@ use Rattle.class_table.proofs.table.ClassTable.method_row.Goals as goal
 
 pub returns-then-row-number-clause-value : goal.returns-then-row-number-clause-value
 returns-then-row-number-clause-value c =
-    let rows = c.args.self.now in
-    let number = c.args.number in
-    let row = c.in_ok-row.row.now in
     let has = c.in_ok-row.ensures.has in
-    c.get.ensures.value ∙ (slice_get-own (inherited (methods rows) row.superclass) row.methods _ row.method_offset number has.its_methods has.method_offset
-    c.if-row-number.true
-    ∙ (ap (λ o. slice_get (inherited (methods rows) o) number) (sym c.in-Some.is) ∙ c.loop-next.invariant))
+    c.get.ensures.value ∙ (slice_get-own _ _ _ _ c.args.number has.its_methods has.method_offset c.if-row-number.true
+    ∙ (ap (λ base. slice_get (inherited (methods c.args.self.now) base) c.args.number) (sym c.in-Some.is) ∙ c.loop-next.invariant))

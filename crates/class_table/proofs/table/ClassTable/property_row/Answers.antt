@@ -25,10 +25,6 @@ loop-next-preserved c =
 
 pub returns-then-row-number-clause-value : goal.returns-then-row-number-clause-value
 returns-then-row-number-clause-value c =
-    let rows = c.args.self.now in
-    let number = c.args.number in
-    let row = c.in_ok-row.row.now in
     let has = c.in_ok-row.ensures.has in
-    c.get.ensures.value ∙ (slice_get-own (inherited (properties rows) row.superclass) row.properties _ row.property_offset number has.its_properties
-    has.property_offset c.if-row-number.true
-    ∙ (ap (λ o. slice_get (inherited (properties rows) o) number) (sym c.in-Some.is) ∙ c.loop-next.invariant.same))
+    c.get.ensures.value ∙ (slice_get-own _ _ _ _ c.args.number has.its_properties has.property_offset c.if-row-number.true
+    ∙ (ap (λ base. slice_get (inherited (properties c.args.self.now) base) c.args.number) (sym c.in-Some.is) ∙ c.loop-next.invariant.same))
