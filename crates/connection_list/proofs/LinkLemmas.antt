@@ -13,6 +13,7 @@ use Rattle.shared_rows.specs.Links.{IsInOrder, first_from}
 use Rattle.shared_rows.proofs.ForCallers.{below_parted}
 use Rattle.shared_rows.proofs.LinkedLemmas.{all_from, any_of, first_none, first_some}
 use Rattle.connection_list.specs.declared.link.Link.{Link}
+use Rattle.connection_list.specs.declared.mark.Marks.{Marks}
 use Rattle.connection_list.specs.Routes.{is_before, is_past, link_cmp}
 
 pub link_total : IsTotalOrder link_cmp
@@ -66,40 +67,60 @@ before_other : (x y : Link) → link_cmp x y ≡ Less → IsAtLeast y x
 before_other x y less = at_least y x (ap is_lt (link_total.antisymm y x ∙ ap ordering_reverse less))
 
 -- what stands before a link that is before a group is before it too, and what stands behind one that is behind it
-before_on : (object : ℕ) (signal : Option ℕ) (x y : Link) → IsAtLeast y x → is_before object signal y ≡ true → is_before object signal x ≡ true
-before_on object None x y least before = grind (arith, nat_tests, before, least.object)
-before_on object (Some signal) x y least before = ⊎_elim
-    (λ (same : x.object ≡ y.object). grind (arith, nat_tests, before, same, least.signal same))
-    (λ (differs : x.object ≢ y.object). let less : x.object < y.object = omega (arith, least.object, differs) in grind (arith, nat_tests, before, less))
-    (cases_eq x.object y.object)
+module _ (object : ℕ) where
+  before_on : (signal : Option ℕ) (marks : Option Marks) (x y : Link) → IsAtLeast y x → is_before object signal marks y ≡ true
+      → is_before object signal marks x ≡ true
+  before_on None marks x y least before = grind (arith, nat_tests, before, least.object)
+  before_on (Some signal) None x y least before = ⊎_elim
+      (λ (same : x.object ≡ y.object). grind (arith, nat_tests, before, same, least.signal same))
+      (λ (differs : x.object ≢ y.object). let less : x.object < y.object = omega (arith, least.object, differs) in grind (arith, nat_tests, before, less))
+      (cases_eq x.object y.object)
+  before_on (Some signal) (Some marks) x y least before = ⊎_elim
+      (λ (same : x.object ≡ y.object). ⊎_elim
+      (λ (also : x.signal ≡ y.signal). grind (arith, nat_tests, before, same, also, least.number same also))
+      (λ (differs : x.signal ≢ y.signal). let less : x.signal < y.signal = omega (arith, least.signal same, differs) in
+      grind (arith, nat_tests, before, same, less))
+      (cases_eq x.signal y.signal))
+      (λ (differs : x.object ≢ y.object). let less : x.object < y.object = omega (arith, least.object, differs) in grind (arith, nat_tests, before, less))
+      (cases_eq x.object y.object)
 
-past_on : (object : ℕ) (signal : Option ℕ) (x y : Link) → IsAtLeast y x → is_past object signal y ≡ false → is_past object signal x ≡ false
-past_on object None x y least past = grind (arith, nat_tests, past, least.object)
-past_on object (Some signal) x y least past = ⊎_elim
-    (λ (same : x.object ≡ y.object). grind (arith, nat_tests, past, same, least.signal same))
-    (λ (differs : x.object ≢ y.object). let less : x.object < y.object = omega (arith, least.object, differs) in grind (arith, nat_tests, past, less))
-    (cases_eq x.object y.object)
+  past_on : (signal : Option ℕ) (marks : Option Marks) (x y : Link) → IsAtLeast y x → is_past object signal marks y ≡ false
+      → is_past object signal marks x ≡ false
+  past_on None marks x y least past = grind (arith, nat_tests, past, least.object)
+  past_on (Some signal) None x y least past = ⊎_elim
+      (λ (same : x.object ≡ y.object). grind (arith, nat_tests, past, same, least.signal same))
+      (λ (differs : x.object ≢ y.object). let less : x.object < y.object = omega (arith, least.object, differs) in grind (arith, nat_tests, past, less))
+      (cases_eq x.object y.object)
+  past_on (Some signal) (Some marks) x y least past = ⊎_elim
+      (λ (same : x.object ≡ y.object). ⊎_elim
+      (λ (also : x.signal ≡ y.signal). grind (arith, nat_tests, past, same, also, least.number same also))
+      (λ (differs : x.signal ≢ y.signal). let less : x.signal < y.signal = omega (arith, least.signal same, differs) in
+      grind (arith, nat_tests, past, same, less))
+      (cases_eq x.signal y.signal))
+      (λ (differs : x.object ≢ y.object). let less : x.object < y.object = omega (arith, least.object, differs) in grind (arith, nat_tests, past, less))
+      (cases_eq x.object y.object)
 
--- a link that is neither before a group nor behind it has its object
-pub inside_same : (object : ℕ) (signal : Option ℕ) (link : Link) → is_before object signal link ≡ false → not (is_past object signal link) ≡ true
-    → link.object ≡ object
-inside_same object None link before past = grind (arith, nat_tests, before, past)
-inside_same object (Some signal) link before past = grind (arith, nat_tests, before, past)
+  -- a link that is neither before a group nor behind it has its object
+  pub inside_same : (signal : Option ℕ) (marks : Option Marks) (link : Link) → is_before object signal marks link ≡ false
+      → not (is_past object signal marks link) ≡ true → link.object ≡ object
+  inside_same None marks link before past = grind (arith, nat_tests, before, past)
+  inside_same (Some signal) None link before past = grind (arith, nat_tests, before, past)
+  inside_same (Some signal) (Some marks) link before past = grind (arith, nat_tests, before, past)
 
-module _ (links : List Link) (order : IsInOrder link_cmp links) (object : ℕ) (signal : Option ℕ) where
-  pub before_parted : IsPartitionedBy (is_before object signal) links
+module _ (links : List Link) (order : IsInOrder link_cmp links) (object : ℕ) (signal : Option ℕ) (marks : Option Marks) where
+  pub before_parted : IsPartitionedBy (is_before object signal marks) links
   before_parted i j d upto within before = ⊎_elim
-      (λ (front : i < j). before_on object signal (get_or links i d) (get_or links j d)
+      (λ (front : i < j). before_on object signal marks (get_or links i d) (get_or links j d)
       (before_other (get_or links i d) (get_or links j d) (order i j d front within)) before)
-      (λ (at : j ≤ i). let same : i ≡ j = omega (arith, at, upto) in ap (λ n. is_before object signal (get_or links n d)) same ∙ before)
+      (λ (at : j ≤ i). let same : i ≡ j = omega (arith, at, upto) in ap (λ n. is_before object signal marks (get_or links n d)) same ∙ before)
       (cases_lt i j)
 
-  pub past_parted : IsPartitionedBy (λ link. not (is_past object signal link)) links
+  pub past_parted : IsPartitionedBy (λ link. not (is_past object signal marks link)) links
   past_parted i j d upto within kept = ⊎_elim
       (λ (front : i < j).
-      ap not (past_on object signal (get_or links i d) (get_or links j d) (before_other (get_or links i d) (get_or links j d) (order i j d front within))
-      (unless (is_past object signal (get_or links j d)) kept)))
-      (λ (at : j ≤ i). let same : i ≡ j = omega (arith, at, upto) in ap (λ n. not (is_past object signal (get_or links n d))) same ∙ kept)
+      ap not (past_on object signal marks (get_or links i d) (get_or links j d)
+      (before_other (get_or links i d) (get_or links j d) (order i j d front within)) (unless (is_past object signal marks (get_or links j d)) kept)))
+      (λ (at : j ≤ i). let same : i ≡ j = omega (arith, at, upto) in ap (λ n. not (is_past object signal marks (get_or links n d))) same ∙ kept)
       (cases_lt i j)
     where
       unless : (b : Bool) → not b ≡ true → b ≡ false

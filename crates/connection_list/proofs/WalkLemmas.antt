@@ -163,20 +163,3 @@ left_first test rows routes group is = record {
   inside = is.inside;
   past = λ k d low high keyed there. is.past k d low high keyed;
 }
-
--- what joins the same ends as a new connection matches the pattern of it
-abbrev pub pattern_of : NewConnection → Pattern
-pattern_of new = record { sender = new.sender; signal = Some new.signal; receiver = Some (record { object = new.receiver; method = None }) }
-
-pub joins_group : (new : NewConnection) (routes : Routes) (group : Group) → IsGroup (λ keyed. matches (pattern_of new) keyed.row) routes group
-    → IsGroup (λ keyed. same_ends new keyed.row) routes group
-joins_group new routes group is = record {
-  within = is.within;
-  before = λ k d low high keyed link. fails keyed.row (is.before k d low high keyed link);
-  inside = is.inside;
-  past = λ k d low high keyed link. fails keyed.row (is.past k d low high keyed link);
-  others = λ keyed differs. fails keyed.row (is.others keyed differs);
-}
-  where
-    fails : (row : Connection) → matches (pattern_of new) row ≡ false → same_ends new row ≡ false
-    fails row differs = grind (arith, nat_tests, differs)

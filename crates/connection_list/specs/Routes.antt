@@ -10,10 +10,12 @@ use Rattle.shared_rows.specs.Table.{Table, ChangesAt}
 use Rattle.shared_rows.specs.Links.{HasRoom, with_link, without_link}
 use Rattle.shared_rows.specs.Rows.{Keyed, rows_at}
 use Rattle.connection_list.specs.Buckets.{Bucketed, Changes, bucket_of, no_buckets}
+use Rattle.connection_list.specs.Marks.{mark_of}
 use Rattle.connection_list.specs.Rows.{IsSound, Rows}
 use Rattle.connection_list.specs.declared.connection.Connection.{Connection}
 use Rattle.connection_list.specs.declared.link.Group.{Group}
 use Rattle.connection_list.specs.declared.link.Link.{Link}
+use Rattle.connection_list.specs.declared.mark.Marks.{Marks}
 use Rattle.connection_list.specs.declared.routes.Routes.{Routes}
 
 -- The links to a connection from its sender and from its receiver.
@@ -21,7 +23,12 @@ abbrev pub sent_of : Keyed Connection → Link
 sent_of keyed = record { object = keyed.row.sender; signal = keyed.row.signal; number = keyed.row.number; key = keyed.key }
 
 abbrev pub received_of : Keyed Connection → Link
-received_of keyed = record { object = keyed.row.receiver; signal = 0; number = keyed.row.number; key = keyed.key }
+received_of keyed = record {
+  object = keyed.row.receiver;
+  signal = keyed.row.sender;
+  number = mark_of keyed.row.signal keyed.row.callee;
+  key = keyed.key;
+}
 
 -- The buckets of one end.
 abbrev pub buckets_of : Bool → Routes → Bucketed
@@ -47,14 +54,18 @@ Gains link = Changes (λ links. with_link link_cmp links link) link.object
 abbrev pub Loses : Link → Bucketed → Bucketed → Type 0
 Loses link = Changes (λ links. without_link link_cmp links link) link.object
 
--- Whether a link is before all links of an object, or of one of its signals.
-abbrev pub is_before : ℕ → Option ℕ → Link → Bool
-is_before object None link = nat_lt link.object object
-is_before object (Some signal) link = nat_lt link.object object || link.object == object && nat_lt link.signal signal
+-- Whether a link is before all links of an object, of one of its signals, or of these with certain marks.
+abbrev pub is_before : ℕ → Option ℕ → Option Marks → Link → Bool
+is_before object None marks link = nat_lt link.object object
+is_before object (Some signal) None link = nat_lt link.object object || link.object == object && nat_lt link.signal signal
+is_before object (Some signal) (Some marks) link = nat_lt link.object object
+    || link.object == object && (nat_lt link.signal signal || link.signal == signal && nat_lt link.number marks.least)
 
-abbrev pub is_past : ℕ → Option ℕ → Link → Bool
-is_past object None link = nat_lt object link.object
-is_past object (Some signal) link = nat_lt object link.object || link.object == object && nat_lt signal link.signal
+abbrev pub is_past : ℕ → Option ℕ → Option Marks → Link → Bool
+is_past object None marks link = nat_lt object link.object
+is_past object (Some signal) None link = nat_lt object link.object || link.object == object && nat_lt signal link.signal
+is_past object (Some signal) (Some marks) link = nat_lt object link.object
+    || link.object == object && (nat_lt signal link.signal || link.signal == signal && nat_lt marks.greatest link.number)
 
 -- The link leads to no connection that passes a test.
 abbrev pub FailsAt : (Keyed Connection → Bool) → Bool → Link → Type 0

@@ -9,6 +9,7 @@ mod ends;
 mod limit;
 mod link;
 mod listing;
+mod mark;
 mod pattern;
 mod routes;
 mod table;

@@ -6,6 +6,7 @@ ghost use Rattle.std.specs.Ordering.{is_lt};
 ghost use Rattle.shared_rows.specs.Links.{IsInOrder, first_from};
 ghost use Rattle.connection_list.specs.Routes.{is_before, is_past, link_cmp};
 
+use crate::mark::Marks;
 use shared_rows::Links;
 
 /// Leads to a connection from one of its ends. Links are sorted by object, then signal, then number, so
@@ -13,8 +14,9 @@ use shared_rows::Links;
 #[derive(Clone, Copy, PartialEq, Eq, PartialOrd, Ord)]
 pub(crate) struct Link {
     pub(crate) object: u32,
-    /// At the receiving end it is 0.
+    /// At the receiving end it is the sender.
     pub(crate) signal: u32,
+    /// At the receiving end it is the connection's mark.
     pub(crate) number: u32,
     /// The key of the connection's row in the table of all places.
     pub(crate) key: u32,
@@ -31,46 +33,63 @@ pub(crate) struct Group {
     pub(crate) end: usize,
 }
 
-/// The links of an object, or those of one of its signals.
+/// The links of an object, those of one of its signals, or those of them with certain marks.
 pub(crate) fn group_of(
     links: &Links<Link>,
     received: bool,
     object: u32,
     signal: Option<u32>,
+    marks: Option<Marks>,
 ) -> Group
     ensures received { result.received ≡ received }
     ensures object { result.object ≡ object }
     ensures within { result.end ≤ length links.now.links }
-    ensures before { AllWithin (λ link. is_before object signal link ≡ true) links.now.links 0 result.start }
+    ensures before { AllWithin (λ link. is_before object signal marks link ≡ true) links.now.links 0 result.start }
     ensures inside { AllWithin (λ link. link.object ≡ object) links.now.links result.start result.end }
-    ensures past { AllWithin (λ link. is_past object signal link ≡ true) links.now.links result.end (length links.now.links) }
+    ensures past { AllWithin (λ link. is_past object signal marks link ≡ true) links.now.links result.end (length links.now.links) }
 {
     let all = links.as_buffer();
     Group {
         received,
         object,
-        start: all.partition_point(|link| is_before(object, signal, link)),
-        end: all.partition_point(|link| !is_past(object, signal, link)),
+        start: all.partition_point(|link| is_before(object, signal, marks, link)),
+        end: all.partition_point(|link| !is_past(object, signal, marks, link)),
     }
 }
 
-/// Whether a link sorts before every link of an object, or of one of its signals.
-fn is_before(object: u32, signal: Option<u32>, link: &Link) -> bool
-    ensures { result ≡ is_before object signal link.now }
+/// Whether a link sorts before every link of a group.
+fn is_before(object: u32, signal: Option<u32>, marks: Option<Marks>, link: &Link) -> bool
+    ensures { result ≡ is_before object signal marks link.now }
 {
-    match signal {
-        Some(signal) => { link.object < object || (link.object == object && link.signal < signal) }
-        None => link.object < object,
+    match (signal, marks) {
+        (None, _) => link.object < object,
+        (Some(signal), None) => {
+            link.object < object || (link.object == object && link.signal < signal)
+        }
+        (Some(signal), Some(marks)) => {
+            link.object < object
+                || (link.object == object
+                    && (link.signal < signal
+                        || (link.signal == signal && link.number < marks.least)))
+        }
     }
 }
 
-/// Whether a link sorts after every link of an object, or of one of its signals.
-fn is_past(object: u32, signal: Option<u32>, link: &Link) -> bool
-    ensures { result ≡ is_past object signal link.now }
+/// Whether a link sorts after every link of a group.
+fn is_past(object: u32, signal: Option<u32>, marks: Option<Marks>, link: &Link) -> bool
+    ensures { result ≡ is_past object signal marks link.now }
 {
-    match signal {
-        Some(signal) => { object < link.object || (link.object == object && signal < link.signal) }
-        None => object < link.object,
+    match (signal, marks) {
+        (None, _) => object < link.object,
+        (Some(signal), None) => {
+            object < link.object || (link.object == object && signal < link.signal)
+        }
+        (Some(signal), Some(marks)) => {
+            object < link.object
+                || (link.object == object
+                    && (signal < link.signal
+                        || (link.signal == signal && marks.greatest < link.number)))
+        }
     }
 }
 

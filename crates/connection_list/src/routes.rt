@@ -17,7 +17,8 @@ use crate::buckets::Buckets;
 use crate::connection::{Connection, NewConnection};
 use crate::ends::{matches, same_ends};
 use crate::link::{Group, Link, first_near, follower, group_of};
-use crate::pattern::{Pattern, Receiver};
+use crate::mark::{mark_of, marks_of, one_mark};
+use crate::pattern::Pattern;
 use shared_rows::{Links, SharedRows};
 use std::alloc::{AllocError, Global};
 use std::marker::Model;
@@ -201,15 +202,7 @@ impl LazyRoutes {
         requires kept { IsPlaceKept (rows_at rows.now place) self.now }
         ensures { result ≡ list_any (λ keyed. same_ends new.now keyed.row) (rows_at rows.now place) }
     {
-        let receiver = Receiver {
-            object: new.receiver,
-            method: None,
-        };
-        let group = self.group(&Pattern {
-            sender: new.sender,
-            signal: Some(new.signal),
-            receiver: Some(receiver),
-        });
+        let group = self.joining(new);
         'links: for at in group.start..group.end {
             let key = self.key_at(group, at);
             if same_ends(new, rows.get(place, key)) {
@@ -219,37 +212,42 @@ impl LazyRoutes {
         false
     }
 
-    /// The links of a pattern's sender, or those of its receiver where these are fewer.
+    /// The links that lead to what joins the same ends as a new connection.
+    fn joining(&self, new: &NewConnection) -> Group
+        ensures { IsGroup (λ keyed. same_ends new.now keyed.row) self.now result }
+    {
+        let Some(routes) = &self.made else {
+            return no_group(new.sender);
+        };
+        let marks = one_mark(mark_of(new.signal, new.callee));
+        group_of(
+            routes.received.bucket(new.receiver),
+            true,
+            new.receiver,
+            Some(new.sender),
+            Some(marks),
+        )
+    }
+
+    /// The links of a pattern's sender, or, where it names a receiver, those of this one that come from the sender.
     fn group(&self, pattern: &Pattern) -> Group
         ensures { IsGroup (λ keyed. matches pattern.now keyed.row) self.now result }
     {
         let Some(routes) = &self.made else {
-            return Group {
-                received: false,
-                object: pattern.sender,
-                start: 0,
-                end: 0,
-            };
+            return no_group(pattern.sender);
         };
-        let sent = group_of(
-            routes.sent.bucket(pattern.sender),
-            false,
-            pattern.sender,
-            pattern.signal,
-        );
-        let Some(receiver) = pattern.receiver else {
-            return sent;
-        };
-        let received = group_of(
-            routes.received.bucket(receiver.object),
-            true,
-            receiver.object,
-            None,
-        );
-        if received.end.saturating_sub(received.start) < sent.end.saturating_sub(sent.start) {
-            received
-        } else {
-            sent
+        match pattern.receiver {
+            None => {
+                let links = routes.sent.bucket(pattern.sender);
+                group_of(links, false, pattern.sender, pattern.signal, None)
+            }
+            Some(receiver) => group_of(
+                routes.received.bucket(receiver.object),
+                true,
+                receiver.object,
+                Some(pattern.sender),
+                marks_of(pattern.signal, receiver.method),
+            ),
         }
     }
 
@@ -365,6 +363,18 @@ impl LazyRoutes {
     }
 }
 
+/// No links, where nothing was ever connected.
+fn no_group(object: u32) -> Group
+    ensures { result ≡ record { received = false; object = object; start = 0; end = 0 } }
+{
+    Group {
+        received: false,
+        object,
+        start: 0,
+        end: 0,
+    }
+}
+
 fn sent_link(row: &Connection, key: u32) -> Link
     ensures { result ≡ sent_of (record { key = key; row = row.now }) }
 {
@@ -381,8 +391,8 @@ fn received_link(row: &Connection, key: u32) -> Link
 {
     Link {
         object: row.receiver,
-        signal: 0,
-        number: row.number,
+        signal: row.sender,
+        number: mark_of(row.signal, row.callee),
         key,
     }
 }

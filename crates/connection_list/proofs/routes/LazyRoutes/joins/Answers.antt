@@ -5,16 +5,16 @@ use Rattle.connection_list.specs.declared.connection.Connection.{Connection}
 use Rattle.connection_list.specs.Ends.{same_ends}
 use Rattle.connection_list.specs.Routes.{links_at}
 use Rattle.connection_list.proofs.KeyedLemmas.{stands_under}
-use Rattle.connection_list.proofs.WalkLemmas.{joins_group, led, left_first, left_front, linked_end, none_left}
+use Rattle.connection_list.proofs.WalkLemmas.{led, left_first, left_front, linked_end, none_left}
 use Rattle.connection_list.proofs.routes.LazyRoutes.joins.Goals as goal
 
 pub links-init : goal.links-init
-links-init c = left_first (λ keyed. same_ends c.args.new.now keyed.row) (rows_at c.args.rows.now c.args.place) c.args.self.now c.group-group.result
-    (joins_group c.args.new.now c.args.self.now c.group-group.result c.group-group.ensures)
+links-init c = left_first (λ keyed. same_ends c.args.new.now keyed.row) (rows_at c.args.rows.now c.args.place) c.args.self.now c.joining-group.result
+    c.joining-group.ensures
 
 pub get-requires-clause-stands : goal.get-requires-clause-stands
 get-requires-clause-stands c =
-    let its = led c.group-group.result.received (rows_at c.args.rows.now c.args.place) c.args.self.now c.group-group.result.object c.links.at
+    let its = led c.joining-group.result.received (rows_at c.args.rows.now c.args.place) c.args.self.now c.joining-group.result.object c.links.at
     c.key_at-key.result c.requires.kept (omega (arith, c.links.invariant.within, c.links-test.true))
     (λ d. c.links.invariant.inside c.links.at d (omega arith) c.links-test.true) c.key_at-key.ensures.key in
     rw its.under refl
@@ -29,11 +29,11 @@ returns-then-same_ends c =
 pub links-preserved : goal.links-preserved
 links-preserved c =
     let rows = rows_at c.args.rows.now c.args.place in
-    let its = led c.group-group.result.received rows c.args.self.now c.group-group.result.object c.links.at
+    let its = led c.joining-group.result.received rows c.args.self.now c.joining-group.result.object c.links.at
     c.key_at-key.result c.requires.kept (omega (arith, c.links.invariant.within, c.links-test.true))
     (λ d. c.links.invariant.inside c.links.at d (omega arith) c.links-test.true) c.key_at-key.ensures.key in
-    left_front c.group-group.result.received c.group-group.result.object (λ keyed. same_ends c.args.new.now keyed.row) rows
-    (links_at c.group-group.result.received c.group-group.result.object c.args.self.now) c.links.at c.group-group.result.end c.key_at-key.result
+    left_front c.joining-group.result.received c.joining-group.result.object (λ keyed. same_ends c.args.new.now keyed.row) rows
+    (links_at c.joining-group.result.received c.joining-group.result.object c.args.self.now) c.links.at c.joining-group.result.end c.key_at-key.result
     c.get.result.now c.requires.kept.apart
     c.get.ensures.row its (sym c.same_ends.ensures ∙ c.if-same_ends.false) c.links.invariant
 
@@ -41,7 +41,7 @@ pub returns : goal.returns
 returns c =
     let rows = rows_at c.args.rows.now c.args.place in
     let test = λ (keyed : Keyed Connection). same_ends c.args.new.now keyed.row in
-    sym (list_any_none test rows (none_left c.group-group.result.received c.group-group.result.object test rows
-    (links_at c.group-group.result.received c.group-group.result.object c.args.self.now) c.links.at c.group-group.result.end
-    (linked_end c.group-group.result.received rows c.args.self.now c.group-group.result.object c.requires.kept.routed)
-    (joins_group c.args.new.now c.args.self.now c.group-group.result c.group-group.ensures).others c.links.invariant (omega (arith, c.links-test.false))))
+    sym (list_any_none test rows (none_left c.joining-group.result.received c.joining-group.result.object test rows
+    (links_at c.joining-group.result.received c.joining-group.result.object c.args.self.now) c.links.at c.joining-group.result.end
+    (linked_end c.joining-group.result.received rows c.args.self.now c.joining-group.result.object c.requires.kept.routed)
+    c.joining-group.ensures.others c.links.invariant (omega (arith, c.links-test.false))))
