@@ -1,4 +1,5 @@
 pub mod Names
+pub mod ShortText
 pub mod Texts
 pub mod Codes
 pub mod Answers

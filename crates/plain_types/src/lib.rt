@@ -9,6 +9,7 @@ mod connection_type;
 mod fault;
 mod items;
 mod name;
+mod short_text;
 mod text;
 
 pub use callee::Callee;

@@ -1,19 +1,16 @@
 //! Texts.
 ghost use Rattle.std.specs.Prelude.{◌≡◌, ◌↔◌, [], IsTrue, IfOk, length, string_bytes};
 
-use arrayvec::ArrayString;
+use crate::short_text::ShortText;
 use std::alloc::{AllocError, Global};
 use std::hash::{Hash, Hasher};
 use std::marker::Model;
 use std::rc::RcStr;
 
-/// A text of so many bytes, or fewer, is kept in the value itself and takes no memory.
-const SHORT_BYTES: usize = 22;
-
 /// A short text lies in the value itself. A longer one is shared by its copies.
 #[derive(Drop)]
 enum Kept {
-    Short(ArrayString<SHORT_BYTES>),
+    Short(ShortText),
     Shared(RcStr),
 }
 
@@ -44,7 +41,7 @@ impl Text {
         ensures { result ≡ [] }
     {
         Text {
-            kept: Kept::Short(ArrayString::new()),
+            kept: Kept::Short(ShortText::new()),
         }
     }
 
@@ -52,9 +49,9 @@ impl Text {
     pub fn from_str(alloc: Global, text: &str) -> Result<Text, AllocError>
         ensures { IfOk result (λ t. t ≡ text.now) }
     {
-        let kept = match ArrayString::from(text) {
-            Ok(short) => Kept::Short(short),
-            Err(_) => Kept::Shared(RcStr::from_str(alloc, text)?),
+        let kept = match ShortText::from(text) {
+            Some(short) => Kept::Short(short),
+            None => Kept::Shared(RcStr::from_str(alloc, text)?),
         };
         Ok(Text { kept })
     }
@@ -63,9 +60,9 @@ impl Text {
     pub fn from_string(text: String) -> Result<Text, AllocError>
         ensures { IfOk result (λ t. t ≡ string_bytes text) }
     {
-        let kept = match ArrayString::from(text.as_str()) {
-            Ok(short) => Kept::Short(short),
-            Err(_) => Kept::Shared(RcStr::from_string(text)?),
+        let kept = match ShortText::from(text.as_str()) {
+            Some(short) => Kept::Short(short),
+            None => Kept::Shared(RcStr::from_string(text)?),
         };
         Ok(Text { kept })
     }
