@@ -1,4 +1,5 @@
 pub mod Outcomes
+pub mod Scalars
 pub mod Reading
 pub mod Known
 pub mod Operations

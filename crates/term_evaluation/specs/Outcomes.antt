@@ -34,6 +34,13 @@ Ends (Err (Refused code)) wanted = wanted ≡ Err (refused code)
 Ends (Err (Own fault)) wanted = wanted ≡ Err (own fault)
 Ends (Err Memory) wanted = Unit {0}
 
+-- A fact if memory did not run out.
+abbrev pub IfEnds : {O : Type 0} → Result Value (Halt O) → Type 0 → Type 0
+IfEnds (Ok value) P = P
+IfEnds (Err (Refused code)) P = P
+IfEnds (Err (Own fault)) P = P
+IfEnds (Err Memory) P = Unit {0}
+
 -- A fault that is not the reader's own.
 abbrev pub halted : {O : Type 0} → Fault → Halt O
 halted (fault.Refused code) = Refused code

@@ -1,14 +1,14 @@
 //! The value of an expression.
 ghost use Rattle.std.specs.Prelude.{◌≡◌, ℕ, List};
 ghost use Rattle.std.specs.Option.{option_map};
-ghost use Rattle.plain_types.specs.Answers.{Answers};
 ghost use Rattle.term_core.specs.declared.target.Target.{Target};
 ghost use Rattle.term_evaluation.specs.Evaluation.{argument, eval_by, standing};
-ghost use Rattle.term_evaluation.specs.Outcomes.{Answer, Ends};
+ghost use Rattle.term_evaluation.specs.Outcomes.{Answer, Ends, answer};
+ghost use Rattle.term_evaluation.specs.Scalars.{held};
 
 use crate::halt::Halt;
-use crate::operations::{apply, truth};
-use plain_types::{Code, Fault, Text};
+use crate::scalar::{Scalar, apply_to, constant, held, put_aside, refuse, take, truth_of};
+use plain_types::{Code, Text};
 use std::alloc::Global;
 use term_core::{Expr, Node, Target};
 use variant_value::Value;
@@ -56,22 +56,40 @@ pub fn evaluate<R: Reads>(
 ) -> Result<Value, Halt<R::Own>>
     ensures { Ends result (eval_by args.now (R.reads reader.now) expr.now) }
 {
+    let mut aside = Err(Halt::Memory);
+    let scalar = evaluate_form(alloc, expr, args, reader, &mut aside);
+    held(scalar, aside)
+}
+
+fn evaluate_form<R: Reads>(
+    alloc: Global,
+    expr: &Expr,
+    args: &[Value],
+    reader: &R,
+    aside: &mut Result<Value, Halt<R::Own>>,
+) -> Scalar
+    ensures { Ends (held result aside.new) (eval_by args.now (R.reads reader.now) expr.now) }
+{
     match &expr.node {
-        Node::Const(value) => Ok(value.copy(alloc)?),
-        Node::Arg(place) => Ok(argument(alloc, args, *place)?),
-        Node::State => Err(Halt::Refused(Code::BadValue)),
-        Node::Prop(target, name) => reader.read(alloc, target, name),
+        Node::Const(value) => constant(alloc, value, aside),
+        Node::Arg(place) => argument(alloc, args, *place, aside),
+        Node::State => refuse(Code::BadValue, aside),
+        Node::Prop(target, name) => put_aside(reader.read(alloc, target, name), aside),
         Node::Binary(operator, a, b) => {
-            let a = evaluate(alloc, a, args, reader)?;
-            let b = evaluate(alloc, b, args, reader)?;
-            Ok(apply(alloc, *operator, &a, &b)?)
+            let first = evaluate_form(alloc, a, args, reader, aside);
+            let mut value = Value::Invalid;
+            if !take(first, aside, &mut value) {
+                return Scalar::Other;
+            }
+            let second = evaluate_form(alloc, b, args, reader, aside);
+            apply_to(alloc, *operator, &value, second, aside)
         }
         Node::Choice(test, held, failed) => {
-            let truth = truth(&evaluate(alloc, test, args, reader)?);
-            match truth {
-                Some(true) => evaluate(alloc, held, args, reader),
-                Some(false) => evaluate(alloc, failed, args, reader),
-                None => Err(Halt::Refused(Code::BadValue)),
+            let test = evaluate_form(alloc, test, args, reader, aside);
+            match truth_of(test, aside) {
+                Some(true) => evaluate_form(alloc, held, args, reader, aside),
+                Some(false) => evaluate_form(alloc, failed, args, reader, aside),
+                None => Scalar::Other,
             }
         }
     }
@@ -89,11 +107,16 @@ pub fn standing<'a>(expr: &'a Expr, args: &'a [Value]) -> Option<&'a Value>
     }
 }
 
-fn argument(alloc: Global, args: &[Value], place: usize) -> Result<Value, Fault>
-    ensures { Answers result (argument args.now place) }
+pub(crate) fn argument<O: Drop>(
+    alloc: Global,
+    args: &[Value],
+    place: usize,
+    aside: &mut Result<Value, Halt<O>>,
+) -> Scalar
+    ensures { Ends (held result aside.new) (answer (argument args.now place)) }
 {
     match args.get(place) {
-        Some(value) => Ok(value.copy(alloc)?),
-        None => Err(Fault::Refused(Code::BadValue)),
+        Some(value) => constant(alloc, value, aside),
+        None => refuse(Code::BadValue, aside),
     }
 }

@@ -6,8 +6,10 @@ mod both;
 mod evaluation;
 mod halt;
 mod laws;
+mod meeting;
 mod operations;
 mod reading;
+mod scalar;
 mod stating;
 mod substitution;
 
@@ -17,6 +19,7 @@ pub use laws::{
     evaluates_in_place, finite_reads_suffice, met_suffice, reads_suffice, state_keeps_limits,
     unfolding_keeps_limits, unfolding_leaves_no_argument, values_are_short,
 };
+pub use meeting::{Notes, meet};
 pub use operations::{apply, state_value, truth};
 pub use reading::{Read, reads_of};
 pub use stating::after;
