@@ -10,19 +10,20 @@ use Rattle.json.specs.Token as token
 use Rattle.json.specs.Lex.{tokens}
 use Rattle.json.specs.Json.{Json, Parse, parse_map, after_end_array, if_last, items, members, read_key, value}
 use Rattle.json.specs.Json as json
-use Rattle.json.proofs.Grammar.{value_is, value-begin_array, value-begin_object, items_end, items_fail, items_more, members_end, members_fail}
-use Rattle.json.proofs.Grammar.{members_more, members_no_key}
+use Rattle.json.proofs.Grammar.{value_is, value-begin_array, value-begin_object, items_end, items_fail, items_more, members_end}
+use Rattle.json.proofs.Grammar.{members_more}
 use Rattle.serde_json.specs.Data.{Members, array, object, number, no_members, put}
 use Rattle.serde_json.specs.Find.{of_integer}
 use Rattle.serde_json.specs.Read.{converted, number_of, of_json, of_items, of_members, read}
 use Rattle.serde_json.proofs.Numbers.{number_of-decimal, number_of-negative}
 use Rattle.json_reading.specs.declared.field.Scalar.{Scalar}
-use Rattle.json_reading.specs.declared.field.Scalar.TheVariants.{Null, Truth, Number, Signed, Text}
+use Rattle.json_reading.specs.declared.field.Scalar.TheVariants.{Null, Truth, Number, Signed, Real, Text}
 use Rattle.json_reading.specs.declared.field.Field.{Field}
 use Rattle.json_reading.specs.declared.field.Field.TheVariants as field
 use Rattle.json_reading.specs.declared.field.Member.{Member}
 use Rattle.json_reading.specs.Faults.{HasNoItems}
 use Rattle.json_reading.specs.Members.{scalar_data, items_in, data_of, members_from, members_in}
+use Rattle.json_reading.proofs.RealLemmas.{number_of_float}
 use Rattle.json_reading.specs.Spelling.{scalar_token, field_tokens, member_tokens, object_tokens, Fits, AllFit, IsSpelled, AreSpelled}
 
 abbrev scalar_json : Scalar → Json
@@ -30,6 +31,7 @@ scalar_json Null = json.null
 scalar_json (Truth t) = json.boolean t
 scalar_json (Number n) = json.number (decimal n)
 scalar_json (Signed z) = json.number (signed_decimal z)
+scalar_json (Real r) = json.number r.text.now
 scalar_json (Text t) = json.string t.now
 
 abbrev items_json : List Scalar → json.Items
@@ -57,6 +59,7 @@ scalar_read Null h = refl
 scalar_read (Truth t) h = refl
 scalar_read (Number n) h = ap (option_map number) (number_of-decimal n h)
 scalar_read (Signed z) h = ap (option_map number) (signed_read z h)
+scalar_read (Real r) h = ap (option_map number) (number_of_float r.text.now r.finite)
 scalar_read (Text t) h = refl
 
 items_read : (ss : List Scalar) → AllFit ss → of_items (items_json ss) ≡ Some (items_in ss)
@@ -80,6 +83,7 @@ scalar_value depth Null rest = value_is depth _
 scalar_value depth (Truth t) rest = value_is depth _
 scalar_value depth (Number n) rest = value_is depth _
 scalar_value depth (Signed z) rest = value_is depth _
+scalar_value depth (Real r) rest = value_is depth _
 scalar_value depth (Text t) rest = value_is depth _
 
 no_end : (s : Scalar) (rest : List Token) → after_end_array (scalar_token s ∷ rest) ≡ None
@@ -87,6 +91,7 @@ no_end Null rest = refl
 no_end (Truth t) rest = refl
 no_end (Number n) rest = refl
 no_end (Signed z) rest = refl
+no_end (Real r) rest = refl
 no_end (Text t) rest = refl
 
 items_value : (depth : ℕ) (ss : List Scalar) (rest : List Token) (n : ℕ) → length (map scalar_token ss ++ token.end_array ∷ rest) ≤ n

@@ -6,5 +6,6 @@ pub mod Printing
 pub mod Standing
 pub mod CopyLemmas
 pub mod Together
+pub mod RealLemmas
 pub mod ForCallers
 pub mod Reading

@@ -9,7 +9,7 @@ use Rattle.json.specs.Print.{quoted, ends, separator, print_from, print, ArePrin
 use Rattle.json.proofs.Printed.Tokens.{tokens-print, print_from_push, print_from-append, ends_push, ArePrintable-push}
 use Rattle.json.proofs.Printed.Decimals.{IsNumber-decimal, IsNumber-signed_decimal}
 use Rattle.json_reading.specs.declared.field.Scalar.{Scalar}
-use Rattle.json_reading.specs.declared.field.Scalar.TheVariants.{Null, Truth, Number, Signed, Text}
+use Rattle.json_reading.specs.declared.field.Scalar.TheVariants.{Null, Truth, Number, Signed, Real, Text}
 use Rattle.json_reading.specs.declared.field.Field.{Field}
 use Rattle.json_reading.specs.declared.field.Field.TheVariants as field
 use Rattle.json_reading.specs.declared.field.Member.{Member}
@@ -45,6 +45,7 @@ scalar_ends Null = refl
 scalar_ends (Truth t) = refl
 scalar_ends (Number n) = refl
 scalar_ends (Signed z) = refl
+scalar_ends (Real r) = refl
 scalar_ends (Text t) = refl
 
 field_ends : (f : Field) → IsSpelled f → ended false (field_tokens f) ≡ true
@@ -132,6 +133,7 @@ scalars_printable (Null ∷ ss) h = (tt, scalars_printable ss h.1)
 scalars_printable (Truth t ∷ ss) h = (tt, scalars_printable ss h.1)
 scalars_printable (Number n ∷ ss) h = (IsNumber-decimal n h.0, scalars_printable ss h.1)
 scalars_printable (Signed z ∷ ss) h = (IsNumber-signed_decimal z h.0.sfits, scalars_printable ss h.1)
+scalars_printable (Real r ∷ ss) h = (r.spelled, scalars_printable ss h.1)
 scalars_printable (Text t ∷ ss) h = (tt, scalars_printable ss h.1)
 
 field_printable : (f : Field) → IsSpelled f → ArePrintable (field_tokens f)

@@ -1,4 +1,5 @@
 pub mod Fields
+pub mod Reals
 pub mod Members
 pub mod Spelling
 pub mod Faults

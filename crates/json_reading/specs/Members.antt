@@ -1,19 +1,21 @@
 -- Members and their values, as `serde_json` sees them.
 use Rattle.std.specs.Prelude.{List, [], ◌∷◌}
-use Rattle.serde_json.specs.Data.{Data, null, boolean, number, string, array, unsigned, Items, no_items, item, Members, no_members, put}
+use Rattle.serde_json.specs.Data.{Data, null, boolean, number, string, array, float, unsigned, Items, no_items, item, Members, no_members, put}
 use Rattle.serde_json.specs.Find.{of_integer}
 use Rattle.serde_json.specs.View.{view}
 use Rattle.json_reading.specs.declared.field.Scalar.{Scalar}
-use Rattle.json_reading.specs.declared.field.Scalar.TheVariants.{Null, Truth, Number, Signed, Text}
+use Rattle.json_reading.specs.declared.field.Scalar.TheVariants.{Null, Truth, Number, Signed, Real, Text}
 use Rattle.json_reading.specs.declared.field.Field.{Field}
 use Rattle.json_reading.specs.declared.field.Field.TheVariants as field
 use Rattle.json_reading.specs.declared.field.Member.{Member}
+use Rattle.json_reading.specs.Reals.{float_in}
 
 abbrev pub scalar_data : Scalar → Data
 scalar_data Null = null
 scalar_data (Truth t) = boolean t
 scalar_data (Number n) = number (unsigned n)
 scalar_data (Signed z) = number (of_integer z)
+scalar_data (Real r) = number (float (float_in r.text.now))
 scalar_data (Text t) = string t.now
 
 abbrev pub items_in : List Scalar → Items

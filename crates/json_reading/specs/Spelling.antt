@@ -5,7 +5,7 @@ use Rattle.std.specs.Fmt.{signed_decimal}
 use Rattle.json.specs.Token.{Token, begin_object, end_object, begin_array, end_array, key, string, number, boolean, null}
 use Rattle.json.specs.Print.{quoted, print}
 use Rattle.json_reading.specs.declared.field.Scalar.{Scalar}
-use Rattle.json_reading.specs.declared.field.Scalar.TheVariants.{Null, Truth, Number, Signed, Text}
+use Rattle.json_reading.specs.declared.field.Scalar.TheVariants.{Null, Truth, Number, Signed, Real, Text}
 use Rattle.json_reading.specs.declared.field.Field.{Field}
 use Rattle.json_reading.specs.declared.field.Field.TheVariants as field
 use Rattle.json_reading.specs.declared.field.Member.{Member}
@@ -15,6 +15,7 @@ scalar_token Null = null
 scalar_token (Truth t) = boolean t
 scalar_token (Number n) = number (decimal n)
 scalar_token (Signed z) = number (signed_decimal z)
+scalar_token (Real r) = number r.text.now
 scalar_token (Text t) = string t.now
 
 abbrev pub field_tokens : Field → List Token
@@ -39,6 +40,7 @@ Fits Null = ⊤
 Fits (Truth t) = ⊤
 Fits (Number n) = n < 2 ^ 64
 Fits (Signed z) = FitsSigned w64 z
+Fits (Real r) = ⊤
 Fits (Text t) = ⊤
 
 abbrev pub AllFit : List Scalar → Type 0

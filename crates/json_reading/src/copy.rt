@@ -53,6 +53,7 @@ pub(crate) fn scalar_json(alloc: Global, scalar: &Scalar<'_>) -> Result<Value, A
         Scalar::Truth(truth) => Value::Bool(truth),
         Scalar::Number(number) => Value::from(number),
         Scalar::Signed(number) => Value::from(number),
+        Scalar::Real(real) => real.to_json(),
         Scalar::Text(text) => Value::String(String::from_str(alloc, text)?),
     })
 }

@@ -1,6 +1,7 @@
 //! Members and their values.
 
 use crate::own::Own;
+use crate::real::Real;
 use serde_json::Value;
 
 /// The number of members that are given room at once: more than most objects have.
@@ -13,6 +14,7 @@ pub enum Scalar<'a> {
     Truth(bool),
     Number(u64),
     Signed(i64),
+    Real(Real<'a>),
     Text(&'a str),
 }
 

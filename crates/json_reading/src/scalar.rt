@@ -9,7 +9,9 @@ ghost use Rattle.json.specs.Print.{quoted, token_text};
 ghost use Rattle.json_reading.specs.Spelling.{scalar_token, Fits, StandsAt};
 
 use crate::field::Scalar;
+use crate::real::Real;
 use crate::stop::Stop;
+use fast_float::Numeral;
 use std::simd::prelude::*;
 
 /// The byte at a place, or 0 past the end.
@@ -122,6 +124,42 @@ pub(crate) fn scan_negative(bytes: &[u8]) -> Option<(i64, usize)>
     Some((-i64::try_from(number).ok()?, len + 1))
 }
 
+/// The number with a sign that begins at a place, and where it ends.
+#[inline(never)]
+fn scan_signed<'a>(text: &'a str, at: usize) -> Result<(Scalar<'a>, usize), Stop>
+    requires { at < length text.now }
+    ensures { IfOk result
+        (λ found. StandsAt text.now at (token_text (scalar_token found.0)) found.1
+        × Fits found.0) }
+{
+    let bytes = text.as_bytes();
+    if let Some((number, len)) = scan_negative(&bytes[at..]) {
+        let end = at + len;
+        if !matches!(byte_at(bytes, end), b'.' | b'e' | b'E') {
+            return Ok((Scalar::Signed(number), end));
+        }
+    }
+    let (real, end) = scan_real(text, at).ok_or(Stop::Form)?;
+    Ok((Scalar::Real(real), end))
+}
+
+/// The number with a sign, and a fraction or an exponent, that begins at a place, and where it ends.
+fn scan_real<'a>(text: &'a str, at: usize) -> Option<(Real<'a>, usize)>
+    requires { at < length text.now }
+    ensures { IfSome result (λ found. StandsAt text.now at found.0.text.now found.1) }
+{
+    let bytes = text.as_bytes();
+    if bytes[at] != b'-' {
+        return None;
+    }
+    let end = at + 1 + Numeral::scan(&bytes[at + 1..]).len();
+    let next = byte_at(bytes, end);
+    if next == 0 || next >= 128 {
+        return None;
+    }
+    Some((Real::from_text(&text[at..end])?, end))
+}
+
 /// A word that the bytes begin with, and where it ends.
 #[inline(never)]
 fn scan_word<'a>(bytes: &[u8]) -> Option<(Scalar<'a>, usize)>
@@ -156,10 +194,7 @@ pub(crate) fn scan_scalar<'a>(text: &'a str, at: usize) -> Result<(Scalar<'a>, u
             let (number, len) = scan_number(&bytes[at..]).ok_or(Stop::Form)?;
             Ok((Scalar::Number(number), at + len))
         }
-        b'-' => {
-            let (number, len) = scan_negative(&bytes[at..]).ok_or(Stop::Form)?;
-            Ok((Scalar::Signed(number), at + len))
-        }
+        b'-' => scan_signed(text, at),
         b't' | b'f' | b'n' => {
             let (word, len) = scan_word(&bytes[at..]).ok_or(Stop::Form)?;
             Ok((word, at + len))

@@ -14,6 +14,7 @@ ghost use Rattle.json_reading.specs.Spelling.{scalar_token, Fits, AllFit};
 
 use crate::field::{Field, Member, ROOM, Scalar};
 use crate::own::Own;
+use crate::real::Real;
 use crate::scalar::{scan_negative, scan_number};
 use crate::stop::Stop;
 use crate::value::{MOST_NESTED, read_members};
@@ -105,13 +106,16 @@ pub(crate) fn token_scalar<'a>(token: Token<'a>) -> Result<Scalar<'a>, Stop>
     }
 }
 
-/// The number that the whole text is, as `decimal` or `signed_decimal` writes it.
-fn number_scalar<'a>(text: &str) -> Option<Scalar<'a>>
+/// The number that the whole text is, where it has 64 bits with its sign, or a fraction or an exponent.
+fn number_scalar<'a>(text: &'a str) -> Option<Scalar<'a>>
     ensures { IfSome result (λ found. (number text.now ≡ scalar_token found) × Fits found) }
 {
-    match whole_number(text) {
-        Some(number) => Some(Scalar::Number(number)),
-        None => Some(Scalar::Signed(negative_number(text)?)),
+    if let Some(number) = whole_number(text) {
+        return Some(Scalar::Number(number));
+    }
+    match negative_number(text) {
+        Some(number) => Some(Scalar::Signed(number)),
+        None => Some(Scalar::Real(Real::from_text(text)?)),
     }
 }
 

@@ -1,11 +1,10 @@
 use Rattle.std.proofs.Common.{◌≡◌, ◌-◌, ◌<◌, [], ◌∷◌, length, Some, None, string_bytes, sym, ap, ap₂, ◌∙◌, arith, rules}
-use Rattle.json.specs.Token.{Token}
 use Rattle.json.specs.Json.{parse_map, after_end_array, read_key, items, members, value}
 use Rattle.json.specs.Reads.{token_of}
 use Rattle.json.proofs.Grammar.{value_is, value-begin_array, value-begin_object, read_key-shorter}
-use Rattle.serde_json.specs.Data.{null, boolean, number, string, array, object, put}
+use Rattle.serde_json.specs.Data.{array, object, put}
 use Rattle.serde_json.specs.Read.{of_json, of_items, of_members, converted}
-use Rattle.serde_json.specs.View.{view, number_view, members_view}
+use Rattle.serde_json.specs.View.{view, members_view}
 use Rattle.serde_json.proofs.Views.{view-Array, view-Object, members_view-insert_entry}
 use Rattle.json_reading.proofs.Reading.{converted-array, converted-object, item_read, item_refused, items_over, member_read, member_refused}
 use Rattle.json_reading.proofs.Reading.{key_refused, members_over, items_before, items_before-no_items, one_more_item, none_before}

@@ -1,8 +1,7 @@
-use Rattle.std.proofs.Common.{◌≡◌, [], ◌∷◌, arith, rules}
+use Rattle.std.proofs.Common.{◌≡◌, [], arith}
 use Rattle.json.specs.Json.{value}
 use Rattle.json.specs.Lex.{tokens}
-use Rattle.json.specs.Reads.{token_of}
-use Rattle.json_reading.proofs.Reading.{whole_and_more, whole_read, whole_refused}
+use Rattle.json_reading.proofs.Reading.{whole_read, whole_refused}
 use Rattle.json_reading.proofs.value.whole_json.Goals as goal
 
 pub returns-in-None-clause-ok : goal.returns-in-None-clause-ok
