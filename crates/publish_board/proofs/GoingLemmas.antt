@@ -2,7 +2,6 @@
 use Rattle.std.proofs.Common.{◌≡◌, ◌∙◌, ℕ, zero, suc, ◌<◌, ◌≤◌, Bool, true, false, not, List, [], ◌∷◌, drop, filter, remove, length, get_or, refl, sym, ap}
 use Rattle.std.proofs.Common.{subst, arith}
 use Rattle.std.specs.List.{count_by, list_any}
-use Rattle.std.proofs.lemmas.Bool.{or_parts}
 use Rattle.std.proofs.lemmas.List.Edits.{length-remove}
 use Rattle.shared_rows.specs.Table.{ChangesAt, IsPlace, Table}
 use Rattle.shared_rows.proofs.ForCallers.{changes_open, changes_same, changes_twice, changes_with, with_there, with_twice}
@@ -16,16 +15,9 @@ use Rattle.publish_board.specs.Going.{goes, gone}
 use Rattle.publish_board.specs.Inside.{without_join, without_publications}
 use Rattle.publish_board.specs.Joiners.{AreListed}
 use Rattle.publish_board.specs.Topics.{is_of}
-use Rattle.publish_board.proofs.ListedLemmas.{with_other}
+use Rattle.publish_board.proofs.ListedLemmas.{filter_none, with_other}
 
 module _ (p : Join → Bool) where
-  -- where none passes, all stay
-  filter_none : (joins : List Join) → list_any p joins ≡ false → filter (λ join. not (p join)) joins ≡ joins
-  filter_none [] none = refl
-  filter_none (join ∷ joins) none =
-      let parts = or_parts (p join) (list_any p joins) none in
-      rw parts.0 (ap (λ rest. join ∷ rest) (filter_none joins parts.1))
-
   -- one that passes need not stand there
   filter_removed : (joins : List Join) (position : ℕ) (d : Join) → position < length joins → p (get_or joins position d) ≡ true
       → filter (λ join. not (p join)) (remove joins position) ≡ filter (λ join. not (p join)) joins

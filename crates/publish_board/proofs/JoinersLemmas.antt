@@ -1,21 +1,20 @@
 -- How many joins are listed under which topics, after a change of one list.
 use Rattle.std.proofs.Common.{◌≡◌, ◌∙◌, ℕ, ◌+◌, ◌-◌, ◌==◌, ◌&&◌, ◌<◌, suc, Result, Ok, Err, OnOk, OnErr, Bool, true, false, cond, List, [], ◌∷◌}
-use Rattle.std.proofs.Common.{Option, Some, None, length, nat_lt, refl, sym, ap, subst, arith}
+use Rattle.std.proofs.Common.{Option, Some, None, length, refl, sym, ap, arith}
 use Rattle.std.specs.Prelude.{bytes_eq}
-use Rattle.std.specs.Option.{option_eq, option_map, option_map_or}
+use Rattle.std.specs.Option.{option_eq, option_map_or}
 use Rattle.std.specs.Map.{lookup}
 use Rattle.std.proofs.lemmas.Bool.{cond-false, cond-true, ne_eqb}
 use Rattle.std.proofs.lemmas.Slice.Eq.{bytes_eq-Decides}
 use Rattle.indexmap.specs.IndexMap.{IndexMap, IsUnchanged, Updates, get}
-use Rattle.shared_rows.specs.Links.{IsInOrder, Linked, first_from, with_link}
+use Rattle.shared_rows.specs.Links.{Linked, with_link}
 use Rattle.publish_board.specs.declared.join.Join.{Join}
 use Rattle.publish_board.specs.declared.listed.Listed.{Listed}
 use Rattle.publish_board.specs.declared.topic.Topic.{Topic}
 use Rattle.publish_board.specs.Filled.{AreFilled}
-use Rattle.publish_board.specs.Joiners.{IsFirstOf, is_pair}
+use Rattle.publish_board.specs.Joiners.{is_pair}
 use Rattle.publish_board.specs.Listed.{count_in, listed_cmp}
 use Rattle.publish_board.specs.Topics.{is_of, is_same, joins_to}
-use Rattle.publish_board.proofs.PlaceLemmas.{first_counted}
 
 -- two topics that are one
 pub same_topic : (topic other : Topic) → is_same topic other ≡ true → topic ≡ other
@@ -105,17 +104,6 @@ none_listed old topic place stood other at = by (is_same topic other) refl
       where
         less_zero : (n : ℕ) → n ≡ n - 0
         less_zero n = omega arith
-
--- the first place of a list that stands there
-pub first_in : (found : Option (Linked Listed)) (list : Linked Listed) (probe : Listed) (result : Option Listed) → Some list ≡ found
-    → IsInOrder listed_cmp list.links → result ≡ first_from listed_cmp list.links probe
-    → IsFirstOf (λ place. nat_lt 0 (count_for place found)) probe.place (option_map (λ listed. listed.place) result)
-first_in found list probe result is order e =
-    subst (λ (found : Option (Linked Listed)). IsFirstOf (λ place. nat_lt 0 (count_for place found)) probe.place
-    (option_map (λ listed. listed.place) result)) is
-    (subst (λ (result : Option Listed). IsFirstOf (λ place. nat_lt 0 (count_in list.links place)) probe.place
-    (option_map (λ listed. listed.place) result)) (sym e)
-    (first_counted list.links probe order))
 
 not_zero : (n : ℕ) → 0 < n → (n == 0) ≡ false
 not_zero n some = ne_eqb n 0 (λ (e : n ≡ 0). omega (arith, some, e))

@@ -1,8 +1,8 @@
 -- The places that are listed, and what the desks join.
-use Rattle.std.proofs.Common.{◌≡◌, ◌≢◌, ◌∙◌, ℕ, ◌+◌, ◌-◌, ◌<◌, ◌≤◌, ◌==◌, ◌&&◌, ◌||◌, Bool, true, false, cond, List, [], ◌∷◌, Option, Some, None, OnErr, Result}
+use Rattle.std.proofs.Common.{◌≡◌, ◌≢◌, ◌∙◌, ℕ, ◌+◌, ◌-◌, ◌<◌, ◌≤◌, ◌==◌, ◌&&◌, ◌||◌, Bool, true, false, cond, List, [], ◌∷◌, Option, Some, None, OnErr, Result, filter, not}
 use Rattle.std.proofs.Common.{Ok, Err, remove, length, get_or, nat_lt, refl, sym, ap, arith, ⊎_elim}
 use Rattle.std.specs.List.{count_by, list_any}
-use Rattle.std.proofs.lemmas.Bool.{cases_eq, cases_lt, eq-eqb, false≢true, lt-ltb, ne_eqb}
+use Rattle.std.proofs.lemmas.Bool.{cases_eq, cases_lt, eq-eqb, false≢true, lt-ltb, ne_eqb, or_parts}
 use Rattle.std.proofs.lemmas.List.{get_or_past, get_or-set_other, get_or-set_same}
 use Rattle.std.proofs.lemmas.List.Sums.{sum_by-append, sum_by-remove}
 use Rattle.shared_rows.specs.Table.{IsPlace, Table, with_place}
@@ -10,7 +10,8 @@ use Rattle.shared_rows.proofs.ForCallers.{with_same}
 use Rattle.publish_board.specs.declared.join.Join.{Join}
 use Rattle.publish_board.specs.declared.joiners.Joiners.{Joiners}
 use Rattle.publish_board.specs.declared.topic.Topic.{Topic}
-use Rattle.publish_board.specs.Desk.{Desk, no_desk, with_join}
+use Rattle.publish_board.specs.Desk.{Desk, left, no_desk, with_join}
+use Rattle.publish_board.specs.Rows.{is_join, listens}
 use Rattle.publish_board.specs.Table.{IsNextWith, desk_at}
 use Rattle.publish_board.specs.Inside.{without_join}
 use Rattle.publish_board.specs.Joiners.{AreListed, IsFirstOf, count_at, is_listed}
@@ -21,6 +22,13 @@ pub put_back : {T E : Type 0} (r : Result T E) (table : Table Desk) (place : ℕ
     → OnErr r (with_place table place new ≡ table)
 put_back (Ok value) table place now new stood same = tt
 put_back (Err error) table place now new stood same = ap (with_place table place) (same ∙ stood) ∙ with_same no_desk table place
+
+-- where none passes, all stay
+pub filter_none : (p : Join → Bool) (joins : List Join) → list_any p joins ≡ false → filter (λ join. not (p join)) joins ≡ joins
+filter_none p [] none = refl
+filter_none p (join ∷ joins) none =
+    let parts = or_parts (p join) (list_any p joins) none in
+    rw parts.0 (ap (λ rest. join ∷ rest) (filter_none p joins parts.1))
 
 -- any passes where some do
 any_counted : (p : Join → Bool) (joins : List Join) → nat_lt 0 (count_by p joins) ≡ list_any p joins
@@ -63,6 +71,24 @@ next_joins joiners table listed topic least result first = by result first
       joins = sym (joins place) ∙ first.1;
       before = λ other from_least before. sym (joins other) ∙ first.2 other from_least before;
     }
+
+-- no join is taken out of a place that is not listed under the topic
+module _ (from name : List ℕ) (object method : ℕ) where
+  none_same : (joins : List Join) → list_any (listens from name) joins ≡ false → list_any (is_join from name object method) joins ≡ false
+  none_same [] none = refl
+  none_same (join ∷ joins) none =
+      let parts = or_parts (listens from name join) (list_any (listens from name) joins) none in
+      rw parts.0 (none_same joins parts.1)
+
+  module _ (joiners : Joiners) (table : Table Desk) (listed : AreListed joiners table) (place : ℕ)
+      (none : is_listed joiners (record { from = from; name = Some name }) place ≡ false) where
+    pub none_leaves : list_any (is_join from name object method) (desk_at table place).joins ≡ false
+    none_leaves = none_same (desk_at table place).joins (sym (any_counted (listens from name) (desk_at table place).joins)
+        ∙ (ap (nat_lt 0) (sym (listed (record { from = from; name = Some name }) place)) ∙ none))
+
+    pub all_stay : table ≡ with_place table place (left (desk_at table place) from name object method)
+    all_stay = sym (ap (λ (joins : List Join). with_place table place (record (desk_at table place) { joins = joins }))
+        (filter_none (is_join from name object method) (desk_at table place).joins none_leaves) ∙ with_same no_desk table place)
 
 module _ (joiners : Joiners) (desks : Table Desk) (listed : AreListed joiners desks) (place : ℕ) (is_place : IsPlace desks place) where
   -- another desk at a place

@@ -1,16 +1,20 @@
 -- Places in their order: how many joins of one are listed.
-use Rattle.std.proofs.Common.{◌≡◌, ◌∙◌, ℕ, suc, ◌+◌, ◌-◌, ◌<◌, ◌≤◌, ◌==◌, Bool, true, false, not, cond, List, [], ◌∷◌, Option, Some, None, filter, find}
+use Rattle.std.proofs.Common.{◌≡◌, ◌∙◌, ℕ, zero, suc, ◌+◌, ◌-◌, ◌<◌, ◌≤◌, ◌==◌, Bool, true, false, not, cond, List, [], ◌∷◌, Option, Some, None, filter, find}
 use Rattle.std.proofs.Common.{get_or, length, nat_lt, refl, sym, ap, subst, arith, ⊎_elim}
-use Rattle.std.specs.List.{Contains}
+use Rattle.std.specs.List.{AllWithin, Contains, HoldsAt, slice_get}
+use Rattle.std.specs.List.Sorted.{IsPartitionedBy}
 use Rattle.std.specs.Option.{option_map, option_map_or, option_or}
 use Rattle.std.specs.Ordering.{is_eq, is_lt, nat_cmp}
 use Rattle.std.specs.declared.cmp.Ordering.TheVariants.{Less, Equal, Greater}
-use Rattle.std.proofs.lemmas.Bool.{cases_eq, cases_lt, cases_order, eqb-true, ne_eqb, eq-eqb, lt-ltb, le-ltb}
+use Rattle.std.proofs.lemmas.Bool.{cases_eq, cases_lt, cases_order, eqb-true, ne_eqb, eq-eqb, lt-ltb, le-ltb, ltb-false, ltb-true}
+use Rattle.std.proofs.lemmas.Cmp.{nat_cmp_total, on_total}
 use Rattle.std.proofs.lemmas.List.Folds.{find-append}
+use Rattle.std.specs.Cmp.{IsTotalOrder}
 use Rattle.shared_rows.specs.Links.{IsInOrder, first_from, with_link, without_link}
+use Rattle.shared_rows.proofs.ForCallers.{first_at}
 use Rattle.publish_board.specs.declared.listed.Listed.{Listed}
 use Rattle.publish_board.specs.Joiners.{IsFirstOf}
-use Rattle.publish_board.specs.Listed.{count_in, listed_cmp}
+use Rattle.publish_board.specs.Listed.{IsSeatFrom, count_in, listed_cmp}
 
 less : (a b : ℕ) → a < b → nat_cmp a b ≡ Less
 less a b below = grind (arith, lt-ltb a b below)
@@ -184,6 +188,75 @@ first_counted (listed ∷ links) probe order = ⊎_elim
     none other before =
         rw (apart_above listed.place other before)
         (ap (λ found. nat_lt 0 (option_map_or (λ listed. listed.further + 1) found 0)) (behind_none listed links other order (omega (arith, before))))
+
+listed_total : IsTotalOrder listed_cmp
+listed_total = on_total (λ (listed : Listed). listed.place) nat_cmp_total
+
+-- where those below a place end
+module _ (links : List Listed) (order : IsInOrder listed_cmp links) (least : ℕ) where
+  pub seat_parted : IsPartitionedBy (λ (listed : Listed). nat_lt listed.place least) links
+  seat_parted i j d upto within low = ⊎_elim
+      (λ (front : i < j). lt-ltb (get_or links i d).place least (omega (
+        arith,
+        below_from (get_or links i d).place (get_or links j d).place (order i j d front within),
+        ltb-true (get_or links j d).place least low,
+      )))
+      (λ (at : j ≤ i). let same : i ≡ j = omega (arith, at, upto) in ap (λ n. nat_lt (get_or links n d).place least) same ∙ low)
+      (cases_lt i j)
+
+  -- a place that is not below it and follows one that is
+  pub seat_between : (at : ℕ) → at ≤ length links → (0 < at → HoldsAt (λ (listed : Listed). listed.place < least) links (at - 1))
+      → (at < length links → HoldsAt (λ (listed : Listed). least ≤ listed.place) links at) → IsSeatFrom links least at
+  seat_between at within low high = (within, (all_below, none_below))
+    where
+      all_below : AllWithin (λ (listed : Listed). nat_lt listed.place least ≡ true) links 0 at
+      all_below k d from upto = lt-ltb (get_or links k d).place least (⊎_elim
+          (λ (before : k < at - 1). let last : (get_or links (at - 1) d).place < least = low (omega (arith, before)) d in
+          let under = below_from (get_or links k d).place (get_or links (at - 1) d).place (order k (at - 1) d before (omega (arith, within, before))) in
+          omega (arith, last, under))
+          (λ (here : at - 1 ≤ k). let same : at - 1 ≡ k = omega (arith, here, upto) in
+          subst (λ n. (get_or links n d).place < least) same (low (omega (arith, upto)) d))
+          (cases_lt k (at - 1)))
+
+      none_below : AllWithin (λ (listed : Listed). nat_lt listed.place least ≡ false) links at (length links)
+      none_below k d from upto = le-ltb (get_or links k d).place least (⊎_elim
+          (λ (behind : at < k). let first : least ≤ (get_or links at d).place = high (omega (arith, behind, upto)) d in
+          let above = below_from (get_or links at d).place (get_or links k d).place (order at k d behind upto) in
+          omega (arith, first, above))
+          (λ (here : k ≤ at). let same : at ≡ k = omega (arith, here, from) in
+          subst (λ n. least ≤ (get_or links n d).place) same (high (omega (arith, here, from, upto)) d))
+          (cases_lt at k))
+
+  -- the first place from there on
+  pub first_seated : (at : ℕ) → IsSeatFrom links least at
+      → IsFirstOf (λ place. nat_lt 0 (count_in links place)) least (option_map (λ (listed : Listed). listed.place) (slice_get links at))
+  first_seated at seat = subst (λ found. IsFirstOf (λ place. nat_lt 0 (count_in links place)) least (option_map (λ (listed : Listed). listed.place) found))
+      (sym (first_at listed_total links order probe at (
+        λ k d from upto. ap is_lt (less (get_or links k d).place least (ltb-true (get_or links k d).place least (seat.1.0 k d from upto))),
+        λ k d from upto. not_under (get_or links k d).place (ltb-false (get_or links k d).place least (seat.1.1 k d from upto)),
+      )))
+      (first_counted links probe order)
+    where
+      probe : Listed
+      probe = record { place = least; further = 0 }
+
+      not_under : (place : ℕ) → least ≤ place → is_lt (nat_cmp place least) ≡ false
+      not_under place high = ⊎_elim
+          (λ (same : place ≡ least). ap is_lt (equal place least same))
+          (λ differ. ap is_lt (greater place least (omega (arith, high, differ))))
+          (cases_eq place least)
+
+-- how many joins the place at a position has
+pub counted_at : (links : List Listed) → IsInOrder listed_cmp links → (at : ℕ) (listed : Listed) → at < length links → listed ≡ get_or links at listed
+    → count_in links listed.place ≡ listed.further + 1
+counted_at [] order at listed within is = absurd (omega (arith, within))
+counted_at (first ∷ links) order zero listed within is =
+    rw (eq-eqb first.place listed.place (ap (λ (it : Listed). it.place) (sym is))) (ap (λ (it : Listed). it.further + 1) (sym is))
+counted_at (first ∷ links) order (suc at) listed within is =
+    let low = below_from first.place (get_or links at listed).place (order 0 (suc at) listed (omega arith) (omega (arith, within))) in
+    let differ : first.place < listed.place = subst (λ (it : Listed). first.place < it.place) (sym is) low in
+    rw (apart first.place listed.place differ)
+    (counted_at links (λ i j d before inside. order (suc i) (suc j) d (omega (arith, before)) (omega (arith, inside))) at listed (omega (arith, within)) is)
 
 -- the one that is found stands there
 pub found_there : (links : List Listed) (place : ℕ) (listed : Listed) → Some listed ≡ listed_of place links → Contains links listed × (listed.place ≡ place)

@@ -1,5 +1,6 @@
 -- The places of one topic. No public clause cites this module.
-use Rattle.std.specs.Prelude.{ℕ, ◌+◌, ◌==◌, Bool, List, find}
+use Rattle.std.specs.Prelude.{◌≡◌, ℕ, ◌+◌, ◌≤◌, ◌==◌, Bool, true, false, List, find, length, nat_lt}
+use Rattle.std.specs.List.Sorted.{IsPartitionPoint}
 use Rattle.std.specs.Option.{option_map_or}
 use Rattle.std.specs.Ordering.{nat_cmp, on}
 use Rattle.std.specs.declared.cmp.Ordering.{Ordering}
@@ -16,3 +17,8 @@ is_of_same = on (λ listed. listed.place) ◌==◌
 -- How many joins of a place are listed.
 abbrev pub count_in : List Listed → ℕ → ℕ
 count_in links place = option_map_or (λ listed. listed.further + 1) (find (λ listed. listed.place == place) links) 0
+
+-- The places before this position are below `least`, and no others are.
+abbrev pub IsSeatFrom : List Listed → ℕ → ℕ → Type 0
+IsSeatFrom links least at = (at ≤ length links)
+    × IsPartitionPoint (λ (listed : Listed). nat_lt listed.place least ≡ true) (λ (listed : Listed). nat_lt listed.place least ≡ false) links at

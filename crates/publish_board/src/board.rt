@@ -1,5 +1,5 @@
 //! The desks of all places.
-ghost use Rattle.std.specs.Prelude.{◌≡◌, ◌<◌, ◌≤◌, [], IfOk, OnOk, OnErr, filter, length};
+ghost use Rattle.std.specs.Prelude.{◌≡◌, ◌<◌, ◌≤◌, [], IfOk, IfSome, OnOk, OnErr, count_by, filter, length};
 ghost use Rattle.std.specs.List.{list_any};
 ghost use Rattle.shared_rows.specs.Table.{IsPlace, MakesRoom, Opens};
 ghost use Rattle.plain_types.specs.Answers.{RefusedBy};
@@ -11,7 +11,7 @@ ghost use Rattle.publish_board.specs.Going.{gone};
 ghost use Rattle.publish_board.specs.Inside.{without_join};
 
 use crate::join::{Going, Join, listening};
-use crate::joiners::Joiners;
+use crate::joiners::{Joiners, Near};
 use crate::lazy_desk::{Counts, LazyDesk};
 use crate::publication::{Publication, names_of};
 use crate::topic::Sought;
@@ -140,7 +140,8 @@ impl Board {
         Ok(())
     }
 
-    /// Removes the joins that are equal in these four, and returns whether there was one. Allocates nothing.
+    /// Removes the joins that are equal in these four, and returns whether there was one. Allocates nothing. No join
+    /// is looked at if none is of what the session publishes under the name.
     pub fn leave(
         &mut self,
         place: usize,
@@ -153,6 +154,13 @@ impl Board {
         ensures stood { result ≡ list_any (is_join from.now name.now object method) (desk_at self.old place).joins }
         ensures rows { self.new ≡ with_desk self.old place (left (desk_at self.old place) from.now name.now object method) }
     {
+        let publication = Sought {
+            from,
+            name: Some(name),
+        };
+        if !self.joiners.has(publication, place) {
+            return false;
+        }
         let going = Going::Same {
             from,
             name,
@@ -273,20 +281,22 @@ impl Board {
         ensures { IsNextJoiner self.now from.now least result }
     {
         let session = Sought { from, name: None };
-        self.joiners.next(session, least, &mut usize::MAX)
+        self.joiners.next(session, least, &mut Near::new())
     }
 
     /// The first place from `least` on with a join that listens to what the session `from` publishes under
     /// `name`. No other place is visited. If `near` comes from the last call with these names, they are usually
-    /// not hashed again; before the first call it is `usize::MAX`.
+    /// not hashed again, and the place is usually found without a search. It then knows how many such joins the place
+    /// has.
     pub fn next_listener(
         &self,
         from: &Text,
         name: &Text,
         least: usize,
-        near: &mut usize,
+        near: &mut Near,
     ) -> Option<usize>
-        ensures { IsNextListener self.now from.now name.now least result }
+        ensures next { IsNextListener self.now from.now name.now least result }
+        ensures found { IfSome result (λ place. near.new.found ≡ count_by (listens from.now name.now) (desk_at self.now place).joins) }
     {
         let publication = Sought {
             from,

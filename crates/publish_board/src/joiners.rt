@@ -1,5 +1,5 @@
 //! Which places have joins of each topic.
-ghost use Rattle.std.specs.Prelude.{◌≡◌, ◌+◌, ◌-◌, ◌^◌, ◌<◌, ◌&&◌, ◌==◌, ℕ, OnOk, OnErr, if◌then◌else◌};
+ghost use Rattle.std.specs.Prelude.{◌≡◌, ◌+◌, ◌-◌, ◌^◌, ◌<◌, ◌&&◌, ◌==◌, ℕ, IfSome, OnOk, OnErr, if◌then◌else◌};
 ghost use Rattle.std.specs.Option.{option_copied};
 ghost use Rattle.indexmap.specs.IndexMap.{get};
 ghost use Rattle.publish_board.specs.Filled.{AreFilled};
@@ -7,12 +7,34 @@ ghost use Rattle.publish_board.specs.Topics.{is_of, is_same, topic_of};
 ghost use Rattle.publish_board.specs.declared.topic.Topic.{Topic as TopicValue};
 
 use crate::join::Join;
-use crate::listed::{Listed, list_one, unlist_one};
+use crate::listed::{Listed, find_place, first_place, list_one, unlist_one};
 use crate::topic::{Sought, Topic};
 use indexmap::{Equivalent, IndexMap};
 use shared_rows::Links;
 use std::alloc::{AllocError, Global};
 use std::hash::RandomState;
+
+/// Where a search for joiners ended, and the next one usually begins.
+#[derive(Clone, Copy)]
+pub struct Near {
+    /// The position of the topic.
+    list: usize,
+    /// The position after that of the place, among those of the topic.
+    seat: usize,
+    /// How many joins of the topic the place has.
+    pub found: usize,
+}
+
+impl Near {
+    /// Before the first search.
+    pub fn new() -> Near {
+        Near {
+            list: usize::MAX,
+            seat: 0,
+            found: 0,
+        }
+    }
+}
 
 /// For each topic of any join, the places with such joins by rising number. Clients choose the names, so
 /// they are hashed with keys that no client knows.
@@ -35,32 +57,41 @@ impl Joiners {
         }
     }
 
-    /// The first of the places of a topic from `least` on. The topic is looked for at the position `near`
-    /// first, which then is its own.
-    pub(crate) fn next(&self, topic: Sought, least: usize, near: &mut usize) -> Option<usize>
-        ensures { IsFirstOf (is_listed self.now (topic_of topic.entry)) least result }
+    /// The first of the places of a topic from `least` on. It is looked for where `near` ended, which then is its
+    /// own.
+    pub(crate) fn next(&self, topic: Sought, least: usize, near: &mut Near) -> Option<usize>
+        ensures first { IsFirstOf (is_listed self.now (topic_of topic.entry)) least result }
+        ensures found { IfSome result (λ place. near.new.found ≡ count_at self.now (topic_of topic.entry) place) }
     {
         let list = self.list_near(topic, near)?;
-        let probe = Listed {
-            place: least,
-            further: 0,
+        let listed = first_place(list, least, &mut near.seat)?;
+        near.found = listed.further as usize + 1;
+        Some(listed.place)
+    }
+
+    /// Whether a place has a join of a topic.
+    pub(crate) fn has(&self, topic: Sought, place: usize) -> bool
+        ensures { result ≡ is_listed self.now (topic_of topic.entry) place }
+    {
+        let Some(list) = self.lists.get(topic) else {
+            return false;
         };
-        match list.first_from(probe) {
-            Some(listed) => Some(listed.place),
-            None => None,
+        match find_place(list, place) {
+            Some(_) => true,
+            None => false,
         }
     }
 
-    fn list_near(&self, topic: Sought, near: &mut usize) -> Option<&Links<Listed>>
+    fn list_near(&self, topic: Sought, near: &mut Near) -> Option<&Links<Listed>>
         ensures { option_copied result ≡ get is_same self.now.lists (topic_of topic.entry) }
     {
-        if let Some((there, list)) = self.lists.get_index(*near) {
+        if let Some((there, list)) = self.lists.get_index(near.list) {
             if topic.equivalent(there) {
                 return Some(list);
             }
         }
         let (at, _, list) = self.lists.get_full(topic)?;
-        *near = at;
+        near.list = at;
         Some(list)
     }
 

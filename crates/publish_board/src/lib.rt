@@ -15,5 +15,6 @@ mod topic;
 
 pub use board::Board;
 pub use join::Join;
+pub use joiners::Near;
 pub use lazy_desk::{Counts, JOINS, PUBLICATIONS};
 pub use publication::Publication;

@@ -1,12 +1,16 @@
 //! The places of one topic.
-ghost use Rattle.std.specs.Prelude.{◌≡◌, ◌+◌, ◌-◌, ◌^◌, ◌<◌, ◌==◌, ℕ, OnOk, OnErr, find, if◌then◌else◌, length};
+ghost use Rattle.std.specs.Prelude.{◌≡◌, ◌+◌, ◌-◌, ◌^◌, ◌<◌, ◌≤◌, ◌==◌, ℕ, IfSome, IsTrue, OnOk, OnErr, find, if◌then◌else◌, length, nat_lt};
+ghost use Rattle.std.specs.List.{HoldsAt};
+ghost use Rattle.std.specs.Option.{option_map};
 ghost use Rattle.std.proofs.Common.{rules};
 ghost use Rattle.std.specs.Cmp.{partial_order_from_own_ties};
 ghost use Rattle.std.specs.Cmp.Rules.{comparing};
 ghost use Rattle.std.specs.Ordering.{as_partial_cmp};
-ghost use Rattle.publish_board.specs.Listed.{count_in, is_of_same, listed_cmp};
+ghost use Rattle.shared_rows.specs.Links.{IsInOrder};
+ghost use Rattle.publish_board.specs.Joiners.{IsFirstOf};
+ghost use Rattle.publish_board.specs.Listed.{IsSeatFrom, count_in, is_of_same, listed_cmp};
 
-use shared_rows::Links;
+use shared_rows::{GapBuffer, Links};
 use std::alloc::AllocError;
 use std::cmp::Ordering;
 
@@ -56,8 +60,50 @@ impl PartialOrd for Listed {
     }
 }
 
+/// The first of the places from `least` on. It is looked for at the position `near` first, which then is the
+/// position after it.
+pub(crate) fn first_place(list: &Links<Listed>, least: usize, near: &mut usize) -> Option<Listed>
+    ensures first { IsFirstOf (λ place. nat_lt 0 (count_in list.now.links place)) least (option_map (λ listed. listed.place) result) }
+    ensures count { IfSome result (λ listed. count_in list.now.links listed.place ≡ listed.further + 1) }
+{
+    let links = list.as_buffer();
+    let at = seat_from(links, least, *near);
+    if at == links.len() {
+        return None;
+    }
+    *near = at + 1;
+    Some(links.get(at))
+}
+
+/// The position of the first place from `least` on. No search is needed if it is at `near`.
+fn seat_from(links: &GapBuffer<Listed>, least: usize, near: usize) -> usize
+    requires { IsInOrder listed_cmp links.now.items }
+    ensures { IsSeatFrom links.now.items least result }
+{
+    if near <= links.len() && is_behind(links, least, near) && is_ahead(links, least, near) {
+        return near;
+    }
+    links.partition_point(|listed| listed.place < least)
+}
+
+/// Whether the place before a position is below `least`.
+fn is_behind(links: &GapBuffer<Listed>, least: usize, at: usize) -> bool
+    requires { at ≤ length links.now.items }
+    ensures { IsTrue result → 0 < at → HoldsAt (λ listed. listed.place < least) links.now.items (at - 1) }
+{
+    at == 0 || links.get(at - 1).place < least
+}
+
+/// Whether the place at a position is not below `least`.
+fn is_ahead(links: &GapBuffer<Listed>, least: usize, at: usize) -> bool
+    requires { at ≤ length links.now.items }
+    ensures { IsTrue result → at < length links.now.items → HoldsAt (λ listed. least ≤ listed.place) links.now.items at }
+{
+    at == links.len() || least <= links.get(at).place
+}
+
 /// Finds a place.
-fn find_place(list: &Links<Listed>, place: usize) -> Option<Listed>
+pub(crate) fn find_place(list: &Links<Listed>, place: usize) -> Option<Listed>
     ensures { result ≡ find (λ listed. listed.place == place) list.now.links }
 {
     let probe = Listed { place, further: 0 };

@@ -1,7 +1,7 @@
 -- A post reaches the sessions one after another, and each by its joins one after another.
-use Rattle.std.proofs.Common.{◌≡◌, ◌<◌, ◌≤◌, ◌+◌, inl, inr, ℕ, Bool, true, false, true≢false, cond, ◌||◌, eqb, ltb, IsFalse, IsTrue, List, [], ◌∷◌, ◌++◌, Some}
-use Rattle.std.proofs.Common.{length, get_or, drop, take, map, filter, refl, sym, ap, subst, ◌∙◌, arith}
-use Rattle.std.specs.List.{list_any, slice_get}
+use Rattle.std.proofs.Common.{◌≡◌, ◌<◌, ◌≤◌, ◌+◌, inl, inr, ℕ, zero, suc, Bool, true, false, true≢false, cond, ◌||◌, eqb, ltb, IsFalse, IsTrue, List, [], ◌∷◌, ◌++◌}
+use Rattle.std.proofs.Common.{Some, length, get_or, drop, take, map, filter, refl, sym, ap, subst, ◌∙◌, arith}
+use Rattle.std.specs.List.{count_by, list_any, slice_get}
 use Rattle.std.specs.Prelude.{Result, Ok, Err, OnOk, OnErr}
 use Rattle.std.specs.Result.{is_err as result_is_err}
 use Rattle.std.specs.Option.{option_map_or}
@@ -9,6 +9,7 @@ use Rattle.std.proofs.lemmas.Bool.{cond-false, cond-true}
 use Rattle.std.proofs.lemmas.Bool.Decides.{nat_tests}
 use Rattle.std.proofs.lemmas.List.{append-nil, drop_more, map-append, take_more}
 use Rattle.std.proofs.lemmas.List.Elements.{filter-append}
+use Rattle.std.proofs.lemmas.List.Sums.{count_by-le-length, sum_by-cons}
 use Rattle.std.proofs.lemmas.Option.{slice_get-get_or}
 use Rattle.event_queue.specs.Queue.{Queue, empty_queue}
 use Rattle.event_queue.specs.Table.{queue_at, with_queue}
@@ -25,7 +26,7 @@ use Rattle.signature_core.specs.declared.kind.Kind.{Kind}
 use Rattle.publish_board.specs.declared.join.Join.{Join}
 use Rattle.publish_board.specs.declared.publication.Publication.{Publication}
 use Rattle.publish_board.specs.Desk.{no_desk}
-use Rattle.publish_board.specs.Rows.{publishes}
+use Rattle.publish_board.specs.Rows.{listens, publishes}
 use Rattle.publish_board.specs.Table.{desk_at}
 use Rattle.session_model.specs.declared.post.Post.{Post}
 use Rattle.session_model.specs.Arriving.{post_of, posts_by, reached, reached_by}
@@ -35,7 +36,7 @@ use Rattle.session_tables.specs.Session.{Session, failed_session}
 use Rattle.session_tables.specs.Tables.{ChangesOnly, IsPlaced, failed_at, session_at, state_at, with_session}
 use Rattle.session_tables.specs.Reaching.{ReceivesPosts, Reaches, ReachesBy, after_posts, only_at, takes, takes_some}
 use Rattle.session_tables.proofs.TablesLemmas.{changes_same, changes_twice, session_there}
-use Rattle.session_tables.proofs.ReachingLemmas.{after_posts-none, placed_shaped, reaches_by_twice, reaches_changed, session_unchanged}
+use Rattle.session_tables.proofs.ReachingLemmas.{after_posts-none, placed_shaped, reached_past, reaches_by_twice, reaches_changed, session_unchanged}
 use Rattle.session_tables.proofs.ReachingLemmas.{shaped_changed}
 
 module _ (classes : List Class) (rows : List Row) (from : List ℕ) (post : Post) where
@@ -51,6 +52,48 @@ module _ (classes : List Class) (rows : List Row) (from : List ℕ) (post : Post
       ∙ ap (λ join. reached_by classes rows from post (reached classes rows from post (queue_at now at) join) (drop (i + 1) joins)) is
       ∙ ap (reached_by classes rows from post (queue_at now at)) (sym (drop_more joins i join within))
       ∙ before
+
+  -- where none listens, the queue stays
+  pub arrive_none : (joins : List Join) (queue : Queue) → count_by (listens from post.name) joins ≤ 0 → reached_by classes rows from post queue joins ≡ queue
+  arrive_none [] queue none = refl
+  arrive_none (join ∷ joins) queue none = by (listens from post.name join) refl (arrive_none joins queue)
+    where
+      parts : (heard : Bool) → listens from post.name join ≡ heard
+          → count_by (listens from post.name) (join ∷ joins) ≡ cond heard 1 0 + count_by (listens from post.name) joins
+      parts heard e = sum_by-cons (λ join. cond (listens from post.name join) 1 0) join joins
+          ∙ ap (λ heard. cond heard 1 0 + count_by (listens from post.name) joins) e
+
+      by : (heard : Bool) → listens from post.name join ≡ heard
+          → (count_by (listens from post.name) joins ≤ 0 → reached_by classes rows from post queue joins ≡ queue)
+          → reached_by classes rows from post queue (join ∷ joins) ≡ queue
+      by true e rest = absurd (omega (arith, none, parts true e))
+      by false e rest =
+          ap (λ queue. reached_by classes rows from post queue joins) (reached_past classes rows from post queue join e)
+          ∙ rest (omega (arith, none, parts false e))
+
+module _ (p : Join → Bool) where
+  -- the joins from one on that pass
+  pub count_rest : (joins : List Join) (i : ℕ) (join : Join) (passes : Bool) → i < length joins → join ≡ get_or joins i join → p join ≡ passes
+      → count_by p (drop i joins) ≡ cond passes 1 0 + count_by p (drop (i + 1) joins)
+  count_rest joins i join passes within is e =
+      ap (count_by p) (drop_more joins i join within)
+      ∙ sum_by-cons (λ join. cond (p join) 1 0) (get_or joins i join) (drop (i + 1) joins)
+      ∙ ap (λ join. cond (p join) 1 0 + count_by p (drop (i + 1) joins)) (sym is)
+      ∙ ap (λ passes. cond passes 1 0 + count_by p (drop (i + 1) joins)) e
+
+  -- where as many pass as there are, each does
+  pub all_pass : (joins : List Join) → length joins ≤ count_by p joins → (i : ℕ) (join : Join) → i < length joins → p (get_or joins i join) ≡ true
+  all_pass [] full i join within = absurd (omega (arith, within))
+  all_pass (first ∷ joins) full i join within = by (p first) refl (λ full i. all_pass joins full i join) i within
+    where
+      parts : (passes : Bool) → p first ≡ passes → count_by p (first ∷ joins) ≡ cond passes 1 0 + count_by p joins
+      parts passes e = sum_by-cons (λ join. cond (p join) 1 0) first joins ∙ ap (λ passes. cond passes 1 0 + count_by p joins) e
+
+      by : (passes : Bool) → p first ≡ passes → (length joins ≤ count_by p joins → (i : ℕ) → i < length joins → p (get_or joins i join) ≡ true)
+          → (i : ℕ) → i < length (first ∷ joins) → p (get_or (first ∷ joins) i join) ≡ true
+      by true e rest zero within = e
+      by true e rest (suc i) within = rest (omega (arith, full, parts true e)) i (omega (arith, within))
+      by false e rest i within = absurd (omega (arith, full, parts false e, count_by-le-length p joins))
 
 -- a session takes a post that one of its joins takes
 pub takes_post : (from : List ℕ) (post : Post) (joins : List Join) (session : Session) → joins ≡ session.state.desk.joins
@@ -279,6 +322,13 @@ pub post_row : (found rows : List Publication) (i : ℕ) (kinds : List Kind) (ar
     → row ≡ get_or found i row → option_map_or (λ row. post_of kinds args row ∷ []) (slice_get rows i) [] ≡ post_of kinds args row ∷ []
 post_row found rows i kinds args row e within is =
     ap (λ found. option_map_or (λ row. post_of kinds args row ∷ []) found [])
+    (slice_get-get_or rows i row within ∙ ap Some (sym (is ∙ ap (λ rows. get_or rows i row) e)))
+
+-- how many joins listen to it
+pub heard_row : (found rows : List Publication) (i : ℕ) (from : List ℕ) (joins : List Join) (row : Publication) → found ≡ rows → i < length rows
+    → row ≡ get_or found i row → option_map_or (λ row. count_by (listens from row.name) joins) (slice_get rows i) 0 ≡ count_by (listens from row.name) joins
+heard_row found rows i from joins row e within is =
+    ap (λ found. option_map_or (λ row. count_by (listens from row.name) joins) found 0)
     (slice_get-get_or rows i row within ∙ ap Some (sym (is ∙ ap (λ rows. get_or rows i row) e)))
 
 pub posts_row : (found rows : List Publication) (i target signal : ℕ) (kinds : List Kind) (args : List Value) (row : Publication) (sent : Bool) → found ≡ rows

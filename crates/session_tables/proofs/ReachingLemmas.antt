@@ -10,6 +10,7 @@ use Rattle.binding_values.specs.Graph.{no_graph}
 use Rattle.connection_list.specs.Rows.{no_rows}
 use Rattle.event_queue.specs.Queue.{Queue, empty_queue, with_mismatched}
 use Rattle.object_tree.specs.Forest.{empty_forest}
+use Rattle.object_tree.specs.declared.row.Row.{Row}
 use Rattle.shared_rows.proofs.ForCallers as column
 use Rattle.session_model.specs.declared.post.Post.{Post}
 use Rattle.publish_board.specs.declared.join.Join.{Join}
@@ -211,22 +212,25 @@ after_posts_stranger classes from posts session unnamed = by session.failed refl
     by true e = refl
     by false e = ap (λ state. record { state = state; failed = false }) (all posts) ∙ ap (λ failed. record { state = session.state; failed = failed }) (sym e)
 
+-- a join that does not listen is passed over
+pub reached_past : (classes : List Class) (rows : List Row) (from : List ℕ) (post : Post) (queue : Queue) (join : Join) → listens from post.name join ≡ false
+    → reached classes rows from post queue join ≡ queue
+reached_past classes rows from post queue join e = ap (λ b. cond b (cond (is_matched post.kinds join)
+    (with_call queue (joined_call classes rows post.arguments join)) (with_mismatched queue)) queue) e
+
 -- nor does one that does not listen to what is posted
 pub after_post_unheard : (classes : List Class) (from : List ℕ) (post : Post) (session : Session) → listens_to from post.name session.state.desk ≡ false
     → after_posts classes from (post ∷ []) session ≡ session
 unfolding arrives
 after_post_unheard classes from post session unheard = by session.failed refl
   where
-    passed : (queue : Queue) (join : Join) → listens from post.name join ≡ false → reached classes session.state.forest.rows from post queue join ≡ queue
-    passed queue join e = ap (λ b. cond b (cond (is_matched post.kinds join)
-        (with_call queue (joined_call classes session.state.forest.rows post.arguments join)) (with_mismatched queue)) queue) e
-
     all : (joins : List Join) (queue : Queue) → list_any (listens from post.name) joins ≡ false
         → reached_by classes session.state.forest.rows from post queue joins ≡ queue
     all [] queue none = refl
     all (join ∷ joins) queue none =
         let parts = or_parts (listens from post.name join) (list_any (listens from post.name) joins) none in
-        ap (λ queue. reached_by classes session.state.forest.rows from post queue joins) (passed queue join parts.0) ∙ all joins queue parts.1
+        ap (λ queue. reached_by classes session.state.forest.rows from post queue joins)
+        (reached_past classes session.state.forest.rows from post queue join parts.0) ∙ all joins queue parts.1
 
     by : (failed : Bool) → session.failed ≡ failed
         → cond failed session (record { state = arrive_all classes session.state from (post ∷ []); failed = false }) ≡ session

@@ -1,5 +1,5 @@
 -- The posts of a session, and what they do to the other sessions.
-use Rattle.std.specs.Prelude.{◌≡◌, ◌⊎◌, ◌&&◌, ℕ, Bool, false, eqb, IsFalse, IsTrue, List, [], ◌∷◌, length, if◌then◌else◌}
+use Rattle.std.specs.Prelude.{◌≡◌, ◌⊎◌, ◌&&◌, ℕ, ◌≤◌, Bool, false, count_by, eqb, IsFalse, IsTrue, List, [], ◌∷◌, length, if◌then◌else◌}
 use Rattle.std.specs.List.{list_any, slice_get}
 use Rattle.std.specs.Option.{option_map_or}
 use Rattle.class_table.specs.declared.class.Class.{Class}
@@ -11,6 +11,7 @@ use Rattle.publish_board.specs.Rows.{listens}
 use Rattle.session_model.specs.declared.post.Post.{Post}
 use Rattle.session_model.specs.Arriving.{is_matched, post_of, posts_by}
 use Rattle.session_model.specs.Thread.{arrive_all}
+use Rattle.session_tables.specs.declared.posts.Heard.{Heard}
 use Rattle.session_tables.specs.declared.posts.Posting.{Posting}
 use Rattle.session_tables.specs.declared.tables.Tables.{Tables}
 use Rattle.session_tables.specs.Session.{Session, failed_session}
@@ -43,6 +44,15 @@ post_at desk index kinds args = option_map_or (λ row. post_of kinds args row �
 -- The post of a signal for the publication at an index, if the publication is of the signal.
 abbrev pub posts_at : Desk → ℕ → ℕ → ℕ → List Kind → List Value → List Post
 posts_at desk index object signal kinds args = option_map_or (λ row. posts_by object signal kinds args (row ∷ [])) (slice_get desk.publications index) []
+
+-- How many of these joins listen to the publication at an index.
+abbrev pub count_heard : Desk → ℕ → List ℕ → List Join → ℕ
+count_heard desk index from joins = option_map_or (λ row. count_by (listens from row.name) joins) (slice_get desk.publications index) 0
+
+-- No more joins listen than are looked for, and all do where all are said to.
+pub record IsHeard (from name : List ℕ) (heard : Heard) : Type 0 where
+  pub most : count_by (listens from name) heard.joins.now ≤ heard.most
+  pub all : IsTrue heard.all → length heard.joins.now ≤ count_by (listens from name) heard.joins.now
 
 -- The post that is delivered.
 abbrev pub post_in : Posting → Post

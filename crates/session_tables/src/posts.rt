@@ -1,12 +1,13 @@
 //! Posts to the sessions that join what another one publishes.
-ghost use Rattle.std.specs.Prelude.{◌≡◌, ◌<◌, ◌∷◌, [], IsTrue, OnOk, OnErr, length, take};
+ghost use Rattle.std.specs.Prelude.{◌≡◌, ◌<◌, ◌∷◌, [], IfOk, IsTrue, OnOk, OnErr, if◌then◌else◌, length, take};
 ghost use Rattle.std.specs.List.{list_any};
 ghost use Rattle.shared_rows.specs.Table.{IsPlace};
 ghost use Rattle.event_queue.specs.Table.{queue_at, with_queue};
 ghost use Rattle.object_tree.specs.Table.{forest_at};
+ghost use Rattle.publish_board.specs.Rows.{listens};
 ghost use Rattle.publish_board.specs.Table.{desk_at};
 ghost use Rattle.session_model.specs.Arriving.{is_matched, kinds_of, posts_by, reached, reached_by, with_call};
-ghost use Rattle.session_tables.specs.Reaching.{FailsBy, Reaches, ReachesBy, after_posts, only_at, post_at, post_in, posts_at, takes};
+ghost use Rattle.session_tables.specs.Reaching.{FailsBy, IsHeard, Reaches, ReachesBy, after_posts, count_heard, only_at, post_at, post_in, posts_at, takes};
 ghost use Rattle.session_tables.specs.Tables.{ChangesOnly, IsPlaced, session_at, state_at};
 
 use crate::tables::Tables;
@@ -14,7 +15,7 @@ use class_table::ClassTable;
 use event_queue::{Event, Priority, QueuedCall, Queues};
 use object_tree::Forests;
 use plain_types::{Callee, Text};
-use publish_board::Join;
+use publish_board::{Join, Near};
 use session_model::Post;
 use signature_core::{Kind, fits};
 use std::alloc::{AllocError, Global};
@@ -72,7 +73,7 @@ impl Tables {
         let count = self.failed.len();
         let mut failing = failing;
         let mut least = 0;
-        let mut near = usize::MAX;
+        let mut near = Near::new();
         'joiners: while least < count {
             let row = &self.desks.publications(sending.place)[index];
             let Some(at) = self
@@ -81,17 +82,25 @@ impl Tables {
             else {
                 break;
             };
-            failing = self.reach(sending, index, at, failing);
+            failing = self.reach(sending, index, at, near.found, failing);
             least = at + 1;
         }
         failing
     }
 
-    /// Posts it to one session.
-    fn reach(&mut self, sending: &Sending, index: usize, at: usize, failing: bool) -> bool
+    /// Posts it to one session, in which so many joins listen to it.
+    fn reach(
+        &mut self,
+        sending: &Sending,
+        index: usize,
+        at: usize,
+        found: usize,
+        failing: bool,
+    ) -> bool
         requires placed { IsPlaced self.old sending.now.place }
         requires within { index < length (desk_at self.old.desks sending.now.place).publications }
         requires there { IsPlaced self.old at }
+        requires found { found ≡ count_heard (desk_at self.old.desks sending.now.place) index sending.now.from.now (desk_at self.old.desks at).joins }
         ensures reaches { ReachesBy sending.now.classes.now sending.now.from.now sending.now.place
             (only_at at (post_at (desk_at self.old.desks sending.now.place) index sending.now.kinds.now sending.now.args.now))
             self.old self.new failing result }
@@ -111,7 +120,12 @@ impl Tables {
             args: sending.args,
         };
         let joins = self.desks.joins(at);
-        let posted = arrive(&self.forests, &mut self.queues, &posting, at, joins);
+        let heard = Heard {
+            joins,
+            most: found,
+            all: found == joins.len(),
+        };
+        let posted = arrive(&self.forests, &mut self.queues, &posting, at, &heard);
         if posted.is_err() {
             self.give_up(at);
             return true;
@@ -146,7 +160,12 @@ impl Tables {
             args: post.arguments.as_slice(),
         };
         let joins = self.desks.joins(place);
-        let posted = arrive(&self.forests, &mut self.queues, &posting, place, joins);
+        let heard = Heard {
+            joins,
+            most: joins.len(),
+            all: false,
+        };
+        let posted = arrive(&self.forests, &mut self.queues, &posting, place, &heard);
         if posted.is_err() {
             self.give_up(place);
         }
@@ -165,48 +184,76 @@ struct Posting<'a> {
     args: &'a [Value],
 }
 
-/// Posts it by all joins of a session.
+/// The joins of a session that a post reaches.
+#[derive(Clone, Copy)]
+struct Heard<'a> {
+    joins: &'a [Join],
+    /// No more of them than this listen to it.
+    most: usize,
+    /// All of them listen to it.
+    all: bool,
+}
+
+/// Posts it by all joins of a session that listen to it. No join after the last of them is looked at.
 fn arrive(
     forests: &Forests,
     queues: &mut Queues,
     posting: &Posting,
     at: usize,
-    joins: &[Join],
+    heard: &Heard,
 ) -> Result<(), AllocError>
     requires forests { IsPlace forests.now at }
     requires queues { IsPlace queues.old at }
+    requires heard { IsHeard posting.now.from.now posting.now.name.now heard.now }
     ensures ok { OnOk result (queues.new ≡ with_queue queues.old at
-        (reached_by posting.now.classes.now (forest_at forests.now at).rows posting.now.from.now (post_in posting.now) (queue_at queues.old at) joins.now)) }
+        (reached_by posting.now.classes.now (forest_at forests.now at).rows posting.now.from.now (post_in posting.now) (queue_at queues.old at)
+            heard.now.joins.now)) }
     ensures err { OnErr result (queues.new ≡ with_queue queues.old at (queue_at queues.new at)) }
-    ensures taken { OnErr result (IsTrue (list_any (takes posting.now.from.now (post_in posting.now)) joins.now)) }
+    ensures taken { OnErr result (IsTrue (list_any (takes posting.now.from.now (post_in posting.now)) heard.now.joins.now)) }
 {
-    'joins: for join in joins {
-        arrive_by(forests, queues, posting, at, join)?;
+    let mut left = heard.most;
+    'joins: for join in heard.joins {
+        if left == 0 {
+            break;
+        }
+        let count = arrive_by(forests, queues, posting, at, heard, join)?;
+        left = left.saturating_sub(count);
     }
     Ok(())
 }
 
-/// Posts it by one join.
+/// Whether a join listens to it, of which nothing is read if all do.
+fn is_heard(posting: &Posting, heard: &Heard, join: &Join) -> bool
+    requires { IsTrue heard.now.all → IsTrue (listens posting.now.from.now posting.now.name.now join.now) }
+    ensures { result ≡ listens posting.now.from.now posting.now.name.now join.now }
+{
+    heard.all || join.listens(posting.from, posting.name)
+}
+
+/// Posts it by one join, and returns how many listen: 1 or 0.
 fn arrive_by(
     forests: &Forests,
     queues: &mut Queues,
     posting: &Posting,
     at: usize,
+    heard: &Heard,
     join: &Join,
-) -> Result<(), AllocError>
+) -> Result<usize, AllocError>
     requires forests { IsPlace forests.now at }
     requires queues { IsPlace queues.old at }
+    requires all { IsTrue heard.now.all → IsTrue (listens posting.now.from.now posting.now.name.now join.now) }
     ensures ok { OnOk result (queues.new ≡ with_queue queues.old at
         (reached posting.now.classes.now (forest_at forests.now at).rows posting.now.from.now (post_in posting.now) (queue_at queues.old at) join.now)) }
+    ensures count { IfOk result (λ count. count ≡ (if listens posting.now.from.now posting.now.name.now join.now then 1 else 0)) }
     ensures err { OnErr result (queues.new ≡ queues.old) }
     ensures taken { OnErr result (IsTrue (takes posting.now.from.now (post_in posting.now) join.now)) }
 {
-    if !join.listens(posting.from, posting.name) {
-        return Ok(());
+    if !is_heard(posting, heard, join) {
+        return Ok(0);
     }
     if !is_matched(join, posting.kinds) {
         queues.note_mismatched(at);
-        return Ok(());
+        return Ok(1);
     }
     let wanted = wanted_by(forests, posting.classes, at, join);
     let call = QueuedCall {
@@ -217,7 +264,8 @@ fn arrive_by(
         priority: Priority::Normal,
         args: Args::copied(posting.alloc, first(posting.args, wanted))?,
     };
-    enqueue_call(queues, at, call)
+    enqueue_call(queues, at, call)?;
+    Ok(1)
 }
 
 /// How many arguments the method of a join takes.

@@ -1,4 +1,6 @@
-use Rattle.std.proofs.Common.{◌≡◌, drop}
+use Rattle.std.proofs.Common.{◌≡◌, ◌≤◌, drop}
+use Rattle.std.specs.List.{count_by}
+use Rattle.publish_board.specs.Rows.{listens}
 use Rattle.event_queue.specs.Queue.{empty_queue}
 use Rattle.event_queue.specs.Table.{queue_at}
 use Rattle.object_tree.specs.Table.{forest_at}
@@ -12,6 +14,7 @@ invariant-joins l = record {
   there : IsPlace l.queues l.at;
   only : ChangesAt empty_queue l.at l.fn.queues l.queues;
   reached : reached_by l.posting.classes.now (forest_at l.forests l.at).rows l.posting.from.now (post_in l.posting) (queue_at l.queues l.at)
-      (drop l.join-index l.joins)
-      ≡ reached_by l.posting.classes.now (forest_at l.forests l.at).rows l.posting.from.now (post_in l.posting) (queue_at l.fn.queues l.at) l.joins;
+      (drop l.join-index l.heard.joins.now)
+      ≡ reached_by l.posting.classes.now (forest_at l.forests l.at).rows l.posting.from.now (post_in l.posting) (queue_at l.fn.queues l.at) l.heard.joins.now;
+  left : count_by (listens l.posting.from.now l.posting.name.now) (drop l.join-index l.heard.joins.now) ≤ l.left;
 }

@@ -1,15 +1,14 @@
-use Rattle.std.proofs.Common.{Some, None}
-use Rattle.indexmap.specs.IndexMap.{get}
-use Rattle.publish_board.specs.Topics.{is_same, topic_of}
-use Rattle.publish_board.proofs.JoinersLemmas.{first_in}
+use Rattle.std.proofs.Common.{◌∙◌, Option, Some, ap, nat_lt, subst, sym}
+use Rattle.shared_rows.specs.Links.{Linked}
+use Rattle.publish_board.specs.declared.listed.Listed.{Listed}
+use Rattle.publish_board.specs.Joiners.{IsFirstOf}
+use Rattle.publish_board.proofs.JoinersLemmas.{count_for}
 use Rattle.publish_board.proofs.joiners.Joiners.next.Goals as goal
 
-pub returns-in-Some : goal.returns-in-Some
-returns-in-Some c =
-    first_in (get is_same c.args.self.now.lists (topic_of c.args.topic)) c.in_ok-list.list.now (record { place = c.args.least; further = 0 })
-    (Some c.in-Some.listed) c.in_ok-list.ensures c.in-Some.ensures.sound c.in-Some.ensures.first
+pub returns-clause-first : goal.returns-clause-first
+returns-clause-first c =
+    subst (λ (found : Option (Linked Listed)). IsFirstOf (λ place. nat_lt 0 (count_for place found)) c.args.least (Some c.in_ok-listed.listed.place))
+    c.in_ok-list.ensures c.in_ok-listed.ensures.first
 
-pub returns-in-None : goal.returns-in-None
-returns-in-None c =
-    first_in (get is_same c.args.self.now.lists (topic_of c.args.topic)) c.in_ok-list.list.now (record { place = c.args.least; further = 0 })
-    None c.in_ok-list.ensures c.in-None.ensures.sound c.in-None.ensures.first
+pub returns-clause-found : goal.returns-clause-found
+returns-clause-found c = sym c.in_ok-listed.ensures.count ∙ ap (count_for c.in_ok-listed.listed.place) c.in_ok-list.ensures

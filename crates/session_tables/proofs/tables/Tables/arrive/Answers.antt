@@ -1,9 +1,11 @@
-use Rattle.std.proofs.Common.{◌≡◌, List, [], ◌∷◌, IsTrue, ap, sym, subst, ◌∙◌, false}
+use Rattle.std.proofs.Common.{◌≡◌, List, [], ◌∷◌, IsTrue, ap, sym, subst, ◌∙◌, false, true≢false}
 use Rattle.std.specs.List.{list_any}
+use Rattle.std.proofs.lemmas.List.Sums.{count_by-le-length}
 use Rattle.event_queue.specs.Queue.{empty_queue}
 use Rattle.event_queue.specs.Table.{queue_at, with_queue}
 use Rattle.object_tree.specs.Table.{forest_at}
 use Rattle.shared_rows.specs.Table.{ChangesAt}
+use Rattle.publish_board.specs.Rows.{listens}
 use Rattle.publish_board.specs.Table.{desk_at}
 use Rattle.signature_core.specs.declared.kind.Kind.{Kind}
 use Rattle.session_model.specs.declared.post.Post.{Post}
@@ -13,6 +15,12 @@ use Rattle.session_tables.specs.Reaching.{takes, takes_some}
 use Rattle.session_tables.specs.Tables.{session_at}
 use Rattle.session_tables.proofs.PostLemmas.{failed_only, failed_there, after_posts_one, map_err, map_ok, on_err, on_ok, takes_post}
 use Rattle.session_tables.proofs.tables.Tables.arrive.Goals as goal
+
+pub arrive-posted-requires-clause-heard : goal.arrive-posted-requires-clause-heard
+arrive-posted-requires-clause-heard c = record {
+  most = count_by-le-length (listens c.args.from.now c.args.post.now.name) c.joins-joins.result.now;
+  all = λ all. absurd (true≢false (sym all));
+}
 
 pub returns-then-is_err-clause-only : goal.returns-then-is_err-clause-only
 returns-then-is_err-clause-only c =

@@ -7,14 +7,14 @@ use Rattle.session_model.specs.State.{State}
 use Rattle.session_model.specs.Arriving.{post_of}
 use Rattle.session_tables.specs.Reaching.{Reaches, ReachesBy, after_posts, only_at, post_at}
 use Rattle.session_tables.specs.Tables.{session_at}
-use Rattle.session_tables.proofs.PostLemmas.{post_row, posts_row, reaches_all, reaches_next, reaches_strangers}
+use Rattle.session_tables.proofs.PostLemmas.{heard_row, post_row, posts_row, reaches_all, reaches_next, reaches_strangers}
 use Rattle.session_tables.proofs.ReachingLemmas.{after_post_unheard, placed_shaped, session_unchanged}
 use Rattle.session_tables.proofs.tables.Tables.post_by.Goals as goal
 
 pub joiners-smaller : goal.joiners-smaller
 joiners-smaller c =
     let its = c.index-publications-index-in-joiners.result in
-    let first : IsFirstWith (listens_to c.args.sending.now.from.now its.name) c.joiners.self.desks c.joiners.least c.in-Some.at = c.in-Some.ensures in
+    let first : IsFirstWith (listens_to c.args.sending.now.from.now its.name) c.joiners.self.desks c.joiners.least c.in-Some.at = c.in-Some.ensures.next in
     let there = first.is_place in
     let up = first.from_least in
     let desks = (c.joiners.invariant.reaches.shape.even c.requires.placed.7).desks in
@@ -22,6 +22,16 @@ joiners-smaller c =
     let less : length c.reach-failing.new.self.failed.places - (c.in-Some.at + 1) < length c.joiners.self.failed.places - c.joiners.least =
     omega (arith, there, up, desks, places) in
     less
+
+pub reach-failing-requires-clause-found : goal.reach-failing-requires-clause-found
+reach-failing-requires-clause-found c =
+    let place = c.args.sending.now.place in
+    let now = c.joiners.self in
+    c.in-Some.ensures.found
+    ∙ sym (heard_row c.publications-in-joiners.result.now (desk_at now.desks place).publications c.args.index c.args.sending.now.from.now
+    (desk_at now.desks c.in-Some.at).joins c.index-publications-index-in-joiners.result c.publications-in-joiners.ensures
+    (subst (λ (state : State). c.args.index < length state.desk.publications) (sym c.joiners.invariant.own) c.requires.within)
+    c.index-publications-index-in-joiners.is)
 
 pub joiners-preserved : goal.joiners-preserved
 joiners-preserved c =
@@ -41,7 +51,7 @@ joiners-preserved c =
     let mine = post_row c.publications-in-joiners.result.now (desk_at old.desks place).publications c.args.index kinds args its
     (c.publications-in-joiners.ensures ∙ alike)
     c.requires.within c.index-publications-index-in-joiners.is in
-    let first : IsFirstWith (listens_to from its.name) now.desks least at = c.in-Some.ensures in
+    let first : IsFirstWith (listens_to from its.name) now.desks least at = c.in-Some.ensures.next in
     let there = first.is_place in
     let up = first.from_least in
     let desks = (c.joiners.invariant.reaches.shape.even c.requires.placed.7).desks in
@@ -82,7 +92,7 @@ returns-in_default-clause-reaches c =
     (c.publications-in-joiners.ensures ∙ alike)
     c.requires.within c.index-publications-index-in-joiners.is in
     let none : (other : ℕ) → c.joiners.least ≤ other → IsPlace now.desks other
-    → IsFalse (listens_to from its.name (desk_at now.desks other)) = c.in_default.ensures in
+    → IsFalse (listens_to from its.name (desk_at now.desks other)) = c.in_default.ensures.next in
     let one = post_row c.publications.result.now (desk_at old.desks place).publications c.args.index kinds args row c.publications.ensures c.requires.within
     c.index-publications-index.is in
     let sent = posts_row c.publications.result.now (desk_at old.desks place).publications c.args.index c.args.sending.now.object c.args.sending.now.signal kinds

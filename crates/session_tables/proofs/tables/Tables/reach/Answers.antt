@@ -1,15 +1,37 @@
-use Rattle.std.proofs.Common.{◌≡◌, [], ◌∷◌, IsTrue, ap, sym, subst, ◌∙◌, false}
-use Rattle.std.specs.List.{list_any}
+use Rattle.std.proofs.Common.{◌≡◌, ◌≤◌, ◌==◌, ℕ, List, [], ◌∷◌, IsTrue, ap, length, sym, subst, ◌∙◌, false, arith}
+use Rattle.std.proofs.lemmas.Bool.Decides.{nat_tests}
+use Rattle.std.specs.List.{count_by, list_any}
 use Rattle.event_queue.specs.Queue.{empty_queue}
 use Rattle.event_queue.specs.Table.{queue_at, with_queue}
 use Rattle.object_tree.specs.Table.{forest_at}
 use Rattle.shared_rows.specs.Table.{ChangesAt}
+use Rattle.publish_board.specs.declared.join.Join.{Join}
+use Rattle.publish_board.specs.Rows.{listens}
 use Rattle.publish_board.specs.Table.{desk_at}
 use Rattle.session_model.specs.Arriving.{post_of, reached_by}
 use Rattle.session_tables.specs.Reaching.{ReachesBy, only_at, takes, takes_some}
 use Rattle.session_tables.specs.Tables.{session_at}
-use Rattle.session_tables.proofs.PostLemmas.{failed_only, on_err, on_ok, post_row, reach_failed, reach_after_posts, takes_post}
+use Rattle.session_tables.proofs.PostLemmas.{failed_only, heard_row, on_err, on_ok, post_row, reach_failed, reach_after_posts, takes_post}
 use Rattle.session_tables.proofs.tables.Tables.reach.Goals as goal
+
+pub arrive-posted-requires-clause-heard : goal.arrive-posted-requires-clause-heard
+arrive-posted-requires-clause-heard c =
+    let from = c.args.sending.now.from.now in
+    let desk = desk_at c.args.self.now.desks c.args.sending.now.place in
+    let row = c.index-publications-index.result in
+    let joins = c.joins-joins.result.now in
+    let is : c.args.found ≡ count_by (listens from row.name) joins =
+    c.requires.found
+    ∙ heard_row c.publications.result.now desk.publications c.args.index from (desk_at c.args.self.now.desks c.args.at).joins row c.publications.ensures
+    c.requires.within c.index-publications-index.is
+    ∙ ap (count_by (listens from row.name)) (sym c.joins-joins.ensures) in
+    record {
+      most = omega (arith, is);
+      all = λ all. all_heard c.args.found joins (count_by (listens from row.name) joins) is all;
+    }
+  where
+    all_heard : (found : ℕ) (joins : List Join) (count : ℕ) → found ≡ count → IsTrue (found == length joins) → length joins ≤ count
+    all_heard found joins count is all = grind (arith, nat_tests, is, all)
 
 pub returns-then-is_err-clause-reaches : goal.returns-then-is_err-clause-reaches
 returns-then-is_err-clause-reaches c =
