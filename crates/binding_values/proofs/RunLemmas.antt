@@ -1,9 +1,9 @@
 -- Values are found over a stack.
 use Rattle.std.proofs.Common.{◌≡◌, ◌∙◌, ◌⊎◌, ℕ, ◌||◌, Bool, true, false, cond, List, [], ◌∷◌, ◌++◌, Option, Some, None, Ok, Err, IfSome, All, find, option_map}
-use Rattle.std.proofs.Common.{refl, sym, ap, subst, inl, inr, ⊎_elim}
+use Rattle.std.proofs.Common.{Contains, get_or, refl, sym, ap, subst, inl, inr, ⊎_elim}
 use Rattle.std.specs.Option.{option_map_or}
 use Rattle.std.proofs.lemmas.Bool.{both_ways, or_cases, or_parts, false_from_ne_true}
-use Rattle.std.proofs.lemmas.List.Elements.{All-append, All-cons, All-nil}
+use Rattle.std.proofs.lemmas.List.Elements.{All-append, All-cons, All-nil, Contains-get_or}
 use Rattle.term_core.specs.Term.{Term}
 use Rattle.term_evaluation.specs.declared.reading.Read.{Read}
 use Rattle.term_evaluation.specs.Outcomes.{own}
@@ -16,14 +16,20 @@ use Rattle.binding_values.specs.Scene.{Scene, met, passed_on, plain, reader, rea
 use Rattle.property_store.specs.Property.{among, is_property}
 use Rattle.binding_values.specs.EvalResult.{Apart, IsClosed, IsKept, IsRight, IsRightAt, IsUnbound, IsWithin, Keeping, kept_of, known}
 use Rattle.term_evaluation.specs.Met.{EachButLast}
-use Rattle.binding_values.specs.Run.{IsSettled, IsTried, Stacked, WaitsFor, ats}
+use Rattle.binding_values.specs.Run.{IsSettled, IsTried, Stacked, WaitsFor, ats, is_loop}
 use Rattle.term_evaluation.proofs.ForCallers.{IsValue, goes_on}
 use Rattle.binding_values.proofs.MapLemmas.{given_but_last}
+use Rattle.binding_values.proofs.ChainLemmas.{passes_loop}
 use Rattle.binding_values.proofs.FuelLemmas.{is_itself, property_eq}
 use Rattle.binding_values.proofs.KeptLemmas.{fresh_bound, fresh_unbound, hand_unbound, known_kept, known_none, known_unbound, more_is_right, none_some}
 use Rattle.binding_values.proofs.KeptLemmas.{right_is_known, same_evaluation, unbound_unkept}
 
 -- what an evaluation over what is kept reads: all but the last is settled
+
+no_value : (scene : Scene) (keeping : Keeping) (q : Property) (term : Term) → keeping q ≡ None → term_at scene.bindings q ≡ Some term
+    → known scene keeping q ≡ Err BindingLoop
+no_value scene keeping q term is bound = known_none scene keeping q is
+    ∙ ap (λ o. option_map_or (λ (term : Term). Err BindingLoop) o (stored scene q)) bound
 
 settled_by : (scene : Scene) (keeping : Keeping) (o : Option Property) → IsValue (reading (known scene keeping) o) → IfSome o (IsSettled scene keeping)
 settled_by scene keeping None h = tt
@@ -33,9 +39,7 @@ settled_by scene keeping (Some q) (value, e) = by (keeping q) (term_at scene.bin
     by (Some kept) term is bound = inl (kept, is)
     by None None is bound = inr bound
     by None (Some term) is bound =
-        let loop : known scene keeping q ≡ Err BindingLoop = known_none scene keeping q is
-        ∙ ap (λ o. option_map_or (λ (term : Term). Err BindingLoop) o (stored scene q)) bound in
-        absurd (let both : Err (own BindingLoop) ≡ Ok value = sym (ap passed_on loop) ∙ e in cc)
+        absurd (let both : Err (own BindingLoop) ≡ Ok value = sym (ap passed_on (no_value scene keeping q term is bound)) ∙ e in cc)
 
 pub settled_but_last : (scene : Scene) (keeping : Keeping) (object : ℕ) (term : Term)
     → EachButLast (IsSettled scene keeping) (met scene (known scene keeping) object term)
@@ -43,6 +47,28 @@ settled_but_last scene keeping object term =
     given_but_last (λ (read : Read). scene.named object read.target read.name) (IsSettled scene keeping)
     (met_by [] (reader scene (known scene keeping) object) term)
     (λ k d lt. settled_by scene keeping _ (goes_on term [] (reader scene (known scene keeping) object) k d lt))
+
+module _ (scene : Scene) (keeping : Keeping) (q : Property) (kept : EvalResult) (tried : IsTried scene keeping q kept) where
+  pub tried_but_last : EachButLast (IsSettled scene keeping) kept.reads
+  tried_but_last = subst (EachButLast (IsSettled scene keeping)) tried.reads (settled_but_last scene keeping q.object tried.term)
+
+  -- an evaluation that is no loop has read only what is settled
+  pub settled_unless_loop : is_loop kept.outcome ≡ false → All (IsSettled scene keeping) kept.reads
+  settled_unless_loop none k d lt = by (keeping r) (term_at scene.bindings r) refl refl
+    where
+      r : Property
+      r = get_or kept.reads k d
+
+      read : Contains (met scene (known scene keeping) q.object tried.term) r
+      read = subst (λ reads. Contains reads r) (sym tried.reads) (Contains-get_or kept.reads k d lt)
+
+      by : (o : Option EvalResult) (term : Option Term) → keeping r ≡ o → term_at scene.bindings r ≡ term → IsSettled scene keeping r
+      by (Some kept) term is bound = inl (kept, is)
+      by None None is bound = inr bound
+      by None (Some term) is bound =
+          let loop : kept.outcome ≡ Err BindingLoop = sym tried.outcome
+          ∙ passes_loop scene (known scene keeping) q.object tried.cell.kind tried.term r read (no_value scene keeping r term is bound) in
+          absurd (both_ways (is_loop kept.outcome) none (ap is_loop loop))
 
 -- rows
 

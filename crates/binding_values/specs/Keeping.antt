@@ -27,10 +27,10 @@ standing rows = held_by fresh rows
 abbrev pub entries : List KeptRow → List CacheEntry
 entries rows = held_by (λ row. row.kept) rows
 
--- The last result of a property has read these properties.
-pub record HasRead (rows : List KeptRow) (at : Property) (reads : List Property) : Type 0 where
+-- The last result of a row has read these properties.
+pub record HasRead (row : KeptRow) (reads : List Property) : Type 0 where
   pub last : EvalResult
-  pub found : kept_of (entries rows) at ≡ Some last
+  pub found : row.kept ≡ Some last
   pub same : last.reads ≡ reads
 
 -- The result is added for its property; the others are unchanged.

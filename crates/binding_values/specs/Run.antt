@@ -1,10 +1,11 @@
 -- How values are computed with a stack.
-use Rattle.std.specs.Prelude.{◌≡◌, ◌⊎◌, ◌<◌, ◌+◌, ◌*◌, ℕ, false, List, [], ◌∷◌, ◌++◌, All, length, map, reverse, Option, Some, None}
+use Rattle.std.specs.Prelude.{◌≡◌, ◌⊎◌, ◌<◌, ◌+◌, ◌*◌, ℕ, Bool, true, false, List, [], ◌∷◌, ◌++◌, All, length, map, reverse, Option, Some, None, Ok, Err}
 use Rattle.term_core.specs.Term.{Term}
 use Rattle.binding_values.specs.declared.eval_result.CacheEntry.{CacheEntry}
 use Rattle.binding_values.specs.declared.eval_result.EvalResult.{EvalResult}
 use Rattle.property_store.specs.declared.property.Property.{Property}
-use Rattle.binding_values.specs.Scene.{Cell, Scene, evaluated, met, term_at, unmet}
+use Rattle.binding_values.specs.declared.property.BindingError.TheVariants.{BindingLoop, EvaluationError}
+use Rattle.binding_values.specs.Scene.{Cell, Outcome, Scene, evaluated, met, term_at, unmet}
 use Rattle.property_store.specs.Property.{among}
 use Rattle.binding_values.specs.EvalResult.{IsClosed, IsKept, IsRight, IsUnbound, IsWithin, Keeping, kept_of, known}
 use Rattle.binding_values.specs.Laws.{ReallyReads}
@@ -12,6 +13,12 @@ use Rattle.binding_values.specs.Laws.{ReallyReads}
 -- The value of a property is known: it has a cached result, or is unbound.
 abbrev pub IsSettled : Scene → Keeping → Property → Type 0
 IsSettled scene keeping q = IsKept keeping q ⊎ IsUnbound scene q
+
+-- Whether an outcome is a loop.
+abbrev pub is_loop : Outcome → Bool
+is_loop (Err BindingLoop) = true
+is_loop (Err EvaluationError) = false
+is_loop (Ok value) = false
 
 -- The result of an evaluation with the cached results.
 pub record IsTried (scene : Scene) (keeping : Keeping) (q : Property) (kept : EvalResult) : Type 0 where

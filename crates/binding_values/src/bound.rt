@@ -5,6 +5,7 @@ ghost use Rattle.plain_types.specs.Answers.{RefusedBy};
 ghost use Rattle.term_core.specs.Forms.{is_within_limits};
 ghost use Rattle.binding_values.specs.Binds.{AreBindings, put_refusal, with_binding};
 ghost use Rattle.binding_values.specs.Scene.{term_at};
+ghost use Rattle.binding_values.specs.Sorted.{IsRising};
 ghost use Rattle.property_store.specs.Property.{is_property};
 
 use crate::binding::Binding;
@@ -105,6 +106,17 @@ impl Bound {
     pub fn remove_object(&mut self, object: u32)
         ensures { self.new ≡ filter (λ binding. not (binding.at.object == object)) self.old }
     {
-        self.rows.retain(|binding| binding.at.object != object);
+        remove_of(&mut self.rows, object);
+    }
+}
+
+/// Removes the bindings of an object, which are next to each other.
+fn remove_of(rows: &mut Vec<Binding>, object: u32)
+    requires { IsRising (λ binding. binding.at) rows.old.items }
+    ensures { rows.new.items ≡ filter (λ binding. not (binding.at.object == object)) rows.old.items }
+{
+    let place = count_before(rows, Property { object, number: 0 });
+    'rows: while place < rows.len() && rows[place].at.object == object {
+        rows.remove(place);
     }
 }

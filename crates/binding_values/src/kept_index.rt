@@ -1,6 +1,6 @@
 //! The index keeps results of bound properties from one change to the next, and which of them have read which
 //! property.
-ghost use Rattle.std.specs.Prelude.{◌≡◌, ◌+◌, ◌≤◌, ◌∷◌, [], All, Contains, IsTrue, List, OnOk, false, filter, length, not};
+ghost use Rattle.std.specs.Prelude.{◌≡◌, ◌+◌, ◌≤◌, ◌∷◌, [], All, IsTrue, List, OnOk, false, filter, length, not};
 ghost use Rattle.std.specs.Option.{option_map};
 ghost use Rattle.property_store.specs.declared.property.Property.{Property};
 ghost use Rattle.property_store.specs.Property.{is_property};
@@ -8,7 +8,6 @@ ghost use Rattle.binding_values.specs.declared.eval_result.CacheEntry.{CacheEntr
 ghost use Rattle.binding_values.specs.EvalResult.{IsWithin, Keeping, kept_of};
 ghost use Rattle.binding_values.specs.Keeping.{entries, standing};
 ghost use Rattle.binding_values.specs.Reached.{AreKeptToo, AreLetGo, HasReaders, IsLonger, IsReached, IsUnread, without};
-ghost use Rattle.binding_values.specs.Readers.{edge_of};
 
 use crate::eval_result::{CacheEntry, EvalResult};
 use crate::kept_rows::KeptRows;
@@ -185,32 +184,18 @@ fn spread(
     Ok(())
 }
 
-/// Makes edges lead to a property from those that its result has read. If its last result has read the same ones, the
-/// edges are there already, and nothing moves.
-fn lead_to(rows: &mut KeptRows, readers: &mut Readers, row: &CacheEntry) -> Result<(), AllocError>
-    requires { HasReaders (entries rows.old) readers.old }
-    ensures others { (q : Property) → is_property row.now.at q ≡ false → kept_of (standing rows.new) q ≡ kept_of (standing rows.old) q }
-    ensures readers { HasReaders (entries rows.new) readers.new }
-    ensures led { OnOk result (All (λ read. Contains readers.new (edge_of read row.now.at)) row.now.kept.reads) }
-{
-    let reads = row.kept.reads.as_slice();
-    if rows.has_read(row.at, reads) {
-        return Ok(());
-    }
-    let_go(rows, readers, row.at);
-    readers.add_all(reads, row.at)
-}
-
-/// Keeps the result of a property, unless it has one.
+/// Keeps the result of a property, unless it has one. If its last result has read the same properties, the edges are there
+/// already.
 fn keep(rows: &mut KeptRows, readers: &mut Readers, row: CacheEntry) -> Result<(), AllocError>
     requires { HasReaders (entries rows.old) readers.old }
     ensures kept { OnOk result (AreKeptToo (row ∷ []) (standing rows.old) (standing rows.new)) }
     ensures readers { HasReaders (entries rows.new) readers.new }
 {
-    if rows.at(row.at).is_some() {
+    let Some(row) = rows.renew(row) else {
         return Ok(());
-    }
-    lead_to(rows, readers, &row)?;
+    };
+    let_go(rows, readers, row.at);
+    readers.add_all(row.kept.reads.as_slice(), row.at)?;
     rows.put(row)
 }
 

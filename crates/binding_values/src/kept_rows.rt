@@ -1,10 +1,11 @@
 //! These rows keep results of bound properties from one change to the next.
-ghost use Rattle.std.specs.Prelude.{◌≡◌, [], IsTrue, OnErr, OnOk, filter, not};
+ghost use Rattle.std.specs.Prelude.{◌≡◌, ◌∷◌, [], IfNone, IfSome, IsTrue, List, None, OnErr, OnOk, filter, not};
 ghost use Rattle.std.specs.Option.{is_some, option_map};
 ghost use Rattle.property_store.specs.Property.{is_property};
+ghost use Rattle.binding_values.specs.declared.readers.Edge.{Edge};
 ghost use Rattle.binding_values.specs.EvalResult.{kept_of};
 ghost use Rattle.binding_values.specs.Keeping.{HasRead, IsPut, entries, fresh, standing};
-ghost use Rattle.binding_values.specs.Reached.{without};
+ghost use Rattle.binding_values.specs.Reached.{AreKeptToo, HasReaders, without};
 ghost use Rattle.binding_values.specs.Sorted.{IsRising};
 
 use crate::eval_result::{CacheEntry, EvalResult};
@@ -39,6 +40,16 @@ impl KeptRow {
             return None;
         }
         self.kept.as_ref()
+    }
+
+    /// Whether the last result, which may be stale, has read these properties.
+    fn has_read(&self, reads: &[Property]) -> bool
+        ensures { IsTrue result → HasRead self.now reads.now }
+    {
+        match &self.kept {
+            Some(kept) => is_same_list(kept.reads.as_slice(), reads),
+            None => false,
+        }
     }
 }
 
@@ -99,17 +110,30 @@ impl KeptRows {
         row.fresh()
     }
 
-    /// Whether the last result of a property, which may be stale, has read these properties.
-    pub fn has_read(&self, at: Property, reads: &[Property]) -> bool
-        ensures { IsTrue result → HasRead self.now at reads.now }
+    /// Keeps the result of a property in place of a stale one that has read the same properties, unless it has one that is
+    /// not stale. Returns the result where it has neither.
+    pub fn renew(&mut self, row: CacheEntry) -> Option<CacheEntry>
+        ensures kept { IfNone result (AreKeptToo (row ∷ []) (standing self.old) (standing self.new)) }
+        ensures readers { IfNone result ((edges : List Edge) → HasReaders (entries self.old) edges → HasReaders (entries self.new) edges) }
+        ensures left { IfSome result (λ left. (left ≡ row) × (self.new ≡ self.old) × (kept_of (standing self.old) row.at ≡ None)) }
     {
-        let Some(row) = row_at(self.rows.as_slice(), at) else {
-            return false;
-        };
-        match &row.kept {
-            Some(kept) => is_same_list(kept.reads.as_slice(), reads),
-            None => false,
+        let place = count_before(self.rows.as_slice(), row.at);
+        if !is_at(self.rows.as_slice(), place, row.at) {
+            return Some(row);
         }
+        if self.rows[place].fresh().is_some() {
+            return None;
+        }
+        if !self.rows[place].has_read(row.kept.reads.as_slice()) {
+            return Some(row);
+        }
+        let (at, kept) = row.into_parts();
+        self.rows[place] = KeptRow {
+            at,
+            kept: Some(kept),
+            is_stale: false,
+        };
+        None
     }
 
     /// Keeps a result in place of any other of its property. Allocates nothing if the property has a row.

@@ -8,8 +8,9 @@ ghost use Rattle.binding_values.specs.EvalResult.{kept_of};
 ghost use Rattle.binding_values.specs.Stored.{scene_of};
 ghost use Rattle.binding_values.specs.Right.{IsApart, IsComplete, IsRightBut, IsWhole};
 
+use crate::known::bound_at;
 use crate::settling::{bound_in, resettle};
-use crate::{Bound, KeptIndex, expr_at};
+use crate::{Bound, KeptIndex};
 use property_store::{Property, Stores};
 use std::alloc::{AllocError, Global};
 
@@ -20,7 +21,7 @@ impl KeptIndex {
         requires { IsPlace stores.now.shelves.table place }
         ensures { IsTrue result → IsApart (scene_of (store_at stores.now.shelves place) bindings.now) (kept_of self.now) at }
     {
-        if expr_at(stores, place, bindings, at).is_some() {
+        if bound_at(stores, place, bindings, at).is_some() {
             return false;
         }
         self.reaches_nothing(at)

@@ -1,11 +1,12 @@
 //! An evaluation knows kept results, and the values that are stored.
-ghost use Rattle.std.specs.Prelude.{◌≡◌, ◌&&◌, bytes_eq, position};
+ghost use Rattle.std.specs.Prelude.{◌≡◌, ◌&&◌, IfNone, IfSome, bytes_eq, position};
 ghost use Rattle.std.specs.Option.{option_map};
 ghost use Rattle.shared_rows.specs.Table.{IsPlace};
 ghost use Rattle.property_store.specs.Table.{store_at};
 ghost use Rattle.term_evaluation.specs.Outcomes.{Ends};
-ghost use Rattle.binding_values.specs.Looking.{IsReady, scene_in, values_in};
-ghost use Rattle.binding_values.specs.Scene.{passed_on, term_at};
+ghost use Rattle.binding_values.specs.EvalResult.{IsUnbound};
+ghost use Rattle.binding_values.specs.Looking.{IsBoundAs, IsReady, values_in};
+ghost use Rattle.binding_values.specs.Scene.{passed_on};
 ghost use Rattle.binding_values.specs.Stored.{bindable_number, cell_in, is_bindable, named_in, scene_of};
 
 use crate::bound::Bound;
@@ -28,21 +29,27 @@ pub(crate) struct Known<'a> {
     pub(crate) done: &'a EvalCache,
 }
 
-/// The expression that a property is bound to, if the property exists.
-pub fn expr_at<'a>(
+/// A bound property that exists, with its kind and its expression.
+#[derive(Clone, Copy)]
+pub(crate) struct BoundProperty<'a> {
+    pub(crate) at: Property,
+    pub(crate) kind: Kind,
+    pub(crate) expr: &'a Expr,
+}
+
+pub(crate) fn bound_at<'a>(
     stores: &Stores,
     place: usize,
     bindings: &'a Bound,
     at: Property,
-) -> Option<&'a Expr>
+) -> Option<BoundProperty<'a>>
     requires { IsPlace stores.now.shelves.table place }
-    ensures { option_map (λ expr. expr.now) result ≡ term_at (scene_of (store_at stores.now.shelves place) bindings.now).bindings at }
+    ensures some { IfSome result (λ bound. (bound.at ≡ at) × IsBoundAs (scene_of (store_at stores.now.shelves place) bindings.now) bound) }
+    ensures none { IfNone result (IsUnbound (scene_of (store_at stores.now.shelves place) bindings.now) at) }
 {
     let expr = bindings.expr_at(at)?;
-    if cell_at(stores, place, at).is_none() {
-        return None;
-    }
-    Some(expr)
+    let (kind, _) = cell_at(stores, place, at)?;
+    Some(BoundProperty { at, kind, expr })
 }
 
 /// The kind and the value of a declared property.
@@ -103,31 +110,26 @@ pub(crate) fn named(
 }
 
 impl<'a> Known<'a> {
-    /// Reads a property: returns its kept result, or its stored value where it is unbound.
+    /// Reads a property: returns its kept result, or its stored value where it is unbound. What is unbound has no result.
     pub(crate) fn read(&self, alloc: Global, at: Property) -> Result<Value, Halt<BindingError>>
         requires { IsReady self.now }
         ensures { Ends result (passed_on (values_in self.now at)) }
     {
+        if self.bindings.expr_at(at).is_none() {
+            return match cell_at(self.stores, self.place, at) {
+                Some((_, value)) => Ok(value.copy(alloc)?),
+                None => Err(Halt::Own(BindingError::EvaluationError)),
+            };
+        }
         if let Some(kept) = self.done.at(at) {
             return match &kept.outcome {
                 Ok(value) => Ok(value.copy(alloc)?),
                 Err(error) => Err(Halt::Own(*error)),
             };
         }
-        if self.expr_at(at).is_some() {
-            return Err(Halt::Own(BindingError::BindingLoop));
-        }
         match cell_at(self.stores, self.place, at) {
-            Some((_, value)) => Ok(value.copy(alloc)?),
+            Some(_) => Err(Halt::Own(BindingError::BindingLoop)),
             None => Err(Halt::Own(BindingError::EvaluationError)),
         }
-    }
-
-    /// The expression that a property is bound to, if the property exists.
-    pub(crate) fn expr_at(&self, at: Property) -> Option<&Expr>
-        requires { IsReady self.now }
-        ensures { option_map (λ expr. expr.now) result ≡ term_at (scene_in self.now).bindings at }
-    {
-        expr_at(self.stores, self.place, self.bindings, at)
     }
 }

@@ -1,65 +1,55 @@
 //! Evaluations that note the properties they read.
-ghost use Rattle.std.specs.Prelude.{◌≡◌, ◌∷◌, ◌++◌, [], IfOk, OnOk};
-ghost use Rattle.term_evaluation.specs.Evaluation.{eval_by};
-ghost use Rattle.term_evaluation.specs.Outcomes.{Ends};
-ghost use Rattle.binding_values.specs.Looking.{IfEnds, IsReady, scene_in, values_in};
-ghost use Rattle.binding_values.specs.Scene.{evaluated, met, reader};
+ghost use Rattle.std.specs.Prelude.{◌≡◌, IfOk};
+ghost use Rattle.binding_values.specs.Looking.{IsReady, scene_in, values_in};
+ghost use Rattle.binding_values.specs.Scene.{evaluated, met};
 
 use crate::eval_result::EvalResult;
 use crate::known::{Known, named};
 use crate::property::BindingError;
-use plain_types::{Code, Items};
+use plain_types::{Code, Items, Text};
 use property_store::Property;
 use signature_core::Kind;
 use std::alloc::{AllocError, Global};
-use term_core::{Expr, Node};
-use term_evaluation::{Halt, apply, truth};
+use term_core::{Expr, Target};
+use term_evaluation::{Halt, Notes, meet};
 use variant_value::Value;
 
-/// The value of the expression of an object's binding, by the values that are known. Appends the properties
-/// that it really reads to `noted`, in order.
-pub(crate) fn meet(
-    alloc: Global,
-    expr: &Expr,
-    known: &Known,
+/// What the expression of an object's binding is evaluated with: the values that are known.
+#[derive(Clone, Copy)]
+struct Meeting<'a> {
+    known: Known<'a>,
     object: u32,
-    noted: &mut Vec<Property>,
-) -> Result<Value, Halt<BindingError>>
-    requires { IsReady known.now }
-    ensures value { Ends result (eval_by [] (reader (scene_in known.now) (values_in known.now) object) expr.now) }
-    ensures noted { IfEnds result (noted.new.items ≡ noted.old.items ++ met (scene_in known.now) (values_in known.now) object expr.now) }
-{
-    match &expr.node {
-        Node::Const(value) => Ok(value.copy(alloc)?),
-        Node::Arg(_) | Node::State => Err(Halt::Refused(Code::BadValue)),
-        Node::Prop(target, name) => {
-            let Some(at) = named(known.stores, known.place, object, target, name) else {
-                return Err(Halt::Refused(Code::NoSuchProperty));
-            };
-            note(noted, at)?;
-            known.read(alloc, at)
-        }
-        Node::Binary(operator, a, b) => {
-            let a = meet(alloc, a, known, object, noted)?;
-            let b = meet(alloc, b, known, object, noted)?;
-            Ok(apply(alloc, *operator, &a, &b)?)
-        }
-        Node::Choice(test, held, failed) => {
-            let truth = truth(&meet(alloc, test, known, object, noted)?);
-            match truth {
-                Some(true) => meet(alloc, held, known, object, noted),
-                Some(false) => meet(alloc, failed, known, object, noted),
-                None => Err(Halt::Refused(Code::BadValue)),
-            }
-        }
-    }
+    ghost ready: { IsReady known },
 }
 
-fn note(noted: &mut Vec<Property>, at: Property) -> Result<(), AllocError>
-    ensures { OnOk result (noted.new.items ≡ noted.old.items ++ at ∷ []) }
-{
-    noted.push(at)?;
-    Ok(())
+impl Notes for Meeting<'_> {
+    ghost use Rattle.binding_values.specs.Looking.{scene_in, values_in};
+    ghost use Rattle.binding_values.specs.Scene.{reader};
+
+    type Own = BindingError;
+
+    type Note = Property;
+
+    ghost reads = { λ meeting. reader (scene_in meeting.known) (values_in meeting.known) meeting.object };
+
+    ghost note = { λ meeting read. (scene_in meeting.known).named meeting.object read.target read.name };
+
+    fn read(
+        &self,
+        alloc: Global,
+        target: &Target,
+        name: &Text,
+        noted: &mut Vec<Property>,
+    ) -> Result<Value, Halt<BindingError>> {
+        let known = &self.known;
+        let Some(at) = named(known.stores, known.place, self.object, target, name) else {
+            return Err(Halt::Refused(Code::NoSuchProperty));
+        };
+        if noted.push(at).is_err() {
+            return Err(Halt::Memory);
+        }
+        known.read(alloc, at)
+    }
 }
 
 /// Returns the result that an evaluation of a binding gives.
@@ -74,8 +64,12 @@ pub(crate) fn attempt(
     ensures outcome { IfOk result (λ kept. kept.outcome ≡ evaluated (scene_in known.now) (values_in known.now) at.object kind expr.now) }
     ensures reads { IfOk result (λ kept. kept.reads ≡ met (scene_in known.now) (values_in known.now) at.object expr.now) }
 {
+    let reader = Meeting {
+        known: *known,
+        object: at.object,
+    };
     let mut noted = Vec::new(alloc);
-    let outcome = match meet(alloc, expr, known, at.object, &mut noted) {
+    let outcome = match meet(alloc, expr, &[], &reader, &mut noted) {
         Ok(value) => value
             .convert(kind)
             .map_err(|_| BindingError::EvaluationError),

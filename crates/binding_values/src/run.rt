@@ -1,49 +1,25 @@
 //! Values of bound properties, found over a stack.
-ghost use Rattle.std.specs.Prelude.{◌≡◌, ◌++◌, ◌∷◌, [], All, Err, IfNone, IfOk, IfSome, IsSome, None, Ok, OnOk, Some, length, reverse};
+ghost use Rattle.std.specs.Prelude.{◌≡◌, ◌++◌, [], All, Err, IfNone, IfOk, IfSome, None, Ok, OnOk, false, reverse};
 ghost use Rattle.std.specs.Option.{option_map_or};
 ghost use Rattle.shared_rows.specs.Table.{IsPlace};
 ghost use Rattle.property_store.specs.Table.{store_at};
 ghost use Rattle.term_evaluation.specs.Met.{EachButLast};
 ghost use Rattle.binding_values.specs.declared.property.BindingError.TheVariants.{EvaluationError};
-ghost use Rattle.binding_values.specs.EvalResult.{IsClosed, IsKept, IsRight, IsWithin, kept_of};
-ghost use Rattle.binding_values.specs.Looking.{IsReady, scene_in};
-ghost use Rattle.binding_values.specs.Run.{IsRunning, IsSettled, IsTried, Stepped, WaitsFor, ats, bottom};
-ghost use Rattle.binding_values.specs.Scene.{term_at};
+ghost use Rattle.binding_values.specs.EvalResult.{IsClosed, IsRight, IsWithin, kept_of};
+ghost use Rattle.binding_values.specs.Looking.{IsBoundAs, IsReady, scene_in};
+ghost use Rattle.binding_values.specs.Run.{IsRunning, IsSettled, IsTried, Stepped, WaitsFor, ats, is_loop};
 ghost use Rattle.property_store.specs.Property.{among};
 ghost use Rattle.binding_values.specs.Stored.{cell_in, outcome_in, scene_of};
 
 use crate::bound::Bound;
 use crate::eval_cache::EvalCache;
 use crate::eval_result::{CacheEntry, EvalResult};
-use crate::known::{Known, cell_at, expr_at};
+use crate::known::{BoundProperty, Known, bound_at, cell_at};
 use crate::meeting::attempt;
 use crate::property::BindingError;
 use property_store::{Property, Stores, is_property};
 use std::alloc::{AllocError, Global};
-use term_core::Expr;
 use variant_value::Value;
-
-/// The expression of a property that exists and is bound.
-fn expr_of<'a>(known: &Known<'a>, at: Property) -> &'a Expr
-    requires ready { IsReady known.now }
-    requires bound { IsSome (term_at (scene_in known.now).bindings at) }
-    ensures { term_at (scene_in known.now).bindings at ≡ Some result.now }
-{
-    known.bindings.expr_at(at).unwrap()
-}
-
-/// Returns the result that an evaluation of a bound property gives.
-fn tried(alloc: Global, known: &Known, at: Property) -> Result<EvalResult, AllocError>
-    requires ready { IsReady known.now }
-    requires bound { IsSome (term_at (scene_in known.now).bindings at) }
-    requires absent { kept_of known.now.done.now at ≡ None }
-    ensures tried { IfOk result (IsTried (scene_in known.now) (kept_of known.now.done.now) at) }
-    ensures but_last { IfOk result (λ kept. EachButLast (IsSettled (scene_in known.now) (kept_of known.now.done.now)) kept.reads) }
-{
-    let expr = expr_of(known, at);
-    let (kind, _) = cell_at(known.stores, known.place, at).unwrap();
-    attempt(alloc, known, at, kind, expr)
-}
 
 /// The property at which an evaluation ended since its value is not known yet.
 fn waits_for(known: &Known, reads: &[Property]) -> Option<Property>
@@ -59,10 +35,19 @@ fn waits_for(known: &Known, reads: &[Property]) -> Option<Property>
     if known.done.at(last).is_some() {
         return None;
     }
-    if known.expr_at(last).is_none() {
-        return None;
+    match bound_at(known.stores, known.place, known.bindings, last) {
+        Some(_) => Some(last),
+        None => None,
     }
-    Some(last)
+}
+
+fn is_loop(outcome: &Result<Value, BindingError>) -> bool
+    ensures { result ≡ is_loop outcome.now }
+{
+    match outcome {
+        Err(BindingError::BindingLoop) => true,
+        Ok(_) | Err(BindingError::EvaluationError) => false,
+    }
 }
 
 /// Whether a row is that of the property.
@@ -88,19 +73,21 @@ fn unstack(done: &mut EvalCache, below: &mut Vec<CacheEntry>) -> Result<(), Allo
     Ok(())
 }
 
-/// Returns the result that an evaluation of a bound property gives, with the property that it waits for.
+/// Returns the result that an evaluation of a bound property gives, with the property that it waits for. Only a loop may
+/// wait for one.
 fn look(
     alloc: Global,
     stores: &Stores,
     place: usize,
     bindings: &Bound,
     done: &EvalCache,
-    at: Property,
+    top: BoundProperty,
 ) -> Result<(EvalResult, Option<Property>), AllocError>
     requires ready { IsPlace stores.now.shelves.table place }
-    requires bound { IsSome (term_at (scene_of (store_at stores.now.shelves place) bindings.now).bindings at) }
-    requires absent { kept_of done.now at ≡ None }
-    ensures tried { IfOk result (λ found. IsTried (scene_of (store_at stores.now.shelves place) bindings.now) (kept_of done.now) at found.0) }
+    requires right { IsRight (scene_of (store_at stores.now.shelves place) bindings.now) (kept_of done.now) }
+    requires bound { IsBoundAs (scene_of (store_at stores.now.shelves place) bindings.now) top }
+    requires absent { kept_of done.now top.at ≡ None }
+    ensures tried { IfOk result (λ found. IsTried (scene_of (store_at stores.now.shelves place) bindings.now) (kept_of done.now) top.entry.at found.0) }
     ensures next { IfOk result (λ found.
         IfSome found.1 (WaitsFor (scene_of (store_at stores.now.shelves place) bindings.now) (kept_of done.now) found.0.reads)) }
     ensures settled { IfOk result (λ found.
@@ -112,7 +99,10 @@ fn look(
         bindings,
         done,
     };
-    let kept = tried(alloc, &known, at)?;
+    let kept = attempt(alloc, &known, top.at, top.kind, top.expr)?;
+    if !is_loop(&kept.outcome) {
+        return Ok((kept, None));
+    }
     let next = waits_for(&known, kept.reads.as_slice());
     Ok((kept, next))
 }
@@ -127,13 +117,16 @@ fn step(
     bindings: &Bound,
     done: &mut EvalCache,
     below: &mut Vec<CacheEntry>,
-    top: Property,
+    bound: BoundProperty,
 ) -> Result<Option<Property>, AllocError>
     requires ready { IsPlace stores.now.shelves.table place }
-    requires running { IsRunning (scene_of (store_at stores.now.shelves place) bindings.now) done.old below.old.items top }
-    ensures { IfOk result (Stepped (scene_of (store_at stores.now.shelves place) bindings.now) done.old below.old.items top done.new below.new.items) }
+    requires bound { IsBoundAs (scene_of (store_at stores.now.shelves place) bindings.now) bound }
+    requires running { IsRunning (scene_of (store_at stores.now.shelves place) bindings.now) done.old below.old.items bound.at }
+    ensures { IfOk result
+        (Stepped (scene_of (store_at stores.now.shelves place) bindings.now) done.old below.old.items bound.entry.at done.new below.new.items) }
 {
-    let (kept, next) = look(alloc, stores, place, bindings, done, top)?;
+    let (kept, next) = look(alloc, stores, place, bindings, done, bound)?;
+    let top = bound.at;
     match next {
         None => {
             done.push(CacheEntry { at: top, kept })?;
@@ -154,9 +147,9 @@ fn step(
     }
 }
 
-/// Evaluates a bound property and all bound properties that it depends on, and keeps the results in `done`.
-/// Properties that have a result there are not evaluated again.
-pub fn find(
+/// Evaluates a property where it is bound, and all bound properties that it depends on, and keeps the results in
+/// `done`. Properties that have a result there are not evaluated again.
+pub(crate) fn find(
     alloc: Global,
     stores: &Stores,
     place: usize,
@@ -167,23 +160,23 @@ pub fn find(
     requires ready { IsPlace stores.now.shelves.table place }
     requires right { IsRight (scene_of (store_at stores.now.shelves place) bindings.now) (kept_of done.old) }
     requires closed { IsClosed (scene_of (store_at stores.now.shelves place) bindings.now) (kept_of done.old) }
-    requires bound { IsSome (term_at (scene_of (store_at stores.now.shelves place) bindings.now).bindings start) }
     ensures right { OnOk result (IsRight (scene_of (store_at stores.now.shelves place) bindings.now) (kept_of done.new)) }
     ensures closed { OnOk result (IsClosed (scene_of (store_at stores.now.shelves place) bindings.now) (kept_of done.new)) }
     ensures within { OnOk result (IsWithin (kept_of done.old) (kept_of done.new)) }
-    ensures kept { OnOk result (IsKept (kept_of done.new) start) }
+    ensures settled { OnOk result (IsSettled (scene_of (store_at stores.now.shelves place) bindings.now) (kept_of done.new) start) }
 {
     if done.at(start).is_some() {
         return Ok(());
     }
     let mut below = Vec::new(alloc);
     let mut top = start;
-    'steps: loop {
-        match step(alloc, stores, place, bindings, done, &mut below, top)? {
+    'steps: while let Some(bound) = bound_at(stores, place, bindings, top) {
+        match step(alloc, stores, place, bindings, done, &mut below, bound)? {
             None => return Ok(()),
             Some(next) => top = next,
         }
     }
+    Ok(())
 }
 
 /// The value of a property, or its error: the stored value if it is unbound, otherwise the outcome of its
@@ -203,12 +196,11 @@ pub fn outcome(
     ensures closed { OnOk result (IsClosed (scene_of (store_at stores.now.shelves place) bindings.now) (kept_of done.new)) }
     ensures outcome { IfOk result (λ outcome. outcome ≡ outcome_in (store_at stores.now.shelves place) bindings.now at) }
 {
-    if expr_at(stores, place, bindings, at).is_none() {
-        return stored(alloc, stores, place, at);
-    }
     find(alloc, stores, place, bindings, done, at)?;
-    let kept = done.at(at).unwrap();
-    outcome_of(alloc, kept)
+    match done.at(at) {
+        Some(kept) => outcome_of(alloc, kept),
+        None => stored(alloc, stores, place, at),
+    }
 }
 
 /// Returns a copy of the stored value, or `EvaluationError` if the property does not exist.

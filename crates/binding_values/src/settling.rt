@@ -10,33 +10,11 @@ ghost use Rattle.binding_values.specs.Run.{IsSettled};
 ghost use Rattle.binding_values.specs.Stored.{scene_of};
 ghost use Rattle.binding_values.specs.Right.{IsComplete, IsRightBut, IsWhole};
 
-use crate::{Bound, EvalCache, KeptIndex, expr_at, find};
+use crate::run::find;
+use crate::{Bound, EvalCache, KeptIndex};
 use property_store::{Property, Stores};
 use std::alloc::{AllocError, Global};
 use std::mem;
-
-/// Evaluates a property where it is bound, and what it comes of where that is not kept.
-fn evaluate(
-    alloc: Global,
-    stores: &Stores,
-    place: usize,
-    bindings: &Bound,
-    memory: &mut EvalCache,
-    at: Property,
-) -> Result<(), AllocError>
-    requires ready { IsPlace stores.now.shelves.table place }
-    requires right { IsRight (scene_of (store_at stores.now.shelves place) bindings.now) (kept_of memory.old) }
-    requires closed { IsClosed (scene_of (store_at stores.now.shelves place) bindings.now) (kept_of memory.old) }
-    ensures right { OnOk result (IsRight (scene_of (store_at stores.now.shelves place) bindings.now) (kept_of memory.new)) }
-    ensures closed { OnOk result (IsClosed (scene_of (store_at stores.now.shelves place) bindings.now) (kept_of memory.new)) }
-    ensures within { OnOk result (IsWithin (kept_of memory.old) (kept_of memory.new)) }
-    ensures settled { OnOk result (IsSettled (scene_of (store_at stores.now.shelves place) bindings.now) (kept_of memory.new) at) }
-{
-    if expr_at(stores, place, bindings, at).is_none() {
-        return Ok(());
-    }
-    find(alloc, stores, place, bindings, memory, at)
-}
 
 fn evaluate_all(
     alloc: Global,
@@ -55,7 +33,7 @@ fn evaluate_all(
     ensures settled { OnOk result (All (IsSettled (scene_of (store_at stores.now.shelves place) bindings.now) (kept_of memory.new)) touched.now) }
 {
     for at in touched {
-        evaluate(alloc, stores, place, bindings, memory, *at)?;
+        find(alloc, stores, place, bindings, memory, *at)?;
     }
     Ok(())
 }

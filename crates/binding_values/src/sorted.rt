@@ -26,25 +26,29 @@ fn guess<T: HasProperty>(rows: &[T], at: Property) -> usize {
     let first = rows[0].at();
     let last = rows[len - 1].at();
     let objects = last.object.wrapping_sub(first.object) as usize + 1;
-    let before = at.object.wrapping_sub(first.object) as usize;
+    let before = at.object.saturating_sub(first.object) as usize;
     let others = before.wrapping_mul(len) / objects;
     others.wrapping_add(at.number.wrapping_sub(first.number))
 }
 
-/// Where a search looks next: first near the guessed place of the row, then in the middle.
+/// Where a search looks next: first near the guessed place of the row, then beside it, then in the middle.
 fn probe(low: usize, high: usize, near: usize) -> usize
     requires { low < high }
     ensures { (low ≤ result) × (result < high) }
 {
     if low <= near && near < high {
         near
+    } else if low == near.wrapping_add(1) {
+        low
+    } else if high == near {
+        high - 1
     } else {
         low + (high - low) / 2
     }
 }
 
-/// How many rows are before those of a property. If its row is not at its guessed place, it is searched from there, or
-/// from the last row, after which most rows are added.
+/// How many rows are before those of a property.
+#[inline(always)]
 pub fn count_before<T: HasProperty>(rows: &[T], at: Property) -> usize
     requires { IsRising T.at rows.now }
     ensures { IsCountBefore T.at rows.now at result }
@@ -53,6 +57,16 @@ pub fn count_before<T: HasProperty>(rows: &[T], at: Property) -> usize
     if is_at(rows, guess, at) {
         return guess;
     }
+    search(rows, at, guess)
+}
+
+/// How many rows are before those of a property. They are searched from a guessed place, or from the last row, after which
+/// most rows are added.
+#[inline(never)]
+fn search<T: HasProperty>(rows: &[T], at: Property, guess: usize) -> usize
+    requires { IsRising T.at rows.now }
+    ensures { IsCountBefore T.at rows.now at result }
+{
     let near = guess.min(rows.len().saturating_sub(1));
     let mut low = 0;
     let mut high = rows.len();
@@ -83,13 +97,8 @@ pub fn row_at<T: HasProperty>(rows: &[T], at: Property) -> Option<&T>
     ensures { option_map (λ row. row.now) result ≡ find (λ row. is_property at (T.at row)) rows.now }
 {
     let place = count_before(rows, at);
-    if place == rows.len() {
+    if !is_at(rows, place, at) {
         return None;
     }
-    let row = &rows[place];
-    if is_property(at, row.at()) {
-        Some(row)
-    } else {
-        None
-    }
+    Some(&rows[place])
 }

@@ -1,6 +1,6 @@
-use Rattle.std.proofs.Common.{◌∙◌, sym}
+use Rattle.std.proofs.Common.{◌∙◌, inl, sym}
 use Rattle.binding_values.proofs.MapLemmas.{there}
 use Rattle.binding_values.proofs.run.find.Goals as goal
 
-pub returns-then-is_some-clause-kept : goal.returns-then-is_some-clause-kept
-returns-then-is_some-clause-kept c = there _ c.at.result _ c.at.ensures (sym c.is_some.ensures ∙ c.if-is_some.true)
+pub returns-then-is_some-clause-settled : goal.returns-then-is_some-clause-settled
+returns-then-is_some-clause-settled c = inl (there _ c.at.result _ c.at.ensures (sym c.is_some.ensures ∙ c.if-is_some.true))

@@ -17,7 +17,7 @@ no_length (x ∷ xs) e = absurd (omega arith)
 pub returns-then-is_property : goal.returns-then-is_property
 returns-then-is_property c =
     looped_at (scene_of (store_at c.args.stores.now.shelves c.args.place) c.args.bindings.now) c.args.done.now _ c.unstack.new.done c.args.below.now.items []
-    (record { at = c.args.top; kept = c.in_ok-kept.kept }) c.in-Some.next
+    (record { at = c.args.bound.at; kept = c.in_ok-kept.kept }) c.in-Some.next
     c.requires.running c.in_ok-kept.ensures.tried
     (subst (λ o. IfSome o (WaitsFor (scene_of (store_at c.args.stores.now.shelves c.args.place) c.args.bindings.now)
     (kept_of c.args.done.now) c.in_ok-kept.kept.reads)) c.in-Some.is c.in_ok-kept.ensures.next)
@@ -25,7 +25,7 @@ returns-then-is_property c =
       | then-is_property-via-then-is_property w ↦ or_left _ _
           (sym c.is_property.ensures ∙ w.if-is_property.true)
       | then-is_property-via-else-is_property+then-stands_in w ↦ or_right
-          (is_property c.in-Some.next c.args.top) _
+          (is_property c.in-Some.next c.args.bound.at) _
           (ap (among c.in-Some.next) (ap ats (sym w.deref.ensures.value)) ∙ (sym w.stands_in.ensures ∙ w.if-stands_in.true))
     ])
     c.in_ok-push-in-Some.ensures.ok c.in_ok-unstack-in-Some.ensures.done
@@ -33,7 +33,7 @@ returns-then-is_property c =
 pub returns-in-None-pop : goal.returns-in-None-pop
 returns-in-None-pop c =
     ended_at (scene_of (store_at c.args.stores.now.shelves c.args.place) c.args.bindings.now) c.args.done.now c.push.new.self c.args.below.now.items []
-    (record { at = c.args.top; kept = c.in_ok-kept.kept })
+    (record { at = c.args.bound.at; kept = c.in_ok-kept.kept })
     c.requires.running c.in_ok-kept.ensures.tried
     (subst (λ (o : Option Property). IfNone o
     (All (IsSettled (scene_of (store_at c.args.stores.now.shelves c.args.place) c.args.bindings.now) (kept_of c.args.done.now)) c.in_ok-kept.kept.reads))
@@ -43,7 +43,7 @@ returns-in-None-pop c =
 pub returns-in-Some-pop : goal.returns-in-Some-pop
 returns-in-Some-pop c =
     popped_at (scene_of (store_at c.args.stores.now.shelves c.args.place) c.args.bindings.now) c.args.done.now c.push.new.self c.args.below.now.items
-    c.pop.new.self.items c.in-Some-pop.entry (record { at = c.args.top; kept = c.in_ok-kept.kept })
+    c.pop.new.self.items c.in-Some-pop.entry (record { at = c.args.bound.at; kept = c.in_ok-kept.kept })
     c.requires.running c.in_ok-kept.ensures.tried
     (subst (λ (o : Option Property). IfNone o
     (All (IsSettled (scene_of (store_at c.args.stores.now.shelves c.args.place) c.args.bindings.now) (kept_of c.args.done.now)) c.in_ok-kept.kept.reads))
@@ -52,7 +52,7 @@ returns-in-Some-pop c =
 pub returns-in_ok-push-in-Some-2 : goal.returns-in_ok-push-in-Some-2
 returns-in_ok-push-in-Some-2 c =
     pushed_at (scene_of (store_at c.args.stores.now.shelves c.args.place) c.args.bindings.now) c.args.done.now c.args.below.now.items
-    c.push-in-Some.new.self.items (record { at = c.args.top; kept = c.in_ok-kept.kept }) c.in-Some.next
+    c.push-in-Some.new.self.items (record { at = c.args.bound.at; kept = c.in_ok-kept.kept }) c.in-Some.next
     c.requires.running c.in_ok-kept.ensures.tried
     (subst (λ o. IfSome o (WaitsFor (scene_of (store_at c.args.stores.now.shelves c.args.place) c.args.bindings.now)
     (kept_of c.args.done.now) c.in_ok-kept.kept.reads)) c.in-Some.is c.in_ok-kept.ensures.next) (sym c.is_property.ensures ∙ c.if-is_property.false)

@@ -36,13 +36,15 @@ returns-then-is_some-clause-settled c =
     all_from_last (IsSettled (scene_in c.args.known.now) (kept_of c.args.known.now.done.now)) c.args.reads.now (record { object = 0; number = 0 })
     (inl (there _ c.at.result _ c.at.ensures (sym c.is_some.ensures ∙ c.if-is_some.true))) c.requires.but_last
 
-pub returns-then-is_none-clause-settled : goal.returns-then-is_none-clause-settled
-returns-then-is_none-clause-settled c =
+pub returns-in-None-clause-settled : goal.returns-in-None-clause-settled
+returns-in-None-clause-settled c =
     all_from_last (IsSettled (scene_in c.args.known.now) (kept_of c.args.known.now.done.now)) c.args.reads.now (record { object = 0; number = 0 })
-    (inr (not_there _ c.expr_at.result _ c.expr_at.ensures c.if-is_none.ensures)) c.requires.but_last
+    (inr c.in-None.ensures.none) c.requires.but_last
 
-pub returns-clause-next : goal.returns-clause-next
-returns-clause-next c =
-    let found = there _ c.expr_at.result _ c.expr_at.ensures c.if-is_none.ensures in
+pub returns-in-Some-clause-next : goal.returns-in-Some-clause-next
+returns-in-Some-clause-next c =
+    let found = c.in-Some.ensures.some in
     waits (scene_in c.args.known.now) (kept_of c.args.known.now.done.now) c.args.reads.now (record { object = 0; number = 0 })
-    (grind arith) c.requires.but_last found.0 found.1 (not_there _ c.at.result _ c.at.ensures (sym c.is_some.ensures ∙ c.if-is_some.false))
+    (grind arith) c.requires.but_last c.in-Some.field-0.expr.now
+    (ap (term_at (scene_in c.args.known.now).bindings) (sym found.0) ∙ found.1.term)
+    (not_there _ c.at.result _ c.at.ensures (sym c.is_some.ensures ∙ c.if-is_some.false))

@@ -12,15 +12,15 @@ pub loop-at-preserved : goal.loop-at-preserved
 loop-at-preserved c =
     let scene = scene_of (store_at c.args.stores.now.shelves c.args.place) c.args.bindings.now in
     record {
-      right = c.in_ok-evaluate.ensures.right;
-      closed = c.in_ok-evaluate.ensures.closed;
-      within = λ q kept is. c.in_ok-evaluate.ensures.within q kept (c.loop-at.invariant.within q kept is);
-      settled = All-more (IsSettled scene (kept_of c.evaluate.new.memory)) c.args.touched.now c.loop-at.at-index
+      right = c.in_ok-find.ensures.right;
+      closed = c.in_ok-find.ensures.closed;
+      within = λ q kept is. c.in_ok-find.ensures.within q kept (c.loop-at.invariant.within q kept is);
+      settled = All-more (IsSettled scene (kept_of c.find.new.done)) c.args.touched.now c.loop-at.at-index
           (record { object = 0; number = 0 }) c.loop-at-test.true
-          (All-weaker (IsSettled scene (kept_of c.loop-at.memory)) (IsSettled scene (kept_of c.evaluate.new.memory))
-          (still_settled scene (kept_of c.loop-at.memory) (kept_of c.evaluate.new.memory) c.in_ok-evaluate.ensures.within)
+          (All-weaker (IsSettled scene (kept_of c.loop-at.memory)) (IsSettled scene (kept_of c.find.new.done))
+          (still_settled scene (kept_of c.loop-at.memory) (kept_of c.find.new.done) c.in_ok-find.ensures.within)
           (take c.loop-at.at-index c.args.touched.now) c.loop-at.invariant.settled)
-          c.in_ok-evaluate.ensures.settled;
+          c.in_ok-find.ensures.settled;
     }
 
 pub returns-clause-settled : goal.returns-clause-settled
