@@ -1,13 +1,11 @@
 -- The bindings of a place, with their cache.
-use Rattle.std.specs.Prelude.{ℕ, List, map}
-use Rattle.shared_rows.specs.Table.{Table}
+use Rattle.std.specs.Prelude.{ℕ, List}
 use Rattle.property_store.specs.Marks.{Marks, marks_at}
 use Rattle.property_store.specs.Store.{Store}
 use Rattle.property_store.specs.Table.{StoresView, store_at}
 use Rattle.binding_values.specs.declared.eval_result.CacheEntry.{CacheEntry}
 use Rattle.binding_graph.specs.Cache.{Cache, IsInStep, no_cache}
 use Rattle.binding_values.specs.Graph.{Graph, no_graph}
-use Rattle.binding_graph.specs.Table.{Graphs}
 
 pub record GraphAndCache : Type 0 where
   pub graph : Graph
@@ -15,13 +13,6 @@ pub record GraphAndCache : Type 0 where
 
 abbrev pub no_graph_and_cache : GraphAndCache
 no_graph_and_cache = record { graph = no_graph; cache = no_cache }
-
--- The graphs of all places in one list, and their caches in another.
-abbrev pub split : Table GraphAndCache → Graphs
-split table = record {
-  graphs = record { places = map (λ pair. pair.graph) table.places; room = table.room };
-  caches = map (λ pair. pair.cache) table.places;
-}
 
 -- The graph and its cache are in step with the store of a place.
 abbrev pub IsAt : StoresView → ℕ → GraphAndCache → Type 0

@@ -1,7 +1,7 @@
 //! The bindings of all places.
 #![tactic(auto, unfolding(crate::specs::Step::InStep))]
 
-ghost use Rattle.std.specs.Prelude.{◌≡◌, ◌+◌, ◌≤◌, [], IfNone, IfOk, IfSome, IsTrue, None, OnErr, OnOk, Some, length};
+ghost use Rattle.std.specs.Prelude.{◌≡◌, ◌+◌, ◌≤◌, [], IfNone, IfOk, IfSome, IsSome, IsTrue, None, OnErr, OnOk, Some, length};
 ghost use Rattle.std.specs.Option.{option_map};
 ghost use Rattle.std.specs.Result.{result_err};
 ghost use Rattle.shared_rows.specs.Table.{ChangesAt, IsPlace, MakesRoom, Opens};
@@ -13,6 +13,8 @@ ghost use Rattle.property_store.specs.Table.{StoresView, store_at};
 ghost use Rattle.variant_value.specs.Values.{IsShort};
 ghost use Rattle.binding_graph.specs.Cache.{cache_at, no_cache};
 ghost use Rattle.binding_graph.specs.Drained.{IsStored};
+ghost use Rattle.binding_graph.specs.GraphAndCache.{no_graph_and_cache};
+ghost use Rattle.binding_graph.specs.Inside.{pair_at, pair_of};
 ghost use Rattle.binding_values.specs.Graph.{IsSound, begin_refusal, begun, bind_refusal, bound, end_refusal, ended, is_bound, no_graph};
 ghost use Rattle.binding_values.specs.Graph.{change_alone, settled_changes, settled_graph, stored_value, taken, unbound, value_in, without_object};
 ghost use Rattle.binding_graph.specs.Step.{InStep, LeavesInStep};
@@ -20,7 +22,7 @@ ghost use Rattle.binding_values.specs.Scene.{term_at};
 ghost use Rattle.binding_values.specs.Stored.{is_bindable};
 ghost use Rattle.binding_graph.specs.Table.{OthersKept, graph_at, with_graph};
 
-use crate::lazy_graph::LazyGraph;
+use crate::graph::BindingGraph;
 use binding_values::{Binding, BindingError, Change};
 use plain_types::{Code, Fault, Items};
 use property_store::{Property, Stores};
@@ -34,7 +36,8 @@ use variant_value::Value;
 /// closed. The properties and their stored values are in a separate table, which most calls take.
 #[derive(Drop)]
 pub struct Bindings {
-    graphs: Places<LazyGraph>,
+    /// The graph of a place takes no memory before its first binding or group.
+    graphs: Places<Option<Box<BindingGraph>>>,
     alloc: Global,
 }
 
@@ -46,7 +49,7 @@ impl Model for Bindings {
 
     ghost coded = { coded_graphs };
 
-    ghost use Rattle.binding_graph.specs.GraphAndCache.{split};
+    ghost use Rattle.binding_graph.specs.Inside.{split};
 
     ghost view = { λ bindings. split bindings.graphs };
 }
@@ -80,7 +83,7 @@ impl Bindings {
         ensures others { OthersKept result self.old self.new }
         ensures step { (stores : StoresView) → InStep stores self.old → InStep stores self.new }
     {
-        self.graphs.open(LazyGraph::new())
+        self.graphs.open(None)
     }
 
     /// Forgets all bindings, groups and cached results of a place, and what its properties showed. `evaluations`
@@ -92,7 +95,19 @@ impl Bindings {
         ensures others { OthersKept place self.old self.new }
         ensures step { (stores : StoresView) → InStep stores self.old → InStep stores self.new }
     {
-        *self.graphs.get_mut(place) = LazyGraph::new();
+        *self.graphs.get_mut(place) = None;
+    }
+
+    /// The graph of a place, if it has been made.
+    fn graph(&self, place: usize) -> Option<&BindingGraph>
+        requires { IsPlace self.now.graphs place }
+        ensures some { IfSome result (λ graph. graph.now ≡ pair_at self.now place) }
+        ensures none { IfNone result (pair_at self.now place ≡ no_graph_and_cache) }
+    {
+        match self.graphs.get(place) {
+            Some(graph) => Some(graph),
+            None => None,
+        }
     }
 
     /// How many properties are bound. It also ensures that the graph is sound.
@@ -101,7 +116,10 @@ impl Bindings {
         ensures count { result ≡ length (graph_at self.now.graphs place).bindings }
         ensures sound { IsSound (graph_at self.now.graphs place) }
     {
-        self.graphs.get(place).rows().len()
+        match self.graph(place) {
+            Some(graph) => graph.rows().len(),
+            None => 0,
+        }
     }
 
     /// The bindings, by rising object and number.
@@ -109,7 +127,10 @@ impl Bindings {
         requires { IsPlace self.now.graphs place }
         ensures { result.now ≡ (graph_at self.now.graphs place).bindings }
     {
-        self.graphs.get(place).rows()
+        match self.graph(place) {
+            Some(graph) => graph.rows(),
+            None => &[],
+        }
     }
 
     /// The expression that a property is bound to.
@@ -117,7 +138,7 @@ impl Bindings {
         requires { IsPlace self.now.graphs place }
         ensures { option_map (λ expr. expr.now) result ≡ term_at (graph_at self.now.graphs place).bindings at }
     {
-        self.graphs.get(place).expr_at(at)
+        self.graph(place)?.bindings.expr_at(at)
     }
 
     /// How many groups are open, each within the one before.
@@ -125,7 +146,10 @@ impl Bindings {
         requires { IsPlace self.now.graphs place }
         ensures { result ≡ (graph_at self.now.graphs place).depth }
     {
-        self.graphs.get(place).depth()
+        match self.graph(place) {
+            Some(graph) => graph.depth,
+            None => 0,
+        }
     }
 
     /// How many evaluations of bound properties settlings have made since the place was opened or cleared. It stops at 2^64 - 1.
@@ -133,7 +157,10 @@ impl Bindings {
         requires { IsPlace self.now.graphs place }
         ensures { result ≡ (cache_at self.now.caches place).evaluations }
     {
-        self.graphs.get(place).evaluations()
+        match self.graph(place) {
+            Some(graph) => graph.evaluations,
+            None => 0,
+        }
     }
 
     pub fn is_bound(&self, place: usize, at: Property) -> bool
@@ -160,7 +187,10 @@ impl Bindings {
         ensures err { OnErr result (self.new.graphs ≡ self.old.graphs) }
         ensures step { LeavesInStep place stores.now self.old self.new }
     {
-        self.graphs.get_mut(place).bind(self.alloc, at, expr)
+        let made = self.graphs.get_mut(place);
+        make(made, self.alloc)?;
+        let Some(graph) = made else { unreachable!() };
+        graph.bind(at, expr)
     }
 
     /// Stores the value of a bound property, removes its binding, and returns whether it was bound. The value is
@@ -185,7 +215,10 @@ impl Bindings {
         }
         let (value, _) = self.value(place, stores, at)?;
         let _ = stores.write(place, at.object, at.number, value);
-        self.graphs.get_mut(place).unbind(at);
+        let Some(graph) = self.graphs.get_mut(place) else {
+            return Ok(true);
+        };
+        graph.unbind(at);
         Ok(true)
     }
 
@@ -202,9 +235,11 @@ impl Bindings {
         ensures value { IfOk result (λ found. found ≡ value_in (store_at stores.now.shelves place) (graph_at self.now.graphs place) at) }
         ensures short { IfOk result (λ found. IsShort found.0) }
     {
-        let graph = self.graphs.get(place);
-        let _ = (stores.count(place), graph.rows().len());
-        graph.value(self.alloc, stores, place, at)
+        let _ = (stores.count(place), self.count(place));
+        match self.graph(place) {
+            Some(graph) => graph.value(self.alloc, stores, place, at),
+            None => BindingGraph::new(self.alloc).value(self.alloc, stores, place, at),
+        }
     }
 
     /// Returns the changes since the last call; the first call compares with an empty place. Properties with a
@@ -227,7 +262,9 @@ impl Bindings {
         ensures err { OnErr result (self.new.graphs ≡ self.old.graphs) }
         ensures step { LeavesInStep place stores.new self.old self.new }
     {
-        let graph = self.graphs.get_mut(place);
+        let made = self.graphs.get_mut(place);
+        make(made, self.alloc)?;
+        let Some(graph) = made else { unreachable!() };
         graph.settle(self.alloc, stores, place, written)
     }
 
@@ -245,7 +282,9 @@ impl Bindings {
         ensures stores { IsDrained place stores.old stores.new }
         ensures step { LeavesInStep place stores.new self.old self.new }
     {
-        let graph = self.graphs.get_mut(place);
+        let Some(graph) = self.graphs.get_mut(place) else {
+            return None;
+        };
         graph.settle_alone(self.alloc, stores, place, at)
     }
 
@@ -262,7 +301,10 @@ impl Bindings {
         ensures err { OnErr result (self.new.graphs ≡ self.old.graphs) }
         ensures step { LeavesInStep place stores.new self.old self.new }
     {
-        self.graphs.get_mut(place).begin(self.alloc, stores, place)
+        let made = self.graphs.get_mut(place);
+        make(made, self.alloc)?;
+        let Some(graph) = made else { unreachable!() };
+        graph.begin(self.alloc, stores, place)
     }
 
     /// Ends the group that was opened last, and returns how many are left; `NoGroup` if no group is open.
@@ -276,7 +318,10 @@ impl Bindings {
         ensures err { OnErr result (self.new.graphs ≡ self.old.graphs) }
         ensures step { LeavesInStep place stores.now self.old self.new }
     {
-        self.graphs.get_mut(place).end()
+        let Some(graph) = self.graphs.get_mut(place) else {
+            return Err(Code::NoGroup);
+        };
+        graph.end()
     }
 
     /// Removes an object from the stores, with its bindings, and returns the changes, like `settle`. Only bindings
@@ -297,7 +342,25 @@ impl Bindings {
         ensures only { ChangesAt no_graph place self.old.graphs self.new.graphs }
         ensures step { LeavesInStep place stores.new self.old self.new }
     {
-        let graph = self.graphs.get_mut(place);
+        if self.graphs.get(place).is_none() {
+            stores.drop_object(place, object);
+            return self.settle(place, stores, None);
+        }
+        let Some(graph) = self.graphs.get_mut(place) else {
+            unreachable!()
+        };
         graph.remove(self.alloc, stores, place, object)
     }
+}
+
+/// Allocates the graph of a place, unless that has been done.
+fn make(made: &mut Option<Box<BindingGraph>>, alloc: Global) -> Result<(), AllocError>
+    ensures same { pair_of made.new ≡ pair_of made.old }
+    ensures made { OnOk result (IsSome made.new) }
+    ensures err { OnErr result (pair_of made.old ≡ no_graph_and_cache) }
+{
+    if made.is_none() {
+        *made = Some(Box::new(alloc, BindingGraph::new(alloc))?);
+    }
+    Ok(())
 }

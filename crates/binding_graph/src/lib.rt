@@ -7,7 +7,6 @@ mod bindings;
 mod changes;
 mod graph;
 mod laws;
-mod lazy_graph;
 mod removal;
 mod settling;
 mod show;

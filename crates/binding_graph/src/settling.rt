@@ -1,17 +1,18 @@
 //! The settling of a place: what all properties show now, by evaluating what changes reach.
-ghost use Rattle.std.specs.Prelude.{◌≡◌, ◌+◌, ◌<◌, IfNone, IfOk, IfSome, IsTrue, Ok, OnErr, OnOk, Some, false, true};
+ghost use Rattle.std.specs.Prelude.{◌≡◌, ◌+◌, IfNone, IfOk, IfSome, IsTrue, Ok, OnErr, OnOk, Some, false, true};
 ghost use Rattle.shared_rows.specs.Table.{IsPlace};
+ghost use Rattle.plain_types.specs.Answers.{RefusedBy};
 ghost use Rattle.property_store.specs.Marks.{has_marks, marks_at};
 ghost use Rattle.property_store.specs.Pending.{IsDrained};
 ghost use Rattle.property_store.specs.Table.{store_at};
-ghost use Rattle.binding_values.specs.Graph.{all_shown, begun, change_alone, changes, settled_changes, settled_graph, stored_value};
+ghost use Rattle.binding_values.specs.Graph.{all_shown, begin_refusal, begun, change_alone, changes, settled_changes, settled_graph, stored_value};
 ghost use Rattle.binding_graph.specs.GraphAndCache.{IsAt};
 
 use crate::changes::{changes, is_value_before};
 use crate::graph::BindingGraph;
 use crate::show::{show_all, show_touched, shown_as};
-use binding_values::{Change, cell_at};
-use plain_types::Items;
+use binding_values::{Change, GROUPS, cell_at};
+use plain_types::{Code, Fault, Items};
 use property_store::{Property, Stores};
 use std::alloc::{AllocError, Global};
 
@@ -208,16 +209,19 @@ impl BindingGraph {
         alloc: Global,
         stores: &mut Stores,
         place: usize,
-    ) -> Result<u32, AllocError>
+    ) -> Result<u32, Fault>
         requires ready { IsPlace stores.old.shelves.table place }
         requires step { IsAt stores.old place self.old }
-        requires shallow { self.old.graph.depth < 1000 }
+        ensures refused { RefusedBy (begin_refusal self.old.graph) result }
         ensures depth { IfOk result (λ depth. depth ≡ self.old.graph.depth + 1) }
         ensures ok { OnOk result (self.new.graph ≡ begun (store_at stores.old.shelves place) self.old.graph) }
         ensures err { OnErr result (self.new.graph ≡ self.old.graph) }
         ensures stores { IsDrained place stores.old stores.new }
         ensures step { IsAt stores.new place self.new }
     {
+        if self.depth >= GROUPS {
+            return Err(Fault::Refused(Code::Limit));
+        }
         if self.depth == 0 {
             self.refresh(alloc, stores, place, false, None)?;
         }

@@ -1,44 +1,98 @@
-use Rattle.std.proofs.Common.{◌≡◌, IfOk, None, subst, sym}
-use Rattle.shared_rows.proofs.ForCallers as column
+use Rattle.std.proofs.Common.{◌≡◌, ◌∙◌, IfOk, None, Some, ap, refl, subst, sym}
 use Rattle.property_store.specs.Store.{without}
 use Rattle.property_store.specs.Table.{store_at}
 use Rattle.binding_values.specs.Graph.{Graph, no_graph, settled_changes, settled_graph, without_object}
-use Rattle.binding_graph.specs.GraphAndCache.{IsAt, no_graph_and_cache, split}
-use Rattle.binding_graph.proofs.PlaceLemmas.{at_place, graph_now, others_kept, place_there, put_in_step, put_so, with_pair}
+use Rattle.binding_graph.specs.GraphAndCache.{IsAt}
+use Rattle.binding_graph.specs.Inside.{pair_of, split}
+use Rattle.binding_graph.specs.Table.{Graphs, graph_at}
+use Rattle.binding_graph.proofs.PlaceLemmas.{at_place, graph_now, none_there, others_kept, place_there, put_in_step, put_so, with_pair}
 use Rattle.binding_graph.proofs.StepLemmas.{stands_elsewhere}
+use Rattle.shared_rows.proofs.ForCallers as column
+use Rattle.std.proofs.Common.{Err, Ok, OnOk, Option, Result, false, is_some, not}
+use Rattle.binding_graph.proofs.StepLemmas.{removal_in_step}
+use Rattle.std.proofs.Common.{[], ap₂}
+use Rattle.std.proofs.lemmas.Bool.{both_ways}
+use Rattle.std.proofs.lemmas.Result.{IfOk-weaker}
+use Rattle.property_store.specs.Table.{StoreTable}
+use Rattle.binding_graph.specs.Table.{with_graph}
 use Rattle.binding_graph.proofs.bindings.Bindings.remove.Goals as goal
 
+no_some : {T : Type 0} (found : Option T) → is_some found ≡ false → found ≡ None
+no_some None e = refl
+no_some (Some value) e = absurd (cc)
+
+so_ok : {T E P Q : Type 0} (result : Result T E) → (P → Q) → OnOk result P → OnOk result Q
+so_ok (Ok value) so holds = so holds
+so_ok (Err error) so holds = tt
+
+-- where there is no graph, the object alone goes
+pub settle-requires-clause-step : goal.settle-requires-clause-step
+settle-requires-clause-step c = removal_in_step c.args.stores.now c.drop_object.new.self c.args.place c.args.object c.requires.places.1
+    c.drop_object.ensures.stores c.drop_object.ensures.marks c.args.self.now c.requires.step
+
+pub returns-then-is_none-clause-told : goal.returns-then-is_none-clause-told
+returns-then-is_none-clause-told c =
+    let none : graph_at c.args.self.now.graphs c.args.place ≡ no_graph =
+    ap (λ (graphs : Graphs). graph_at graphs.graphs c.args.place) (sym c.self.view_is)
+    ∙ none_there c.self.inside.graphs c.args.place c.get.result.now (c.get.ensures None)
+    (ap pair_of (no_some c.get.result.now (c.is_none.ensures ∙ ap not c.if-is_none.true))) in
+    let same : graph_at c.args.self.now.graphs c.args.place ≡ without_object c.args.object (graph_at c.args.self.now.graphs c.args.place) =
+    none ∙ sym (ap (without_object c.args.object) none) in
+    let stored : store_at c.drop_object.new.self.shelves c.args.place ≡ without c.args.object (store_at c.args.stores.now.shelves c.args.place) =
+    ap (λ (shelves : StoreTable). store_at shelves c.args.place) c.drop_object.ensures.stores
+    ∙ column.with_there [] c.args.stores.now.shelves.table c.args.place _ c.requires.places.1 in
+    IfOk-weaker c.settle.result _ _ (λ told is. is ∙ ap₂ (λ store graph. settled_changes store graph None) stored same) c.settle.ensures.told
+
+pub returns-then-is_none-clause-ok : goal.returns-then-is_none-clause-ok
+returns-then-is_none-clause-ok c =
+    let none : graph_at c.args.self.now.graphs c.args.place ≡ no_graph =
+    ap (λ (graphs : Graphs). graph_at graphs.graphs c.args.place) (sym c.self.view_is)
+    ∙ none_there c.self.inside.graphs c.args.place c.get.result.now (c.get.ensures None)
+    (ap pair_of (no_some c.get.result.now (c.is_none.ensures ∙ ap not c.if-is_none.true))) in
+    let same : graph_at c.args.self.now.graphs c.args.place ≡ without_object c.args.object (graph_at c.args.self.now.graphs c.args.place) =
+    none ∙ sym (ap (without_object c.args.object) none) in
+    let stored : store_at c.drop_object.new.self.shelves c.args.place ≡ without c.args.object (store_at c.args.stores.now.shelves c.args.place) =
+    ap (λ (shelves : StoreTable). store_at shelves c.args.place) c.drop_object.ensures.stores
+    ∙ column.with_there [] c.args.stores.now.shelves.table c.args.place _ c.requires.places.1 in
+    so_ok c.settle.result (λ is. is ∙ ap₂ (λ store graph. with_graph c.args.self.now.graphs c.args.place (settled_graph store graph)) stored same)
+    c.settle.ensures.ok
+
+pub unreachable-requires : goal.unreachable-requires
+unreachable-requires c = both_ways (is_some c.get.result.now)
+    (ap is_some (c.get.ensures None ∙ (sym (c.get_mut.ensures.value None) ∙ c.in_default.is))) (c.is_none.ensures ∙ ap not c.if-is_none.false)
+
 pub remove-requires-clause-step : goal.remove-requires-clause-step
-remove-requires-clause-step c = subst (IsAt c.args.stores.now c.args.place) (sym (c.get_mut-graph.ensures.value no_graph_and_cache))
-    (at_place c.args.stores.now c.self.inside.graphs (rw (← c.self.view_is) at c.requires.step) c.args.place)
+remove-requires-clause-step c = subst (IsAt c.args.stores.now c.args.place) (sym (c.deref_mut.ensures.value ∙ (sym (ap pair_of c.in-Some.is)
+    ∙ ap pair_of (c.get_mut.ensures.value None)))) (at_place c.args.stores.now c.self.inside.graphs (rw (← c.self.view_is) at c.requires.step) c.args.place)
 
 pub returns-clause-told : goal.returns-clause-told
 returns-clause-told c =
     rw (← c.self.view_is)
-    (subst (λ (graph : Graph). IfOk c.remove.result
-    (λ told. told ≡ settled_changes (without c.args.object (store_at c.args.stores.now.shelves c.args.place)) (without_object c.args.object graph) None))
-    (graph_now c.self.inside.graphs c.args.place c.get_mut-graph.result.now (c.get_mut-graph.ensures.value no_graph_and_cache)) c.remove.ensures.told)
+    (subst (λ (graph : Graph). IfOk c.remove.result (λ told. told ≡ settled_changes (without c.args.object
+    (store_at c.args.stores.now.shelves c.args.place)) (without_object c.args.object graph) None))
+    (graph_now c.self.inside.graphs c.args.place c.deref_mut.result.now (c.deref_mut.ensures.value ∙ (sym (ap pair_of c.in-Some.is) ∙ ap pair_of
+    (c.get_mut.ensures.value None)))) c.remove.ensures.told)
 
 pub returns-clause-ok : goal.returns-clause-ok
 returns-clause-ok c =
     rw (← c.self.view_is)
-    (put_so c.remove.result c.self.inside.graphs c.args.place c.get_mut-graph.result.now c.remove.new.self
-    (λ graph. settled_graph (without c.args.object (store_at c.args.stores.now.shelves c.args.place)) (without_object c.args.object graph))
-    (c.get_mut-graph.ensures.value no_graph_and_cache) c.remove.ensures.ok)
+    (put_so c.remove.result c.self.inside.graphs c.args.place c.deref_mut.result.now _ (λ graph. settled_graph (without c.args.object
+    (store_at c.args.stores.now.shelves c.args.place)) (without_object c.args.object graph)) (c.deref_mut.ensures.value ∙ (sym
+    (ap pair_of c.in-Some.is) ∙ ap pair_of (c.get_mut.ensures.value None)))
+    c.remove.ensures.ok)
 
 pub returns-clause-only : goal.returns-clause-only
 returns-clause-only c =
     rw (← c.self.view_is)
     (column.changes_with no_graph (split c.self.inside.graphs).graphs _ c.args.place c.remove.new.self.graph (rw (← c.self.view_is) at c.requires.places.0)
-    (with_pair c.self.inside.graphs c.args.place c.remove.new.self))
+    (with_pair c.self.inside.graphs c.args.place _))
 
 pub returns-clause-step : goal.returns-clause-step
 returns-clause-step c = record {
-  step = put_in_step c.args.stores.now c.remove.new.stores c.self.inside.graphs c.args.place c.remove.new.self
-      (place_there c.self.inside.graphs c.args.place (rw (← c.self.view_is) at c.requires.places.0))
-      (stands_elsewhere c.args.stores.now c.remove.new.stores c.args.place
-      (without c.args.object (store_at c.args.stores.now.shelves c.args.place)) c.requires.places.1 c.remove.ensures.stores.shelves)
-      c.remove.ensures.stores.others
-      c.remove.ensures.step (rw (← c.self.view_is) at c.requires.step);
-  others = rw (← c.self.view_is) (others_kept c.self.inside.graphs c.args.place c.remove.new.self);
+  step = put_in_step c.args.stores.now c.remove.new.stores c.self.inside.graphs c.args.place _ (place_there c.self.inside.graphs c.args.place (rw
+    (← c.self.view_is) at c.requires.places.0))
+      (stands_elsewhere c.args.stores.now c.remove.new.stores c.args.place (without c.args.object
+    (store_at c.args.stores.now.shelves c.args.place)) c.requires.places.1 c.remove.ensures.stores.shelves)
+      c.remove.ensures.stores.others c.remove.ensures.step (rw (← c.self.view_is) at c.requires.step);
+  others = rw (← c.self.view_is) (others_kept c.self.inside.graphs c.args.place _);
 }

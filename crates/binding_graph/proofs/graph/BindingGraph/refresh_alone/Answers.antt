@@ -1,7 +1,6 @@
-use Rattle.std.proofs.Common.{◌≡◌, ◌∙◌, ap, not, sym}
+use Rattle.std.proofs.Common.{ap, not}
 use Rattle.property_store.specs.Marks.{marks_at}
 use Rattle.property_store.specs.Table.{store_at}
-use Rattle.binding_values.specs.Graph.{all_shown}
 use Rattle.binding_graph.proofs.AloneLemmas.{complete_alone, fits_alone, last_alone, told_so_alone}
 use Rattle.binding_graph.proofs.StepLemmas.{complete_in_step}
 use Rattle.binding_graph.proofs.graph.BindingGraph.refresh_alone.Goals as goal
