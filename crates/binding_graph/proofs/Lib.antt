@@ -3,6 +3,8 @@ pub mod StepLemmas
 pub mod GraphAndCacheLemmas
 pub mod RemovalLemmas
 pub mod RowLemmas
+pub mod SlotLemmas
+pub mod LastShownLemmas
 pub mod GoneLemmas
 pub mod KnownLemmas
 pub mod SettlingLemmas

@@ -5,4 +5,5 @@ pub mod Coded
 pub mod Step
 pub mod Drained
 pub mod Inside
+pub mod LastShown
 pub mod Rows

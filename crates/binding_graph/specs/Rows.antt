@@ -1,5 +1,5 @@
 -- Rows of what properties show, inserted among others. No public clause cites this module.
-use Rattle.std.specs.Prelude.{◌≡◌, ◌&&◌, ◌||◌, ◌++◌, if◌then◌else◌, Bool, List, ◌∷◌, None, Some, filter, not}
+use Rattle.std.specs.Prelude.{◌≡◌, ◌&&◌, ◌||◌, ◌++◌, if◌then◌else◌, List, ◌∷◌, None, Some, filter, not}
 use Rattle.std.specs.Option.{is_some, option_map_or}
 use Rattle.property_store.specs.declared.property.Property.{Property}
 use Rattle.property_store.specs.Property.{among, is_property}
@@ -26,14 +26,6 @@ abbrev pub AreAbsent : Store → List Binding → List Property → List Propert
 AreAbsent store bindings touched old new =
     (q : Property) → among q new ≡ (among q old || (among q touched && not (is_some (shown_now store bindings q))))
 
--- Whether a property showed something, and shows nothing now.
-abbrev pub is_gone : List Shown → List Shown → Property → Bool
-is_gone last now q = is_some (shown_at last q) && not (is_some (shown_at now q))
-
--- A property is noted if it is gone.
-abbrev pub IsNoted : List Shown → List Shown → List Shown → Property → List Shown → Type 0
-IsNoted last now old at new = (q : Property) → is_some (shown_at new q) ≡ (is_some (shown_at old q) || (is_property q at && is_gone last now at))
-
--- The rows without those of these properties.
-abbrev pub without_rows : List Shown → List Shown → List Shown
-without_rows gone rows = filter (λ shown. not (is_some (shown_at gone shown.at))) rows
+-- Rows replaced those of their properties, and then these properties show nothing.
+abbrev pub AreReplaced : List Property → List Shown → List Shown → List Shown → Type 0
+AreReplaced gone rows old new = (q : Property) → shown_at new q ≡ (if among q gone then None else option_map_or Some (shown_at rows q) (shown_at old q))

@@ -3,6 +3,7 @@ ghost use Rattle.std.specs.Prelude.{◌≡◌, ◌++◌, IfOk, IsTrue, OnOk, fil
 ghost use Rattle.variant_value.specs.Values.{is_same};
 ghost use Rattle.binding_values.specs.Graph.{before, changes, has_turn, is_same_error, notice, warning};
 
+use crate::last_shown::LastShown;
 use crate::showing::Showing;
 use binding_values::{BindingError, Change, ChangeKind, Shown};
 use plain_types::Items;
@@ -19,7 +20,7 @@ fn is_same_error(a: BindingError, b: BindingError) -> bool
 }
 
 /// The error that a property showed before.
-fn error_before(last: &Showing, shown: &Shown) -> Option<BindingError>
+fn error_before(last: &LastShown, shown: &Shown) -> Option<BindingError>
     ensures { result ≡ (before last.now shown.now).error }
 {
     let then = last.at(shown.at)?;
@@ -27,7 +28,7 @@ fn error_before(last: &Showing, shown: &Shown) -> Option<BindingError>
 }
 
 /// Whether a property showed this value before.
-pub(crate) fn is_value_before(last: &Showing, shown: &Shown) -> bool
+pub(crate) fn is_value_before(last: &LastShown, shown: &Shown) -> bool
     ensures { result ≡ is_same (before last.now shown.now).value shown.now.value }
 {
     match last.at(shown.at) {
@@ -37,7 +38,7 @@ pub(crate) fn is_value_before(last: &Showing, shown: &Shown) -> bool
 }
 
 /// The warning of a property whose error is new or different.
-fn warning(last: &Showing, shown: &Shown) -> Option<Change>
+fn warning(last: &LastShown, shown: &Shown) -> Option<Change>
     ensures { result ≡ warning last.now shown.now }
 {
     let error = shown.error?;
@@ -53,7 +54,7 @@ fn warning(last: &Showing, shown: &Shown) -> Option<Change>
 }
 
 /// The notification of a property whose value is different.
-fn notice(alloc: Global, last: &Showing, shown: &Shown) -> Result<Option<Change>, AllocError>
+fn notice(alloc: Global, last: &LastShown, shown: &Shown) -> Result<Option<Change>, AllocError>
     ensures { IfOk result (λ change. change ≡ notice last.now shown.now) }
 {
     if is_value_before(last, shown) {
@@ -77,7 +78,7 @@ fn has_turn(written: Option<Property>, first: bool, shown: &Shown) -> bool
 
 /// Appends the warnings of the properties whose turn it is.
 fn warn(
-    last: &Showing,
+    last: &LastShown,
     now: &Showing,
     written: Option<Property>,
     first: bool,
@@ -98,7 +99,7 @@ fn warn(
 /// Appends the notifications of the properties whose turn it is.
 fn notify(
     alloc: Global,
-    last: &Showing,
+    last: &LastShown,
     now: &Showing,
     written: Option<Property>,
     first: bool,
@@ -121,7 +122,7 @@ fn notify(
 pub(crate) fn changes(
     alloc: Global,
     tells: bool,
-    last: &Showing,
+    last: &LastShown,
     now: &Showing,
     written: Option<Property>,
 ) -> Result<Items<Change>, AllocError>

@@ -10,8 +10,8 @@ ghost use Rattle.binding_values.specs.Graph.{IsSound, bind_refusal, bound, end_r
 ghost use Rattle.binding_values.specs.Graph.{shown_at, shown_in, shown_now, unbound, value_in};
 ghost use Rattle.binding_graph.specs.GraphAndCache.{IsAt, StaysAt, no_graph_and_cache};
 
+use crate::last_shown::LastShown;
 use crate::show::{show, show_kept, shown_as};
-use crate::showing::Showing;
 use binding_values::{Binding, BindingError, Bound, KeptIndex, Shown, cell_at};
 use plain_types::{Code, Fault};
 use property_store::{Pending, Property, Stores, default_of};
@@ -26,7 +26,7 @@ use variant_value::Value;
 #[derive(Drop)]
 pub(crate) struct BindingGraph {
     pub(crate) bindings: Bound,
-    pub(crate) last: Showing,
+    pub(crate) last: LastShown,
     pub(crate) depth: u32,
     pub(crate) kept: KeptIndex,
     pub(crate) pending: Pending,
@@ -56,7 +56,7 @@ impl BindingGraph {
     {
         BindingGraph {
             bindings: Bound::new(alloc),
-            last: Showing::new(alloc),
+            last: LastShown::new(alloc),
             depth: 0,
             kept: KeptIndex::new(alloc),
             pending: Pending::new(alloc),
@@ -68,7 +68,7 @@ impl BindingGraph {
         ensures rows { result.now ≡ self.now.graph.bindings }
         ensures sound { IsSound self.now.graph }
     {
-        let _ = (self.last.rows().len(), self.bindings.len());
+        let _ = (self.last.count_objects(), self.bindings.len());
         self.bindings.rows()
     }
 

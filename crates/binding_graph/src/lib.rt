@@ -6,11 +6,13 @@
 mod bindings;
 mod changes;
 mod graph;
+mod last_shown;
 mod laws;
 mod removal;
 mod settling;
 mod show;
 mod showing;
+mod shown_object;
 
 pub use binding_values::BINDINGS;
 pub use bindings::Bindings;

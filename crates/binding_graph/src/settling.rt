@@ -10,6 +10,7 @@ ghost use Rattle.binding_graph.specs.GraphAndCache.{IsAt};
 
 use crate::changes::{changes, is_value_before};
 use crate::graph::BindingGraph;
+use crate::last_shown::LastShown;
 use crate::show::{show_all, show_touched, shown_as};
 use binding_values::{Change, GROUPS, cell_at};
 use plain_types::{Code, Fault, Items};
@@ -36,7 +37,8 @@ impl BindingGraph {
         let made = self.kept.settle_all(alloc, stores, place, &self.bindings)?;
         let now = show_all(alloc, stores, place, &self.bindings, &self.kept)?;
         let told = changes(alloc, tells, &self.last, &now, written)?;
-        self.last = now;
+        let last = LastShown::from_showing(alloc, now)?;
+        self.last = last;
         self.pending.take(alloc);
         self.evaluations = self.evaluations.saturating_add(made);
         Ok(told)
@@ -77,7 +79,7 @@ impl BindingGraph {
             &mut absent,
         )?;
         let told = changes(alloc, tells, &self.last, &now, written)?;
-        self.last.merge(alloc, now, absent.as_slice())?;
+        self.last.replace(alloc, now, absent.as_slice())?;
         self.pending.give_back(touched);
         self.evaluations = self.evaluations.saturating_add(made);
         Ok(told)
@@ -170,7 +172,7 @@ impl BindingGraph {
         };
         let shown = shown_as(at, kind, Ok(value));
         let is_change = !is_value_before(&self.last, &shown);
-        let Ok(()) = self.last.put(shown) else {
+        let Ok(()) = self.last.put(alloc, shown) else {
             return None;
         };
         self.pending.clear();

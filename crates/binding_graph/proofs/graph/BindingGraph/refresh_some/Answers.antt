@@ -4,7 +4,7 @@ use Rattle.property_store.specs.Table.{store_at}
 use Rattle.binding_values.specs.Sorted.{IsRising}
 use Rattle.binding_values.specs.Graph.{all_shown}
 use Rattle.binding_values.specs.declared.shown.Shown.{Shown}
-use Rattle.binding_graph.proofs.GoneLemmas.{merged_present}
+use Rattle.binding_graph.proofs.GoneLemmas.{replaced_present}
 use Rattle.binding_graph.proofs.SettlingLemmas.{merged_so, told_so, touched_right, touched_whole}
 use Rattle.binding_graph.proofs.StepLemmas.{complete_in_step}
 use Rattle.binding_graph.proofs.graph.BindingGraph.refresh_some.Goals as goal
@@ -36,7 +36,7 @@ returns-clause-told c = rw (← c.self.view_is)
     (rw c.as_mut_slice.ensures.value at c.in_ok-now.ensures.shown)
     c.args.written (subst (IsRising (λ (shown : Shown). shown.at)) c.now.view_is c.now.invariant.rising)))
 
-all_so : (c : goal.After-drop-absent-2) → c.merge.new.self ≡ all_shown (store_at c.args.stores.now.shelves c.args.place) c.self.inside.bindings
+all_so : (c : goal.After-drop-absent-2) → c.replace.new.self ≡ all_shown (store_at c.args.stores.now.shelves c.args.place) c.self.inside.bindings
 all_so c = merged_so (store_at c.args.stores.now.shelves c.args.place) (marks_at c.args.stores.now.marks c.args.place)
     (record { bindings = c.self.inside.bindings; last = c.self.inside.last; depth = c.self.inside.depth })
     (record { kept = c.self.inside.kept; pending = c.self.inside.pending; evaluations = c.self.inside.evaluations })
@@ -44,10 +44,10 @@ all_so c = merged_so (store_at c.args.stores.now.shelves c.args.place) (marks_at
     (rw (← c.self.view_is) at c.requires.step) c.count.ensures.sound c.len.ensures.sound c.settle.new.self c.settle.new.touched.items
     c.in_ok-made.ensures.complete c.in_ok-made.ensures.same (rw c.take-touched.ensures.taken at c.in_ok-made.ensures.more) c.in_ok-now.now
     (rw c.as_mut_slice.ensures.value at c.in_ok-now.ensures.shown)
-    c.merge.new.self c.in_ok-merge.ensures.sound.rising
-    (merged_present (store_at c.args.stores.now.shelves c.args.place) c.self.inside.bindings c.settle.new.touched.items c.show_touched.new.absent.items
-    c.in_ok-now.now c.self.inside.last c.merge.new.self (rw (c.as_mut_slice.ensures.value, c.new-absent.ensures.items) at c.in_ok-now.ensures.absent)
-    (rw c.as_mut_slice.ensures.value at c.in_ok-now.ensures.shown) (rw c.as_slice.ensures.value at c.in_ok-merge.ensures.merged))
+    c.replace.new.self c.in_ok-replace.ensures.sound.rising
+    (replaced_present (store_at c.args.stores.now.shelves c.args.place) c.self.inside.bindings c.settle.new.touched.items c.show_touched.new.absent.items
+    c.in_ok-now.now c.self.inside.last c.replace.new.self (rw (c.as_mut_slice.ensures.value, c.new-absent.ensures.items) at c.in_ok-now.ensures.absent)
+    (rw c.as_mut_slice.ensures.value at c.in_ok-now.ensures.shown) (rw c.as_slice.ensures.value at c.in_ok-replace.ensures.replaced))
 
 pub returns-clause-ok : goal.returns-clause-ok
 returns-clause-ok c = rw (← c.self.view_is) (ap (λ last. record { bindings = c.self.inside.bindings; last = last; depth = c.self.inside.depth }) (all_so c))
@@ -55,6 +55,6 @@ returns-clause-ok c = rw (← c.self.view_is) (ap (λ last. record { bindings = 
 pub returns-clause-step : goal.returns-clause-step
 returns-clause-step c =
     complete_in_step (store_at c.args.stores.now.shelves c.args.place)
-    (record { bindings = c.self.inside.bindings; last = c.merge.new.self; depth = c.self.inside.depth })
+    (record { bindings = c.self.inside.bindings; last = c.replace.new.self; depth = c.self.inside.depth })
     (record { kept = c.settle.new.self; pending = c.give_back.new.self; evaluations = c.saturating_add-self-inside.result })
     c.in_ok-made.ensures.complete (all_so c) (marks_at c.args.stores.now.marks c.args.place)
