@@ -27,6 +27,7 @@ use Rattle.binding_values.specs.declared.shown.Shown.{Shown}
 use Rattle.binding_graph.specs.Cache.{Cache, IsInStep}
 use Rattle.binding_values.specs.Graph.{AreShown, Graph, all_shown, before, change_alone, changes, shown_as, shown_at, shown_now, stored_value}
 use Rattle.binding_graph.specs.Rows.{AreMerged, IsPut}
+use Rattle.binding_graph.specs.WriteChanges.{alone, changes_in}
 use Rattle.binding_values.proofs.ForCallers.{shown_now_fits}
 use Rattle.binding_graph.proofs.KnownLemmas.{shown_so}
 use Rattle.binding_graph.proofs.SettlingLemmas.{merged_so, told_so, touched_right, touched_whole}
@@ -41,6 +42,11 @@ told_alone last at kind value = rw (is_itself at) (by (is_same (before last (sho
         ≡ change_alone at value (not same)
     by true = refl
     by false = refl
+
+-- what is told then is the changes of the write
+pub alone_changes : (at : Property) (value : Value) (is_change : Bool) → changes_in at value (alone is_change) ≡ change_alone at value is_change
+alone_changes at value true = refl
+alone_changes at value false = refl
 
 pub one_rising : (row : Shown) → IsRising (λ (shown : Shown). shown.at) (row ∷ [])
 one_rising row i j d lt within = absurd (omega (arith, lt, within))

@@ -4,7 +4,6 @@ use Rattle.std.proofs.Common.{is_some, length, nat_lt, option_map, slice_index_o
 use Rattle.std.specs.Option.{option_map_or}
 use Rattle.std.proofs.lemmas.Bool.{both_ways, cases_Bool, eq-eqb, eqb-true, false_from_ne_true, ltb-false, or_cases, or_from, or_left, or_parts, or_right}
 use Rattle.std.proofs.lemmas.List.{get_or-set_other}
-use Rattle.std.proofs.lemmas.List.Folds.{list_any-append}
 use Rattle.shared_rows.specs.Table.{IsPlace}
 use Rattle.shared_rows.proofs.ForCallers.{default_pushed, with_there}
 use Rattle.signature_core.specs.declared.kind.Kind.{Kind}
@@ -13,7 +12,7 @@ use Rattle.property_store.specs.declared.property.Property.{Property}
 use Rattle.property_store.specs.Marks.{AreMarked, HasMarks, Marks, all_marks, has_marks, is_marked, is_written, is_written_named, marks_at, no_marks}
 use Rattle.property_store.specs.Pending.{AreMore, both}
 use Rattle.property_store.specs.Named.{declared_at, written_named}
-use Rattle.property_store.specs.Property.{among, is_property}
+use Rattle.property_store.specs.Property.{among}
 use Rattle.property_store.specs.Store.{Properties, Store, properties_of, without, written}
 use Rattle.property_store.specs.Table.{StoresView, fields_of, store_at}
 use Rattle.property_store.proofs.ForCallers.{both_marked, filter_all, none_passes}

@@ -7,3 +7,4 @@ pub mod Drained
 pub mod Inside
 pub mod LastShown
 pub mod Rows
+pub mod WriteChanges

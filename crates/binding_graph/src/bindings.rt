@@ -16,13 +16,15 @@ ghost use Rattle.binding_graph.specs.Drained.{IsStored};
 ghost use Rattle.binding_graph.specs.GraphAndCache.{no_graph_and_cache};
 ghost use Rattle.binding_graph.specs.Inside.{pair_at, pair_of};
 ghost use Rattle.binding_values.specs.Graph.{IsSound, begin_refusal, begun, bind_refusal, bound, end_refusal, ended, is_bound, no_graph};
-ghost use Rattle.binding_values.specs.Graph.{change_alone, settled_changes, settled_graph, stored_value, taken, unbound, value_in, without_object};
+ghost use Rattle.binding_values.specs.Graph.{settled_changes, settled_graph, stored_value, taken, unbound, value_in, without_object};
 ghost use Rattle.binding_graph.specs.Step.{InStep, LeavesInStep};
 ghost use Rattle.binding_values.specs.Scene.{term_at};
 ghost use Rattle.binding_values.specs.Stored.{is_bindable};
 ghost use Rattle.binding_graph.specs.Table.{OthersKept, graph_at, with_graph};
+ghost use Rattle.binding_graph.specs.WriteChanges.{changes_in};
 
 use crate::graph::BindingGraph;
+use crate::write_changes::WriteChanges;
 use binding_values::{Binding, BindingError, Change};
 use plain_types::{Code, Fault, Items};
 use property_store::{Property, Stores};
@@ -268,24 +270,28 @@ impl Bindings {
         graph.settle(self.alloc, stores, place, written)
     }
 
-    /// Settles a place like `settle` after a write of a property, if no group is open and no other property may show
-    /// another value, and returns whether its value has changed. Otherwise, or if memory runs out, it returns `None`,
-    /// and the place is still to be settled. Only a text needs memory.
-    pub fn settle_alone(&mut self, place: usize, stores: &mut Stores, at: Property) -> Option<bool>
+    /// Settles a place like `settle` after a write of a property, and returns the changes. Nothing is evaluated if no
+    /// other property may show another value.
+    pub fn settle_written(
+        &mut self,
+        place: usize,
+        stores: &mut Stores,
+        at: Property,
+    ) -> Result<WriteChanges, AllocError>
         requires places { IsPlace self.old.graphs place × IsPlace stores.old.shelves.table place }
         requires step { InStep stores.old self.old }
-        ensures told { IfSome result (λ is_change. change_alone at (stored_value (store_at stores.old.shelves place) at) is_change
+        ensures told { IfOk result (λ changed. changes_in at (stored_value (store_at stores.old.shelves place) at) changed
             ≡ settled_changes (store_at stores.old.shelves place) (graph_at self.old.graphs place) (Some at)) }
-        ensures ok { IfSome result (λ is_change. self.new.graphs
+        ensures ok { OnOk result (self.new.graphs
             ≡ with_graph self.old.graphs place (settled_graph (store_at stores.old.shelves place) (graph_at self.old.graphs place))) }
-        ensures none { IfNone result (self.new.graphs ≡ self.old.graphs) }
         ensures stores { IsDrained place stores.old stores.new }
+        ensures err { OnErr result (self.new.graphs ≡ self.old.graphs) }
         ensures step { LeavesInStep place stores.new self.old self.new }
     {
-        let Some(graph) = self.graphs.get_mut(place) else {
-            return None;
-        };
-        graph.settle_alone(self.alloc, stores, place, at)
+        let made = self.graphs.get_mut(place);
+        make(made, self.alloc)?;
+        let Some(graph) = made else { unreachable!() };
+        graph.settle_written(self.alloc, stores, place, at)
     }
 
     /// Opens a group within those that are open, and returns how many there are now. More than `GROUPS` are

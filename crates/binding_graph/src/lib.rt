@@ -13,7 +13,9 @@ mod settling;
 mod show;
 mod showing;
 mod shown_object;
+mod write_changes;
 
 pub use binding_values::BINDINGS;
 pub use bindings::Bindings;
 pub use laws::{law_fitting, law_openings, law_steps};
+pub use write_changes::WriteChanges;

@@ -4,18 +4,31 @@ ghost use Rattle.shared_rows.specs.Table.{IsPlace};
 ghost use Rattle.plain_types.specs.Answers.{RefusedBy};
 ghost use Rattle.property_store.specs.Marks.{has_marks, marks_at};
 ghost use Rattle.property_store.specs.Pending.{IsDrained};
+ghost use Rattle.property_store.specs.Store.{IsSound};
 ghost use Rattle.property_store.specs.Table.{store_at};
+ghost use Rattle.binding_values.specs.Binds.{AreBindings};
 ghost use Rattle.binding_values.specs.Graph.{all_shown, begin_refusal, begun, change_alone, changes, settled_changes, settled_graph, stored_value};
 ghost use Rattle.binding_graph.specs.GraphAndCache.{IsAt};
+ghost use Rattle.binding_graph.specs.WriteChanges.{changes_in};
 
 use crate::changes::{changes, is_value_before};
 use crate::graph::BindingGraph;
 use crate::last_shown::LastShown;
 use crate::show::{show_all, show_touched, shown_as};
-use binding_values::{Change, GROUPS, cell_at};
+use crate::write_changes::WriteChanges;
+use binding_values::{Bound, Change, GROUPS, cell_at};
 use plain_types::{Code, Fault, Items};
 use property_store::{Property, Stores};
 use std::alloc::{AllocError, Global};
+
+/// Bindings and stores are sound, as all are. There is nothing to run here.
+fn law_sound(bindings: &Bound, stores: &Stores, place: usize)
+    requires { IsPlace stores.now.shelves.table place }
+    ensures bindings { AreBindings bindings.now }
+    ensures store { IsSound (store_at stores.now.shelves place) }
+{
+    let _ = (bindings.len(), stores.count(place));
+}
 
 impl BindingGraph {
     /// Evaluates all that is bound.
@@ -63,7 +76,7 @@ impl BindingGraph {
         ensures err { OnErr result (self.new.graph ≡ self.old.graph) }
         ensures step { OnOk result (IsAt stores.now place self.new) }
     {
-        let _ = (self.bindings.len(), stores.count(place));
+        law_sound(&self.bindings, stores, place);
         let mut touched = self.pending.take(alloc);
         let made = self
             .kept
@@ -157,7 +170,7 @@ impl BindingGraph {
         ensures none { IfNone result (self.new.graph ≡ self.old.graph) }
         ensures step { IsAt stores.now place self.new }
     {
-        let _ = (self.bindings.len(), stores.count(place));
+        law_sound(&self.bindings, stores, place);
         if !self.pending.is_only(at) {
             return None;
         }
@@ -179,30 +192,33 @@ impl BindingGraph {
         Some(is_change)
     }
 
-    /// Settles a place after a write of a property, if nothing has to be evaluated for it, and returns whether its
-    /// value is another one.
-    pub(crate) fn settle_alone(
+    /// Returns the changes since the last settling, after a write of a property.
+    pub(crate) fn settle_written(
         &mut self,
         alloc: Global,
         stores: &mut Stores,
         place: usize,
         at: Property,
-    ) -> Option<bool>
+    ) -> Result<WriteChanges, AllocError>
         requires ready { IsPlace stores.old.shelves.table place }
         requires step { IsAt stores.old place self.old }
-        ensures told { IfSome result (λ is_change. change_alone at (stored_value (store_at stores.old.shelves place) at) is_change
+        ensures told { IfOk result (λ changed. changes_in at (stored_value (store_at stores.old.shelves place) at) changed
             ≡ settled_changes (store_at stores.old.shelves place) self.old.graph (Some at)) }
-        ensures ok { IfSome result (λ is_change. self.new.graph ≡ settled_graph (store_at stores.old.shelves place) self.old.graph) }
-        ensures none { IfNone result (self.new.graph ≡ self.old.graph) }
+        ensures ok { OnOk result (self.new.graph ≡ settled_graph (store_at stores.old.shelves place) self.old.graph) }
+        ensures err { OnErr result (self.new.graph ≡ self.old.graph) }
         ensures stores { IsDrained place stores.old stores.new }
         ensures step { IsAt stores.new place self.new }
     {
         let is_open = self.is_open();
         if is_open {
-            return None;
+            return Ok(WriteChanges::Nothing);
         }
         self.pending.drain(stores, place);
-        self.refresh_alone(alloc, stores, place, at)
+        if let Some(is_change) = self.refresh_alone(alloc, stores, place, at) {
+            return Ok(WriteChanges::alone(is_change));
+        }
+        let told = self.refresh(alloc, stores, place, true, Some(at))?;
+        Ok(WriteChanges::Several(told))
     }
 
     /// Opens a group; the outermost begins with what is shown now.

@@ -22,9 +22,9 @@ use Rattle.term_core.specs.declared.target.Target.{Target}
 use Rattle.term_core.specs.Term.{Term}
 use Rattle.binding_values.specs.declared.change.Change.{Change}
 use Rattle.property_store.specs.declared.property.Property.{Property as At}
-use Rattle.session_tables.specs.declared.write_changes.WriteChanges.{WriteChanges}
-use Rattle.session_tables.specs.declared.write_changes.WriteChanges.TheVariants.{Written}
-use Rattle.session_tables.specs.WriteChanges.{changes_in}
+use Rattle.binding_graph.specs.declared.write_changes.WriteChanges.{WriteChanges}
+use Rattle.binding_graph.specs.declared.write_changes.WriteChanges.TheVariants.{Written}
+use Rattle.binding_graph.specs.WriteChanges.{changes_in}
 use Rattle.session_model.specs.Execution.{Execution, in_state}
 use Rattle.session_model.specs.Items.{Emit, Item, puts}
 use Rattle.session_model.specs.Methods.{Found, ◌>>=◌}

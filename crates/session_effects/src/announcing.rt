@@ -5,7 +5,7 @@ ghost use Rattle.class_table.specs.Lookup.{properties};
 ghost use Rattle.binding_values.specs.declared.change.ChangeKind.TheVariants as t;
 ghost use Rattle.session_model.specs.Showing.{property_at, told_as};
 ghost use Rattle.session_model.specs.State.{State, shown};
-ghost use Rattle.session_tables.specs.WriteChanges.{changes_in};
+ghost use Rattle.binding_graph.specs.WriteChanges.{changes_in};
 ghost use Rattle.session_tables.specs.Classes.{HasClass};
 ghost use Rattle.session_tables.specs.Tables.{IsPlaced, state_at};
 ghost use Rattle.session_effects.specs.Setup.{settings_of};

@@ -22,7 +22,7 @@ use Rattle.binding_values.specs.declared.binding.Binding.{Binding}
 use Rattle.binding_values.specs.declared.change.Change.{Change}
 use Rattle.binding_values.specs.declared.change.ChangeKind.TheVariants as message
 use Rattle.property_store.specs.declared.property.Property.{Property}
-use Rattle.binding_values.specs.Graph.{Graph, all_shown, change_alone, changes, is_bound, is_open, no_graph, value_in}
+use Rattle.binding_values.specs.Graph.{Graph, all_shown, changes, is_bound, is_open, no_graph, value_in}
 use Rattle.binding_values.specs.Scene.{Cell}
 use Rattle.property_store.specs.Property.{is_property}
 use Rattle.binding_values.specs.Stored.{cell_in, cell_of}
@@ -30,7 +30,8 @@ use Rattle.binding_graph.specs.Table.{Graphs, graph_at}
 use Rattle.session_model.specs.State.{closed}
 use Rattle.session_model.proofs.ForCallers.{going_told, its_cell, write_told}
 use Rattle.session_tables.specs.Bound.{all_closed, bound_at, seen_of, with_bound}
-use Rattle.session_tables.specs.WriteChanges.{alone, changes_in, told_at, told_of}
+use Rattle.binding_graph.specs.WriteChanges.{alone, changes_in}
+use Rattle.session_tables.specs.Told.{told_at, told_of}
 use Rattle.session_tables.proofs.DeclaredLemmas.{TellsWritten, with_written}
 use Rattle.session_tables.specs.Settled.{is_idle}
 use Rattle.session_tables.proofs.CellLemmas.{found_sound, standing}
@@ -182,11 +183,6 @@ module _ (stores after : StoreTable) (bindings : Graphs) (place : ℕ) (q : Prop
           (all_shown (changed (with_value q.number fit) q.object (store_at stores place)) graph.bindings) (Some q))) its.shut
           ∙ ap (λ bindings. changes (all_shown (store_at stores place) bindings)
           (all_shown (changed (with_value q.number fit) q.object (store_at stores place)) bindings) (Some q)) its.none))
-
--- a write that changes no other property is told as where nothing is bound
-pub alone_changes : (at : Property) (value : Value) (is_change : Bool) → changes_in at value (alone is_change) ≡ change_alone at value is_change
-alone_changes at value true = refl
-alone_changes at value false = refl
 
 -- the store alone is another one
 module _ (stores after : StoreTable) (bindings : Graphs) (place : ℕ) (store : Store) (test : Binding → Bool)

@@ -16,7 +16,7 @@ use Rattle.session_model.specs.Showing.{changes}
 use Rattle.session_tables.specs.declared.tables.Tables.{Tables}
 use Rattle.session_tables.specs.Bound.{BoundShelves, ChangesBound, all_closed, seen_of, with_bound}
 use Rattle.session_tables.specs.Tables.{ChangesOnly, IsPlaced, state_at, with_state}
-use Rattle.session_tables.specs.WriteChanges.{told_at}
+use Rattle.session_tables.specs.Told.{told_at}
 use Rattle.session_tables.proofs.TablesLemmas.{columns}
 
 -- where the stores alone have changed

@@ -11,9 +11,10 @@ use Rattle.property_store.specs.Store.{with_value}
 use Rattle.property_store.specs.Store as store
 use Rattle.property_store.specs.declared.property.Property.{Property}
 use Rattle.binding_values.specs.Graph.{unbound, value_in}
-use Rattle.session_tables.specs.declared.write_changes.WriteChanges.{WriteChanges}
+use Rattle.binding_graph.specs.declared.write_changes.WriteChanges.{WriteChanges}
 use Rattle.session_tables.specs.Bound.{BoundShelves, bound_at, stored_at, with_bound}
-use Rattle.session_tables.specs.WriteChanges.{changes_in, told_at}
+use Rattle.binding_graph.specs.WriteChanges.{changes_in}
+use Rattle.session_tables.specs.Told.{told_at}
 
 -- the changes where a property was written
 abbrev pub TellsWritten : ℕ → Property → BoundShelves → BoundShelves → WriteChanges → Type 0

@@ -18,7 +18,7 @@ use Rattle.property_store.specs.Store.{write_refusal, written}
 use Rattle.property_store.specs.Table.{StoreTable, store_at, with_store}
 use Rattle.binding_graph.specs.Table.{Graphs, graph_at}
 use Rattle.session_tables.specs.Bound.{seen_of}
-use Rattle.session_tables.specs.WriteChanges.{alone}
+use Rattle.binding_graph.specs.WriteChanges.{alone}
 use Rattle.session_tables.proofs.DeclaredLemmas.{TellsWritten, WritesDeclared, WritesNamed}
 use Rattle.session_tables.specs.Settled.{is_idle}
 use Rattle.session_tables.proofs.AloneLemmas.{alone_seen, alone_told}

@@ -18,8 +18,8 @@ use Rattle.session_tables.specs.declared.tables.Tables.{Tables}
 use Rattle.session_tables.specs.Bound.{BoundShelves, seen_of, with_bound}
 use Rattle.session_tables.specs.Named.{Tells}
 use Rattle.session_tables.specs.Tables.{ChangesOnly, IsPlaced, state_at, with_state}
-use Rattle.session_tables.specs.declared.write_changes.WriteChanges.{WriteChanges}
-use Rattle.session_tables.specs.WriteChanges.{told_at}
+use Rattle.binding_graph.specs.declared.write_changes.WriteChanges.{WriteChanges}
+use Rattle.session_tables.specs.Told.{told_at}
 use Rattle.session_tables.proofs.BoundLemmas.{graph_there, only_here, put_state, shelf_there, told_here}
 use Rattle.session_tables.proofs.DeclaredLemmas.{TellsWritten}
 use Rattle.session_tables.proofs.SeenLemmas.{changes_seen, put_told, with_bindings}

@@ -8,7 +8,7 @@ use Rattle.property_store.specs.Store.{with_value}
 use Rattle.property_store.specs.Store as store
 use Rattle.property_store.proofs.ForCallers.{mapped, unmapped}
 use Rattle.binding_values.specs.Graph.{unbound}
-use Rattle.session_tables.specs.declared.write_changes.WriteChanges.{WriteChanges}
+use Rattle.binding_graph.specs.declared.write_changes.WriteChanges.{WriteChanges}
 use Rattle.session_tables.specs.Bound.{BoundShelves, bound_at, stored_at}
 use Rattle.session_tables.proofs.DeclaredLemmas as bound
 use Rattle.session_model.specs.Writing as writing

@@ -11,7 +11,7 @@ use Rattle.binding_values.specs.Graph.{Graph, all_shown, changes, is_open, no_gr
 use Rattle.binding_graph.specs.Table.{Graphs, graph_at, with_graph}
 use Rattle.session_model.specs.State.{closed}
 use Rattle.session_tables.specs.Bound.{BoundShelves, ChangesBound, all_closed, bound_at, seen_of, with_bound}
-use Rattle.session_tables.specs.WriteChanges.{told_at, told_of}
+use Rattle.session_tables.specs.Told.{told_at, told_of}
 use Rattle.session_tables.proofs.InvariantLemmas.{closed_bound, closed_settled, seen_put}
 use Rattle.session_tables.proofs.SettledLemmas.{closed_at, closed_bindings, closed_depth}
 

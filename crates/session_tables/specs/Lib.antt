@@ -6,7 +6,7 @@ pub mod Reaching
 pub mod Named
 pub mod Joining
 pub mod Bound
-pub mod WriteChanges
+pub mod Told
 pub mod Coded
 pub mod Reading
 pub mod Settled

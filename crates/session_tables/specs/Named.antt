@@ -6,8 +6,8 @@ use Rattle.plain_types.specs.declared.fault.Fault.TheVariants.{Refused, Memory}
 use Rattle.variant_value.specs.declared.value.Value.{Value}
 use Rattle.variant_value.specs.Values.{converted}
 use Rattle.property_store.specs.declared.property.Property.{Property as At}
-use Rattle.session_tables.specs.declared.write_changes.WriteChanges.{WriteChanges}
-use Rattle.session_tables.specs.WriteChanges.{changes_in}
+use Rattle.binding_graph.specs.declared.write_changes.WriteChanges.{WriteChanges}
+use Rattle.binding_graph.specs.WriteChanges.{changes_in}
 use Rattle.session_model.specs.Showing.{changes}
 use Rattle.session_model.specs.State.{State, shown}
 use Rattle.session_model.specs.Writing as writing

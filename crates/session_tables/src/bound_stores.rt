@@ -7,7 +7,7 @@ ghost use Rattle.binding_values.specs.Graph.{no_graph, without_object};
 ghost use Rattle.binding_graph.specs.Table.{graph_at};
 ghost use Rattle.session_tables.specs.Bound.{ChangesBound, bound_at, stored_at, with_bound};
 ghost use Rattle.session_tables.specs.Settled.{is_idle};
-ghost use Rattle.session_tables.specs.WriteChanges.{told_at};
+ghost use Rattle.session_tables.specs.Told.{told_at};
 
 use crate::settling;
 use binding_graph::Bindings;

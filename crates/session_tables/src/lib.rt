@@ -16,10 +16,9 @@ mod settling;
 mod signals;
 mod tables;
 mod trees;
-mod write_changes;
 
+pub use binding_graph::WriteChanges;
 pub use bound_stores::BoundStores;
 pub use named::NamedWrite;
 pub use posts::Sending;
 pub use tables::Tables;
-pub use write_changes::WriteChanges;

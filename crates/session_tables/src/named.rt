@@ -1,5 +1,5 @@
 //! A write may name its property.
-use crate::write_changes::WriteChanges;
+use binding_graph::WriteChanges;
 use variant_value::Value;
 
 /// A write to the property of a name has changed one of these.

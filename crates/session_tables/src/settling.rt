@@ -12,40 +12,17 @@ ghost use Rattle.binding_values.specs.Graph.{settled_changes, settled_graph, sto
 ghost use Rattle.binding_graph.specs.Step.{InStep};
 ghost use Rattle.binding_values.specs.Stored.{is_bindable};
 ghost use Rattle.binding_graph.specs.Table.{graph_at, with_graph};
-ghost use Rattle.session_tables.specs.WriteChanges.{changes_in, told_of};
+ghost use Rattle.binding_graph.specs.WriteChanges.{changes_in};
+ghost use Rattle.session_tables.specs.Told.{told_of};
 ghost use Rattle.session_tables.specs.Settled.{ChangesInStep, IsInStepAt, IsSettledAt, LeavesStores};
 
-use crate::write_changes::WriteChanges;
-use binding_graph::{Bindings, law_steps};
+use binding_graph::{Bindings, WriteChanges, law_steps};
 use binding_values::Change;
 use plain_types::{Fault, Items};
 use property_store::{Property, Stores};
 use std::alloc::AllocError;
 use term_core::Expr;
 use variant_value::Value;
-
-/// Settles a place after a write of a property, and returns the changes.
-fn settle_written(
-    stores: &mut Stores,
-    bindings: &mut Bindings,
-    place: usize,
-    at: Property,
-) -> Result<WriteChanges, AllocError>
-    requires ready { IsInStepAt place stores.old bindings.old }
-    ensures told { IfOk result (λ changed. changes_in at (stored_value (store_at stores.old.shelves place) at) changed
-        ≡ settled_changes (store_at stores.old.shelves place) (graph_at bindings.old.graphs place) (Some at)) }
-    ensures ok { OnOk result (bindings.new.graphs
-        ≡ with_graph bindings.old.graphs place (settled_graph (store_at stores.old.shelves place) (graph_at bindings.old.graphs place))) }
-    ensures stores { stores.new.shelves ≡ stores.old.shelves }
-    ensures err { OnErr result (bindings.new.graphs ≡ bindings.old.graphs) }
-    ensures step { InStep stores.new bindings.new }
-{
-    if let Some(is_change) = bindings.settle_alone(place, stores, at) {
-        return Ok(WriteChanges::alone(is_change));
-    }
-    let told = bindings.settle(place, stores, Some(at))?;
-    Ok(WriteChanges::Several(told))
-}
 
 /// Keeps what properties show, where nothing is bound. It looks again at what has changed since that was kept last.
 pub(crate) fn note(
@@ -137,7 +114,7 @@ pub(crate) fn write(
     note(stores, bindings, place)?;
     bindings.take(place, stores, at)?;
     let _ = stores.write(place, at.object, at.number, value);
-    settle_written(stores, bindings, place, at)
+    bindings.settle_written(place, stores, at)
 }
 
 /// Takes an object out with its bindings, and tells what has changed by it.

@@ -10,7 +10,8 @@ put-requires c = fits_alone (store_at c.args.stores.now.shelves c.args.place) (m
     (record { bindings = c.self.inside.bindings; last = c.self.inside.last; depth = c.self.inside.depth })
     (record { kept = c.self.inside.kept; pending = c.self.inside.pending; evaluations = c.self.inside.evaluations }) c.args.at c.requires.taken
     (c.is_only.ensures c.if-not-is_only.false) (rw (← c.self.view_is) at c.requires.step) (c.is_apart.ensures c.if-not-is_apart.false)
-    c.count.ensures.sound c.len.ensures.sound c.in-Some.kind c.in-Ok.value c.in-Some.stored.now c.in-Some.ensures c.in-Ok.ensures c.shown_as-shown.result
+    c.law_sound.ensures.store c.law_sound.ensures.bindings c.in-Some.kind c.in-Ok.value c.in-Some.stored.now c.in-Some.ensures
+    c.in-Ok.ensures c.shown_as-shown.result
     c.shown_as-shown.ensures
 
 pub returns-clause-told : goal.returns-clause-told
@@ -18,7 +19,8 @@ returns-clause-told c = rw (← c.self.view_is) (told_so_alone (store_at c.args.
     (record { bindings = c.self.inside.bindings; last = c.self.inside.last; depth = c.self.inside.depth })
     (record { kept = c.self.inside.kept; pending = c.self.inside.pending; evaluations = c.self.inside.evaluations }) c.args.at c.requires.taken
     (c.is_only.ensures c.if-not-is_only.false) (rw (← c.self.view_is) at c.requires.step) (c.is_apart.ensures c.if-not-is_apart.false)
-    c.count.ensures.sound c.len.ensures.sound c.in-Some.kind c.in-Ok.value c.in-Some.stored.now c.in-Some.ensures c.in-Ok.ensures c.shown_as-shown.result
+    c.law_sound.ensures.store c.law_sound.ensures.bindings c.in-Some.kind c.in-Ok.value c.in-Some.stored.now c.in-Some.ensures
+    c.in-Ok.ensures c.shown_as-shown.result
     c.shown_as-shown.ensures
     _ (ap not c.is_value_before-is_change.ensures))
 
@@ -29,7 +31,8 @@ returns-clause-ok c = rw (← c.self.view_is)
     (record { bindings = c.self.inside.bindings; last = c.self.inside.last; depth = c.self.inside.depth })
     (record { kept = c.self.inside.kept; pending = c.self.inside.pending; evaluations = c.self.inside.evaluations }) c.args.at c.requires.taken
     (c.is_only.ensures c.if-not-is_only.false) (rw (← c.self.view_is) at c.requires.step) (c.is_apart.ensures c.if-not-is_apart.false)
-    c.count.ensures.sound c.len.ensures.sound c.in-Some.kind c.in-Ok.value c.in-Some.stored.now c.in-Some.ensures c.in-Ok.ensures c.shown_as-shown.result
+    c.law_sound.ensures.store c.law_sound.ensures.bindings c.in-Some.kind c.in-Ok.value c.in-Some.stored.now c.in-Some.ensures
+    c.in-Ok.ensures c.shown_as-shown.result
     c.shown_as-shown.ensures
     c.put.new.self c.in-Ok-put.ensures.sound c.in-Ok-put.ensures.put))
 
@@ -46,7 +49,8 @@ returns-clause-step c =
     (record { bindings = c.self.inside.bindings; last = c.self.inside.last; depth = c.self.inside.depth })
     (record { kept = c.self.inside.kept; pending = c.self.inside.pending; evaluations = c.self.inside.evaluations }) c.args.at c.requires.taken
     (c.is_only.ensures c.if-not-is_only.false) (rw (← c.self.view_is) at c.requires.step) (c.is_apart.ensures c.if-not-is_apart.false)
-    c.count.ensures.sound c.len.ensures.sound c.in-Some.kind c.in-Ok.value c.in-Some.stored.now c.in-Some.ensures c.in-Ok.ensures c.shown_as-shown.result
+    c.law_sound.ensures.store c.law_sound.ensures.bindings c.in-Some.kind c.in-Ok.value c.in-Some.stored.now c.in-Some.ensures
+    c.in-Ok.ensures c.shown_as-shown.result
     c.shown_as-shown.ensures
     c.put.new.self c.in-Ok-put.ensures.sound c.in-Ok-put.ensures.put)
     (marks_at c.args.stores.now.marks c.args.place)

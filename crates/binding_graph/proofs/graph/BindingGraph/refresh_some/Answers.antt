@@ -31,7 +31,7 @@ returns-clause-told c = rw (← c.self.view_is)
     (record { bindings = c.self.inside.bindings; last = c.self.inside.last; depth = c.self.inside.depth })
     (record { kept = c.self.inside.kept; pending = c.self.inside.pending; evaluations = c.self.inside.evaluations })
     c.requires.taken (rw (← c.self.view_is) at c.requires.some)
-    (rw (← c.self.view_is) at c.requires.step) c.count.ensures.sound c.len.ensures.sound c.settle.new.self c.settle.new.touched.items
+    (rw (← c.self.view_is) at c.requires.step) c.law_sound.ensures.store c.law_sound.ensures.bindings c.settle.new.self c.settle.new.touched.items
     c.in_ok-made.ensures.complete c.in_ok-made.ensures.same (rw c.take-touched.ensures.taken at c.in_ok-made.ensures.more) c.in_ok-now.now
     (rw c.as_mut_slice.ensures.value at c.in_ok-now.ensures.shown)
     c.args.written (subst (IsRising (λ (shown : Shown). shown.at)) c.now.view_is c.now.invariant.rising)))
@@ -41,7 +41,7 @@ all_so c = merged_so (store_at c.args.stores.now.shelves c.args.place) (marks_at
     (record { bindings = c.self.inside.bindings; last = c.self.inside.last; depth = c.self.inside.depth })
     (record { kept = c.self.inside.kept; pending = c.self.inside.pending; evaluations = c.self.inside.evaluations })
     c.requires.taken (rw (← c.self.view_is) at c.requires.some)
-    (rw (← c.self.view_is) at c.requires.step) c.count.ensures.sound c.len.ensures.sound c.settle.new.self c.settle.new.touched.items
+    (rw (← c.self.view_is) at c.requires.step) c.law_sound.ensures.store c.law_sound.ensures.bindings c.settle.new.self c.settle.new.touched.items
     c.in_ok-made.ensures.complete c.in_ok-made.ensures.same (rw c.take-touched.ensures.taken at c.in_ok-made.ensures.more) c.in_ok-now.now
     (rw c.as_mut_slice.ensures.value at c.in_ok-now.ensures.shown)
     c.replace.new.self c.in_ok-replace.ensures.sound.rising

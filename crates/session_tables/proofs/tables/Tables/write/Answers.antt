@@ -6,7 +6,7 @@ use Rattle.property_store.specs.Table.{store_at, with_store}
 use Rattle.binding_values.specs.declared.binding.Binding.{Binding}
 use Rattle.binding_values.specs.Graph.{unbound}
 use Rattle.session_tables.specs.Bound.{bound_at, seen_of, stored_at, with_bound}
-use Rattle.session_tables.specs.WriteChanges.{alone, changes_in}
+use Rattle.binding_graph.specs.WriteChanges.{alone, changes_in}
 use Rattle.session_tables.proofs.AloneLemmas.{alone_told, change_of, written_as}
 use Rattle.session_tables.proofs.HereLemmas.{changes_there, forgets_there, graph_stands, shelf_stands, state_put, tells_there, told_put}
 use Rattle.session_tables.proofs.SeenLemmas.{settled_seen}

@@ -1,14 +1,14 @@
 //! The changes that a write causes.
 ghost use Rattle.std.specs.Prelude.{◌≡◌};
-ghost use Rattle.session_tables.specs.WriteChanges.{alone};
+ghost use Rattle.binding_graph.specs.WriteChanges.{alone};
 
 use binding_values::Change;
 use plain_types::Items;
 
-/// The changes of a write to a declared property that clients are notified of.
+/// The changes that a write to a property causes.
 #[derive(Drop)]
 pub enum WriteChanges {
-    /// There is nothing to notify of.
+    /// There are none.
     Nothing,
     /// The value of the written property alone, which it shows now.
     Written,
@@ -17,8 +17,8 @@ pub enum WriteChanges {
 }
 
 impl WriteChanges {
-    /// Returns the changes of a write where nothing is bound and no group is open.
-    pub(crate) fn alone(is_change: bool) -> WriteChanges
+    /// Returns the changes of a write after which no other property shows another value.
+    pub fn alone(is_change: bool) -> WriteChanges
         ensures { result ≡ alone is_change }
     {
         if is_change {
