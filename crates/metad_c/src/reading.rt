@@ -32,7 +32,7 @@ pub(crate) fn read_line_for(
         return Err(fault_of(session, Code::UnreadableLine));
     };
     let stop = match plain_members(alloc, text, scratch) {
-        Ok(members) => return given_in(alloc, &members, session),
+        Ok(mut members) => return given_in(alloc, &mut members, session),
         Err(stop) => stop,
     };
     match stop {
@@ -70,14 +70,18 @@ fn read_tree_for(
         return Err(fault_of(session, Code::UnreadableLine));
     };
     match tree_members(alloc, &tree)? {
-        Some(members) => given_in(alloc, &members, session),
+        Some(mut members) => given_in(alloc, &mut members, session),
         None => Err(fault_of(session, Code::NotACommand)),
     }
 }
 
 /// Reads the members of a JSON object as a command for this session.
-fn given_in(alloc: Global, members: &[Member<'_>], session: Text) -> Result<Tagged, ReadError>
-    ensures { Gives tag result (given_by session (object (members_in members.now))) }
+fn given_in(
+    alloc: Global,
+    members: &mut [Member<'_>],
+    session: Text,
+) -> Result<Tagged, ReadError>
+    ensures { Gives tag result (given_by session (object (members_in members.old))) }
 {
     match command_in(alloc, members)? {
         Some(command) => Ok(Tagged { session, command }),

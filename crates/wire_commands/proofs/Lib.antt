@@ -1,3 +1,4 @@
+pub mod BindLemmas
 pub mod FormLemmas
 pub mod FoundLemmas
 pub mod HeldLemmas

@@ -1,15 +1,20 @@
 //! The commands of bindings and groups.
 
-ghost use Rattle.std.specs.Prelude.{IfOk};
+ghost use Rattle.std.specs.Prelude.{◌≡◌, IfOk, Some, codes, option_and_then};
+ghost use Rattle.serde_json.specs.Data.{object};
+ghost use Rattle.serde_json.specs.Find.{get};
+ghost use Rattle.json_reading.specs.Members.{members_in};
+ghost use Rattle.session_model.specs.Asked.{Bind};
 ghost use Rattle.wire_commands.specs.Commands.{from_bindings};
-ghost use Rattle.wire_commands.specs.Form.{Asks, AsksBy};
+ghost use Rattle.wire_commands.specs.Form.{Asks, AsksBy, asked_in};
 ghost use Rattle.wire_commands.specs.Bindings.{begin, bind, binding, binding_error, bindings, end, unbind};
 
 use crate::classes;
 use crate::held::{Held, held_by};
 use crate::keys::{Holds, Key};
 use crate::shared::{is_alone, property_in};
-use json_reading::{Member, is_word};
+use json_reading::{Member, is_word, take_at};
+use plain_types::Text;
 use session_model::{Command, Query};
 use std::alloc::{AllocError, Global};
 
@@ -19,9 +24,9 @@ use std::alloc::{AllocError, Global};
 pub(crate) fn read(
     alloc: Global,
     word: &str,
-    members: &[Member<'_>],
+    members: &mut [Member<'_>],
 ) -> Result<Option<Command>, AllocError>
-    ensures { IfOk result (AsksBy from_bindings word.now members.now) }
+    ensures { IfOk result (AsksBy from_bindings word.now members.old) }
 {
     if is_word(word, "bind") {
         return bind(alloc, members);
@@ -53,29 +58,42 @@ const BIND: [Key; 3] = [
     Key::Needed("to", Holds::Any),
 ];
 
-/// `bind`: an object, a property and an expression, which may be any JSON.
-fn bind(alloc: Global, members: &[Member<'_>]) -> Result<Option<Command>, AllocError>
-    ensures { IfOk result (Asks bind members.now) }
+/// `bind`: an object, a property and an expression, which may be any JSON. It is moved out of the members where they
+/// own it.
+fn bind(alloc: Global, members: &mut [Member<'_>]) -> Result<Option<Command>, AllocError>
+    ensures { IfOk result (Asks bind members.old) }
+{
+    let Some((object, property)) = bound_in(alloc, members)? else {
+        return Ok(None);
+    };
+    match take_at(alloc, members, "to")? {
+        Some(to) => Ok(Some(Command::Bind {
+            object,
+            property,
+            to,
+        })),
+        None => Ok(None),
+    }
+}
+
+/// The object and the property that `bind` names.
+#[tactic(auto, using(crate::proofs::BindLemmas::bound_to))]
+fn bound_in(alloc: Global, members: &[Member<'_>]) -> Result<Option<(u32, Text)>, AllocError>
+    ensures { IfOk result (λ found. asked_in bind (object (members_in members.now))
+        ≡ option_and_then (λ bound. option_and_then (λ to. Some (Bind bound.0 bound.1 to)) (get (codes "to") (object (members_in members.now)))) found) }
 {
     let mut held = [Held::Absent; 3];
     if !held_by(members, &BIND, &mut held) {
         return Ok(None);
     }
-    let [object, property, to] = held;
+    let [object, property, _] = held;
     let Some(object) = object.number() else {
         return Ok(None);
     };
-    let Some(property) = property.text(alloc)? else {
-        return Ok(None);
-    };
-    let Some(to) = to.json(alloc)? else {
-        return Ok(None);
-    };
-    Ok(Some(Command::Bind {
-        object,
-        property,
-        to,
-    }))
+    match property.text(alloc)? {
+        Some(property) => Ok(Some((object, property))),
+        None => Ok(None),
+    }
 }
 
 /// `unbind`: an object and a property.

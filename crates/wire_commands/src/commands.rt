@@ -11,11 +11,12 @@ use session_model::Command;
 use std::alloc::{AllocError, Global};
 
 /// Returns the command that the members ask for. The four that are given most are read first. Any other word is read by
-/// the families of commands in turn: each passes on a word that is not one of its own.
+/// the families of commands in turn: each passes on a word that is not one of its own. An expression that the members
+/// own is moved into the command, not copied.
 #[inline(always)]
 #[tactic(auto, unfolding(crate::specs::Commands::asked_of, crate::specs::Form::asked_by, crate::specs::Shared::of_property))]
-pub fn command_in(alloc: Global, members: &[Member<'_>]) -> Result<Option<Command>, AllocError>
-    ensures { IfOk result (λ command. option_map asked command ≡ asked_of (object (members_in members.now))) }
+pub fn command_in(alloc: Global, members: &mut [Member<'_>]) -> Result<Option<Command>, AllocError>
+    ensures { IfOk result (λ command. option_map asked command ≡ asked_of (object (members_in members.old))) }
 {
     let Some(word) = text_at(members, "do") else {
         return Ok(None);

@@ -19,9 +19,9 @@ use std::alloc::{AllocError, Global};
 pub(crate) fn read(
     alloc: Global,
     word: &str,
-    members: &[Member<'_>],
+    members: &mut [Member<'_>],
 ) -> Result<Option<Command>, AllocError>
-    ensures { IfOk result (AsksBy from_trees word.now members.now) }
+    ensures { IfOk result (AsksBy from_trees word.now members.old) }
 {
     if is_word(word, "delete") {
         return delete(members);

@@ -26,7 +26,7 @@ pub fn read_line(alloc: Global, scratch: &mut Scratch, line: &[u8]) -> Result<Ta
 {
     let text = text_in(line)?;
     let stop = match plain_members(alloc, text, scratch) {
-        Ok(members) => return tagged_in(alloc, &members),
+        Ok(mut members) => return tagged_in(alloc, &mut members),
         Err(stop) => stop,
     };
     match stop {
@@ -61,15 +61,15 @@ fn read_tree(alloc: Global, scratch: &mut Scratch, text: &str) -> Result<Tagged,
         return Err(unreadable());
     };
     match tree_members(alloc, &tree)? {
-        Some(members) => tagged_in(alloc, &members),
+        Some(mut members) => tagged_in(alloc, &mut members),
         None => Err(not_a_command(None)),
     }
 }
 
 /// The command that the members are.
 #[tactic(auto, unfolding(crate::specs::Command::command_in))]
-fn tagged_in(alloc: Global, members: &[Member<'_>]) -> Result<Tagged, ReadError>
-    ensures { Gives tag result (command_in (object (members_in members.now))) }
+fn tagged_in(alloc: Global, members: &mut [Member<'_>]) -> Result<Tagged, ReadError>
+    ensures { Gives tag result (command_in (object (members_in members.old))) }
 {
     let Some(session) = session_of(alloc, members)? else {
         return Err(not_a_command(None));
