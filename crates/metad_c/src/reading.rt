@@ -76,11 +76,7 @@ fn read_tree_for(
 }
 
 /// Reads the members of a JSON object as a command for this session.
-fn given_in(
-    alloc: Global,
-    members: &mut [Member<'_>],
-    session: Text,
-) -> Result<Tagged, ReadError>
+fn given_in(alloc: Global, members: &mut [Member<'_>], session: Text) -> Result<Tagged, ReadError>
     ensures { Gives tag result (given_by session (object (members_in members.old))) }
 {
     match command_in(alloc, members)? {

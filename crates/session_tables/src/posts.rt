@@ -207,7 +207,7 @@ fn arrive(
     requires heard { IsHeard posting.now.from.now posting.now.name.now heard.now }
     ensures ok { OnOk result (queues.new ≡ with_queue queues.old at
         (reached_by posting.now.classes.now (forest_at forests.now at).rows posting.now.from.now (post_in posting.now) (queue_at queues.old at)
-            heard.now.joins.now)) }
+        heard.now.joins.now)) }
     ensures err { OnErr result (queues.new ≡ with_queue queues.old at (queue_at queues.new at)) }
     ensures taken { OnErr result (IsTrue (list_any (takes posting.now.from.now (post_in posting.now)) heard.now.joins.now)) }
 {

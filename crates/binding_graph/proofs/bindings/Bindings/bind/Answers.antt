@@ -45,8 +45,8 @@ returns-clause-err c = rw (← c.self.view_is)
 pub returns-clause-step : goal.returns-clause-step
 returns-clause-step c = record {
   step = stays_with c.args.stores.now c.self.inside.graphs c.args.place c.deref_mut.result.now _ (place_there c.self.inside.graphs c.args.place (rw
-    (← c.self.view_is) at c.requires.places.0))
+      (← c.self.view_is) at c.requires.places.0))
       (c.deref_mut.ensures.value ∙ (sym (ap pair_of c.in-Some.is) ∙ (c.make.ensures.same ∙ ap pair_of
-    (c.get_mut-made.ensures.value None)))) c.bind.ensures.step (rw (← c.self.view_is) at c.requires.step);
+      (c.get_mut-made.ensures.value None)))) c.bind.ensures.step (rw (← c.self.view_is) at c.requires.step);
   others = rw (← c.self.view_is) (others_kept c.self.inside.graphs c.args.place _);
 }

@@ -90,9 +90,9 @@ returns-clause-only c =
 pub returns-clause-step : goal.returns-clause-step
 returns-clause-step c = record {
   step = put_in_step c.args.stores.now c.remove.new.stores c.self.inside.graphs c.args.place _ (place_there c.self.inside.graphs c.args.place (rw
-    (← c.self.view_is) at c.requires.places.0))
+      (← c.self.view_is) at c.requires.places.0))
       (stands_elsewhere c.args.stores.now c.remove.new.stores c.args.place (without c.args.object
-    (store_at c.args.stores.now.shelves c.args.place)) c.requires.places.1 c.remove.ensures.stores.shelves)
+      (store_at c.args.stores.now.shelves c.args.place)) c.requires.places.1 c.remove.ensures.stores.shelves)
       c.remove.ensures.stores.others c.remove.ensures.step (rw (← c.self.view_is) at c.requires.step);
   others = rw (← c.self.view_is) (others_kept c.self.inside.graphs c.args.place _);
 }

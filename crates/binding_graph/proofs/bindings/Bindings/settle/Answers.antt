@@ -46,7 +46,7 @@ returns-clause-err c = rw (← c.self.view_is)
 pub returns-clause-step : goal.returns-clause-step
 returns-clause-step c = record {
   step = with_in_step c.args.stores.now c.settle.new.stores c.self.inside.graphs c.args.place _ (place_there c.self.inside.graphs c.args.place (rw
-    (← c.self.view_is) at c.requires.places.0))
+      (← c.self.view_is) at c.requires.places.0))
       c.settle.ensures.stores c.settle.ensures.step (rw (← c.self.view_is) at c.requires.step);
   others = rw (← c.self.view_is) (others_kept c.self.inside.graphs c.args.place _);
 }

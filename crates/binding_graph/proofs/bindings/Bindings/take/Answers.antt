@@ -32,8 +32,8 @@ returns-clause-graph c = rw (← c.self.view_is)
 pub returns-clause-step : goal.returns-clause-step
 returns-clause-step c = record {
   step = stays_with c.write.new.self c.self.inside.graphs c.args.place c.deref_mut.result.now _ (place_there c.self.inside.graphs c.args.place (rw
-    (← c.self.view_is) at c.requires.places.0)) (c.deref_mut.ensures.value ∙ (sym (ap pair_of c.in-Some.is) ∙ ap pair_of
-    (c.get_mut.ensures.value None))) c.unbind.ensures.step
+      (← c.self.view_is) at c.requires.places.0)) (c.deref_mut.ensures.value ∙ (sym (ap pair_of c.in-Some.is) ∙ ap pair_of
+      (c.get_mut.ensures.value None))) c.unbind.ensures.step
       (write_in_step c.args.stores.now c.write.new.self c.args.place c.args.at.object c.args.at.number c.in_ok-value.value c.requires.places.1
       c.write.ensures.new c.write.ensures.marks (split c.self.inside.graphs) (rw (← c.self.view_is) at c.requires.step));
   others = rw (← c.self.view_is) (others_kept c.self.inside.graphs c.args.place _);
