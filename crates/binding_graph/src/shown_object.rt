@@ -43,7 +43,7 @@ impl ShownObject {
         Ok(())
     }
 
-    /// Empties the slot of a number, and drops the slots behind the last one that holds something.
+    /// Empties the slot of a number, and drops the slots after the last one that holds something.
     pub(crate) fn empty_slot(&mut self, number: usize)
         ensures object { self.new.object ≡ self.old.object }
         ensures emptied { (k : ℕ) → slot_at self.new.slots.items k ≡ (if k == number then None else slot_at self.old.slots.items k) }

@@ -31,7 +31,7 @@ fn guess<T: HasProperty>(rows: &[T], at: Property) -> usize {
     others.wrapping_add(at.number.wrapping_sub(first.number))
 }
 
-/// Where a search looks next: first near the guessed place of the row, then beside it, then in the middle.
+/// Where a search looks next: first at the guessed place of the row, then next to it, then in the middle.
 fn probe(low: usize, high: usize, near: usize) -> usize
     requires { low < high }
     ensures { (low ≤ result) × (result < high) }

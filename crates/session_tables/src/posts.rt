@@ -222,7 +222,7 @@ fn arrive(
     Ok(())
 }
 
-/// Whether a join listens to it, of which nothing is read if all do.
+/// Whether a join listens to it. No name is compared if all joins do.
 fn is_heard(posting: &Posting, heard: &Heard, join: &Join) -> bool
     requires { IsTrue heard.now.all → IsTrue (listens posting.now.from.now posting.now.name.now join.now) }
     ensures { result ≡ listens posting.now.from.now posting.now.name.now join.now }

@@ -40,7 +40,7 @@ abbrev pub IsTaken : {O : Type 0} → Result Value (Halt O) → Bool → Value �
 IsTaken (Ok found) taken value aside = (taken ≡ true) × (value ≡ found)
 IsTaken (Err halt) taken value aside = (taken ≡ false) × (aside ≡ Err halt)
 
--- The truth that an evaluation ended with. What is none was put aside as a fault.
+-- The truth that an evaluation ended with. A value that is not a truth was put aside as a fault.
 abbrev pub IsTruth : {O : Type 0} → Result Value (Halt O) → Option Bool → Result Value (Halt O) → Type 0
 IsTruth (Ok value) (Some truth) aside = truth_in value ≡ Some truth
 IsTruth (Ok value) None aside = (truth_in value ≡ None) × (aside ≡ Err (Refused BadValue))

@@ -116,7 +116,7 @@ fn read_aside<R: Notes>(
     put_aside(reader.read(alloc, target, name, noted), aside)
 }
 
-/// The value of an operand, of which many are constants.
+/// The value of an operand. Many operands are constants.
 #[inline(always)]
 #[cycle(meet_form)]
 fn operand<R: Notes>(

@@ -145,7 +145,7 @@ fn take_aside<O: Drop>(aside: &mut Result<Value, Halt<O>>, value: &mut Value) ->
     }
 }
 
-/// The truth that an evaluation ended with. Puts aside a fault where it is none.
+/// The truth that an evaluation ended with. Puts aside a fault if it is not a truth.
 #[inline(always)]
 pub(crate) fn truth_of<O: Drop>(test: Scalar, aside: &mut Result<Value, Halt<O>>) -> Option<bool>
     ensures { IsTruth (held test aside.old) result aside.new }
