@@ -13,6 +13,13 @@ pub returns-in_err-name-clause-sessions : goal.returns-in_err-name-clause-sessio
 returns-in_err-name-clause-sessions c = sessions-same (engine_state c.self.inside.setup c.self.inside.names.keys c.self.inside.tables true)
     c.ready.new.self c.ready.ensures.same ∙ ap sessions c.self.view_is
 
+pub returns-in_err-insert-clause-sessions : goal.returns-in_err-insert-clause-sessions
+returns-in_err-insert-clause-sessions c =
+    let same : c.insert.new.self.keys ≡ c.self.inside.names.keys = grind (arith, common_steps) in
+    subst (λ keys. sessions (engine_state c.self.inside.setup keys c.ready.new.self true) ≡ sessions c.args.self.now) (sym same)
+    (sessions-same (engine_state c.self.inside.setup c.self.inside.names.keys c.self.inside.tables true) c.ready.new.self c.ready.ensures.same
+    ∙ ap sessions c.self.view_is)
+
 pub invariant_of-self-in_err-insert : goal.invariant_of-self-in_err-insert
 invariant_of-self-in_err-insert c =
     let same : c.insert.new.self.keys ≡ c.self.inside.names.keys = grind (arith, common_steps) in
