@@ -7,7 +7,7 @@ use std::test::Fail;
 /// A text, with the outcomes of scanning it and of reading its tokens.
 type Served = (&'static str, &'static str, &'static str);
 
-const TEXTS: [Served; 39] = [
+const TEXTS: [Served; 43] = [
     (r#"{"a":1}"#, "read", "read"),
     (
         r#"{"a":0,"b":"","c":null,"d":true,"e":false}"#,
@@ -26,8 +26,11 @@ const TEXTS: [Served; 39] = [
     (r#"{"a": -9223372036854775807}"#, "form", "read"),
     (r#"{"a":-9223372036854775808}"#, "form", "form"),
     (r#"{"a":-0}"#, "form", "form"),
-    (r#"{"a":1.5}"#, "form", "form"),
-    (r#"{"a":1e2}"#, "form", "form"),
+    (r#"{"a":1.5}"#, "form", "read"),
+    (r#"{"a":1e2}"#, "form", "read"),
+    (r#"{"a":-1.5,"b":[-1e2]}"#, "read", "read"),
+    (r#"{"a":1e999}"#, "form", "form"),
+    (r#"{"a":-1e999}"#, "form", "form"),
     (r#"{"a":[],"b":[1,"x",null,true,false]}"#, "read", "read"),
     (r#"{"a":[ 1 , "\u00e9" ]}"#, "form", "read"),
     (r#"{"a":[1,]}"#, "form", "no JSON"),
@@ -37,7 +40,8 @@ const TEXTS: [Served; 39] = [
     (r#"{"a":[1]]}"#, "form", "no JSON"),
     (r#"{"a":{}}"#, "nested", "read"),
     (r#"{"a":{"b":[{"c":[1,{}]}]},"d":1}"#, "nested", "read"),
-    (r#"{"a":{"b":1.5}}"#, "nested", "form"),
+    (r#"{"a":{"b":1.5}}"#, "nested", "read"),
+    (r#"{"a":{"b":1e999}}"#, "nested", "form"),
     (r#"{"a":{"b":}}"#, "nested", "no JSON"),
     (r#"{"a":[[]]}"#, "nested", "nested"),
     (r#"{"a":[{}]}"#, "nested", "nested"),
