@@ -197,10 +197,10 @@ class Costs(Cases):
         return worst_marks.Cost(state, line, rows=2, does=1, taken=taken, alone=400, **more)
 
     def test_lines(self) -> None:
-        """Each mark has a line, in the same order, with the numbers that the description gives it."""
+        """Each line has a mark, in the same order, with the numbers that the description gives it."""
         described = [(state.name, line.name, line.rows, line.does) for state in worst_lines.states(worst_lines.Sizes()) for line in state.worst]
         marked = [(*it.name, it.rows, it.does) for it in self.known.values()]
-        self.assertEqual(marked, [it for it in described if it[:2] in self.known])
+        self.assertEqual(marked, described)
 
     def test_guards(self) -> None:
         """A guard is at least 1.03 times the count next to it, and no more than one step above that; of memory 512 KiB more."""
@@ -253,9 +253,10 @@ class Costs(Cases):
         self.assertEqual(list(worst_marks.page_rows(costs)), rows)
 
     def test_page(self) -> None:
-        """The page has the place for them, and what lines may take."""
+        """The page has the table that the marks give, and what lines may take."""
         text = PAGE.read_text()
         self.assertEqual(text.count(worst_marks.PAGE_HEAD), 1)
+        self.assertIn(worst_marks.PAGE_HEAD + "".join(worst_marks.page_rows(list(self.known.values()))) + "\n", text)
         self.assertIn(f"plus {worst_marks.ITSELF:,} for itself", text)
         self.assertIn(f"plus {worst_marks.ROW:,} for each row", text)
 
