@@ -14,7 +14,7 @@ use shared_rows::Links;
 use std::alloc::{AllocError, Global};
 use std::hash::RandomState;
 
-/// Where a search for joiners ended, and the next one usually begins.
+/// Where a search for joiners ended. The next one begins there.
 #[derive(Clone, Copy)]
 pub struct Near {
     /// The position of the topic.
@@ -57,8 +57,8 @@ impl Joiners {
         }
     }
 
-    /// The first of the places of a topic from `least` on. It is looked for where `near` ended, which then is its
-    /// own.
+    /// The first of the places of a topic from `least` on. The search begins at `near`, which is then set to where
+    /// it ended.
     pub(crate) fn next(&self, topic: Sought, least: usize, near: &mut Near) -> Option<usize>
         ensures first { IsFirstOf (is_listed self.now (topic_of topic.entry)) least result }
         ensures found { IfSome result (λ place. near.new.found ≡ count_at self.now (topic_of topic.entry) place) }

@@ -1,5 +1,5 @@
-//! Ints and truths, which an evaluation returns in registers. What it ends with else, another value or a fault, is
-//! put aside.
+//! Ints and truths, which an evaluation returns in registers. Any other result, such as a text or a fault, it puts
+//! aside.
 ghost use Rattle.std.specs.Prelude.{◌≡◌, Err, IfSome, Ok, Some};
 ghost use Rattle.variant_value.specs.declared.value.Value.TheVariants as v;
 ghost use Rattle.variant_value.specs.Values.{inferred_number};
@@ -45,7 +45,7 @@ impl Scalar {
     }
 }
 
-/// What an evaluation ends with that returned this scalar.
+/// The result of an evaluation that returned this scalar.
 pub(crate) fn held<O: Drop>(scalar: Scalar, aside: Result<Value, Halt<O>>) -> Result<Value, Halt<O>>
     ensures { result ≡ held scalar aside }
 {
@@ -57,7 +57,7 @@ pub(crate) fn held<O: Drop>(scalar: Scalar, aside: Result<Value, Halt<O>>) -> Re
     }
 }
 
-/// Puts aside what an evaluation ends with, unless it is a scalar.
+/// Puts the result of an evaluation aside, unless it is a scalar.
 pub(crate) fn put_aside<O: Drop>(
     found: Result<Value, Halt<O>>,
     aside: &mut Result<Value, Halt<O>>,
@@ -175,7 +175,7 @@ fn truth_aside<O: Drop>(aside: &mut Result<Value, Halt<O>>) -> Option<bool>
     truth
 }
 
-/// Applies the operator to a value and to what the evaluation of the second operand ends with.
+/// Applies the operator to a value and to the result of the second operand.
 #[inline(always)]
 pub(crate) fn apply_to<O: Drop>(
     alloc: Global,
