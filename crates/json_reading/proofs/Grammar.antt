@@ -55,12 +55,10 @@ signed_read (pos n) h = number_of-decimal n (omega (arith, h.sfits))
 signed_read (negsuc n) h = number_of-negative n h.sfits
 
 scalar_read : (s : Scalar) → Fits s → of_json (scalar_json s) ≡ Some (scalar_data s)
-scalar_read Null h = refl
-scalar_read (Truth t) h = refl
 scalar_read (Number n) h = ap (option_map number) (number_of-decimal n h)
 scalar_read (Signed z) h = ap (option_map number) (signed_read z h)
 scalar_read (Real r) h = ap (option_map number) (number_of_float r.text.now r.finite)
-scalar_read (Text t) h = refl
+scalar_read other h = refl
 
 items_read : (ss : List Scalar) → AllFit ss → of_items (items_json ss) ≡ Some (items_in ss)
 items_read [] h = refl
@@ -80,19 +78,11 @@ members_read found (m ∷ ms) h = rw (field_read m.value h.0) (members_read (put
 
 scalar_value : (depth : ℕ) (s : Scalar) (rest : List Token) → value depth (scalar_token s ∷ rest) ≡ Some (scalar_json s, rest)
 scalar_value depth Null rest = value_is depth _
-scalar_value depth (Truth t) rest = value_is depth _
-scalar_value depth (Number n) rest = value_is depth _
-scalar_value depth (Signed z) rest = value_is depth _
-scalar_value depth (Real r) rest = value_is depth _
-scalar_value depth (Text t) rest = value_is depth _
+scalar_value depth other rest = value_is depth _
 
 no_end : (s : Scalar) (rest : List Token) → after_end_array (scalar_token s ∷ rest) ≡ None
 no_end Null rest = refl
-no_end (Truth t) rest = refl
-no_end (Number n) rest = refl
-no_end (Signed z) rest = refl
-no_end (Real r) rest = refl
-no_end (Text t) rest = refl
+no_end other rest = refl
 
 items_value : (depth : ℕ) (ss : List Scalar) (rest : List Token) (n : ℕ) → length (map scalar_token ss ++ token.end_array ∷ rest) ≤ n
     → items (value depth) n (map scalar_token ss ++ token.end_array ∷ rest) ≡ Some (items_json ss, rest)

@@ -4,7 +4,7 @@ use Rattle.json.specs.Token.{Token, begin_array, end_array}
 use Rattle.json.specs.Print.{token_text, ends, separator, print_from, print}
 use Rattle.json.proofs.Printed.Tokens.{print_from_push}
 use Rattle.json_reading.specs.declared.field.Scalar.{Scalar}
-use Rattle.json_reading.specs.declared.field.Scalar.TheVariants.{Null, Truth, Number, Signed, Real, Text}
+use Rattle.json_reading.specs.declared.field.Scalar.TheVariants.{Null}
 use Rattle.json_reading.specs.Spelling.{scalar_token, Fits, AllFit, StandsAt}
 use Rattle.json_reading.proofs.Printing.{comma_after, comma_after-push, scalar_ends, grows}
 use Rattle.json_reading.proofs.Standing.{byte_stands}
@@ -29,11 +29,7 @@ items_end c s (r ∷ ss) = items_end (ends (scalar_token s)) r ss
 
 after_item : (s : Scalar) → separator true (scalar_token s) ≡ 44 ∷ []
 after_item Null = refl
-after_item (Truth t) = refl
-after_item (Number n) = refl
-after_item (Signed z) = refl
-after_item (Real r) = refl
-after_item (Text t) = refl
+after_item other = refl
 
 before_item : (ss : List Scalar) (s : Scalar) → separator (fold (λ _ t. ends t) false (map scalar_token ss)) (scalar_token s) ≡ comma_after ss
 before_item [] s = refl

@@ -3,7 +3,7 @@ use Rattle.std.proofs.Common.{◌≡◌, ℕ, zero, suc, ◌+◌, ◌<◌, List,
 use Rattle.std.proofs.Common.{Some, true, false, bytes_eq, true≢false, refl, sym, ap, ◌∙◌, arith}
 use Rattle.std.proofs.lemmas.List.{take_more}
 use Rattle.std.proofs.lemmas.Slice.Eq.{bytes_eq-Decides}
-use Rattle.serde_json.specs.Data.{Data, null, boolean, number, string, array, object, Members, no_members, put}
+use Rattle.serde_json.specs.Data.{Data, object, Members, no_members, put}
 use Rattle.serde_json.specs.Find.{get_member, as_object}
 use Rattle.serde_json.proofs.Views.{get_member-put, get_member-put_other}
 use Rattle.json_reading.specs.declared.field.Member.{Member}
@@ -11,12 +11,8 @@ use Rattle.json_reading.specs.Members.{data_of, members_from, members_in}
 
 -- data with members are an object
 pub object_of : (d : Data) (ms : Members) → Some ms ≡ as_object d → d ≡ object ms
-object_of null ms e = absurd (cc)
-object_of (boolean b) ms e = absurd (cc)
-object_of (number n) ms e = absurd (cc)
-object_of (string s) ms e = absurd (cc)
-object_of (array ds) ms e = absurd (cc)
 object_of (object found) ms e = let same : ms ≡ found = cc in ap object (sym same)
+object_of other ms e = absurd (cc)
 
 pub members_from-push : (found : Members) (ms : List Member) (m : Member)
     → members_from found (ms ++ m ∷ []) ≡ put m.key.now (data_of m.value) (members_from found ms)

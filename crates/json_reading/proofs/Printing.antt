@@ -9,7 +9,7 @@ use Rattle.json.specs.Print.{quoted, ends, separator, print_from, print, ArePrin
 use Rattle.json.proofs.Printed.Tokens.{tokens-print, print_from_push, print_from-append, ends_push, ArePrintable-push}
 use Rattle.json.proofs.Printed.Decimals.{IsNumber-decimal, IsNumber-signed_decimal}
 use Rattle.json_reading.specs.declared.field.Scalar.{Scalar}
-use Rattle.json_reading.specs.declared.field.Scalar.TheVariants.{Null, Truth, Number, Signed, Real, Text}
+use Rattle.json_reading.specs.declared.field.Scalar.TheVariants.{Null, Number, Signed, Real}
 use Rattle.json_reading.specs.declared.field.Field.{Field}
 use Rattle.json_reading.specs.declared.field.Field.TheVariants as field
 use Rattle.json_reading.specs.declared.field.Member.{Member}
@@ -42,11 +42,7 @@ ended c ts = fold (λ _ t. ends t) c ts
 
 pub scalar_ends : (s : Scalar) → ends (scalar_token s) ≡ true
 scalar_ends Null = refl
-scalar_ends (Truth t) = refl
-scalar_ends (Number n) = refl
-scalar_ends (Signed z) = refl
-scalar_ends (Real r) = refl
-scalar_ends (Text t) = refl
+scalar_ends other = refl
 
 field_ends : (f : Field) → IsSpelled f → ended false (field_tokens f) ≡ true
 field_ends (field.Plain s) h = scalar_ends s
@@ -129,12 +125,10 @@ ArePrintable-append (t ∷ ts) us h k = (h.0, ArePrintable-append ts us h.1 k)
 scalars_printable : (ss : List Scalar) → AllFit ss → ArePrintable (map scalar_token ss)
 unfolding ArePrintable
 scalars_printable [] h = tt
-scalars_printable (Null ∷ ss) h = (tt, scalars_printable ss h.1)
-scalars_printable (Truth t ∷ ss) h = (tt, scalars_printable ss h.1)
 scalars_printable (Number n ∷ ss) h = (IsNumber-decimal n h.0, scalars_printable ss h.1)
 scalars_printable (Signed z ∷ ss) h = (IsNumber-signed_decimal z h.0.sfits, scalars_printable ss h.1)
 scalars_printable (Real r ∷ ss) h = (r.spelled, scalars_printable ss h.1)
-scalars_printable (Text t ∷ ss) h = (tt, scalars_printable ss h.1)
+scalars_printable (other ∷ ss) h = (tt, scalars_printable ss h.1)
 
 field_printable : (f : Field) → IsSpelled f → ArePrintable (field_tokens f)
 unfolding ArePrintable

@@ -1,11 +1,11 @@
 -- The grammar's loops, a turn at a time, under the conversion to data.
 use Rattle.std.proofs.Common.{◌≡◌, ℕ, zero, suc, ◌-◌, ◌<◌, ◌≤◌, List, [], ◌∷◌, ◌++◌, length, Option, Some, None}
-use Rattle.std.proofs.Common.{option_map, option_and_then, refl, ap, ◌∙◌, arith}
+use Rattle.std.proofs.Common.{option_map, option_and_then, refl, ap, ap₂, ◌∙◌}
 use Rattle.json.specs.Token.{Token}
 use Rattle.json.specs.Token as token
 use Rattle.json.specs.Json as json
 use Rattle.json.specs.Json.{Parse, parse_map, after_end_array, read_key, items_step, items, members, value, if_last}
-use Rattle.json.proofs.Grammar.{items_end, items_more, members_end, members_no_key, members_more, value-begin_object}
+use Rattle.json.proofs.Grammar.{items_end, items_more, members_end, members_no_key, members_more, value-begin_array, value-begin_object}
 use Rattle.serde_json.specs.Data.{Data, array, object, Items, no_items, item, Members, no_members, put}
 use Rattle.serde_json.specs.Read.{of_json, of_items, of_members, converted}
 use Rattle.serde_json.specs.View.{view, items_view}
@@ -33,11 +33,11 @@ twice : {A B : Type 0} (g : A → B) (r : List Token) (x : Option A) → option_
 twice g r None = refl
 twice g r (Some a) = refl
 
-pub converted-array : (o : Option (json.Items × List Token)) → converted of_json (parse_map json.array o) ≡ parse_map array (converted of_items o)
+converted-array : (o : Option (json.Items × List Token)) → converted of_json (parse_map json.array o) ≡ parse_map array (converted of_items o)
 converted-array None = refl
 converted-array (Some p) = twice array p.1 (of_items p.0)
 
-pub converted-object : (o : Option (json.Members × List Token))
+converted-object : (o : Option (json.Members × List Token))
     → converted of_json (parse_map json.object o) ≡ parse_map object (converted (λ ms. of_members ms no_members) o)
 converted-object None = refl
 converted-object (Some p) = twice object p.1 (of_members p.0 no_members)
@@ -105,13 +105,22 @@ module _ (p : Parse json.Json) where
         → converted (λ ms. of_members ms old) (members p n ts) ≡ Some (old, r)
     members_over n ts r enough e = ap (converted (λ ms. of_members ms old)) (members_end p n ts r enough e)
 
--- ---- the object that is the whole text
+-- ---- arrays and objects, by their first token
 
-pub object_begun : (text ts : List Token) → text ≡ token.begin_object ∷ ts
-    → converted of_json (value 127 text) ≡ parse_map object (converted (λ ms. of_members ms no_members) (members (value 126) (length ts) ts))
-object_begun text ts is =
-    ap (λ all. converted of_json (value 127 all)) is ∙ ap (converted of_json) (value-begin_object 127 ts (omega arith))
-    ∙ converted-object (members (value 126) (length ts) ts)
+pub array_begun : (depth : ℕ) (text ts : List Token) → 0 < depth → text ≡ token.begin_array ∷ ts
+    → converted of_json (value depth text) ≡ parse_map array (converted of_items (items (value (depth - 1)) (length ts) ts))
+array_begun depth text ts some is = ap (λ all. converted of_json (value depth all)) is ∙ ap (converted of_json) (value-begin_array depth ts some)
+    ∙ converted-array (items (value (depth - 1)) (length ts) ts)
+
+pub object_begun : (depth : ℕ) (text ts : List Token) → 0 < depth → text ≡ token.begin_object ∷ ts
+    → converted of_json (value depth text) ≡ parse_map object (converted (λ ms. of_members ms no_members) (members (value (depth - 1)) (length ts) ts))
+object_begun depth text ts some is = ap (λ all. converted of_json (value depth all)) is ∙ ap (converted of_json) (value-begin_object depth ts some)
+    ∙ converted-object (members (value (depth - 1)) (length ts) ts)
+
+-- at no depth, nothing that has parts is read
+pub too_deep : (opening : Token) (depth : ℕ) (text ts : List Token) → converted of_json (value 0 (opening ∷ ts)) ≡ None → depth ≡ 0 → text ≡ opening ∷ ts
+    → converted of_json (value depth text) ≡ None
+too_deep opening depth text ts none at_end is = ap (converted of_json) (ap₂ value at_end is) ∙ none
 
 -- ---- a list that grows at its end
 

@@ -4,7 +4,7 @@ ghost use Rattle.fast_float.specs.Text.{Parts};
 ghost use Rattle.json.specs.Print.{IsNumber};
 ghost use Rattle.serde_json.specs.Data.{float, number};
 ghost use Rattle.serde_json.specs.View.{view};
-ghost use Rattle.json_reading.specs.Reals.{float_in, has_float, is_float};
+ghost use Rattle.json_reading.specs.Reals.{float_in, has_float, is_float, numeral_in};
 
 use crate::scalar::byte_at;
 use fast_float::Numeral;
@@ -39,28 +39,35 @@ impl<'a> Real<'a> {
     }
 }
 
-/// The float nearest to the number in the text.
-fn nearest(text: &str) -> f64
-    ensures { result ≡ float_in text.now }
+/// Whether the number in the text has a minus, and the number without it.
+#[inline(always)]
+fn numeral(text: &str) -> (bool, Numeral<'_>)
+    ensures { result ≡ numeral_in text.now }
 {
     let bytes = text.as_bytes();
     if byte_at(bytes, 0) == b'-' {
-        Numeral::scan(&bytes[1..]).to_float::<f64>(true)
+        (true, Numeral::scan(&bytes[1..]))
     } else {
-        Numeral::scan(bytes).to_float::<f64>(false)
+        (false, Numeral::scan(bytes))
     }
 }
 
+/// The float nearest to the number in the text.
+#[tactic(auto, unfolding(crate::specs::Reals::float_in))]
+fn nearest(text: &str) -> f64
+    ensures { result ≡ float_in text.now }
+{
+    let (negative, numeral) = numeral(text);
+    numeral.to_float::<f64>(negative)
+}
+
 /// Whether the text begins with a number that has a fraction or an exponent, and is not too large for a float.
+#[tactic(auto, unfolding(crate::specs::Reals::is_float))]
 fn is_float(text: &str) -> bool
     ensures { result ≡ is_float text.now }
 {
-    let bytes = text.as_bytes();
-    if byte_at(bytes, 0) == b'-' {
-        has_float(true, &Numeral::scan(&bytes[1..]))
-    } else {
-        has_float(false, &Numeral::scan(bytes))
-    }
+    let (negative, numeral) = numeral(text);
+    has_float(negative, &numeral)
 }
 
 fn has_float(negative: bool, numeral: &Numeral<'_>) -> bool

@@ -1,5 +1,5 @@
 -- An input cut into lines, and the pieces that the lines are.
-use Rattle.std.proofs.Common.{◌≡◌, ◌<◌, ◌+◌, ◌==◌, ℕ, suc, true, false, List, [], ◌∷◌, ◌++◌, length, map, Some, None, Ok, Err, refl, ap, arith}
+use Rattle.std.proofs.Common.{◌≡◌, ◌<◌, ◌==◌, ℕ, suc, true, false, List, [], ◌∷◌, ◌++◌, length, map, Some, None, Ok, Err, refl, ap, arith}
 use Rattle.std.specs.List.{cons_option}
 use Rattle.std.proofs.lemmas.Bool.{false_from_ne_true, eqb-true, lt-leb}
 use Rattle.isolation.specs.Machine.{Tagged}
@@ -50,16 +50,6 @@ lines_of-line line rest whole = rw (whole_lines-line line rest whole) (ap (λ fi
 pub lines_of-last : (byte : ℕ) (line : List ℕ) → NoEnd (byte ∷ line) → lines_of (byte ∷ line) ≡ (byte ∷ line) ∷ []
 unfolding lines_of
 lines_of-last byte line whole = rw (whole_lines-last byte line whole) (ap (λ first. first ∷ []) (bare-last (byte ∷ line) whole))
-
--- how many lines there are
-pub counted-empty : length (lines_of []) ≡ 0
-counted-empty = ap length lines_of-empty
-
-pub counted-line : (line rest : List ℕ) → NoEnd line → length (lines_of (line ++ 10 ∷ rest)) ≡ 1 + length (lines_of rest)
-counted-line line rest whole = rw (lines_of-line line rest whole) (omega arith)
-
-pub counted-last : (byte : ℕ) (line : List ℕ) → NoEnd (byte ∷ line) → length (lines_of (byte ∷ line)) ≡ 1
-counted-last byte line whole = ap length (lines_of-last byte line whole)
 
 -- the piece that a line is
 pub piece_of-blank : (line : List ℕ) → is_blank line ≡ true → piece_of line ≡ None

@@ -1,10 +1,10 @@
 -- The texts of lines, part by part.
-use Rattle.std.proofs.Common.{◌≡◌, ℕ, true, List, [], ◌∷◌, ◌++◌, Option, Some, None, IsTrue, codes, sym, ap, ap₂, ◌∙◌, append_assoc, decimal}
+use Rattle.std.proofs.Common.{◌≡◌, ℕ, true, List, [], ◌∷◌, ◌++◌, Some, None, IsTrue, codes, sym, ap, ap₂, ◌∙◌, append_assoc, decimal}
 use Rattle.std.specs.List.{list_all}
 use Rattle.plain_types.specs.declared.code.Code.{Code}
 use Rattle.plain_types.specs.Codes.{code_text}
 use Rattle.binding_values.specs.declared.property.BindingError.{BindingError}
-use Rattle.serde_json.specs.Data.{string}
+use Rattle.serde_json.specs.Data.{Data, string}
 use Rattle.serde_json.specs.Written.{compact_text}
 use Rattle.serde_json.proofs.OnLiterals.{serde_json_on_literals}
 use Rattle.session_model.specs.declared.call.Call.{Call}
@@ -12,14 +12,15 @@ use Rattle.session_model.specs.declared.line.Answer.{Answer}
 use Rattle.session_model.specs.declared.line.Line.TheVariants as a_line
 use Rattle.session_model.specs.declared.line.Line.TheVariants.{Reply, Error}
 use Rattle.variant_value.specs.Values.{json_of}
-use Rattle.wire_format.specs.Text.{array_of, error_name, is_plain_byte, is_session_text, json_of_answer, json_of_number, text_of_line}
+use Rattle.wire_format.specs.Json.{array_of, json_of_code, json_of_error, json_of_number}
+use Rattle.wire_format.specs.Text.{is_plain_byte, is_session_text, json_of_answer, text_of_line}
 use Rattle.wire_format.proofs.Plain.{code_is_plain, session_is_plain, text_of_plain}
 
--- two texts put behind another, one after another
-pub two_behind : (a b c x y : List ℕ) → b ≡ a ++ x → c ≡ b ++ y → c ≡ a ++ (x ++ y)
-two_behind a b c x y e f = rw (f, e) (append_assoc a x y)
+-- a key and its value put behind a text, and then the rest
+pub key_behind : (a b z v rest key : List ℕ) → b ≡ a ++ (key ++ v) → z ≡ b ++ rest → z ≡ a ++ (key ++ (v ++ rest))
+key_behind a b z v rest key e f = f ∙ (ap (λ l. l ++ rest) e ∙ (append_assoc a (key ++ v) rest ∙ ap (λ l. a ++ l) (append_assoc key v rest)))
 
--- three of them
+-- three texts put behind another
 pub three_behind : (a b c d x y z : List ℕ) → b ≡ a ++ x → c ≡ b ++ y → d ≡ c ++ z → d ≡ a ++ (x ++ (y ++ z))
 three_behind a b c d x y z e f g = rw (g, f, e) (simp append_assoc)
 
@@ -27,18 +28,15 @@ three_behind a b c d x y z e f g = rw (g, f, e) (simp append_assoc)
 abbrev pub around : List ℕ → List ℕ → List ℕ → List ℕ
 around opening told session = opening ++ (told ++ (codes ",\"session\":" ++ (session ++ codes "}\n")))
 
-with_end : (a b c d : List ℕ) → (a ++ (b ++ (c ++ (d ++ 125 ∷ [])))) ++ 10 ∷ [] ≡ a ++ (b ++ (c ++ (d ++ codes "}\n")))
-with_end a b c d = simp append_assoc
-
 pub error_line : (code : Code) (session : List ℕ) → text_of_line session (Error code)
     ≡ around (codes "{\"error\":") (compact_text (string (code_text code))) (compact_text (string session))
 unfolding text_of_line serde_json_on_literals
-error_line code session = with_end (codes "{\"error\":") (compact_text (string (code_text code))) (codes ",\"session\":") (compact_text (string session))
+error_line code session = simp append_assoc
 
 pub reply_line : (answer : Answer) (session : List ℕ) → text_of_line session (Reply answer)
     ≡ around (codes "{\"reply\":") (compact_text (json_of_answer answer)) (compact_text (string session))
 unfolding text_of_line serde_json_on_literals
-reply_line answer session = with_end (codes "{\"reply\":") (compact_text (json_of_answer answer)) (codes ",\"session\":") (compact_text (string session))
+reply_line answer session = simp append_assoc
 
 call_ended : (a b c d e f g h i j : List ℕ) → (a ++ (b ++ (c ++ (d ++ (e ++ (f ++ (g ++ (h ++ (i ++ (j ++ 125 ∷ [])))))))))) ++ 10 ∷ [] ≡ a
     ++ (b ++ (c ++ (d ++ (e ++ (f ++ (g ++ (h ++ (i ++ (j ++ codes "}\n")))))))))
@@ -54,42 +52,41 @@ call_line call session =
     (codes ",\"object\":") (compact_text (json_of_number call.object)) (codes ",\"sender\":") (compact_text (json_of_number call.sender))
     (codes ",\"session\":") (compact_text (string session))
 
-warning_ended : (a b c d e f : List ℕ) → (a ++ (b ++ (c ++ (d ++ (e ++ (f ++ 125 ∷ [])))))) ++ 10 ∷ [] ≡ (a ++ (b ++ c)) ++ (d ++ (e ++ (f ++ codes "}\n")))
-warning_ended a b c d e f = simp append_assoc
+-- what a warning's line has from its session on
+abbrev pub warned : List ℕ → Data → List ℕ
+warned session json = compact_text (string session) ++ (codes ",\"warning\":" ++ (compact_text json ++ codes "}\n"))
 
--- what stands in a warning's line from its session on
-abbrev pub warned : List ℕ → List ℕ → List ℕ
-warned session word = compact_text (string session) ++ (codes ",\"warning\":" ++ (compact_text (string word) ++ codes "}\n"))
+warning_ended : (a b c d : List ℕ) → (a ++ (b ++ (c ++ (d ++ 125 ∷ [])))) ++ 10 ∷ [] ≡ a ++ (b ++ (c ++ (d ++ codes "}\n")))
+warning_ended a b c d = simp append_assoc
 
--- and before it
-abbrev pub warning_opening : Option ℕ → List ℕ
-warning_opening None = codes "{\"session\":"
-warning_opening (Some n) = codes "{\"object\":" ++ (compact_text (json_of_number n) ++ codes ",\"session\":")
-
-pub warning_line : (code : Code) (object : Option ℕ) (session : List ℕ) → text_of_line session (a_line.Warning code object)
-    ≡ warning_opening object ++ warned session (code_text code)
+pub warning_line : (code : Code) (session : List ℕ) → text_of_line session (a_line.Warning code None)
+    ≡ codes "{\"session\":" ++ warned session (json_of_code code)
 unfolding text_of_line serde_json_on_literals
-warning_line code None session = with_end (codes "{\"session\":") (compact_text (string session)) (codes ",\"warning\":")
-    (compact_text (string (code_text code)))
-warning_line code (Some n) session =
-    warning_ended (codes "{\"object\":") (compact_text (json_of_number n)) (codes ",\"session\":") (compact_text (string session)) (codes ",\"warning\":")
-    (compact_text (string (code_text code)))
+warning_line code session = warning_ended (codes "{\"session\":") (compact_text (string session)) (codes ",\"warning\":") (compact_text (json_of_code code))
 
-binding_ended : (a b c d e f g h : List ℕ) → (a ++ (b ++ (c ++ (d ++ (e ++ (f ++ (g ++ (h ++ 125 ∷ [])))))))) ++ 10 ∷ [] ≡ (a ++ (b ++ (c ++ (d ++ e))))
-    ++ (f ++ (g ++ (h ++ codes "}\n")))
-binding_ended a b c d e f g h = simp append_assoc
+object_warning_ended : (a b c d e f : List ℕ) → (a ++ (b ++ (c ++ (d ++ (e ++ (f ++ 125 ∷ [])))))) ++ 10 ∷ [] ≡ a
+    ++ (b ++ (c ++ (d ++ (e ++ (f ++ codes "}\n")))))
+object_warning_ended a b c d e f = simp append_assoc
 
--- what stands before it, where a property is warned of
-abbrev pub binding_opening : ℕ → List ℕ → List ℕ
-binding_opening n property = codes "{\"object\":"
-    ++ (compact_text (json_of_number n) ++ (codes ",\"property\":" ++ (compact_text (string property) ++ codes ",\"session\":")))
+pub object_warning_line : (code : Code) (n : ℕ) (session : List ℕ) → text_of_line session (a_line.Warning code (Some n))
+    ≡ codes "{\"object\":" ++ (compact_text (json_of_number n) ++ (codes ",\"session\":" ++ warned session (json_of_code code)))
+unfolding text_of_line serde_json_on_literals
+object_warning_line code n session =
+    object_warning_ended (codes "{\"object\":") (compact_text (json_of_number n)) (codes ",\"session\":") (compact_text (string session))
+    (codes ",\"warning\":") (compact_text (json_of_code code))
 
-pub binding_warning_line : (n : ℕ) (property : List ℕ) (error : BindingError) (session : List ℕ) → text_of_line session (a_line.BindingWarning n property error)
-    ≡ binding_opening n property ++ warned session (error_name error)
+binding_warning_ended : (a b c d e f g h : List ℕ) → (a ++ (b ++ (c ++ (d ++ (e ++ (f ++ (g ++ (h ++ 125 ∷ [])))))))) ++ 10 ∷ [] ≡ a
+    ++ (b ++ (c ++ (d ++ (e ++ (f ++ (g ++ (h ++ codes "}\n")))))))
+binding_warning_ended a b c d e f g h = simp append_assoc
+
+pub binding_warning_line : (n : ℕ) (property : List ℕ) (error : BindingError) (session : List ℕ)
+    → text_of_line session (a_line.BindingWarning n property error)
+    ≡ codes "{\"object\":" ++ (compact_text (json_of_number n) ++ (codes ",\"property\":" ++ (compact_text (string property)
+    ++ (codes ",\"session\":" ++ warned session (json_of_error error)))))
 unfolding text_of_line serde_json_on_literals
 binding_warning_line n property error session =
-    binding_ended (codes "{\"object\":") (compact_text (json_of_number n)) (codes ",\"property\":") (compact_text (string property))
-    (codes ",\"session\":") (compact_text (string session)) (codes ",\"warning\":") (compact_text (string (error_name error)))
+    binding_warning_ended (codes "{\"object\":") (compact_text (json_of_number n)) (codes ",\"property\":") (compact_text (string property))
+    (codes ",\"session\":") (compact_text (string session)) (codes ",\"warning\":") (compact_text (json_of_error error))
 
 -- a text in which JSON escapes nothing, with the text around it, which brings its quotes
 pub text_between : (before s after : List ℕ) → list_all is_plain_byte s ≡ true

@@ -1,5 +1,5 @@
 -- What is written for an input, line by line.
-use Rattle.std.proofs.Common.{◌≡◌, ℕ, List, [], ◌∷◌, ◌++◌, map, Option, Some, None, refl, sym, ap, ◌∙◌, append-nil}
+use Rattle.std.proofs.Common.{◌≡◌, ℕ, List, [], ◌∷◌, ◌++◌, map, Option, Some, None, refl, ap, ◌∙◌}
 use Rattle.std.specs.List.{flat_map, cons_option}
 use Rattle.std.proofs.lemmas.List.Concat.{flat_map-append}
 use Rattle.isolation.specs.Pieces.{Given, Faulty, commands_of, piece_answers}
@@ -7,10 +7,9 @@ use Rattle.isolation.specs.World.{effect, world_after}
 use Rattle.session_model.specs.Machine.{machine}
 use Rattle.session_model.specs.Thread.{Settings}
 use Rattle.session_model.specs.declared.line.Line.{Line}
-use Rattle.wire_format.specs.Input.{Piece, NoEnd, piece_of, pieces_of}
+use Rattle.wire_format.specs.Input.{Piece, pieces_of}
 use Rattle.wire_format.specs.Text.{text_of_line}
 use Rattle.wire_format.specs.Output.{World, Said, said_by, said_in, text_of_said, said_all, output, world_of, text_of_piece, world_after_piece}
-use Rattle.wire_format.proofs.Cutting.{pieces_of-empty, pieces_of-line, pieces_of-last}
 
 -- the text of the lines of one command
 pub text_of_said-said_by : (session : List ℕ) (lines : List Line) → text_of_said (map (said_by session) lines) ≡ flat_map (text_of_line session) lines
@@ -60,47 +59,3 @@ pub world_by_pieces : (settings : Settings) (world : World) (bytes : List ℕ)
     → world_of settings world bytes ≡ world_after_pieces settings world (pieces_of bytes)
 unfolding world_of world_after_pieces
 world_by_pieces settings world bytes = refl
-
--- nothing is written for nothing
-pub output-empty : (settings : Settings) (world : World) → output settings world [] ≡ []
-output-empty settings world = by_pieces settings world [] ∙ ap (text_of_pieces settings world) pieces_of-empty ∙ text_of_pieces-nothing settings world
-
--- for a line and what stands behind it: what is written for the line, and then for the rest, in the states after the line
-pub output-line : (settings : Settings) (world : World) (line rest : List ℕ) → NoEnd line
-    → output settings world (line ++ 10 ∷ rest) ≡ text_of_piece settings world (piece_of line)
-    ++ output settings (world_after_piece settings world (piece_of line)) rest
-output-line settings world line rest whole =
-    by_pieces settings world (line ++ 10 ∷ rest)
-    ∙ ap (text_of_pieces settings world) (pieces_of-line line rest whole)
-    ∙ text_of_pieces-cons settings world (piece_of line) (pieces_of rest)
-    ∙ ap (λ more. text_of_piece settings world (piece_of line) ++ more) (sym (by_pieces settings (world_after_piece settings world (piece_of line)) rest))
-
--- for a last line without a line feed, which may be empty
-pub output-last : (settings : Settings) (world : World) (line : List ℕ) → NoEnd line → output settings world line ≡ text_of_piece settings world (piece_of line)
-output-last settings world line whole =
-    by_pieces settings world line
-    ∙ ap (text_of_pieces settings world) (pieces_of-last line whole)
-    ∙ text_of_pieces-cons settings world (piece_of line) []
-    ∙ ap (λ more. text_of_piece settings world (piece_of line) ++ more) (text_of_pieces-nothing settings (world_after_piece settings world (piece_of line)))
-    ∙ append-nil (text_of_piece settings world (piece_of line))
-
--- the states after nothing, after a line and what stands behind it, and after a last line without a line feed
-pub world_of-empty : (settings : Settings) (world : World) → world_of settings world [] ≡ world
-world_of-empty settings world = world_by_pieces settings world [] ∙ ap (world_after_pieces settings world) pieces_of-empty
-    ∙ world_after_pieces-nothing settings world
-
-pub world_of-line : (settings : Settings) (world : World) (line rest : List ℕ) → NoEnd line
-    → world_of settings world (line ++ 10 ∷ rest) ≡ world_of settings (world_after_piece settings world (piece_of line)) rest
-world_of-line settings world line rest whole =
-    world_by_pieces settings world (line ++ 10 ∷ rest)
-    ∙ ap (world_after_pieces settings world) (pieces_of-line line rest whole)
-    ∙ world_after_pieces-cons settings world (piece_of line) (pieces_of rest)
-    ∙ sym (world_by_pieces settings (world_after_piece settings world (piece_of line)) rest)
-
-pub world_of-last : (settings : Settings) (world : World) (line : List ℕ) → NoEnd line
-    → world_of settings world line ≡ world_after_piece settings world (piece_of line)
-world_of-last settings world line whole =
-    world_by_pieces settings world line
-    ∙ ap (world_after_pieces settings world) (pieces_of-last line whole)
-    ∙ world_after_pieces-cons settings world (piece_of line) []
-    ∙ world_after_pieces-nothing settings (world_after_piece settings world (piece_of line))

@@ -16,7 +16,8 @@ use Rattle.plain_types.specs.declared.code.Code.TheVariants.{OwnSession, NoGroup
 use Rattle.plain_types.specs.Codes.{code_text}
 use Rattle.binding_values.specs.declared.property.BindingError.{BindingError}
 use Rattle.binding_values.specs.declared.property.BindingError.TheVariants.{BindingLoop, EvaluationError}
-use Rattle.wire_format.specs.Text.{error_name, is_plain_byte, is_session_text}
+use Rattle.wire_format.specs.Json.{error_name}
+use Rattle.wire_format.specs.Text.{is_plain_byte, is_session_text}
 
 -- what a plain byte is not
 record Plain (x : ℕ) : Type 0 where

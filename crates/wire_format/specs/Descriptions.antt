@@ -1,10 +1,6 @@
 -- Descriptions in JSON, with their keys in byte order.
-use Rattle.std.specs.Prelude.{ℕ, List, codes, option_map}
+use Rattle.std.specs.Prelude.{codes}
 use Rattle.serde_json.specs.Data.{Data, boolean, string, object, no_members, member}
-use Rattle.plain_types.specs.declared.connection_type.ConnectionType.{ConnectionType}
-use Rattle.plain_types.specs.declared.connection_type.ConnectionType.TheVariants.{Auto, Direct, Queued}
-use Rattle.signature_core.specs.declared.kind.Kind.{Kind}
-use Rattle.signature_core.specs.Kinds.{kind_name}
 use Rattle.session_model.specs.declared.descriptions.CalleeDescription.{CalleeDescription}
 use Rattle.session_model.specs.declared.descriptions.CalleeDescription.TheVariants.{Method, Functor}
 use Rattle.session_model.specs.declared.descriptions.ClassDescription.{ClassDescription}
@@ -16,18 +12,49 @@ use Rattle.session_model.specs.declared.descriptions.JoinDescription.{JoinDescri
 use Rattle.session_model.specs.declared.descriptions.ObjectDescription.{ObjectDescription}
 use Rattle.session_model.specs.declared.descriptions.PropertyDescription.{PropertyDescription}
 use Rattle.session_model.specs.declared.descriptions.PublicationDescription.{PublicationDescription}
+use Rattle.session_model.specs.declared.line.Spin.{Spin}
+use Rattle.session_model.specs.declared.line.Status.{Status}
+use Rattle.session_model.specs.declared.meta.MetaObject.{MetaObject}
+use Rattle.session_model.specs.declared.named_property.NamedProperty.{NamedProperty}
 use Rattle.variant_value.specs.Values.{json_of}
-use Rattle.wire_format.specs.Json.{array_of, error_name, json_of_found, json_of_name, json_of_number}
+use Rattle.wire_format.specs.Json.{array_of, json_of_error, json_of_kind, json_of_mode, json_of_number, json_or_null}
 
--- The name of a kind.
-abbrev pub json_of_kind : Kind → Data
-json_of_kind kind = string (kind_name kind)
+-- The contents of a class in JSON, with its keys in byte order.
+abbrev pub json_of_meta : MetaObject → Data
+json_of_meta meta =
+    object (member (codes "class") (string meta.class) (
+    member (codes "methodOffset") (json_of_number meta.method_offset) (
+    member (codes "methods") (array_of string meta.methods) (
+    member (codes "properties") (array_of string meta.properties) (
+    member (codes "propertyOffset") (json_of_number meta.property_offset) (
+    member (codes "super") (json_or_null string meta.superclass) no_members))))))
 
--- The name of a connection's type.
-abbrev pub mode_name : ConnectionType → List ℕ
-mode_name Auto = codes "auto"
-mode_name Direct = codes "direct"
-mode_name Queued = codes "queued"
+-- The result of taking events, in JSON.
+abbrev pub json_of_spin : Spin → Data
+json_of_spin spin =
+    object (member (codes "events") (json_of_number spin.events) (
+    member (codes "left") (json_of_number spin.left) (
+    member (codes "lost") (json_of_number spin.lost) (
+    member (codes "mismatched") (json_of_number spin.mismatched) no_members))))
+
+-- The counts of a session, in JSON.
+abbrev pub json_of_status : Status → Data
+json_of_status status =
+    object (member (codes "bindings") (json_of_number status.bindings) (
+    member (codes "connections") (json_of_number status.connections) (
+    member (codes "group") (json_of_number status.group) (
+    member (codes "joins") (json_of_number status.joins) (
+    member (codes "lost") (json_of_number status.lost) (
+    member (codes "mismatched") (json_of_number status.mismatched) (
+    member (codes "objects") (json_of_number status.objects) (
+    member (codes "publications") (json_of_number status.publications) (
+    member (codes "queued") (json_of_number status.queued) no_members)))))))))
+
+-- A property by its object and its name.
+abbrev pub json_of_named_property : NamedProperty → Data
+json_of_named_property named =
+    object (member (codes "object") (json_of_number named.object) (
+    member (codes "property") (string named.property) no_members))
 
 abbrev pub json_of_functor : FunctorDescription → Data
 json_of_functor functor =
@@ -58,14 +85,14 @@ json_of_object described =
     member (codes "connectionsTo") (json_of_number described.connections_to) (
     member (codes "events") (json_of_number described.events) (
     member (codes "level") (json_of_number described.level) (
-    member (codes "parent") (json_of_found described.parent) no_members))))))))
+    member (codes "parent") (json_or_null json_of_number described.parent) no_members))))))))
 
 abbrev pub json_of_declared_property : DeclaredProperty → Data
 json_of_declared_property property =
     object (member (codes "bindable") (boolean property.bindable) (
     member (codes "class") (string property.class) (
     member (codes "name") (string property.name) (
-    member (codes "notify") (json_of_name property.notify) (
+    member (codes "notify") (json_or_null string property.notify) (
     member (codes "type") (json_of_kind property.kind) no_members)))))
 
 abbrev pub json_of_declared_method : DeclaredMethod → Data
@@ -80,7 +107,7 @@ json_of_class described =
     member (codes "properties") (array_of json_of_declared_property described.properties) (
     member (codes "signals") (array_of json_of_declared_method described.signals) (
     member (codes "slots") (array_of json_of_declared_method described.slots) (
-    member (codes "super") (json_of_name described.superclass) no_members)))))
+    member (codes "super") (json_or_null string described.superclass) no_members)))))
 
 -- A connection to a method has its receiver, and one to a functor has its context object and its state.
 abbrev pub json_of_connection_to : ConnectionDescription → CalleeDescription → Data
@@ -91,7 +118,7 @@ json_of_connection_to row (Method method) =
     member (codes "sender") (json_of_number row.sender) (
     member (codes "signal") (string row.signal) (
     member (codes "single") (boolean row.single) (
-    member (codes "type") (string (mode_name row.mode)) no_members)))))))
+    member (codes "type") (json_of_mode row.mode) no_members)))))))
 json_of_connection_to row (Functor functor state) =
     object (member (codes "connection") (json_of_number row.number) (
     member (codes "context") (json_of_number row.receiver) (
@@ -100,7 +127,7 @@ json_of_connection_to row (Functor functor state) =
     member (codes "signal") (string row.signal) (
     member (codes "single") (boolean row.single) (
     member (codes "state") (json_of_number state) (
-    member (codes "type") (string (mode_name row.mode)) no_members))))))))
+    member (codes "type") (json_of_mode row.mode) no_members))))))))
 
 abbrev pub json_of_connection : ConnectionDescription → Data
 json_of_connection row = json_of_connection_to row row.callee
@@ -109,8 +136,8 @@ abbrev pub json_of_property : PropertyDescription → Data
 json_of_property property =
     object (member (codes "bindable") (boolean property.bindable) (
     member (codes "bound") (boolean property.bound) (
-    member (codes "error") (json_of_name (option_map error_name property.error)) (
+    member (codes "error") (json_or_null json_of_error property.error) (
     member (codes "name") (string property.name) (
-    member (codes "notify") (json_of_name property.notify) (
-    member (codes "type") (json_of_name (option_map kind_name property.kind)) (
+    member (codes "notify") (json_or_null string property.notify) (
+    member (codes "type") (json_or_null json_of_kind property.kind) (
     member (codes "value") (json_of property.value) no_members)))))))

@@ -4,7 +4,7 @@ use Rattle.std.specs.List.{list_all}
 use Rattle.session_model.specs.declared.line.Answer.{Answer}
 use Rattle.session_model.specs.declared.line.Answer.TheVariants as answer
 use Rattle.session_model.specs.declared.line.Line.{Line}
-use Rattle.session_model.specs.declared.line.Line.TheVariants.{Reply, Error, Call, Warning, BindingWarning}
+use Rattle.session_model.specs.declared.line.Line.TheVariants.{Reply, Error}
 use Rattle.variant_value.specs.declared.value.Value.{Value}
 use Rattle.variant_value.specs.declared.value.Value.TheVariants.{Text}
 use Rattle.wire_format.specs.declared.parts.Parts.{Parts}
@@ -22,28 +22,14 @@ is_plain_value _ = true
 abbrev pub is_plain_answer : Answer → Bool
 is_plain_answer (answer.Number n) = true
 is_plain_answer (answer.Found found) = true
-is_plain_answer (answer.Numbers ns) = false
 is_plain_answer (answer.Truth truth) = true
 is_plain_answer (answer.BindingError error) = true
 is_plain_answer (answer.Value value) = is_plain_value value
-is_plain_answer (answer.Names names) = false
-is_plain_answer (answer.Meta meta) = false
-is_plain_answer (answer.Spun spin) = false
-is_plain_answer (answer.Status status) = false
-is_plain_answer (answer.Functors functors) = false
-is_plain_answer (answer.Publications publications) = false
-is_plain_answer (answer.Joins joins) = false
-is_plain_answer (answer.Object described) = false
-is_plain_answer (answer.Class described) = false
-is_plain_answer (answer.Connections rows) = false
-is_plain_answer (answer.Properties properties) = false
-is_plain_answer (answer.Bindings bindings) = false
 is_plain_answer (answer.Binding term) = is_none term
+is_plain_answer answer = false
 
 -- Whether a line is written in parts.
 abbrev pub has_parts : Line → Bool
 has_parts (Reply answer) = is_plain_answer answer
 has_parts (Error code) = true
-has_parts (Call call) = false
-has_parts (Warning code object) = false
-has_parts (BindingWarning named property error) = false
+has_parts line = false

@@ -7,10 +7,11 @@ use Rattle.wire_format.specs.declared.shown.Shown.{Shown}
 use Rattle.wire_format.specs.declared.shown.Shown.TheVariants.{Word, Text, Numbers, Names, Meta, Spun, Status}
 use Rattle.wire_format.specs.declared.shown.Shown.TheVariants.{Functors, Publications, Joins, Object, Class, Connections, Properties}
 use Rattle.wire_format.specs.declared.shown.Shown.TheVariants.{Bindings, Expression}
-use Rattle.wire_format.specs.Descriptions.{json_of_class, json_of_connection, json_of_functor, json_of_join}
-use Rattle.wire_format.specs.Descriptions.{json_of_object, json_of_property, json_of_publication}
-use Rattle.wire_format.specs.Terms.{json_of_named_property, json_of_term}
-use Rattle.wire_format.specs.Text.{array_of, is_plain_byte, json_of_meta, json_of_number, json_of_spin, json_of_status}
+use Rattle.wire_format.specs.Descriptions.{json_of_class, json_of_connection, json_of_functor, json_of_join, json_of_meta, json_of_named_property}
+use Rattle.wire_format.specs.Descriptions.{json_of_object, json_of_property, json_of_publication, json_of_spin, json_of_status}
+use Rattle.wire_format.specs.Json.{array_of, json_of_number}
+use Rattle.wire_format.specs.Terms.{json_of_term}
+use Rattle.wire_format.specs.Text.{is_plain_byte}
 
 abbrev pub text_of_shown : Shown → List ℕ
 text_of_shown (Word word) = word.now
@@ -34,17 +35,4 @@ text_of_shown (Expression expr) = compact_text (json_of_term expr.now)
 abbrev pub is_plain_shown : Shown → Bool
 is_plain_shown (Word word) = true
 is_plain_shown (Text text) = list_all is_plain_byte text.now
-is_plain_shown (Numbers numbers) = false
-is_plain_shown (Names names) = false
-is_plain_shown (Meta meta) = false
-is_plain_shown (Spun spin) = false
-is_plain_shown (Status status) = false
-is_plain_shown (Functors functors) = false
-is_plain_shown (Publications publications) = false
-is_plain_shown (Joins joins) = false
-is_plain_shown (Object described) = false
-is_plain_shown (Class described) = false
-is_plain_shown (Connections rows) = false
-is_plain_shown (Properties properties) = false
-is_plain_shown (Bindings bindings) = false
-is_plain_shown (Expression expr) = false
+is_plain_shown shown = false

@@ -1,7 +1,6 @@
 -- Expressions in JSON, in their shortest form.
-use Rattle.std.specs.Prelude.{ℕ, true, List, Option, Some, None, codes}
-use Rattle.serde_json.specs.Data.{Data, null, boolean, string, array, object, no_items, item, no_members, member}
-use Rattle.session_model.specs.declared.named_property.NamedProperty.{NamedProperty}
+use Rattle.std.specs.Prelude.{ℕ, true, List, codes}
+use Rattle.serde_json.specs.Data.{Data, boolean, string, array, object, no_items, item, no_members, member}
 use Rattle.term_core.specs.declared.operator.Operator.{Operator}
 use Rattle.term_core.specs.declared.operator.Operator.TheVariants.{Sum, Difference, Less, Equal, Concatenated}
 use Rattle.term_core.specs.declared.target.Target.{Target}
@@ -41,14 +40,3 @@ json_of_term state = only (codes "state") (boolean true)
 json_of_term (prop target name) = json_of_read target name
 json_of_term (binary operator a b) = only (operator_key operator) (array (item (json_of_term a) (item (json_of_term b) no_items)))
 json_of_term (choice test a b) = only (codes "if") (array (item (json_of_term test) (item (json_of_term a) (item (json_of_term b) no_items))))
-
--- The expression of a binding; null if there is none.
-abbrev pub json_of_expression : Option Term → Data
-json_of_expression None = null
-json_of_expression (Some term) = json_of_term term
-
--- A property by its object and its name.
-abbrev pub json_of_named_property : NamedProperty → Data
-json_of_named_property named =
-    object (member (codes "object") (json_of_number named.object) (
-    member (codes "property") (string named.property) no_members))

@@ -1,67 +1,29 @@
 -- The text of a line that a session receives.
-use Rattle.std.specs.Prelude.{◌==◌, ◌&&◌, ◌||◌, ℕ, Bool, not, List, [], ◌∷◌, ◌++◌, bytes_eq, codes, nat_le, unwrap_or, Option, Some, None, map, option_map}
-use Rattle.serde_json.specs.Data.{Data, Members, null, boolean, number, string, array, object, unsigned, no_members, member}
-use Rattle.serde_json.specs.View.{items_of}
+use Rattle.std.specs.Prelude.{◌==◌, ◌&&◌, ◌||◌, ℕ, Bool, not, List, [], ◌∷◌, ◌++◌, bytes_eq, codes, nat_le, unwrap_or, Option, Some, None}
+use Rattle.serde_json.specs.Data.{Data, Members, boolean, string, object, no_members, member}
 use Rattle.serde_json.specs.Written.{compact_text}
 use Rattle.plain_types.specs.Names.{is_name}
-use Rattle.plain_types.specs.Codes.{code_text}
-use Rattle.binding_values.specs.declared.property.BindingError.{BindingError}
-use Rattle.binding_values.specs.declared.property.BindingError.TheVariants.{BindingLoop, EvaluationError}
 use Rattle.session_model.specs.declared.line.Answer.{Answer}
 use Rattle.session_model.specs.declared.line.Answer.TheVariants.{Number, Found, Numbers, Truth, BindingError as StoodFor}
 use Rattle.session_model.specs.declared.line.Answer.TheVariants.{Value, Names, Meta, Spun, Status as Counted}
 use Rattle.session_model.specs.declared.line.Answer.TheVariants.{Functors, Publications, Joins, Object, Class, Connections}
 use Rattle.session_model.specs.declared.line.Answer.TheVariants.{Properties, Bindings, Binding}
-use Rattle.session_model.specs.declared.line.Spin.{Spin}
-use Rattle.session_model.specs.declared.line.Status.{Status}
 use Rattle.session_model.specs.declared.line.Line.{Line}
 use Rattle.session_model.specs.declared.line.Line.TheVariants.{Reply, Error, Call, Warning, BindingWarning}
-use Rattle.session_model.specs.declared.meta.MetaObject.{MetaObject}
 use Rattle.variant_value.specs.Values.{json_of}
-pub use Rattle.wire_format.specs.Json.{array_of, error_name, json_of_found, json_of_name, json_of_number}
-use Rattle.wire_format.specs.Descriptions.{json_of_class, json_of_connection, json_of_functor, json_of_join}
-use Rattle.wire_format.specs.Descriptions.{json_of_object, json_of_property, json_of_publication}
-use Rattle.wire_format.specs.Terms.{json_of_expression, json_of_named_property}
+use Rattle.wire_format.specs.Json.{array_of, json_of_code, json_of_error, json_of_number, json_or_null}
+use Rattle.wire_format.specs.Descriptions.{json_of_class, json_of_connection, json_of_functor, json_of_join, json_of_meta, json_of_named_property}
+use Rattle.wire_format.specs.Descriptions.{json_of_object, json_of_property, json_of_publication, json_of_spin, json_of_status}
+use Rattle.wire_format.specs.Terms.{json_of_term}
 use Rattle.wire_format.specs.declared.fault.LineFault.{LineFault}
-
--- The contents of a class in JSON, with its keys in byte order.
-abbrev pub json_of_meta : MetaObject → Data
-json_of_meta meta =
-    object (member (codes "class") (string meta.class) (
-    member (codes "methodOffset") (json_of_number meta.method_offset) (
-    member (codes "methods") (array_of string meta.methods) (
-    member (codes "properties") (array_of string meta.properties) (
-    member (codes "propertyOffset") (json_of_number meta.property_offset) (
-    member (codes "super") (json_of_name meta.superclass) no_members))))))
-
--- The result of taking events, in JSON.
-abbrev pub json_of_spin : Spin → Data
-json_of_spin spin =
-    object (member (codes "events") (json_of_number spin.events) (
-    member (codes "left") (json_of_number spin.left) (
-    member (codes "lost") (json_of_number spin.lost) (
-    member (codes "mismatched") (json_of_number spin.mismatched) no_members))))
-
--- The counts of a session, in JSON.
-abbrev pub json_of_status : Status → Data
-json_of_status status =
-    object (member (codes "bindings") (json_of_number status.bindings) (
-    member (codes "connections") (json_of_number status.connections) (
-    member (codes "group") (json_of_number status.group) (
-    member (codes "joins") (json_of_number status.joins) (
-    member (codes "lost") (json_of_number status.lost) (
-    member (codes "mismatched") (json_of_number status.mismatched) (
-    member (codes "objects") (json_of_number status.objects) (
-    member (codes "publications") (json_of_number status.publications) (
-    member (codes "queued") (json_of_number status.queued) no_members)))))))))
 
 -- An answer in JSON.
 abbrev pub json_of_answer : Answer → Data
 json_of_answer (Number n) = json_of_number n
-json_of_answer (Found found) = json_of_found found
+json_of_answer (Found found) = json_or_null json_of_number found
 json_of_answer (Numbers ns) = array_of json_of_number ns
 json_of_answer (Truth truth) = boolean truth
-json_of_answer (StoodFor error) = json_of_name (option_map error_name error)
+json_of_answer (StoodFor error) = json_or_null json_of_error error
 json_of_answer (Value value) = json_of value
 json_of_answer (Names names) = array_of string names
 json_of_answer (Meta meta) = json_of_meta meta
@@ -75,7 +37,7 @@ json_of_answer (Class described) = json_of_class described
 json_of_answer (Connections rows) = array_of json_of_connection rows
 json_of_answer (Properties properties) = array_of json_of_property properties
 json_of_answer (Bindings bindings) = array_of json_of_named_property bindings
-json_of_answer (Binding term) = json_of_expression term
+json_of_answer (Binding term) = json_or_null json_of_term term
 
 -- The member for the session that a line names, before the other members.
 abbrev pub in_session : List ℕ → Members → Members
@@ -89,17 +51,17 @@ about (Some n) later = member (codes "object") (json_of_number n) later
 -- A line in JSON, its keys in byte order.
 abbrev pub said_in_json : List ℕ → Line → Data
 said_in_json session (Reply answer) = object (member (codes "reply") (json_of_answer answer) (in_session session no_members))
-said_in_json session (Error code) = object (member (codes "error") (string (code_text code)) (in_session session no_members))
+said_in_json session (Error code) = object (member (codes "error") (json_of_code code) (in_session session no_members))
 said_in_json session (Call call) =
     object (member (codes "args") (array_of json_of call.args) (
     member (codes "call") (string call.method) (
     member (codes "object") (json_of_number call.object) (
     member (codes "sender") (json_of_number call.sender) (in_session session no_members)))))
-said_in_json session (Warning code named) = object (about named (in_session session (member (codes "warning") (string (code_text code)) no_members)))
+said_in_json session (Warning code named) = object (about named (in_session session (member (codes "warning") (json_of_code code) no_members)))
 said_in_json session (BindingWarning named property error) =
     object (member (codes "object") (json_of_number named) (
     member (codes "property") (string property) (
-    in_session session (member (codes "warning") (string (error_name error)) no_members))))
+    in_session session (member (codes "warning") (json_of_error error) no_members))))
 
 -- The text of a line, with its line feed.
 unfoldable pub text_of_line : List ℕ → Line → List ℕ

@@ -4,7 +4,8 @@ ghost use Rattle.json.specs.Filled.{Placed};
 ghost use Rattle.serde_json.specs.Written.{compact_text};
 ghost use Rattle.variant_value.specs.Values.{json_of};
 ghost use Rattle.wire_format.specs.declared.calls.TheConstants.{CALL_BYTES};
-ghost use Rattle.wire_format.specs.Text.{array_of, is_session_text, text_of_line};
+ghost use Rattle.wire_format.specs.Json.{array_of};
+ghost use Rattle.wire_format.specs.Text.{is_session_text, text_of_line};
 
 use crate::shown::{Shown, shown_value};
 use crate::writing::is_plain;

@@ -1,221 +1,79 @@
 //! Descriptions are written as JSON objects, with their keys in byte order.
-ghost use Rattle.std.specs.Prelude.{◌≡◌, ◌++◌, OnOk, codes, option_map, string_bytes};
-ghost use Rattle.serde_json.specs.Data.{boolean, string};
+#![tactic(auto, unfolding(serde_json::proofs::OnLiterals::serde_json_on_literals))]
+
+ghost use Rattle.std.specs.Prelude.{◌≡◌, ◌++◌, OnOk, string_bytes};
 ghost use Rattle.serde_json.specs.Written.{compact_text};
 ghost use Rattle.session_model.specs.declared.descriptions.CalleeDescription.TheVariants.{Functor, Method};
-ghost use Rattle.signature_core.specs.Kinds.{kind_name};
-ghost use Rattle.variant_value.specs.Values.{json_of};
-ghost use Rattle.wire_format.specs.Text.{array_of, error_name, json_of_found, json_of_name, json_of_number};
 ghost use Rattle.wire_format.specs.Descriptions.{json_of_class, json_of_connection, json_of_connection_to, json_of_declared_method};
-ghost use Rattle.wire_format.specs.Descriptions.{json_of_declared_property, json_of_functor, json_of_join};
-ghost use Rattle.wire_format.specs.Descriptions.{json_of_kind, json_of_object, json_of_property, json_of_publication, mode_name};
+ghost use Rattle.wire_format.specs.Descriptions.{json_of_declared_property, json_of_functor, json_of_join, json_of_meta, json_of_named_property};
+ghost use Rattle.wire_format.specs.Descriptions.{json_of_object, json_of_property, json_of_publication, json_of_spin, json_of_status};
 
-use crate::shown::{error_name, found_word, truth_word};
-use crate::writing::{push_count, push_name, push_number, push_text};
-use binding_values::BindingError;
-use itoa::Buffer as Digits;
-use plain_types::{ConnectionType, Items, Text};
+use crate::written::{Written, put};
+use plain_types::Text;
 use session_model::{
     CalleeDescription, ClassDescription, ConnectionDescription, DeclaredMethod, DeclaredProperty,
-    FunctorDescription, JoinDescription, ObjectDescription, PropertyDescription,
-    PublicationDescription,
+    FunctorDescription, JoinDescription, MetaObject, NamedProperty, ObjectDescription,
+    PropertyDescription, PublicationDescription, Spin, Status,
 };
-use signature_core::Kind;
 use std::alloc::{AllocError, Global};
-use variant_value::Value;
 
-/// What is written as one piece of JSON.
-pub(crate) trait Written {
-    ghost use Rattle.serde_json.specs.Data.{Data};
+impl Written for MetaObject {
+    ghost json = { json_of_meta };
 
-    ghost json: { Self → Data };
-
-    /// Appends the text.
-    fn push(&self, alloc: Global, buffer: &mut String) -> Result<(), AllocError>
-        ensures { OnOk result (string_bytes buffer.new ≡ string_bytes buffer.old ++ compact_text (json self.now)) };
-}
-
-/// Appends an array.
-pub(crate) fn push_array<T: Written>(
-    alloc: Global,
-    buffer: &mut String,
-    rows: &[T],
-) -> Result<(), AllocError>
-    ensures { OnOk result (string_bytes buffer.new
-        ≡ string_bytes buffer.old ++ compact_text (array_of T.json rows.now)) }
-{
-    buffer.push_str("[")?;
-    for (place, row) in rows.iter().enumerate() {
-        if place > 0 {
-            buffer.push_str(",")?;
-        }
-        row.push(alloc, buffer)?;
-    }
-    buffer.push_str("]")
-}
-
-/// Appends a key and an array. The key is JSON text, with its colon and with the comma or brace before it.
-fn put_array<T: Written>(
-    alloc: Global,
-    buffer: &mut String,
-    key: &str,
-    rows: &Items<T>,
-) -> Result<(), AllocError>
-    ensures { OnOk result (string_bytes buffer.new
-        ≡ string_bytes buffer.old ++ (key.now ++ compact_text (array_of T.json rows.now))) }
-{
-    buffer.push_str(key)?;
-    push_array(alloc, buffer, rows.as_slice())
-}
-
-pub(crate) fn put_text(
-    alloc: Global,
-    buffer: &mut String,
-    key: &str,
-    text: &Text,
-) -> Result<(), AllocError>
-    ensures { OnOk result (string_bytes buffer.new
-        ≡ string_bytes buffer.old ++ (key.now ++ compact_text (string text.now))) }
-{
-    buffer.push_str(key)?;
-    push_text(alloc, buffer, text.as_str())
-}
-
-fn put_name(
-    alloc: Global,
-    buffer: &mut String,
-    key: &str,
-    name: &Option<Text>,
-) -> Result<(), AllocError>
-    ensures { OnOk result (string_bytes buffer.new
-        ≡ string_bytes buffer.old ++ (key.now ++ compact_text (json_of_name name.now))) }
-{
-    buffer.push_str(key)?;
-    push_name(alloc, buffer, name)
-}
-
-pub(crate) fn put_number(buffer: &mut String, key: &str, number: u32) -> Result<(), AllocError>
-    ensures { OnOk result (string_bytes buffer.new
-        ≡ string_bytes buffer.old ++ (key.now ++ compact_text (json_of_number number))) }
-{
-    buffer.push_str(key)?;
-    push_number(buffer, number)
-}
-
-fn put_found(buffer: &mut String, key: &str, found: Option<u32>) -> Result<(), AllocError>
-    ensures { OnOk result (string_bytes buffer.new
-        ≡ string_bytes buffer.old ++ (key.now ++ compact_text (json_of_found found))) }
-{
-    buffer.push_str(key)?;
-    buffer.push_str(found_word(found, &mut Digits::new()))
-}
-
-fn put_truth(buffer: &mut String, key: &str, truth: bool) -> Result<(), AllocError>
-    ensures { OnOk result (string_bytes buffer.new
-        ≡ string_bytes buffer.old ++ (key.now ++ compact_text (boolean truth))) }
-{
-    buffer.push_str(key)?;
-    buffer.push_str(truth_word(truth))
-}
-
-fn put_kind(alloc: Global, buffer: &mut String, key: &str, kind: Kind) -> Result<(), AllocError>
-    ensures { OnOk result (string_bytes buffer.new
-        ≡ string_bytes buffer.old ++ (key.now ++ compact_text (json_of_kind kind))) }
-{
-    buffer.push_str(key)?;
-    push_text(alloc, buffer, kind.name())
-}
-
-fn put_known_kind(
-    alloc: Global,
-    buffer: &mut String,
-    key: &str,
-    kind: Option<Kind>,
-) -> Result<(), AllocError>
-    ensures { OnOk result (string_bytes buffer.new
-        ≡ string_bytes buffer.old ++ (key.now ++ compact_text (json_of_name (option_map kind_name kind)))) }
-{
-    buffer.push_str(key)?;
-    match kind {
-        Some(kind) => push_text(alloc, buffer, kind.name()),
-        None => buffer.push_str("null"),
+    #[inline(never)]
+    fn push(&self, alloc: Global, buffer: &mut String) -> Result<(), AllocError> {
+        put(alloc, buffer, "{\"class\":", &self.class)?;
+        put(alloc, buffer, ",\"methodOffset\":", &self.method_offset)?;
+        put(alloc, buffer, ",\"methods\":", &self.methods)?;
+        put(alloc, buffer, ",\"properties\":", &self.properties)?;
+        put(alloc, buffer, ",\"propertyOffset\":", &self.property_offset)?;
+        put(alloc, buffer, ",\"super\":", &self.superclass)?;
+        buffer.push_str("}")?;
+        Ok(())
     }
 }
 
-fn put_error(
-    alloc: Global,
-    buffer: &mut String,
-    key: &str,
-    error: Option<BindingError>,
-) -> Result<(), AllocError>
-    ensures { OnOk result (string_bytes buffer.new
-        ≡ string_bytes buffer.old ++ (key.now ++ compact_text (json_of_name (option_map error_name error)))) }
-{
-    buffer.push_str(key)?;
-    match error {
-        Some(error) => push_text(alloc, buffer, error_name(error)),
-        None => buffer.push_str("null"),
+impl Written for Spin {
+    ghost json = { json_of_spin };
+
+    #[inline(never)]
+    fn push(&self, alloc: Global, buffer: &mut String) -> Result<(), AllocError> {
+        put(alloc, buffer, "{\"events\":", &self.events)?;
+        put(alloc, buffer, ",\"left\":", &self.left)?;
+        put(alloc, buffer, ",\"lost\":", &self.lost)?;
+        put(alloc, buffer, ",\"mismatched\":", &self.mismatched)?;
+        buffer.push_str("}")?;
+        Ok(())
     }
 }
 
-pub(crate) fn put_value(
-    alloc: Global,
-    buffer: &mut String,
-    key: &str,
-    value: &Value,
-) -> Result<(), AllocError>
-    ensures { OnOk result (string_bytes buffer.new
-        ≡ string_bytes buffer.old ++ (key.now ++ compact_text (json_of value.now))) }
-{
-    buffer.push_str(key)?;
-    push_value(alloc, buffer, value)
-}
+impl Written for Status {
+    ghost json = { json_of_status };
 
-/// Appends a value, which is a word, a number or a text.
-fn push_value(alloc: Global, buffer: &mut String, value: &Value) -> Result<(), AllocError>
-    ensures { OnOk result
-        (string_bytes buffer.new ≡ string_bytes buffer.old ++ compact_text (json_of value.now)) }
-{
-    match value {
-        Value::Invalid => buffer.push_str("null"),
-        Value::Bool(truth) => buffer.push_str(truth_word(*truth)),
-        Value::Int(number) => buffer.push_str(Digits::new().format(*number)),
-        Value::Uint(number) => buffer.push_str(Digits::new().format(*number)),
-        Value::Longlong(number) => buffer.push_str(Digits::new().format(*number)),
-        Value::Ulonglong(number) => buffer.push_str(Digits::new().format(*number)),
-        Value::Text(text) => push_text(alloc, buffer, text.as_str()),
+    #[inline(never)]
+    fn push(&self, alloc: Global, buffer: &mut String) -> Result<(), AllocError> {
+        put(alloc, buffer, "{\"bindings\":", &self.bindings)?;
+        put(alloc, buffer, ",\"connections\":", &self.connections)?;
+        put(alloc, buffer, ",\"group\":", &self.group)?;
+        put(alloc, buffer, ",\"joins\":", &self.joins)?;
+        put(alloc, buffer, ",\"lost\":", &self.lost)?;
+        put(alloc, buffer, ",\"mismatched\":", &self.mismatched)?;
+        put(alloc, buffer, ",\"objects\":", &self.objects)?;
+        put(alloc, buffer, ",\"publications\":", &self.publications)?;
+        put(alloc, buffer, ",\"queued\":", &self.queued)?;
+        buffer.push_str("}")?;
+        Ok(())
     }
 }
 
-fn put_mode(
-    alloc: Global,
-    buffer: &mut String,
-    key: &str,
-    mode: ConnectionType,
-) -> Result<(), AllocError>
-    ensures { OnOk result (string_bytes buffer.new
-        ≡ string_bytes buffer.old ++ (key.now ++ compact_text (string (mode_name mode)))) }
-{
-    buffer.push_str(key)?;
-    push_text(alloc, buffer, mode_name(mode))
-}
-
-/// The name by which a connection's type is asked for.
-fn mode_name(mode: ConnectionType) -> &'static str
-    ensures { result.now ≡ mode_name mode }
-{
-    match mode {
-        ConnectionType::Auto => "auto",
-        ConnectionType::Direct => "direct",
-        ConnectionType::Queued => "queued",
-    }
-}
-
-impl Written for Kind {
-    ghost json = { json_of_kind };
+impl Written for NamedProperty {
+    ghost json = { json_of_named_property };
 
     fn push(&self, alloc: Global, buffer: &mut String) -> Result<(), AllocError> {
-        push_text(alloc, buffer, self.name())
+        put(alloc, buffer, "{\"object\":", &self.object)?;
+        put(alloc, buffer, ",\"property\":", &self.property)?;
+        buffer.push_str("}")?;
+        Ok(())
     }
 }
 
@@ -223,9 +81,9 @@ impl Written for FunctorDescription {
     ghost json = { json_of_functor };
 
     fn push(&self, alloc: Global, buffer: &mut String) -> Result<(), AllocError> {
-        put_text(alloc, buffer, "{\"name\":", &self.name)?;
-        put_truth(buffer, ",\"state\":", self.keeps_state)?;
-        put_array(alloc, buffer, ",\"types\":", &self.kinds)?;
+        put(alloc, buffer, "{\"name\":", &self.name)?;
+        put(alloc, buffer, ",\"state\":", &self.keeps_state)?;
+        put(alloc, buffer, ",\"types\":", &self.kinds)?;
         buffer.push_str("}")?;
         Ok(())
     }
@@ -235,9 +93,9 @@ impl Written for PublicationDescription {
     ghost json = { json_of_publication };
 
     fn push(&self, alloc: Global, buffer: &mut String) -> Result<(), AllocError> {
-        put_text(alloc, buffer, "{\"name\":", &self.name)?;
-        put_number(buffer, ",\"object\":", self.object)?;
-        put_text(alloc, buffer, ",\"signal\":", &self.signal)?;
+        put(alloc, buffer, "{\"name\":", &self.name)?;
+        put(alloc, buffer, ",\"object\":", &self.object)?;
+        put(alloc, buffer, ",\"signal\":", &self.signal)?;
         buffer.push_str("}")?;
         Ok(())
     }
@@ -247,11 +105,11 @@ impl Written for JoinDescription {
     ghost json = { json_of_join };
 
     fn push(&self, alloc: Global, buffer: &mut String) -> Result<(), AllocError> {
-        put_text(alloc, buffer, "{\"from\":", &self.from)?;
-        put_text(alloc, buffer, ",\"method\":", &self.method)?;
-        put_text(alloc, buffer, ",\"name\":", &self.name)?;
-        put_number(buffer, ",\"object\":", self.object)?;
-        put_array(alloc, buffer, ",\"types\":", &self.kinds)?;
+        put(alloc, buffer, "{\"from\":", &self.from)?;
+        put(alloc, buffer, ",\"method\":", &self.method)?;
+        put(alloc, buffer, ",\"name\":", &self.name)?;
+        put(alloc, buffer, ",\"object\":", &self.object)?;
+        put(alloc, buffer, ",\"types\":", &self.kinds)?;
         buffer.push_str("}")?;
         Ok(())
     }
@@ -261,14 +119,19 @@ impl Written for ObjectDescription {
     ghost json = { json_of_object };
 
     fn push(&self, alloc: Global, buffer: &mut String) -> Result<(), AllocError> {
-        put_truth(buffer, "{\"blocked\":", self.blocked)?;
-        push_count(buffer, ",\"children\":", self.children as u64)?;
-        put_text(alloc, buffer, ",\"class\":", &self.class)?;
-        put_number(buffer, ",\"connectionsFrom\":", self.connections_from)?;
-        put_number(buffer, ",\"connectionsTo\":", self.connections_to)?;
-        put_number(buffer, ",\"events\":", self.events)?;
-        push_count(buffer, ",\"level\":", self.level as u64)?;
-        put_found(buffer, ",\"parent\":", self.parent)?;
+        put(alloc, buffer, "{\"blocked\":", &self.blocked)?;
+        put(alloc, buffer, ",\"children\":", &self.children)?;
+        put(alloc, buffer, ",\"class\":", &self.class)?;
+        put(
+            alloc,
+            buffer,
+            ",\"connectionsFrom\":",
+            &self.connections_from,
+        )?;
+        put(alloc, buffer, ",\"connectionsTo\":", &self.connections_to)?;
+        put(alloc, buffer, ",\"events\":", &self.events)?;
+        put(alloc, buffer, ",\"level\":", &self.level)?;
+        put(alloc, buffer, ",\"parent\":", &self.parent)?;
         buffer.push_str("}")?;
         Ok(())
     }
@@ -278,11 +141,11 @@ impl Written for DeclaredProperty {
     ghost json = { json_of_declared_property };
 
     fn push(&self, alloc: Global, buffer: &mut String) -> Result<(), AllocError> {
-        put_truth(buffer, "{\"bindable\":", self.bindable)?;
-        put_text(alloc, buffer, ",\"class\":", &self.class)?;
-        put_text(alloc, buffer, ",\"name\":", &self.name)?;
-        put_name(alloc, buffer, ",\"notify\":", &self.notify)?;
-        put_kind(alloc, buffer, ",\"type\":", self.kind)?;
+        put(alloc, buffer, "{\"bindable\":", &self.bindable)?;
+        put(alloc, buffer, ",\"class\":", &self.class)?;
+        put(alloc, buffer, ",\"name\":", &self.name)?;
+        put(alloc, buffer, ",\"notify\":", &self.notify)?;
+        put(alloc, buffer, ",\"type\":", &self.kind)?;
         buffer.push_str("}")?;
         Ok(())
     }
@@ -292,9 +155,9 @@ impl Written for DeclaredMethod {
     ghost json = { json_of_declared_method };
 
     fn push(&self, alloc: Global, buffer: &mut String) -> Result<(), AllocError> {
-        put_text(alloc, buffer, "{\"class\":", &self.class)?;
-        put_text(alloc, buffer, ",\"signature\":", &self.signature)?;
-        put_array(alloc, buffer, ",\"types\":", &self.kinds)?;
+        put(alloc, buffer, "{\"class\":", &self.class)?;
+        put(alloc, buffer, ",\"signature\":", &self.signature)?;
+        put(alloc, buffer, ",\"types\":", &self.kinds)?;
         buffer.push_str("}")?;
         Ok(())
     }
@@ -304,11 +167,11 @@ impl Written for ClassDescription {
     ghost json = { json_of_class };
 
     fn push(&self, alloc: Global, buffer: &mut String) -> Result<(), AllocError> {
-        put_text(alloc, buffer, "{\"class\":", &self.class)?;
-        put_array(alloc, buffer, ",\"properties\":", &self.properties)?;
-        put_array(alloc, buffer, ",\"signals\":", &self.signals)?;
-        put_array(alloc, buffer, ",\"slots\":", &self.slots)?;
-        put_name(alloc, buffer, ",\"super\":", &self.superclass)?;
+        put(alloc, buffer, "{\"class\":", &self.class)?;
+        put(alloc, buffer, ",\"properties\":", &self.properties)?;
+        put(alloc, buffer, ",\"signals\":", &self.signals)?;
+        put(alloc, buffer, ",\"slots\":", &self.slots)?;
+        put(alloc, buffer, ",\"super\":", &self.superclass)?;
         buffer.push_str("}")?;
         Ok(())
     }
@@ -331,13 +194,13 @@ impl Written for PropertyDescription {
     ghost json = { json_of_property };
 
     fn push(&self, alloc: Global, buffer: &mut String) -> Result<(), AllocError> {
-        put_truth(buffer, "{\"bindable\":", self.bindable)?;
-        put_truth(buffer, ",\"bound\":", self.bound)?;
-        put_error(alloc, buffer, ",\"error\":", self.error)?;
-        put_text(alloc, buffer, ",\"name\":", &self.name)?;
-        put_name(alloc, buffer, ",\"notify\":", &self.notify)?;
-        put_known_kind(alloc, buffer, ",\"type\":", self.kind)?;
-        put_value(alloc, buffer, ",\"value\":", &self.value)?;
+        put(alloc, buffer, "{\"bindable\":", &self.bindable)?;
+        put(alloc, buffer, ",\"bound\":", &self.bound)?;
+        put(alloc, buffer, ",\"error\":", &self.error)?;
+        put(alloc, buffer, ",\"name\":", &self.name)?;
+        put(alloc, buffer, ",\"notify\":", &self.notify)?;
+        put(alloc, buffer, ",\"type\":", &self.kind)?;
+        put(alloc, buffer, ",\"value\":", &self.value)?;
         buffer.push_str("}")?;
         Ok(())
     }
@@ -353,13 +216,13 @@ fn push_to_method(
     ensures { OnOk result (string_bytes buffer.new
         ≡ string_bytes buffer.old ++ compact_text (json_of_connection_to row.now (Method method.now))) }
 {
-    put_number(buffer, "{\"connection\":", row.number)?;
-    put_text(alloc, buffer, ",\"method\":", method)?;
-    put_number(buffer, ",\"receiver\":", row.receiver)?;
-    put_number(buffer, ",\"sender\":", row.sender)?;
-    put_text(alloc, buffer, ",\"signal\":", &row.signal)?;
-    put_truth(buffer, ",\"single\":", row.single)?;
-    put_mode(alloc, buffer, ",\"type\":", row.mode)?;
+    put(alloc, buffer, "{\"connection\":", &row.number)?;
+    put(alloc, buffer, ",\"method\":", method)?;
+    put(alloc, buffer, ",\"receiver\":", &row.receiver)?;
+    put(alloc, buffer, ",\"sender\":", &row.sender)?;
+    put(alloc, buffer, ",\"signal\":", &row.signal)?;
+    put(alloc, buffer, ",\"single\":", &row.single)?;
+    put(alloc, buffer, ",\"type\":", &row.mode)?;
     buffer.push_str("}")?;
     Ok(())
 }
@@ -375,14 +238,14 @@ fn push_to_functor(
     ensures { OnOk result (string_bytes buffer.new
         ≡ string_bytes buffer.old ++ compact_text (json_of_connection_to row.now (Functor functor.now state))) }
 {
-    put_number(buffer, "{\"connection\":", row.number)?;
-    put_number(buffer, ",\"context\":", row.receiver)?;
-    put_text(alloc, buffer, ",\"functor\":", functor)?;
-    put_number(buffer, ",\"sender\":", row.sender)?;
-    put_text(alloc, buffer, ",\"signal\":", &row.signal)?;
-    put_truth(buffer, ",\"single\":", row.single)?;
-    push_count(buffer, ",\"state\":", state)?;
-    put_mode(alloc, buffer, ",\"type\":", row.mode)?;
+    put(alloc, buffer, "{\"connection\":", &row.number)?;
+    put(alloc, buffer, ",\"context\":", &row.receiver)?;
+    put(alloc, buffer, ",\"functor\":", functor)?;
+    put(alloc, buffer, ",\"sender\":", &row.sender)?;
+    put(alloc, buffer, ",\"signal\":", &row.signal)?;
+    put(alloc, buffer, ",\"single\":", &row.single)?;
+    put(alloc, buffer, ",\"state\":", &state)?;
+    put(alloc, buffer, ",\"type\":", &row.mode)?;
     buffer.push_str("}")?;
     Ok(())
 }

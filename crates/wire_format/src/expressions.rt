@@ -1,28 +1,17 @@
 //! An expression is written as what it is read from, in its shortest form.
+#![tactic(auto, unfolding(serde_json::proofs::OnLiterals::serde_json_on_literals))]
+
 ghost use Rattle.std.specs.Prelude.{◌≡◌, ◌++◌, OnOk, codes, string_bytes};
 ghost use Rattle.serde_json.specs.Data.{string};
 ghost use Rattle.serde_json.specs.Written.{compact_text};
 ghost use Rattle.term_core.specs.Term.{arg, binary, choice, const, state};
-ghost use Rattle.wire_format.specs.Terms.{json_of_read, json_of_named_property, json_of_term, operator_key};
+ghost use Rattle.wire_format.specs.Terms.{json_of_read, json_of_term, operator_key};
 
-use crate::descriptions::{Written, put_number, put_text, put_value};
-use crate::writing::push_count;
+use crate::written::put;
 use plain_types::Text;
-use session_model::NamedProperty;
 use std::alloc::{AllocError, Global};
 use term_core::{Expr, Node, Operator, Target};
 use variant_value::Value;
-
-impl Written for NamedProperty {
-    ghost json = { json_of_named_property };
-
-    fn push(&self, alloc: Global, buffer: &mut String) -> Result<(), AllocError> {
-        put_number(buffer, "{\"object\":", self.object)?;
-        put_text(alloc, buffer, ",\"property\":", &self.property)?;
-        buffer.push_str("}")?;
-        Ok(())
-    }
-}
 
 /// Appends an expression.
 #[cycle(expressions)]
@@ -36,7 +25,7 @@ pub(crate) fn push_expression(
 {
     match &expr.node {
         Node::Const(value) => push_constant(alloc, buffer, value),
-        Node::Arg(place) => push_argument(buffer, *place),
+        Node::Arg(place) => push_argument(alloc, buffer, *place),
         Node::State => push_state(buffer),
         Node::Prop(target, name) => push_property(alloc, buffer, target, name),
         Node::Binary(operator, a, b) => push_binary(alloc, buffer, *operator, a, b),
@@ -48,16 +37,16 @@ fn push_constant(alloc: Global, buffer: &mut String, value: &Value) -> Result<()
     ensures { OnOk result (string_bytes buffer.new
         ≡ string_bytes buffer.old ++ compact_text (json_of_term (const value.now))) }
 {
-    put_value(alloc, buffer, "{\"const\":", value)?;
+    put(alloc, buffer, "{\"const\":", value)?;
     buffer.push_str("}")?;
     Ok(())
 }
 
-fn push_argument(buffer: &mut String, place: usize) -> Result<(), AllocError>
+fn push_argument(alloc: Global, buffer: &mut String, place: usize) -> Result<(), AllocError>
     ensures { OnOk result (string_bytes buffer.new
         ≡ string_bytes buffer.old ++ compact_text (json_of_term (arg place))) }
 {
-    push_count(buffer, "{\"arg\":", place as u64)?;
+    put(alloc, buffer, "{\"arg\":", &place)?;
     buffer.push_str("}")?;
     Ok(())
 }
@@ -82,21 +71,21 @@ fn push_property(
 {
     match target {
         Target::Itself => {
-            put_text(alloc, buffer, "{\"prop\":", name)?;
+            put(alloc, buffer, "{\"prop\":", name)?;
             buffer.push_str("}")?;
         }
         Target::Sender => {
-            put_text(alloc, buffer, "{\"of\":\"sender\",\"prop\":", name)?;
+            put(alloc, buffer, "{\"of\":\"sender\",\"prop\":", name)?;
             buffer.push_str("}")?;
         }
         Target::Child(child) => {
-            put_text(alloc, buffer, "{\"of\":{\"child\":", child)?;
-            put_text(alloc, buffer, "},\"prop\":", name)?;
+            put(alloc, buffer, "{\"of\":{\"child\":", child)?;
+            put(alloc, buffer, "},\"prop\":", name)?;
             buffer.push_str("}")?;
         }
         Target::Object(number) => {
-            put_number(buffer, "{\"of\":", *number)?;
-            put_text(alloc, buffer, ",\"prop\":", name)?;
+            put(alloc, buffer, "{\"of\":", number)?;
+            put(alloc, buffer, ",\"prop\":", name)?;
             buffer.push_str("}")?;
         }
     }

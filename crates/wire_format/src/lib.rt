@@ -17,6 +17,7 @@ mod shown;
 mod traits;
 mod whole;
 mod writing;
+mod written;
 
 pub use adapter::Counted;
 pub use calls::{CALL_BYTES, call_text};

@@ -1,11 +1,12 @@
 //! An answer is written as a word, a number or a text.
-ghost use Rattle.std.specs.Prelude.{◌≡◌, IsTrue, option_map};
+ghost use Rattle.std.specs.Prelude.{◌≡◌, IsTrue};
 ghost use Rattle.serde_json.specs.Data.{boolean};
 ghost use Rattle.serde_json.specs.Written.{compact_text};
 ghost use Rattle.variant_value.specs.Values.{json_of};
 ghost use Rattle.wire_format.specs.Parts.{is_plain_answer, is_plain_value};
 ghost use Rattle.wire_format.specs.Shown.{is_plain_shown, text_of_shown};
-ghost use Rattle.wire_format.specs.Text.{error_name, json_of_answer, json_of_found, json_of_name};
+ghost use Rattle.wire_format.specs.Json.{error_name, json_of_error, json_of_number, json_or_null};
+ghost use Rattle.wire_format.specs.Text.{json_of_answer};
 
 use binding_values::BindingError;
 use itoa::Buffer as Digits;
@@ -94,7 +95,7 @@ pub(crate) fn truth_word(truth: bool) -> &'static str
 
 /// A number, or `null` for `None`.
 pub(crate) fn found_word<'a>(found: Option<u32>, digits: &'a mut Digits) -> &'a str
-    ensures { result.now ≡ compact_text (json_of_found found) }
+    ensures { result.now ≡ compact_text (json_or_null json_of_number found) }
 {
     match found {
         Some(number) => digits.format(number),
@@ -105,7 +106,7 @@ pub(crate) fn found_word<'a>(found: Option<u32>, digits: &'a mut Digits) -> &'a 
 /// The name of an error, or `null` for `None`.
 #[tactic(auto, using(crate::proofs::Plain::error_is_plain))]
 fn shown_error<'a>(error: Option<BindingError>) -> Shown<'a>
-    ensures text { text_of_shown result ≡ compact_text (json_of_name (option_map error_name error)) }
+    ensures text { text_of_shown result ≡ compact_text (json_or_null json_of_error error) }
     ensures plain { IsTrue (is_plain_shown result) }
 {
     match error {

@@ -5,17 +5,17 @@ ghost use Rattle.serde_json.specs.Data.{string};
 ghost use Rattle.serde_json.specs.Written.{compact_text};
 ghost use Rattle.variant_value.specs.Values.{json_of};
 ghost use Rattle.wire_format.specs.Shown.{text_of_shown};
-ghost use Rattle.wire_format.specs.Text.{array_of, error_name, json_of_meta, json_of_name, json_of_number};
-ghost use Rattle.wire_format.specs.Text.{json_of_spin, json_of_status, text_of_line, is_plain_byte};
+ghost use Rattle.wire_format.specs.Json.{array_of};
+ghost use Rattle.wire_format.specs.Text.{is_plain_byte, text_of_line};
 
-use crate::descriptions::{Written, push_array};
 use crate::expressions::push_expression;
-use crate::shown::{Shown, error_name, shown_as, shown_value};
+use crate::shown::{Shown, shown_as};
+use crate::written::{Written, push_array, push_elements, put};
 use binding_values::BindingError;
 use itoa::Buffer as Digits;
 use json::Writer;
 use plain_types::{Code, Text};
-use session_model::{Answer, Call, Line, MetaObject, Spin, Status};
+use session_model::{Answer, Call, Line};
 use std::alloc::{AllocError, Global};
 use std::mem;
 use variant_value::Value;
@@ -68,7 +68,7 @@ fn push_line(
             object,
             property,
             error,
-        } => push_binding_warning(alloc, buffer, session, *object, property.as_str(), *error),
+        } => push_binding_warning(alloc, buffer, session, *object, property, *error),
     }
 }
 
@@ -96,8 +96,7 @@ fn push_error(
     ensures { OnOk result (string_bytes buffer.new
         ≡ string_bytes buffer.old ++ text_of_line session.now (Line.Error code)) }
 {
-    buffer.push_str("{\"error\":")?;
-    push_text(alloc, buffer, code.text())?;
+    put(alloc, buffer, "{\"error\":", &code)?;
     push_session(alloc, buffer, session)?;
     Ok(())
 }
@@ -113,9 +112,8 @@ fn push_call(
 {
     push_args(alloc, buffer, call.args.as_slice())?;
     push_method(alloc, buffer, call.method.as_str())?;
-    push_number(buffer, call.object)?;
-    buffer.push_str(",\"sender\":")?;
-    push_number(buffer, call.sender)?;
+    call.object.push(alloc, buffer)?;
+    put(alloc, buffer, ",\"sender\":", &call.sender)?;
     push_session(alloc, buffer, session)?;
     Ok(())
 }
@@ -126,13 +124,7 @@ fn push_args(alloc: Global, buffer: &mut String, args: &[Value]) -> Result<(), A
         ++ (codes "{\"args\":" ++ compact_text (array_of json_of args.now))) }
 {
     buffer.push_str("{\"args\":[")?;
-    for (place, value) in args.iter().enumerate() {
-        if place > 0 {
-            buffer.push_str(",")?;
-        }
-        push_shown(alloc, buffer, shown_value(value, &mut Digits::new()))?;
-    }
-    buffer.push_str("]")
+    push_elements(alloc, buffer, args)
 }
 
 /// Appends the slot or the functor, up to the number of the object.
@@ -163,15 +155,16 @@ fn push_warning(
         ≡ string_bytes buffer.old ++ text_of_line session.now (Line.Warning code object)) }
 {
     match object {
-        Some(object) => {
-            buffer.push_str("{\"object\":")?;
-            push_number(buffer, object)?;
-            buffer.push_str(",\"session\":")?;
+        None => {
+            push_warned(alloc, buffer, "{\"session\":", session, &code)?;
+            Ok(())
         }
-        None => buffer.push_str("{\"session\":")?,
+        Some(object) => {
+            put(alloc, buffer, "{\"object\":", &object)?;
+            push_warned(alloc, buffer, ",\"session\":", session, &code)?;
+            Ok(())
+        }
     }
-    push_warned(alloc, buffer, session, code.text())?;
-    Ok(())
 }
 
 fn push_binding_warning(
@@ -179,34 +172,32 @@ fn push_binding_warning(
     buffer: &mut String,
     session: &str,
     object: u32,
-    property: &str,
+    property: &Text,
     error: BindingError,
 ) -> Result<(), AllocError>
     ensures { OnOk result (string_bytes buffer.new
         ≡ string_bytes buffer.old ++ text_of_line session.now (Line.BindingWarning object property.now error)) }
 {
-    buffer.push_str("{\"object\":")?;
-    push_number(buffer, object)?;
-    buffer.push_str(",\"property\":")?;
-    push_text(alloc, buffer, property)?;
-    buffer.push_str(",\"session\":")?;
-    push_warned(alloc, buffer, session, error_name(error))?;
+    put(alloc, buffer, "{\"object\":", &object)?;
+    put(alloc, buffer, ",\"property\":", property)?;
+    push_warned(alloc, buffer, ",\"session\":", session, &error)?;
     Ok(())
 }
 
-/// Appends the session of a warning, what it warns of as its last member, and the line's end.
-fn push_warned(
+/// Appends the session of a warning after its key, what it warns of as its last member, and the line's end.
+fn push_warned<T: Written>(
     alloc: Global,
     buffer: &mut String,
+    key: &str,
     session: &str,
-    word: &str,
+    warning: &T,
 ) -> Result<(), AllocError>
-    ensures { OnOk result (string_bytes buffer.new ≡ string_bytes buffer.old
-        ++ (compact_text (string session.now) ++ (codes ",\"warning\":" ++ (compact_text (string word.now) ++ codes "}\n")))) }
+    ensures { OnOk result (string_bytes buffer.new ≡ string_bytes buffer.old ++ (key.now
+        ++ (compact_text (string session.now) ++ (codes ",\"warning\":" ++ (compact_text (T.json warning.now) ++ codes "}\n"))))) }
 {
+    buffer.push_str(key)?;
     push_text(alloc, buffer, session)?;
-    buffer.push_str(",\"warning\":")?;
-    push_text(alloc, buffer, word)?;
+    put(alloc, buffer, ",\"warning\":", warning)?;
     buffer.push_str("}\n")?;
     Ok(())
 }
@@ -237,11 +228,11 @@ fn push_shown(alloc: Global, buffer: &mut String, shown: Shown<'_>) -> Result<()
     match shown {
         Shown::Word(word) => buffer.push_str(word),
         Shown::Text(text) => push_text(alloc, buffer, text),
-        Shown::Numbers(numbers) => push_numbers(buffer, numbers),
-        Shown::Names(names) => push_texts(alloc, buffer, names),
-        Shown::Meta(meta) => push_meta(alloc, buffer, meta),
-        Shown::Spun(spin) => push_spin(buffer, spin),
-        Shown::Status(status) => push_status(buffer, status),
+        Shown::Numbers(numbers) => push_array(alloc, buffer, numbers),
+        Shown::Names(names) => push_array(alloc, buffer, names),
+        Shown::Meta(meta) => meta.push(alloc, buffer),
+        Shown::Spun(spin) => spin.push(alloc, buffer),
+        Shown::Status(status) => status.push(alloc, buffer),
         Shown::Functors(functors) => push_array(alloc, buffer, functors),
         Shown::Publications(publications) => push_array(alloc, buffer, publications),
         Shown::Joins(joins) => push_array(alloc, buffer, joins),
@@ -252,124 +243,6 @@ fn push_shown(alloc: Global, buffer: &mut String, shown: Shown<'_>) -> Result<()
         Shown::Bindings(bindings) => push_array(alloc, buffer, bindings),
         Shown::Expression(expr) => push_expression(alloc, buffer, expr),
     }
-}
-
-/// Appends what there is in a class.
-#[inline(never)]
-fn push_meta(alloc: Global, buffer: &mut String, meta: &MetaObject) -> Result<(), AllocError>
-    ensures { OnOk result (string_bytes buffer.new
-        ≡ string_bytes buffer.old ++ compact_text (json_of_meta meta.now)) }
-{
-    buffer.push_str("{\"class\":")?;
-    push_text(alloc, buffer, meta.class.as_str())?;
-    buffer.push_str(",\"methodOffset\":")?;
-    push_number(buffer, meta.method_offset)?;
-    buffer.push_str(",\"methods\":")?;
-    push_texts(alloc, buffer, meta.methods.as_slice())?;
-    buffer.push_str(",\"properties\":")?;
-    push_texts(alloc, buffer, meta.properties.as_slice())?;
-    buffer.push_str(",\"propertyOffset\":")?;
-    push_number(buffer, meta.property_offset)?;
-    buffer.push_str(",\"super\":")?;
-    push_name(alloc, buffer, &meta.superclass)?;
-    buffer.push_str("}")?;
-    Ok(())
-}
-
-/// Appends what came of taking events.
-#[inline(never)]
-fn push_spin(buffer: &mut String, spin: &Spin) -> Result<(), AllocError>
-    ensures { OnOk result (string_bytes buffer.new
-        ≡ string_bytes buffer.old ++ compact_text (json_of_spin spin.now)) }
-{
-    push_count(buffer, "{\"events\":", u64::from(spin.events))?;
-    push_count(buffer, ",\"left\":", u64::from(spin.left))?;
-    push_count(buffer, ",\"lost\":", spin.lost)?;
-    push_count(buffer, ",\"mismatched\":", spin.mismatched)?;
-    buffer.push_str("}")?;
-    Ok(())
-}
-
-/// Appends how much there is in a session.
-#[inline(never)]
-fn push_status(buffer: &mut String, status: &Status) -> Result<(), AllocError>
-    ensures { OnOk result (string_bytes buffer.new
-        ≡ string_bytes buffer.old ++ compact_text (json_of_status status.now)) }
-{
-    push_count(buffer, "{\"bindings\":", u64::from(status.bindings))?;
-    push_count(buffer, ",\"connections\":", u64::from(status.connections))?;
-    push_count(buffer, ",\"group\":", u64::from(status.group))?;
-    push_count(buffer, ",\"joins\":", u64::from(status.joins))?;
-    push_count(buffer, ",\"lost\":", status.lost)?;
-    push_count(buffer, ",\"mismatched\":", status.mismatched)?;
-    push_count(buffer, ",\"objects\":", u64::from(status.objects))?;
-    let publications = ",\"publications\":";
-    push_count(buffer, publications, u64::from(status.publications))?;
-    push_count(buffer, ",\"queued\":", u64::from(status.queued))?;
-    buffer.push_str("}")?;
-    Ok(())
-}
-
-/// Appends a key and a number. The key is JSON text, with its colon and with the comma or brace before it.
-pub(crate) fn push_count(buffer: &mut String, key: &str, number: u64) -> Result<(), AllocError>
-    ensures { OnOk result (string_bytes buffer.new
-        ≡ string_bytes buffer.old ++ (key.now ++ compact_text (json_of_number number))) }
-{
-    buffer.push_str(key)?;
-    buffer.push_str(Digits::new().format(number))
-}
-
-#[inline(always)]
-pub(crate) fn push_number(buffer: &mut String, number: u32) -> Result<(), AllocError>
-    ensures { OnOk result (string_bytes buffer.new
-        ≡ string_bytes buffer.old ++ compact_text (json_of_number number)) }
-{
-    buffer.push_str(Digits::new().format(number))
-}
-
-/// Appends numbers as an array.
-fn push_numbers(buffer: &mut String, numbers: &[u32]) -> Result<(), AllocError>
-    ensures { OnOk result (string_bytes buffer.new
-        ≡ string_bytes buffer.old ++ compact_text (array_of json_of_number numbers.now)) }
-{
-    buffer.push_str("[")?;
-    for (place, number) in numbers.iter().enumerate() {
-        if place != 0 {
-            buffer.push_str(",")?;
-        }
-        push_number(buffer, *number)?;
-    }
-    buffer.push_str("]")
-}
-
-/// Appends a name, or `null` for `None`.
-pub(crate) fn push_name(
-    alloc: Global,
-    buffer: &mut String,
-    name: &Option<Text>,
-) -> Result<(), AllocError>
-    ensures { OnOk result (string_bytes buffer.new
-        ≡ string_bytes buffer.old ++ compact_text (json_of_name name.now)) }
-{
-    match name {
-        Some(name) => push_text(alloc, buffer, name.as_str()),
-        None => buffer.push_str("null"),
-    }
-}
-
-/// Appends texts as an array.
-fn push_texts(alloc: Global, buffer: &mut String, texts: &[Text]) -> Result<(), AllocError>
-    ensures { OnOk result (string_bytes buffer.new
-        ≡ string_bytes buffer.old ++ compact_text (array_of string texts.now)) }
-{
-    buffer.push_str("[")?;
-    for (place, text) in texts.iter().enumerate() {
-        if place > 0 {
-            buffer.push_str(",")?;
-        }
-        push_text(alloc, buffer, text.as_str())?;
-    }
-    buffer.push_str("]")
 }
 
 /// Appends a text between quotes, with what JSON escapes in it.

@@ -1,15 +1,15 @@
 use Rattle.std.proofs.Common.{◌≡◌, [], ◌∷◌, length, map, Some, sym, ap, ◌∙◌, append_assoc, arith}
 use Rattle.json.specs.Token.{begin_array, begin_object, end_array}
-use Rattle.json.specs.Json.{members, parse_map, value}
+use Rattle.json.specs.Json.{parse_map, value}
 use Rattle.json.specs.Reads.{token_of}
-use Rattle.json.proofs.Grammar.{value_is, value-begin_object}
+use Rattle.json.proofs.Grammar.{value_is}
 use Rattle.serde_json.specs.Data.{object}
 use Rattle.serde_json.specs.Read.{converted, of_json}
 use Rattle.serde_json.specs.View.{view}
 use Rattle.json_reading.specs.declared.field.Field.TheVariants as field
 use Rattle.json_reading.specs.Spelling.{scalar_token}
 use Rattle.json_reading.proofs.Grammar.{field_turn, no_list, scalar_turn}
-use Rattle.json_reading.proofs.Reading.{converted-object}
+use Rattle.json_reading.proofs.Reading.{object_begun}
 use Rattle.json_reading.proofs.token.token_field.Goals as goal
 
 pub returns-in_err-token-clause-not_json : goal.returns-in_err-token-clause-not_json
@@ -34,15 +34,13 @@ returns-in_ok-token_items-in-BeginArray-clause-ok c =
 pub returns-in_err-members-in-BeginObject-clause-not_json : goal.returns-in_err-members-in-BeginObject-clause-not_json
 returns-in_err-members-in-BeginObject-clause-not_json c = λ refused.
     let first : c.args.reader.now ≡ begin_object ∷ c.next.new.self = grind arith in
-    ap (converted of_json) (ap (value 126) first ∙ value-begin_object 126 c.next.new.self (omega arith))
-    ∙ converted-object (members (value 125) (length c.next.new.self) c.next.new.self) ∙ ap (parse_map object) (c.read_members.ensures.not_json (grind arith))
+    object_begun 126 c.args.reader.now c.next.new.self (omega arith) first ∙ ap (parse_map object) (c.read_members.ensures.not_json (grind arith))
 
 pub returns-in_ok-new-in-BeginObject-clause-ok : goal.returns-in_ok-new-in-BeginObject-clause-ok
 returns-in_ok-new-in-BeginObject-clause-ok c =
     let first : c.args.reader.now ≡ begin_object ∷ c.next.new.self = grind arith in
     let owned = ap (λ own. view own.json) c.in_ok-new-in-BeginObject.ensures.ok ∙ c.object.ensures in
-    ap (converted of_json) (ap (value 126) first ∙ value-begin_object 126 c.next.new.self (omega arith))
-    ∙ converted-object (members (value 125) (length c.next.new.self) c.next.new.self) ∙ ap (parse_map object) c.in_ok-members-in-BeginObject.ensures.ok
+    object_begun 126 c.args.reader.now c.next.new.self (omega arith) first ∙ ap (parse_map object) c.in_ok-members-in-BeginObject.ensures.ok
     ∙ ap (λ json. Some (json, c.read_members.new.reader)) (sym owned)
 
 pub returns-in_ok-token_scalar-in_default : goal.returns-in_ok-token_scalar-in_default

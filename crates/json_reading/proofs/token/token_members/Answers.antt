@@ -17,7 +17,8 @@ returns-in-None-next-clause-ok c =
     let opening : all ≡ begin_object ∷ c.next.new.self = grind arith in
     let nothing : c.rest_of_members.new.reader ≡ [] = grind arith in
     whole_read (value 127 all) (object (members_in ms))
-    (object_begun all c.next.new.self opening ∙ ap (parse_map object) c.in_ok-found.ensures.ok ∙ ap (λ rest. Some (object (members_in ms), rest)) nothing)
+    (object_begun 127 all c.next.new.self (omega arith) opening ∙ ap (parse_map object) c.in_ok-found.ensures.ok
+    ∙ ap (λ rest. Some (object (members_in ms), rest)) nothing)
 
 pub returns-in-Some-Bad-clause-not_json : goal.returns-in-Some-Bad-clause-not_json
 returns-in-Some-Bad-clause-not_json c = λ refused.
@@ -35,7 +36,8 @@ pub returns-in_err-found-clause-not_json : goal.returns-in_err-found-clause-not_
 returns-in_err-found-clause-not_json c = λ refused.
     let all = tokens c.args.text.now in
     let opening : all ≡ begin_object ∷ c.next.new.self = grind arith in
-    whole_refused (value 127 all) (object_begun all c.next.new.self opening ∙ ap (parse_map object) (c.rest_of_members.ensures.not_json (grind arith)))
+    whole_refused (value 127 all) (object_begun 127 all c.next.new.self (omega arith) opening
+    ∙ ap (parse_map object) (c.rest_of_members.ensures.not_json (grind arith)))
 
 pub returns-clause-not_json : goal.returns-clause-not_json
 returns-clause-not_json c = λ refused.
@@ -44,4 +46,5 @@ returns-clause-not_json c = λ refused.
     let opening : all ≡ begin_object ∷ c.next.new.self = grind arith in
     let more : c.rest_of_members.new.reader ≡ token_of c.in-Some-next.field-0 ∷ c.next-2.new.self = grind arith in
     whole_and_more (value 127 all) (object (members_in ms)) (token_of c.in-Some-next.field-0) c.next-2.new.self
-    (object_begun all c.next.new.self opening ∙ ap (parse_map object) c.in_ok-found.ensures.ok ∙ ap (λ rest. Some (object (members_in ms), rest)) more)
+    (object_begun 127 all c.next.new.self (omega arith) opening ∙ ap (parse_map object) c.in_ok-found.ensures.ok
+    ∙ ap (λ rest. Some (object (members_in ms), rest)) more)

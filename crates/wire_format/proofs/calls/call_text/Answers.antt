@@ -4,7 +4,8 @@ use Rattle.std.specs.Prelude.{IfSome}
 use Rattle.serde_json.specs.Written.{compact_text}
 use Rattle.variant_value.specs.Values.{json_of}
 use Rattle.json.proofs.Printed.Places.{Placed-then}
-use Rattle.wire_format.specs.Text.{array_of, is_plain_byte, text_of_line}
+use Rattle.wire_format.specs.Json.{array_of}
+use Rattle.wire_format.specs.Text.{is_plain_byte, text_of_line}
 use Rattle.wire_format.proofs.LineTexts.{text_of_call}
 use Rattle.wire_format.proofs.calls.call_text.Goals as goal
 

@@ -1,11 +1,6 @@
-use Rattle.std.proofs.Common.{◌++◌, ◌∙◌, codes, string_bytes, sym, ap}
-use Rattle.wire_format.proofs.DescriptionTexts.{key_behind, declared_method_text}
+use Rattle.serde_json.proofs.OnLiterals.{serde_json_on_literals}
 use Rattle.wire_format.proofs.descriptions.DeclaredMethodWritten.push.Goals as goal
 
 pub returns : goal.returns
-returns c =
-    key_behind _ _ _ _ _ (codes "{\"class\":") c.in_ok-put_text.ensures
-    (key_behind _ _ _ _ _ (codes ",\"signature\":") c.in_ok-put_text-2.ensures
-    (key_behind _ _ _ _ _ (codes ",\"types\":") c.in_ok-put_array.ensures
-    c.in_ok-push_str.ensures.bytes))
-    ∙ ap (λ text. string_bytes c.args.buffer.now ++ text) (sym (declared_method_text c.args.self.now))
+unfolding serde_json_on_literals
+returns c = rw (c.in_ok-push_str.ensures.bytes, c.in_ok-put-3.ensures.before, c.in_ok-put-2.ensures.before, c.in_ok-put.ensures.before)

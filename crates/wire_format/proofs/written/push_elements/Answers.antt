@@ -1,6 +1,6 @@
 use Rattle.std.proofs.Common.{arith}
 use Rattle.std.proofs.lemmas.Grind.{common_steps}
-use Rattle.wire_format.proofs.descriptions.push_array.Goals as goal
+use Rattle.wire_format.proofs.written.push_elements.Goals as goal
 
 pub loop-place-init : goal.loop-place-init
 loop-place-init g c = grind (arith, common_steps)
