@@ -17,10 +17,6 @@ from dataclasses import dataclass
 from pathlib import Path
 
 MOST_CLAUSES = 8
-# Calls over two tables side by side, which say of each what they require and leave: none may grow, and none join them.
-LONGER = {
-    "session_tables": {"bind": 9},
-}
 MOST_IN_CRATE = 1_500
 MOST_IN_FILE = 800
 MOST_IN_LINE = 160
@@ -124,9 +120,8 @@ class Crate:
         for place in self.long_lines:
             yield f"{place} has more than {MOST_IN_LINE} characters"
         for function in self.functions:
-            most = LONGER.get(self.name, {}).get(function.name, MOST_CLAUSES)
-            if function.clauses > most:
-                yield f"{function.name} has {function.clauses} clauses; at most {most}"
+            if function.clauses > MOST_CLAUSES:
+                yield f"{function.name} has {function.clauses} clauses; at most {MOST_CLAUSES}"
         if self.edits > MOST_FOR_FUNCTION * self.public:
             yield f"{self.edits} edits for {self.public} public functions; at most {MOST_FOR_FUNCTION} for each"
 

@@ -17,7 +17,7 @@ use Rattle.session_model.specs.Showing.{changes}
 use Rattle.session_tables.specs.declared.tables.Tables.{Tables}
 use Rattle.session_tables.specs.Bound.{BoundShelves, seen_of, with_bound}
 use Rattle.session_tables.specs.Named.{Tells}
-use Rattle.session_tables.specs.Tables.{ChangesOnly, IsPlaced, state_at, with_state}
+use Rattle.session_tables.specs.Tables.{ChangesOnly, IsPlaced, KeepsOthers, state_at, with_state}
 use Rattle.binding_graph.specs.declared.write_changes.WriteChanges.{WriteChanges}
 use Rattle.session_tables.specs.Told.{told_at}
 use Rattle.session_tables.proofs.BoundLemmas.{graph_there, only_here, put_state, shelf_there, told_here}
@@ -77,26 +77,28 @@ module _ {forests : Table Forest} {connections : Table Rows} {queues : Table Que
 
     -- nothing else has changed
     pub changes_there : new.layouts ≡ stores.layouts → ChangesAt [] place stores.table new.table → ChangesAt no_graph place bindings.graphs after.graphs
-        → ChangesOnly place tables (of_columns forests (seen_of new after) connections queues desks failed)
-    changes_there layouts shelves graphs =
-        subst (λ (tables : Tables). ChangesOnly place tables (of_columns forests (seen_of new after) connections queues desks failed)) view_is
-        (only_here old place stores bindings refl there (seen_of new after) (changes_seen stores new bindings after place layouts shelves graphs))
+        → KeepsOthers place tables (of_columns forests (seen_of new after) connections queues desks failed)
+    changes_there layouts shelves graphs = record {
+      only = subst (λ (tables : Tables). ChangesOnly place tables (of_columns forests (seen_of new after) connections queues desks failed)) view_is
+          (only_here old place stores bindings refl there (seen_of new after) (changes_seen stores new bindings after place layouts shelves graphs));
+      failed = ap (λ (tables : Tables). tables.failed) view_is;
+    }
 
     pub bindings_change : new ≡ stores → ChangesAt no_graph place bindings.graphs after.graphs
-        → ChangesOnly place tables (of_columns forests (seen_of new after) connections queues desks failed)
+        → KeepsOthers place tables (of_columns forests (seen_of new after) connections queues desks failed)
     bindings_change same = changes_there (ap (λ (shelves : StoreTable). shelves.layouts) same)
         (column.changes_same [] stores.table new.table place (ap (λ (shelves : StoreTable). shelves.table) same))
 
     -- also where the bindings were forgotten
     pub forgets_there : (middle : Table Graph) → new.layouts ≡ stores.layouts → ChangesAt [] place stores.table new.table
         → ChangesAt no_graph place bindings.graphs middle → after.graphs ≡ with_graph middle place no_graph
-        → ChangesOnly place tables (of_columns forests (seen_of new after) connections queues desks failed)
+        → KeepsOthers place tables (of_columns forests (seen_of new after) connections queues desks failed)
     forgets_there middle layouts shelves changed forgotten =
         changes_there layouts shelves (column.changes_with no_graph bindings.graphs after.graphs place no_graph graph_stands
         (forgotten ∙ column.with_after no_graph bindings.graphs middle place no_graph changed))
 
     pub forgets_bindings : (middle : Table Graph) → new ≡ stores → ChangesAt no_graph place bindings.graphs middle
         → after.graphs ≡ with_graph middle place no_graph
-        → ChangesOnly place tables (of_columns forests (seen_of new after) connections queues desks failed)
+        → KeepsOthers place tables (of_columns forests (seen_of new after) connections queues desks failed)
     forgets_bindings middle same = forgets_there middle (ap (λ (shelves : StoreTable). shelves.layouts) same)
         (column.changes_same [] stores.table new.table place (ap (λ (shelves : StoreTable). shelves.table) same))

@@ -16,19 +16,19 @@ closed_at graphs place = by graphs.places place
     by (graph ∷ places) (suc place) = by places place
 
 -- what is bound there, and how many groups are open
-pub closed_bindings : (graph : Graph) → (closed graph).bindings ≡ graph.bindings
-closed_bindings graph = by (is_open graph)
+closed_like : {A : Type 0} (part : Graph → A) → ((graph : Graph) → part (record graph { last = [] }) ≡ part graph) → (graph : Graph)
+    → part (closed graph) ≡ part graph
+closed_like part same graph = by (is_open graph)
   where
-    by : (deep : Bool) → (cond deep graph (record graph { last = [] })).bindings ≡ graph.bindings
+    by : (deep : Bool) → part (cond deep graph (record graph { last = [] })) ≡ part graph
     by true = refl
-    by false = refl
+    by false = same graph
+
+pub closed_bindings : (graph : Graph) → (closed graph).bindings ≡ graph.bindings
+closed_bindings = closed_like (λ (graph : Graph). graph.bindings) (λ graph. refl)
 
 pub closed_depth : (graph : Graph) → (closed graph).depth ≡ graph.depth
-closed_depth graph = by (is_open graph)
-  where
-    by : (deep : Bool) → (cond deep graph (record graph { last = [] })).depth ≡ graph.depth
-    by true = refl
-    by false = refl
+closed_depth = closed_like (λ (graph : Graph). graph.depth) (λ graph. refl)
 
 pub depth_seen : (graphs seen : Table Graph) (place : ℕ) → all_closed graphs ≡ seen → (graph_at seen place).depth ≡ (graph_at graphs place).depth
 depth_seen graphs seen place is = ap (λ (graphs : Table Graph). (graph_at graphs place).depth) (sym is)

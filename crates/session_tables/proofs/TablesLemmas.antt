@@ -1,8 +1,7 @@
 -- Tables with another session at a place.
-use Rattle.std.proofs.Common.{◌≡◌, ◌≢◌, ◌<◌, ◌≤◌, ℕ, Bool, false, [], length, get_or, eqb, refl, sym, ap, subst, ◌∙◌, ⊎_elim, arith}
-use Rattle.std.proofs.lemmas.Bool.{cases_Bool}
+use Rattle.std.proofs.Common.{◌≡◌, ◌<◌, ◌≤◌, ℕ, Bool, false, [], length, get_or, refl, sym, ap, ◌∙◌, arith}
 use Rattle.std.proofs.lemmas.Grind.{common_steps}
-use Rattle.std.proofs.lemmas.List.{get_or_past, get_or-set_other, length-set}
+use Rattle.std.proofs.lemmas.List.{get_or_past}
 use Rattle.shared_rows.specs.Table.{Table}
 use Rattle.shared_rows.proofs.ForCallers as column
 use Rattle.connection_list.specs.Rows.{Rows, no_rows}
@@ -15,7 +14,7 @@ use Rattle.publish_board.specs.Desk.{Desk, no_desk}
 use Rattle.session_model.specs.State.{State}
 use Rattle.session_tables.specs.declared.tables.Tables.{Tables}
 use Rattle.session_tables.specs.Session.{Session, fresh}
-use Rattle.session_tables.specs.Tables.{AreEven, AreSame, ChangesOnly, IsPlaced, opened, session_at, state_at, with_session, with_state}
+use Rattle.session_tables.specs.Tables.{AreEven, AreSame, ChangesOnly, IsPlaced, KeepsOthers, opened, session_at, state_at, with_session, with_state}
 
 -- tables of these columns
 abbrev pub of_columns : Table Forest → BoundShelves → Table Rows → Table Queue → Table Desk → Table Bool → Tables
@@ -48,12 +47,20 @@ session_of {a} {b} {c} {d} {m} {n} {e} {f} {g} {h} {k} {l} {i} {j} forest store 
     ∙ ap (λ desk. made b d n f h desk i) desk
     ∙ ap (λ failed. made b d n f h l failed) failed
 
+-- with another session at a place, it stands there
+pub session_there : (tables : Tables) (place : ℕ) (session : Session) → IsPlaced tables place → session_at (with_session tables place session) place ≡ session
+session_there tables place session placed = session_of
+    (column.with_there empty_forest tables.forests place session.state.forest placed.0)
+    (column.with_there [] tables.stores.shelves.table place session.state.store placed.1)
+    (column.with_there no_graph tables.stores.graphs place session.state.graph placed.6)
+    (column.with_there no_rows tables.connections place session.state.connections placed.2)
+    (column.with_there empty_queue tables.queues place session.state.queue placed.3)
+    (column.with_there no_desk tables.desks place session.state.desk placed.5)
+    (column.with_there false tables.failed place session.failed placed.4)
+
 pub with_state_there : (tables : Tables) (place : ℕ) (state : State) → IsPlaced tables place → state_at (with_state tables place state) place ≡ state
 with_state_there tables place state placed =
-    ap (λ (session : Session). session.state) (session_of {i = false} (column.with_there empty_forest tables.forests place state.forest placed.0)
-    (column.with_there [] tables.stores.shelves.table place state.store placed.1) (column.with_there no_graph tables.stores.graphs place state.graph placed.6)
-    (column.with_there no_rows tables.connections place state.connections placed.2)
-    (column.with_there empty_queue tables.queues place state.queue placed.3) (column.with_there no_desk tables.desks place state.desk placed.5) refl)
+    ap (λ (session : Session). session.state) (session_there tables place (record { state = state; failed = false }) placed)
 
 -- so where a state was put, it stands
 pub state_with : (old new : Tables) (place : ℕ) (state : State) → IsPlaced old place → new ≡ with_state old place state → state_at new place ≡ state
@@ -121,6 +128,20 @@ placed_after old new place changes placed = (
   even_changed old new place changes placed.7,
 )
 
+-- so it is where no session has failed or was restored either
+pub keeps_same : (old new : Tables) (place : ℕ) → new ≡ old → KeepsOthers place old new
+keeps_same old new place e = record { only = changes_same old new place e; failed = ap (λ tables. tables.failed) e }
+
+pub keeps_with : (old new : Tables) (place : ℕ) (state : State) → IsPlaced old place → new ≡ with_state old place state → KeepsOthers place old new
+keeps_with old new place state placed e = record { only = changes_with old new place state placed e; failed = ap (λ tables. tables.failed) e }
+
+pub keeps_twice : (old middle new : Tables) (place : ℕ) → KeepsOthers place old middle → KeepsOthers place middle new → KeepsOthers place old new
+keeps_twice old middle new place first second =
+    record { only = changes_twice old middle new place first.only second.only; failed = second.failed ∙ first.failed }
+
+pub placed_kept : (old new : Tables) (place : ℕ) → KeepsOthers place old new → IsPlaced old place → IsPlaced new place
+placed_kept old new place keeps placed = placed_after old new place keeps.only placed
+
 -- past the last place every session is as one that has had no command
 pub session_past : (tables : Tables) (place : ℕ) → AreEven tables → length tables.failed.places ≤ place → session_at tables place ≡ fresh
 session_past tables place even past = session_of
@@ -148,40 +169,7 @@ session_same old new place same = session_of
     (ap (λ places. get_or places place empty_queue) same.queues) (ap (λ places. get_or places place no_desk) same.desks)
     (ap (λ places. get_or places place false) same.failed)
 
--- with another session at a place, it stands there
-pub session_there : (tables : Tables) (place : ℕ) (session : Session) → IsPlaced tables place → session_at (with_session tables place session) place ≡ session
-session_there tables place session placed = session_of
-    (column.with_there empty_forest tables.forests place session.state.forest placed.0)
-    (column.with_there [] tables.stores.shelves.table place session.state.store placed.1)
-    (column.with_there no_graph tables.stores.graphs place session.state.graph placed.6)
-    (column.with_there no_rows tables.connections place session.state.connections placed.2)
-    (column.with_there empty_queue tables.queues place session.state.queue placed.3)
-    (column.with_there no_desk tables.desks place session.state.desk placed.5)
-    (column.with_there false tables.failed place session.failed placed.4)
-
--- and every other place has the session that it had
-pub session_elsewhere : (tables : Tables) (place other : ℕ) (session : Session) → other ≢ place
-    → session_at (with_session tables place session) other ≡ session_at tables other
-session_elsewhere tables place other session differ = session_of
-    (get_or-set_other tables.forests.places place other session.state.forest empty_forest differ)
-    (get_or-set_other tables.stores.shelves.table.places place other session.state.store [] differ)
-    (get_or-set_other tables.stores.graphs.places place other session.state.graph no_graph differ)
-    (get_or-set_other tables.connections.places place other session.state.connections no_rows differ)
-    (get_or-set_other tables.queues.places place other session.state.queue empty_queue differ)
-    (get_or-set_other tables.desks.places place other session.state.desk no_desk differ)
-    (get_or-set_other tables.failed.places place other session.failed false differ)
-
-pub even_with : (tables : Tables) (place : ℕ) (session : Session) → AreEven tables → AreEven (with_session tables place session)
-even_with tables place session even =
-    let marks = length-set tables.failed.places place session.failed in record {
-      forests = length-set tables.forests.places place session.state.forest ∙ even.forests ∙ sym marks;
-      stores = length-set tables.stores.shelves.table.places place session.state.store ∙ even.stores ∙ sym marks;
-      graphs = length-set tables.stores.graphs.places place session.state.graph ∙ even.graphs ∙ sym marks;
-      connections = length-set tables.connections.places place session.state.connections ∙ even.connections ∙ sym marks;
-      queues = length-set tables.queues.places place session.state.queue ∙ even.queues ∙ sym marks;
-      desks = length-set tables.desks.places place session.state.desk ∙ even.desks ∙ sym marks;
-    }
-
+-- the tables stay even where a place is opened, and where there is room for one
 pub even_opened : (tables : Tables) → AreEven tables → AreEven (opened tables)
 even_opened tables even = record {
   forests = grind (arith, common_steps, even.forests);
@@ -214,13 +202,3 @@ placed_by tables place even within = (
   omega (arith, even.graphs, within),
   even,
 )
-
--- what holds of every session still does, where it holds of the one that was put
-pub session_each : (P : Session → Type 0) (tables : Tables) (place : ℕ) (session : Session) → IsPlaced tables place → P session
-    → ((at : ℕ) → P (session_at tables at)) → (at : ℕ) → P (session_at (with_session tables place session) at)
-session_each P tables place session placed new old at = ⊎_elim
-    (λ here.
-    let same : at ≡ place = grind (arith, here) in
-    subst P (sym (ap (session_at (with_session tables place session)) same ∙ session_there tables place session placed)) new)
-    (λ elsewhere. subst P (sym (session_elsewhere tables place at session (λ same. absurd (grind (arith, same, elsewhere))))) (old at))
-    (cases_Bool (eqb at place))

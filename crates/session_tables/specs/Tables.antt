@@ -100,6 +100,11 @@ pub record ChangesOnly (place : ℕ) (old new : Tables) : Type 0 where
   pub desks : ChangesAt no_desk place old.desks new.desks
   pub failed : ChangesAt false place old.failed new.failed
 
+-- No other session has changed, and none has failed or was restored.
+pub record KeepsOthers (place : ℕ) (old new : Tables) : Type 0 where
+  pub only : ChangesOnly place old new
+  pub failed : new.failed ≡ old.failed
+
 -- Each place is unchanged, and there may be more room.
 pub record AreSame (old new : Tables) : Type 0 where
   pub forests : new.forests.places ≡ old.forests.places

@@ -9,7 +9,7 @@ ghost use Rattle.session_model.specs.Binding.{asked_property, bindable_property}
 ghost use Rattle.session_model.specs.Showing.{changes, showing};
 ghost use Rattle.session_model.specs.State.{with_binding, with_binding_taken, with_group, without_group};
 ghost use Rattle.session_tables.specs.Refused.{OnRefused};
-ghost use Rattle.session_tables.specs.Tables.{ChangesOnly, IsPlaced, state_at, with_state};
+ghost use Rattle.session_tables.specs.Tables.{IsPlaced, KeepsOthers, state_at, with_state};
 
 use crate::settling;
 use crate::tables::Tables;
@@ -55,8 +55,7 @@ impl Tables {
         ensures told { IfOk result (λ told. told ≡ changes (state_at self.old place) (state_at self.new place) (Some at)) }
         ensures ok { OnOk result (self.new ≡ with_state self.old place (with_binding (state_at self.old place) at expr)) }
         ensures refused { OnRefused result (self.new ≡ self.old) }
-        ensures only { ChangesOnly place self.old self.new }
-        ensures failed { self.new.failed ≡ self.old.failed }
+        ensures keeps { KeepsOthers place self.old self.new }
     {
         match settling::bind(
             &mut self.stores.stores,
@@ -79,8 +78,7 @@ impl Tables {
         requires { IsPlaced self.old place }
         ensures told { IfOk result (λ told. told ≡ changes (state_at self.old place) (state_at self.new place) (Some at)) }
         ensures ok { OnOk result (self.new ≡ with_state self.old place (with_binding_taken (state_at self.old place) at)) }
-        ensures only { ChangesOnly place self.old self.new }
-        ensures failed { self.new.failed ≡ self.old.failed }
+        ensures keeps { KeepsOthers place self.old self.new }
     {
         match settling::unbind(
             &mut self.stores.stores,
@@ -104,8 +102,7 @@ impl Tables {
         ensures depth { IfOk result (λ depth. depth ≡ (state_at self.new place).graph.depth) }
         ensures ok { OnOk result (self.new ≡ with_state self.old place (with_group (state_at self.old place))) }
         ensures refused { OnRefused result (self.new ≡ self.old) }
-        ensures only { ChangesOnly place self.old self.new }
-        ensures failed { self.new.failed ≡ self.old.failed }
+        ensures keeps { KeepsOthers place self.old self.new }
     {
         self.stores.bindings.begin(place, &mut self.stores.stores)
     }
@@ -120,8 +117,7 @@ impl Tables {
             else graph.changes (state_at self.old place).graph.last (showing (state_at self.new place)) None)) }
         ensures ok { OnOk result (self.new ≡ with_state self.old place (without_group (state_at self.old place))) }
         ensures refused { OnRefused result (self.new ≡ self.old) }
-        ensures only { ChangesOnly place self.old self.new }
-        ensures failed { self.new.failed ≡ self.old.failed }
+        ensures keeps { KeepsOthers place self.old self.new }
     {
         match settling::end(&mut self.stores.stores, &mut self.stores.bindings, place) {
             Ok(left) => Ok(left),

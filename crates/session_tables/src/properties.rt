@@ -9,7 +9,7 @@ ghost use Rattle.session_model.specs.Showing.{named_value};
 ghost use Rattle.session_model.specs.Writing.{Declared, Dynamic, Removed, declared, with_writing};
 ghost use Rattle.session_tables.specs.Named.{Tells, WritesNamed};
 ghost use Rattle.session_tables.specs.Settled.{is_idle};
-ghost use Rattle.session_tables.specs.Tables.{ChangesOnly, IsPlaced, state_at, with_state};
+ghost use Rattle.session_tables.specs.Tables.{IsPlaced, KeepsOthers, state_at, with_state};
 
 use crate::bound_stores::is_idle;
 use crate::named::NamedWrite;
@@ -60,8 +60,7 @@ impl Tables {
         ensures ok { OnOk result (self.new ≡ with_state self.old place
             (with_writing (state_at self.old place) object (Declared number value))) }
         ensures idle { OnErr result (IsFalse (is_idle (state_at self.old place).graph)) }
-        ensures only { ChangesOnly place self.old self.new }
-        ensures failed { self.new.failed ≡ self.old.failed }
+        ensures keeps { KeepsOthers place self.old self.new }
     {
         law_steps();
         if is_idle(&self.stores.stores, &self.stores.bindings, place) {
@@ -95,8 +94,7 @@ impl Tables {
         requires short { IsShort value }
         ensures writes { WritesNamed place object name.now value self.old result self.new }
         ensures idle { OnMemory result (IsFalse (is_idle (state_at self.old place).graph)) }
-        ensures only { ChangesOnly place self.old self.new }
-        ensures failed { self.new.failed ≡ self.old.failed }
+        ensures keeps { KeepsOthers place self.old self.new }
     {
         law_steps();
         if is_idle(&self.stores.stores, &self.stores.bindings, place) {

@@ -12,7 +12,7 @@ ghost use Rattle.session_model.specs.Trees.{has_title, is_of_class};
 ghost use Rattle.session_tables.specs.Classes.{HasClass};
 ghost use Rattle.session_tables.specs.Refused.{OnRefused};
 ghost use Rattle.session_tables.specs.Settled.{is_idle};
-ghost use Rattle.session_tables.specs.Tables.{AreLaid, AreStored, ChangesOnly, IsPlaced, state_at, with_state};
+ghost use Rattle.session_tables.specs.Tables.{AreLaid, AreStored, ChangesOnly, IsPlaced, KeepsOthers, state_at, with_state};
 
 use crate::tables::Tables;
 use binding_values::Change;
@@ -72,8 +72,7 @@ impl Tables {
         ensures told { IfOk result (λ told. told ≡ changes (state_at self.old place) (state_at self.new place) None) }
         ensures ok { OnOk result (self.new ≡ with_state self.old place (without_object (state_at self.old place) object)) }
         ensures idle { OnErr result (IsFalse (is_idle (state_at self.old place).graph)) }
-        ensures only { ChangesOnly place self.old self.new }
-        ensures failed { self.new.failed ≡ self.old.failed }
+        ensures keeps { KeepsOthers place self.old self.new }
     {
         self.forests.remove(place, object);
         self.stores.drop_object(place, object)

@@ -1,14 +1,29 @@
-//! Reading the cases of a test from a JSON array. Each case is itself an array: what is given, and what is
-//! wanted.
+//! Tables of cases, read from JSON arrays. Each case is itself an array: what is given, and what is wanted.
+use plain_types::Fault;
 use serde_json::Value as Json;
 use std::alloc::{AllocError, Global};
 use variant_value::Value;
 
-pub(crate) fn cases(alloc: Global, text: &str) -> Result<Vec<Json>, AllocError> {
-    match Json::from_str(alloc, text) {
-        Ok(Json::Array(cases)) => Ok(cases),
-        Ok(_) | Err(_) => Err(AllocError),
+/// A table of cases, and what a test looks at in each of them.
+pub(crate) trait Cases {
+    /// The cases as a JSON array.
+    fn text() -> &'static str;
+
+    /// Whether what a case gives is what it wants.
+    fn is_as_wanted(alloc: Global, case: &Json) -> Result<bool, Fault>;
+}
+
+/// How many cases a table has, and the place of the first that is not as it wants.
+pub(crate) fn first_wrong<C: Cases>(alloc: Global) -> Result<(usize, Option<usize>), Fault> {
+    let Ok(Json::Array(cases)) = Json::from_str(alloc, C::text()) else {
+        return Err(Fault::Memory);
+    };
+    for (at, case) in cases.iter().enumerate() {
+        if !C::is_as_wanted(alloc, case)? {
+            return Ok((cases.len(), Some(at)));
+        }
     }
+    Ok((cases.len(), None))
 }
 
 /// A part of a case, or the case itself where it has no such part.

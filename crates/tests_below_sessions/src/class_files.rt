@@ -1,21 +1,11 @@
 //! Properties in the tables of class files, which no command reads so far.
 use class_table::ClassTable;
+use command_line::DEMONSTRATION;
 use std::test::Fail;
-
-const CELL: &str = r#"{"classes":[
-{"name":"Cell","super":"QObject","signals":["xChanged(int)"],
-"slots":[{"sig":"seen(int)","body":[]},
-{"sig":"setX(int)","body":[{"set":"x","to":{"arg":0}}]}],
-"properties":[
-{"name":"x","type":"int","notify":"xChanged(int)","bindable":true},
-{"name":"y","type":"int","bindable":true},
-{"name":"z","type":"int","bindable":true},
-{"name":"flag","type":"bool","bindable":true},
-{"name":"big","type":"qulonglong"}]}]}"#;
 
 #[test]
 fn classes_have_properties(rt: HostRuntime) -> Result<(), Fail> {
-    let table = ClassTable::from_text(rt.alloc(), CELL.as_bytes())?;
+    let table = ClassTable::from_text(rt.alloc(), DEMONSTRATION.as_bytes())?;
     let class = table.find("Cell").unwrap_or(0);
     assert!(rt; table.inherits(class, 0) && !table.inherits(0, class));
     let big = table.property(class, "big").unwrap_or(0);

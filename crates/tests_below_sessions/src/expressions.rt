@@ -1,6 +1,6 @@
 //! Expressions: how they are read, what they read, and their values.
 use crate::bodies::{branch, first_value};
-use crate::cases::{cases, part, shown, word};
+use crate::cases::{Cases, first_wrong, part, shown, word};
 use plain_types::{Code, Fault, Text};
 use serde_json::Value as Json;
 use std::alloc::{AllocError, Global};
@@ -204,30 +204,23 @@ fn is_valued(alloc: Global, body: &Body, wanted: &str) -> Result<bool, AllocErro
     )
 }
 
-fn has_its_value(alloc: Global, case: &Json) -> Result<bool, Fault> {
-    let body = Body::from_json(alloc, part(case, 0), 3)?;
-    Ok(is_valued(alloc, &body, word(case, 1))?)
-}
+/// The cases of `VALUES`.
+struct Values;
 
-/// The place of the first case whose expression has another value.
-fn first_wrong_value(alloc: Global, cases: &[Json]) -> Result<Option<usize>, Fault> {
-    for (at, case) in cases.iter().enumerate() {
-        if !has_its_value(alloc, case)? {
-            return Ok(Some(at));
-        }
+impl Cases for Values {
+    fn text() -> &'static str {
+        VALUES
     }
-    Ok(None)
-}
 
-fn values(alloc: Global) -> Result<Vec<Json>, AllocError> {
-    cases(alloc, VALUES)
+    fn is_as_wanted(alloc: Global, case: &Json) -> Result<bool, Fault> {
+        let body = Body::from_json(alloc, part(case, 0), 3)?;
+        Ok(is_valued(alloc, &body, word(case, 1))?)
+    }
 }
 
 #[test]
 fn expressions_have_their_values(rt: HostRuntime) -> Result<(), Fail> {
-    let cases = values(rt.alloc())?;
-    assert_eq!(rt; cases.len(), 44);
-    assert_eq!(rt; first_wrong_value(rt.alloc(), &cases)?, None);
+    assert_eq!(rt; first_wrong::<Values>(rt.alloc())?, (44, None));
     Ok(())
 }
 
@@ -274,25 +267,22 @@ fn is_bound(alloc: Global, json: &Json, wanted: &str) -> Result<bool, AllocError
     Ok(found.as_str() == wanted)
 }
 
-/// The place of the first case whose binding ends otherwise.
-fn first_wrong_binding(alloc: Global, cases: &[Json]) -> Result<Option<usize>, AllocError> {
-    for (at, case) in cases.iter().enumerate() {
-        if !is_bound(alloc, part(case, 0), word(case, 1))? {
-            return Ok(Some(at));
-        }
-    }
-    Ok(None)
-}
+/// The cases of `BINDINGS`.
+struct BindingForms;
 
-fn bindings(alloc: Global) -> Result<Vec<Json>, AllocError> {
-    cases(alloc, BINDINGS)
+impl Cases for BindingForms {
+    fn text() -> &'static str {
+        BINDINGS
+    }
+
+    fn is_as_wanted(alloc: Global, case: &Json) -> Result<bool, Fault> {
+        Ok(is_bound(alloc, part(case, 0), word(case, 1))?)
+    }
 }
 
 #[test]
 fn bindings_have_their_forms(rt: HostRuntime) -> Result<(), Fail> {
-    let cases = bindings(rt.alloc())?;
-    assert_eq!(rt; cases.len(), 34);
-    assert_eq!(rt; first_wrong_binding(rt.alloc(), &cases)?, None);
+    assert_eq!(rt; first_wrong::<BindingForms>(rt.alloc())?, (34, None));
     Ok(())
 }
 

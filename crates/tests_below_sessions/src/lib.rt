@@ -1,15 +1,13 @@
 //! Tests of what only a call can show of the crates below sessions: which texts are read without a tree, which
-//! calls of a device are made again, examples from outside of what no command reaches so far, that calls of
-//! the shared tables succeed where memory is found, and that the definitions mean what the rules say. What lines
-//! and class files can show of these crates is tested on the built program, by its rows and tools.
+//! calls of a device are made again, examples from outside of what no command reaches so far, that a gap buffer's
+//! calls succeed where memory is found, and that the definitions mean what the rules say. What lines and class files
+//! can show of these crates is tested on the built program, by its rows and tools.
 #![tactic(auto)]
 
 #[cfg(test)]
 mod base;
 #[cfg(test)]
 mod beginnings;
-#[cfg(test)]
-mod board;
 #[cfg(test)]
 mod bodies;
 #[cfg(test)]
@@ -18,8 +16,6 @@ mod cases;
 mod class_files;
 #[cfg(test)]
 mod devices;
-#[cfg(test)]
-mod events;
 #[cfg(test)]
 mod expressions;
 #[cfg(test)]

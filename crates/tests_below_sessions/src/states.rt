@@ -1,9 +1,9 @@
 //! The states of functors: what gives the next one, and how it is put into a body.
 use crate::bodies::first_value;
-use crate::cases::{cases, part, shown, word};
+use crate::cases::{Cases, first_wrong, part, shown, word};
 use plain_types::Fault;
 use serde_json::Value as Json;
-use std::alloc::{AllocError, Global};
+use std::alloc::Global;
 use std::test::Fail;
 use term_core::{Body, Expr};
 use term_evaluation::{NoObjects, after, evaluate, unfold};
@@ -44,25 +44,22 @@ fn follows(alloc: Global, case: &Json) -> Result<String, Fault> {
     }
 }
 
-/// The place of the first case in which another state follows.
-fn first_wrong_state(alloc: Global, cases: &[Json]) -> Result<Option<usize>, Fault> {
-    for (at, case) in cases.iter().enumerate() {
-        if follows(alloc, case)?.as_str() != word(case, 3) {
-            return Ok(Some(at));
-        }
-    }
-    Ok(None)
-}
+/// The cases of `NEXT`.
+struct NextStates;
 
-fn next_states(alloc: Global) -> Result<Vec<Json>, AllocError> {
-    cases(alloc, NEXT)
+impl Cases for NextStates {
+    fn text() -> &'static str {
+        NEXT
+    }
+
+    fn is_as_wanted(alloc: Global, case: &Json) -> Result<bool, Fault> {
+        Ok(follows(alloc, case)?.as_str() == word(case, 3))
+    }
 }
 
 #[test]
 fn states_follow_one_another(rt: HostRuntime) -> Result<(), Fail> {
-    let cases = next_states(rt.alloc())?;
-    assert_eq!(rt; cases.len(), 19);
-    assert_eq!(rt; first_wrong_state(rt.alloc(), &cases)?, None);
+    assert_eq!(rt; first_wrong::<NextStates>(rt.alloc())?, (19, None));
     Ok(())
 }
 

@@ -1,10 +1,9 @@
 //! Functors of a host's own, whose bodies and next states are read from JSON: a counter, and a debouncer.
-ghost use Rattle.std.specs.Prelude.{◌≡◌, ◌∷◌, [], IfOk};
+ghost use Rattle.std.specs.Prelude.{◌∷◌, [], IfOk};
 ghost use Rattle.signature_core.specs.declared.kind.Kind.TheVariants.{Int};
 ghost use Rattle.stored_slots.specs.Functors.{IsBodyFor};
 ghost use Rattle.term_core.specs.Bodies.{IsNext};
-ghost use Rattle.term_evaluation.specs.Stating.{after, with_state};
-ghost use Rattle.term_evaluation.specs.Unfolding.{unfolded_body};
+ghost use Rattle.command_line.specs.Answering.{AnswersBy};
 
 use crate::functors::number_set;
 use plain_types::{Fault, Items, Text};
@@ -57,8 +56,7 @@ fn numbers_set(alloc: Global, pair: &str, given: &[i32]) -> Result<Vec<Option<i3
     let run: Closure = Box::new(
         alloc,
         move |alloc: Global, found: u64, args: &[Value]| -> Result<(Vec<Action>, u64), AllocError>
-            ensures { IfOk result (λ answer. (answer.0.items ≡ unfolded_body args.now (with_state found own_body))
-                × (answer.1 ≡ after own_next found args.now)) }
+            ensures { AnswersBy own_body own_next found args.now result }
         {
             let actions = unfold(alloc, &own_body, found, args)?;
             Ok((actions.into_vec(), after(alloc, &own_next, found, args)?))

@@ -39,8 +39,8 @@ returns-clause-ok c =
     (closed_begun store (graph_at bindings.graphs place) ∙ ap (begun store) (sym (closed_at bindings.graphs place)))))
     c.begin.ensures.ok
 
-pub returns-clause-only : goal.returns-clause-only
-returns-clause-only c =
+pub returns-clause-keeps : goal.returns-clause-keeps
+returns-clause-keeps c =
     let stores = c.self.inside.0.1.0.stores.shelves in
     let bindings = c.self.inside.0.1.0.bindings in
     bindings_change stores bindings c.self.view_is c.requires c.begin.new.stores.shelves c.begin.new.self c.begin.ensures.stores.shelves

@@ -25,10 +25,10 @@ returns-in-Ok-clause-ok c =
     (settled_seen stores new bindings c.bind.new.bindings place (store_at stores place) (with_binding (record { at = c.args.at; expr = c.args.expr }))
     (settled_store stores new place c.bind.ensures.stays.stores) c.in-Ok.ensures.ok)
 
-pub returns-in-Ok-clause-only : goal.returns-in-Ok-clause-only
-returns-in-Ok-clause-only c = bindings_change c.self.inside.0.1.0.stores.shelves c.self.inside.0.1.0.bindings c.self.view_is c.requires.place
+pub returns-in-Ok-clause-keeps : goal.returns-in-Ok-clause-keeps
+returns-in-Ok-clause-keeps c = bindings_change c.self.inside.0.1.0.stores.shelves c.self.inside.0.1.0.bindings c.self.view_is c.requires.place
     c.bind.new.stores.shelves c.bind.new.bindings c.bind.ensures.stays.stores c.bind.ensures.stays.graphs
 
-pub returns-in-Err-Memory-clause-only : goal.returns-in-Err-Memory-clause-only
-returns-in-Err-Memory-clause-only c = forgets_bindings c.self.inside.0.1.0.stores.shelves c.self.inside.0.1.0.bindings c.self.view_is c.requires.place
+pub returns-in-Err-Memory-clause-keeps : goal.returns-in-Err-Memory-clause-keeps
+returns-in-Err-Memory-clause-keeps c = forgets_bindings c.self.inside.0.1.0.stores.shelves c.self.inside.0.1.0.bindings c.self.view_is c.requires.place
     c.bind.new.stores.shelves c.clear.new.self c.bind.new.bindings.graphs c.bind.ensures.stays.stores c.bind.ensures.stays.graphs c.clear.ensures.cleared

@@ -23,10 +23,10 @@ returns-in-Ok-clause-ok c =
     (closed (ended (bound_at (seen_of stores bindings) place))) (settled_store stores new place c.end.ensures.stays.stores) c.in-Ok.ensures.ok
     (closed_settled store (ended graph) ∙ (sym (closed_ended graph) ∙ ap (λ graph. closed (ended graph)) (sym (closed_at bindings.graphs place)))))
 
-pub returns-in-Ok-clause-only : goal.returns-in-Ok-clause-only
-returns-in-Ok-clause-only c = bindings_change c.self.inside.0.1.0.stores.shelves c.self.inside.0.1.0.bindings c.self.view_is c.requires
+pub returns-in-Ok-clause-keeps : goal.returns-in-Ok-clause-keeps
+returns-in-Ok-clause-keeps c = bindings_change c.self.inside.0.1.0.stores.shelves c.self.inside.0.1.0.bindings c.self.view_is c.requires
     c.end.new.stores.shelves c.end.new.bindings c.end.ensures.stays.stores c.end.ensures.stays.graphs
 
-pub returns-in-Err-Memory-clause-only : goal.returns-in-Err-Memory-clause-only
-returns-in-Err-Memory-clause-only c = forgets_bindings c.self.inside.0.1.0.stores.shelves c.self.inside.0.1.0.bindings c.self.view_is c.requires
+pub returns-in-Err-Memory-clause-keeps : goal.returns-in-Err-Memory-clause-keeps
+returns-in-Err-Memory-clause-keeps c = forgets_bindings c.self.inside.0.1.0.stores.shelves c.self.inside.0.1.0.bindings c.self.view_is c.requires
     c.end.new.stores.shelves c.clear.new.self c.end.new.bindings.graphs c.end.ensures.stays.stores c.end.ensures.stays.graphs c.clear.ensures.cleared

@@ -32,12 +32,12 @@ returns-in-Ok-clause-ok c =
     (sym (ap (λ graph. taken (store_at stores place) graph c.args.at) (closed_at bindings.graphs place)
     ∙ taken_closed (store_at stores place) graph c.args.at)))
 
-pub returns-in-Ok-clause-only : goal.returns-in-Ok-clause-only
-returns-in-Ok-clause-only c = changes_there c.self.inside.0.1.0.stores.shelves c.self.inside.0.1.0.bindings c.self.view_is c.requires
+pub returns-in-Ok-clause-keeps : goal.returns-in-Ok-clause-keeps
+returns-in-Ok-clause-keeps c = changes_there c.self.inside.0.1.0.stores.shelves c.self.inside.0.1.0.bindings c.self.view_is c.requires
     c.unbind.new.stores.shelves c.unbind.new.bindings c.unbind.ensures.stays.layouts c.unbind.ensures.stays.stores c.unbind.ensures.stays.graphs
 
-pub returns-in-Err-clause-only : goal.returns-in-Err-clause-only
-returns-in-Err-clause-only c =
+pub returns-in-Err-clause-keeps : goal.returns-in-Err-clause-keeps
+returns-in-Err-clause-keeps c =
     let stays = c.unbind.ensures.stays in
     forgets_there c.self.inside.0.1.0.stores.shelves c.self.inside.0.1.0.bindings c.self.view_is c.requires
     c.unbind.new.stores.shelves c.clear.new.self c.unbind.new.bindings.graphs stays.layouts stays.stores stays.graphs c.clear.ensures.cleared

@@ -56,12 +56,12 @@ returns-in-Ok-clause-ok c =
     ∙ ap (λ store. with_bound (seen_of stores bindings) place store (unbound (bound_at (seen_of stores bindings) place) at))
     (written_as store at.object at.number c.args.value (rw (← c.self.view_is) at c.requires.fits)))
 
-pub returns-in-Ok-clause-only : goal.returns-in-Ok-clause-only
-returns-in-Ok-clause-only c = changes_there c.self.inside.0.1.0.stores.shelves c.self.inside.0.1.0.bindings c.self.view_is c.requires.place
+pub returns-in-Ok-clause-keeps : goal.returns-in-Ok-clause-keeps
+returns-in-Ok-clause-keeps c = changes_there c.self.inside.0.1.0.stores.shelves c.self.inside.0.1.0.bindings c.self.view_is c.requires.place
     c.write.new.stores.shelves c.write.new.bindings c.write.ensures.stays.layouts c.write.ensures.stays.stores c.write.ensures.stays.graphs
 
-pub returns-in-Err-clause-only : goal.returns-in-Err-clause-only
-returns-in-Err-clause-only c =
+pub returns-in-Err-clause-keeps : goal.returns-in-Err-clause-keeps
+returns-in-Err-clause-keeps c =
     let stays = c.write.ensures.stays in
     forgets_there c.self.inside.0.1.0.stores.shelves c.self.inside.0.1.0.bindings c.self.view_is c.requires.place
     c.write.new.stores.shelves c.clear.new.self c.write.new.bindings.graphs stays.layouts stays.stores stays.graphs c.clear.ensures.cleared

@@ -1,6 +1,7 @@
 //! Tests of the properties of objects.
 ghost use Rattle.std.specs.Prelude.{◌≡◌, ◌<◌, [], OnOk, length};
 
+use crate::benches::{Bench, are_answered, fields_of};
 use plain_types::{Fault, Items, Text};
 use property_store::{Field, Stores, Written};
 use signature_core::Kind;
@@ -36,27 +37,19 @@ use Asked::*;
 
 /// A table with two places; objects 3 and 5 are in the first one.
 #[derive(Drop)]
-struct Bench {
+struct Properties {
     table: Stores,
     alloc: Global,
     ghost two: { length table.shelves.table.places ≡ 2 },
 }
 
-impl Bench {
-    fn new(alloc: Global) -> Result<Bench, AllocError> {
+impl Bench for Properties {
+    type Asked = Asked;
+
+    fn new(alloc: Global) -> Result<Properties, AllocError> {
         let mut table = Stores::new(alloc, layouts(alloc)?);
         open_places(&mut table)?;
-        Ok(Bench { table, alloc })
-    }
-
-    /// Whether all of this is answered so.
-    fn answers(&mut self, cases: &[Case]) -> Result<bool, AllocError> {
-        for (place, asked, wanted) in cases {
-            if self.ask(*place, *asked)? != *wanted {
-                return Ok(false);
-            }
-        }
-        Ok(true)
+        Ok(Properties { table, alloc })
     }
 
     fn ask(&mut self, place: usize, asked: Asked) -> Result<u64, AllocError> {
@@ -80,7 +73,9 @@ impl Bench {
             Clear => Ok(self.clear(place)),
         }
     }
+}
 
+impl Properties {
     fn write(&mut self, place: usize, number: usize, value: i64) -> u64
         requires { place < length self.old.table.shelves.table.places }
     {
@@ -184,16 +179,9 @@ fn open_places(table: &mut Stores) -> Result<(), AllocError>
 
 /// Class 0 has an int and a qlonglong, and class 1 has nothing.
 fn layouts(alloc: Global) -> Result<Items<Items<Field>>, AllocError> {
-    let mut fields = Items::new(alloc);
-    for (name, kind) in [("level", Kind::Int), ("wide", Kind::Longlong)] {
-        fields.push(Field {
-            name: Text::from_str(alloc, name)?,
-            kind,
-            bindable: true,
-        })?;
-    }
+    let fields = [("level", Kind::Int, true), ("wide", Kind::Longlong, true)];
     let mut layouts = Items::new(alloc);
-    layouts.push(fields)?;
+    layouts.push(fields_of(alloc, &fields)?)?;
     layouts.push(Items::new(alloc))?;
     Ok(layouts)
 }
@@ -241,6 +229,12 @@ const AS_WRITTEN: &[Case] = &[
     (0, Clear, 0),
 ];
 
+#[test]
+fn properties_are_read_as_they_were_written(rt: HostRuntime) -> Result<(), Fail> {
+    assert!(rt; are_answered::<Properties>(rt.alloc(), AS_WRITTEN)?);
+    Ok(())
+}
+
 const AS_MARKED: &[Case] = &[
     (0, HasWritten, 1),
     (1, HasWritten, 0),
@@ -274,19 +268,8 @@ const AS_MARKED: &[Case] = &[
     (0, TakeWritten, 100),
 ];
 
-fn are_answered(alloc: Global, cases: &[Case]) -> Result<bool, AllocError> {
-    let mut bench = Bench::new(alloc)?;
-    bench.answers(cases)
-}
-
-#[test]
-fn properties_are_read_as_they_were_written(rt: HostRuntime) -> Result<(), Fail> {
-    assert!(rt; are_answered(rt.alloc(), AS_WRITTEN)?);
-    Ok(())
-}
-
 #[test]
 fn what_was_written_is_told_once(rt: HostRuntime) -> Result<(), Fail> {
-    assert!(rt; are_answered(rt.alloc(), AS_MARKED)?);
+    assert!(rt; are_answered::<Properties>(rt.alloc(), AS_MARKED)?);
     Ok(())
 }

@@ -1,8 +1,9 @@
 //! These tests look at what bindings and groups of two places show and tell, call by call.
 ghost use Rattle.std.specs.Prelude.{◌≡◌, ◌+◌, ◌<◌, [], OnOk, length};
 ghost use Rattle.binding_graph.specs.Step.{InStep};
-ghost use Rattle.tests_of_bindings.specs.Opened.{AreTwo};
+ghost use Rattle.tests_of_tables.specs.Opened.{AreTwo};
 
+use crate::benches::{Bench, are_answered, digit_behind, fields_of};
 use binding_graph::{Bindings, law_openings, law_steps};
 use binding_values::{BindingError, Change, ChangeKind, is_bindable};
 use plain_types::{Code, Fault, Items, Text};
@@ -47,37 +48,29 @@ use Asked::*;
 /// Two places, with objects 1 and 2 and with object 1, of a class that declares `x`, `y`, `n`, which cannot be bound,
 /// and the text `t`.
 #[derive(Drop)]
-struct Bench {
+struct Graphs {
     stores: Stores,
     bindings: Bindings,
     alloc: Global,
 }
 
-impl Model for Bench {
+impl Model for Graphs {
     ghost Value = { Unit };
 
-    ghost view = { λ bench. tt };
+    ghost view = { λ graphs. tt };
 
-    ghost invariant = { λ bench. AreTwo bench.stores bench.bindings };
+    ghost invariant = { λ graphs. AreTwo graphs.stores graphs.bindings };
 }
 
 fn layouts(alloc: Global) -> Result<Items<Items<Field>>, AllocError> {
-    let mut fields = Items::new(alloc);
-    let rows = [
-        ("x", Kind::Int),
-        ("y", Kind::Int),
-        ("n", Kind::Int),
-        ("t", Kind::Text),
+    let fields = [
+        ("x", Kind::Int, true),
+        ("y", Kind::Int, true),
+        ("n", Kind::Int, false),
+        ("t", Kind::Text, true),
     ];
-    for (name, kind) in rows {
-        fields.push(Field {
-            name: Text::from_str(alloc, name)?,
-            kind,
-            bindable: name != "n",
-        })?;
-    }
     let mut layouts = Items::new(alloc);
-    layouts.push(fields)?;
+    layouts.push(fields_of(alloc, &fields)?)?;
     Ok(layouts)
 }
 
@@ -115,8 +108,10 @@ fn add(
     stores.add_object(place, object, 0)
 }
 
-impl Bench {
-    fn new(alloc: Global) -> Result<Bench, AllocError> {
+impl Bench for Graphs {
+    type Asked = Asked;
+
+    fn new(alloc: Global) -> Result<Graphs, AllocError> {
         let mut stores = Stores::new(alloc, layouts(alloc)?);
         let mut bindings = Bindings::new(alloc);
         open_place(&mut stores, &mut bindings)?;
@@ -124,21 +119,11 @@ impl Bench {
         add(&mut stores, &bindings, 0, 1)?;
         add(&mut stores, &bindings, 0, 2)?;
         add(&mut stores, &bindings, 1, 1)?;
-        Ok(Bench {
+        Ok(Graphs {
             stores,
             bindings,
             alloc,
         })
-    }
-
-    /// Whether all of this is answered so.
-    fn answers(&mut self, cases: &[Case]) -> Result<bool, AllocError> {
-        for (place, asked, wanted) in cases {
-            if self.ask(*place, *asked)? != *wanted {
-                return Ok(false);
-            }
-        }
-        Ok(true)
     }
 
     fn ask(&mut self, place: usize, asked: Asked) -> Result<u64, AllocError> {
@@ -161,7 +146,9 @@ impl Bench {
             Evaluations => Ok(self.bindings.evaluations(place)),
         }
     }
+}
 
+impl Graphs {
     fn write(&mut self, place: usize, at: Property, value: i32) -> u64
         requires { place < 2 }
     {
@@ -265,10 +252,6 @@ fn told_of(changes: &[Change]) -> u64 {
         digits = behind(digits, change);
     }
     digits
-}
-
-fn digit_behind(digits: u64, digit: u64) -> u64 {
-    digits.wrapping_mul(10).wrapping_add(digit)
 }
 
 /// The digits with the four of another change appended.
@@ -524,36 +507,31 @@ const COMES_AND_GOES: &[Case] = &[
     (1, Evaluations, 1),
 ];
 
-fn ask(alloc: Global, cases: &[Case]) -> Result<bool, AllocError> {
-    let mut bench = Bench::new(alloc)?;
-    bench.answers(cases)
-}
-
 #[test]
 fn bound_properties_show_what_they_are_bound_to(rt: HostRuntime) -> Result<(), Fail> {
-    assert!(rt; ask(rt.alloc(), AS_BOUND)?);
+    assert!(rt; are_answered::<Graphs>(rt.alloc(), AS_BOUND)?);
     Ok(())
 }
 
 #[test]
 fn groups_tell_at_their_end(rt: HostRuntime) -> Result<(), Fail> {
-    assert!(rt; ask(rt.alloc(), IN_GROUPS)?);
+    assert!(rt; are_answered::<Graphs>(rt.alloc(), IN_GROUPS)?);
     Ok(())
 }
 
 #[test]
 fn settlings_evaluate_what_changes_reach(rt: HostRuntime) -> Result<(), Fail> {
-    assert!(rt; ask(rt.alloc(), EVALUATED)?);
-    assert!(rt; ask(rt.alloc(), TURNED)?);
-    assert!(rt; ask(rt.alloc(), LOOPED)?);
-    assert!(rt; ask(rt.alloc(), COMES_AND_GOES)?);
+    assert!(rt; are_answered::<Graphs>(rt.alloc(), EVALUATED)?);
+    assert!(rt; are_answered::<Graphs>(rt.alloc(), TURNED)?);
+    assert!(rt; are_answered::<Graphs>(rt.alloc(), LOOPED)?);
+    assert!(rt; are_answered::<Graphs>(rt.alloc(), COMES_AND_GOES)?);
     Ok(())
 }
 
 /// Binds a property of each of a thousand objects to another property of that object, and writes what the first
 /// one reads. Returns the value of the first bound property, and how many evaluations the write took.
 fn written_of_many(alloc: Global) -> Result<(u64, u64), AllocError> {
-    let mut bench = Bench::new(alloc)?;
+    let mut bench = Graphs::new(alloc)?;
     for object in 1..1001 {
         bench.ask(0, Add(object))?;
         bench.ask(0, Bind(object, 0, r#"{"prop":"y"}"#))?;

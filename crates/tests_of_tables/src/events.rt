@@ -1,6 +1,7 @@
 //! The queues of two places, call by call, and a queue that is full.
 ghost use Rattle.std.specs.Prelude.{◌≡◌, ◌<◌, length};
 
+use crate::benches::{Bench, are_answered, gives};
 use event_queue::{EVENTS, Event, Priority, QueuedCall, Queues};
 use plain_types::Callee;
 use std::alloc::{AllocError, Global};
@@ -30,20 +31,22 @@ use Priority::{High, Low, Normal};
 
 /// A table with two places.
 #[derive(Drop)]
-struct Bench {
+struct TwoQueues {
     table: Queues,
     alloc: Global,
     ghost two: { length table.places ≡ 2 },
 }
 
-impl Bench {
-    fn new(alloc: Global) -> Result<Bench, AllocError> {
+impl Bench for TwoQueues {
+    type Asked = Asked;
+
+    fn new(alloc: Global) -> Result<TwoQueues, AllocError> {
         let mut table = Queues::new(alloc);
         table.ready()?;
         table.open();
         table.ready()?;
         table.open();
-        Ok(Bench { table, alloc })
+        Ok(TwoQueues { table, alloc })
     }
 
     fn ask(&mut self, place: usize, asked: Asked) -> Result<u64, AllocError> {
@@ -60,27 +63,9 @@ impl Bench {
             Clear => Ok(self.clear(place)),
         }
     }
+}
 
-    /// Whether all of this is answered so.
-    fn answers(&mut self, cases: &[Case]) -> Result<bool, AllocError> {
-        for (place, asked, wanted) in cases {
-            if self.ask(*place, *asked)? != *wanted {
-                return Ok(false);
-            }
-        }
-        Ok(true)
-    }
-
-    /// Whether the first place takes so many events and no more.
-    fn is_full_behind(&mut self, events: usize) -> Result<bool, AllocError> {
-        for _ in 0..events {
-            if self.ask(0, Deletion(5))? != 1 {
-                return Ok(false);
-            }
-        }
-        self.answers(&FULL)
-    }
-
+impl TwoQueues {
     fn enqueue_call(
         &mut self,
         place: usize,
@@ -163,7 +148,7 @@ fn told(event: Option<Event>) -> u64 {
 /// A place, what is asked of it, and what is answered.
 type Case = (usize, Asked, u64);
 
-const IN_ORDER: [Case; 37] = [
+const IN_ORDER: &[Case] = &[
     (0, Take, 0),
     (0, Call(3, 1), 1),
     (1, Call(3, 2), 1),
@@ -205,18 +190,13 @@ const IN_ORDER: [Case; 37] = [
     (0, Take, 0),
 ];
 
-fn take_in_order(alloc: Global) -> Result<bool, AllocError> {
-    let mut bench = Bench::new(alloc)?;
-    bench.answers(&IN_ORDER)
-}
-
 #[test]
 fn events_are_taken_in_the_order_of_posting(rt: HostRuntime) -> Result<(), Fail> {
-    assert!(rt; take_in_order(rt.alloc())?);
+    assert!(rt; are_answered::<TwoQueues>(rt.alloc(), IN_ORDER)?);
     Ok(())
 }
 
-const BY_PRIORITY: [Case; 17] = [
+const BY_PRIORITY: &[Case] = &[
     (0, CallOf(Low, 3, 1), 1),
     (0, Call(3, 2), 1),
     (0, CallOf(High, 3, 3), 1),
@@ -236,19 +216,14 @@ const BY_PRIORITY: [Case; 17] = [
     (0, Take, 0),
 ];
 
-fn take_by_priority(alloc: Global) -> Result<bool, AllocError> {
-    let mut bench = Bench::new(alloc)?;
-    bench.answers(&BY_PRIORITY)
-}
-
 #[test]
 fn events_of_a_higher_priority_are_taken_first(rt: HostRuntime) -> Result<(), Fail> {
-    assert!(rt; take_by_priority(rt.alloc())?);
+    assert!(rt; are_answered::<TwoQueues>(rt.alloc(), BY_PRIORITY)?);
     Ok(())
 }
 
 /// A place that holds as many events as it may, all of object 5, answers these.
-const FULL: [Case; 9] = [
+const FULL: &[Case] = &[
     (0, Deletion(5), 0),
     (1, Deletion(5), 1),
     (0, Counts, 1638400),
@@ -260,13 +235,19 @@ const FULL: [Case; 9] = [
     (1, Take, 5),
 ];
 
-fn take_so_many(alloc: Global) -> Result<bool, AllocError> {
-    let mut bench = Bench::new(alloc)?;
-    bench.is_full_behind(EVENTS)
+/// Whether a place takes so many events and no more.
+fn is_full_behind(alloc: Global, events: usize) -> Result<bool, AllocError> {
+    let mut bench = TwoQueues::new(alloc)?;
+    for _ in 0..events {
+        if bench.ask(0, Deletion(5))? != 1 {
+            return Ok(false);
+        }
+    }
+    gives(&mut bench, FULL)
 }
 
 #[test]
 fn a_place_takes_so_many_events(rt: HostRuntime) -> Result<(), Fail> {
-    assert!(rt; take_so_many(rt.alloc())?);
+    assert!(rt; is_full_behind(rt.alloc(), EVENTS)?);
     Ok(())
 }

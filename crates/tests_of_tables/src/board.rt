@@ -1,11 +1,14 @@
 //! Three sessions publish and join, call by call, and a session does as much of both as it may.
 ghost use Rattle.std.specs.Prelude.{◌≡◌, ◌<◌, length};
 
+use crate::benches::{Bench, are_answered, digit_behind, gives};
 use plain_types::{Code, Fault, Items, Text};
 use publish_board::{Board, JOINS, PUBLICATIONS, Publication};
 use signature_core::Kind;
 use std::alloc::{AllocError, Global};
 use std::hash::RandomState;
+use std::io;
+use std::random::RandomSource;
 use std::test::Fail;
 
 /// A test asks this of a board.
@@ -38,16 +41,31 @@ use Asked::*;
 
 const KINDS: [Kind; 3] = [Kind::Bool, Kind::Int, Kind::Text];
 
+/// Gives the same bytes in every run.
+struct Sevens;
+
+impl RandomSource for Sevens {
+    fn fill_bytes(&self, buffer: &mut [u8]) -> io::Result<()> {
+        buffer.fill(7);
+        Ok(())
+    }
+}
+
 /// A board with three places, of the sessions `a`, `b` and `c`.
 #[derive(Drop)]
-struct Bench {
+struct Sessions {
     board: Board,
     alloc: Global,
     ghost three: { length board.places ≡ 3 },
 }
 
-impl Bench {
-    fn new(alloc: Global, hashing: RandomState) -> Result<Bench, AllocError> {
+impl Bench for Sessions {
+    type Asked = Asked;
+
+    fn new(alloc: Global) -> Result<Sessions, AllocError> {
+        let Ok(hashing) = RandomState::new(&Sevens) else {
+            return Err(AllocError);
+        };
         let mut board = Board::new(alloc, hashing);
         board.ready()?;
         board.open();
@@ -55,7 +73,7 @@ impl Bench {
         board.open();
         board.ready()?;
         board.open();
-        Ok(Bench { board, alloc })
+        Ok(Sessions { board, alloc })
     }
 
     fn ask(&mut self, place: usize, asked: Asked) -> Result<u64, AllocError> {
@@ -75,7 +93,9 @@ impl Bench {
             _ => self.read(place, asked),
         }
     }
+}
 
+impl Sessions {
     fn read(&self, place: usize, asked: Asked) -> Result<u64, AllocError>
         requires { place < length self.now.board.places }
     {
@@ -223,36 +243,6 @@ impl Bench {
             None => Ok(0),
         }
     }
-
-    /// Whether all of this is answered so.
-    fn answers(&mut self, cases: &[Case]) -> Result<bool, AllocError> {
-        for (place, asked, wanted) in cases {
-            if self.ask(*place, *asked)? != *wanted {
-                return Ok(false);
-            }
-        }
-        Ok(true)
-    }
-
-    /// Whether the first place joins so often and publishes under so many names, and no more.
-    fn is_full_behind(&mut self, joins: usize, publications: usize) -> Result<bool, AllocError> {
-        for _ in 0..joins {
-            if self.ask(0, Join("b", "x", 5, 1, 2))? != 0 {
-                return Ok(false);
-            }
-        }
-        for number in 0..publications {
-            let name = format!(in self.alloc; "x{number}")?;
-            if self.publish(0, name.as_str(), 5, 1)? != 0 {
-                return Ok(false);
-            }
-        }
-        self.answers(&FULL)
-    }
-}
-
-fn digit_behind(digits: u64, digit: u64) -> u64 {
-    digits.wrapping_mul(10).wrapping_add(digit)
 }
 
 /// 0 where it is done, or the number of the code that refuses it.
@@ -270,7 +260,7 @@ fn number_of(done: Result<(), Fault>) -> Result<u64, AllocError> {
 /// A place, what is asked of it, and what is answered.
 type Case = (usize, Asked, u64);
 
-const IN_ORDER: [Case; 58] = [
+const IN_ORDER: &[Case] = &[
     (0, Publish("on", 3, 1), 0),
     (0, Publish("off", 3, 1), 0),
     (0, Publish("on", 4, 2), 15),
@@ -335,19 +325,14 @@ const IN_ORDER: [Case; 58] = [
     (0, NextJoiner("a", 0), 0),
 ];
 
-fn ask_in_order(alloc: Global, hashing: RandomState) -> Result<bool, AllocError> {
-    let mut bench = Bench::new(alloc, hashing)?;
-    bench.answers(&IN_ORDER)
-}
-
 #[test]
 fn joins_are_found_by_the_session_that_they_name(rt: HostRuntime) -> Result<(), Fail> {
-    assert!(rt; ask_in_order(rt.alloc(), RandomState::new(&rt)?)?);
+    assert!(rt; are_answered::<Sessions>(rt.alloc(), IN_ORDER)?);
     Ok(())
 }
 
 /// A place that joins and publishes as often as it may answers these, always with object 5.
-const FULL: [Case; 10] = [
+const FULL: &[Case] = &[
     (0, Counts, 11264),
     (0, Join("b", "x", 5, 1, 2), 14),
     (0, Join("a", "x", 5, 1, 2), 16),
@@ -360,13 +345,25 @@ const FULL: [Case; 10] = [
     (0, NextJoiner("b", 0), 0),
 ];
 
-fn take_so_many(alloc: Global, hashing: RandomState) -> Result<bool, AllocError> {
-    let mut bench = Bench::new(alloc, hashing)?;
-    bench.is_full_behind(JOINS, PUBLICATIONS)
+/// Whether a place joins so often and publishes under so many names, and no more.
+fn is_full_behind(alloc: Global, joins: usize, publications: usize) -> Result<bool, AllocError> {
+    let mut bench = Sessions::new(alloc)?;
+    for _ in 0..joins {
+        if bench.ask(0, Join("b", "x", 5, 1, 2))? != 0 {
+            return Ok(false);
+        }
+    }
+    for number in 0..publications {
+        let name = format!(in alloc; "x{number}")?;
+        if bench.publish(0, name.as_str(), 5, 1)? != 0 {
+            return Ok(false);
+        }
+    }
+    gives(&mut bench, FULL)
 }
 
 #[test]
 fn a_place_joins_and_publishes_so_often(rt: HostRuntime) -> Result<(), Fail> {
-    assert!(rt; take_so_many(rt.alloc(), RandomState::new(&rt)?)?);
+    assert!(rt; is_full_behind(rt.alloc(), JOINS, PUBLICATIONS)?);
     Ok(())
 }
