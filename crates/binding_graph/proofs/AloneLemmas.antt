@@ -69,7 +69,7 @@ merged_alone row last new put q = put q ∙ by (is_property q row.at)
     by false = refl
 
 -- where a property alone is marked, and nothing is to be evaluated for it
-module _ (store : Store) (marks : Marks) (graph : Graph) (cache : Cache) (at : Property) (none : has_marks marks ≡ false)
+module _ {store : Store} {marks : Marks} {graph : Graph} {cache : Cache} {at : Property} (none : has_marks marks ≡ false)
     (one : cache.pending ≡ only (at ∷ [])) (step : IsInStep store marks graph cache)
     (apart : IsApart (scene_of store graph.bindings) (kept_of cache.kept) at) where
   some : cache.pending.all ≡ false
@@ -79,15 +79,15 @@ module _ (store : Store) (marks : Marks) (graph : Graph) (cache : Cache) (at : P
   pub complete_alone : IsComplete (scene_of store graph.bindings) (kept_of cache.kept)
   complete_alone = apart.complete
       (subst (λ each. IsRightBut (scene_of store graph.bindings) (only each) (kept_of cache.kept)) (ap (λ (marks : Marks). marks.each) one)
-      (touched_right store marks graph cache none some step))
+      (touched_right none some step))
       (subst (λ each. IsWhole (scene_of store graph.bindings) (only each) (kept_of cache.kept)) (ap (λ (marks : Marks). marks.each) one)
-      (touched_whole store marks graph cache none some step))
+      (touched_whole none some step))
 
   more : (q : Property) → among q cache.pending.each ≡ true → among q (at ∷ []) ≡ true
   more q on = subst (λ each. among q each ≡ true) (ap (λ (marks : Marks). marks.each) one) on
 
-  module _ (sound : IsSound store) (are : AreBindings graph.bindings) (kind : Kind) (value stored : Value)
-      (there : Some (record { kind = kind; value = stored }) ≡ cell_in store at) (copied : value ≡ stored) (row : Shown)
+  module _ (sound : IsSound store) (are : AreBindings graph.bindings) {kind : Kind} {value stored : Value}
+      (there : Some (record { kind = kind; value = stored }) ≡ cell_in store at) (copied : value ≡ stored) {row : Shown}
       (row_is : row ≡ shown_as at kind (Ok value)) where
     shows : Some (shown_as at kind (Ok value)) ≡ shown_now store graph.bindings at
     shows = shown_so store graph.bindings (kept_of cache.kept) complete_alone at (record { kind = kind; value = stored }) there (Ok value)
@@ -108,12 +108,12 @@ module _ (store : Store) (marks : Marks) (graph : Graph) (cache : Cache) (at : P
         (ap (λ (cell : Option Cell). option_map_or (λ (cell : Cell). cell.value) cell Invalid) (sym there) ∙ sym copied)
         (is ∙ ap (λ (row : Shown). not (is_same (before graph.last row).value row.value)) row_is)
         ∙ (sym (told_alone graph.last at kind value)
-        ∙ sym (told_so store marks graph cache none some step sound are cache.kept (at ∷ []) complete_alone (λ q off. refl) more
+        ∙ sym (told_so none some step sound are cache.kept (at ∷ []) complete_alone (λ q off. refl) more
         (shown_as at kind (Ok value) ∷ []) found (Some at) (one_rising (shown_as at kind (Ok value)))))
 
     -- and what is shown then
     pub last_alone : (new : List Shown) → AreShown new → IsPut row graph.last new → new ≡ all_shown store graph.bindings
     last_alone new are_shown put =
-        merged_so store marks graph cache none some step sound are cache.kept (at ∷ []) complete_alone (λ q off. refl) more
+        merged_so none some step sound are cache.kept (at ∷ []) complete_alone (λ q off. refl) more
         (shown_as at kind (Ok value) ∷ []) found new are_shown.rising
         (merged_alone (shown_as at kind (Ok value)) graph.last new (subst (λ (row : Shown). IsPut row graph.last new) row_is put))

@@ -60,9 +60,9 @@ rest_within at rows q kept is = ⊎_elim same other (cases_Bool (is_property at 
     other e = sym (others_kept at q e rows) ∙ is
 
 -- less is kept, but of marked properties alone
-pub forgotten_in_step : (store : Store) (marks : Marks) (graph : Graph) (cache : Cache) (at : Property) → is_marked (both marks cache.pending) at ≡ true
+pub forgotten_in_step : {store : Store} {marks : Marks} {graph : Graph} {cache : Cache} (at : Property) → is_marked (both marks cache.pending) at ≡ true
     → IsInStep store marks graph cache → IsInStep store marks graph (record cache { kept = rest at cache.kept })
-forgotten_in_step store marks graph cache at on step = record {
+forgotten_in_step {store} {marks} {graph} {cache} at on step = record {
   right = λ part within. step.right part (λ q kept is. rest_within at cache.kept q kept (within q kept is));
   whole = λ q off. by q off (step.whole q off);
   last = λ q off. step.last q off ∙ ap (shows q) (sym (still q off));
@@ -86,9 +86,9 @@ forgotten_in_step store marks graph cache at on step = record {
 
 -- more is marked, or another group is open
 
-pub at_depth : (store : Store) (marks : Marks) (graph : Graph) (cache : Cache) (depth : ℕ) → IsInStep store marks graph cache
+pub at_depth : {store : Store} {marks : Marks} {graph : Graph} {cache : Cache} (depth : ℕ) → IsInStep store marks graph cache
     → IsInStep store marks (record graph { depth = depth }) cache
-at_depth store marks graph cache depth step = record { right = step.right; whole = step.whole; last = step.last }
+at_depth depth step = record { right = step.right; whole = step.whole; last = step.last }
 
 more_of_pending : (marks before pending : Marks) → AreMore before pending → AreMore (both marks before) (both marks pending)
 more_of_pending marks before pending are_more q on = both_marked marks pending q ∙ by (is_marked marks q) (sym (both_marked marks before q) ∙ on)
@@ -97,11 +97,11 @@ more_of_pending marks before pending are_more q on = both_marked marks pending q
     by true e = refl
     by false e = are_more q e
 
-pub pending_in_step : (store : Store) (marks pending : Marks) (graph : Graph) (cache : Cache) → AreMore cache.pending pending → IsInStep store marks graph cache
-    → IsInStep store marks graph (record cache { pending = pending })
-pending_in_step store marks pending graph cache are_more step = more_in_step step (more_of_pending marks cache.pending pending are_more)
+pub pending_in_step : {store : Store} {marks : Marks} (pending : Marks) {graph : Graph} {cache : Cache} → AreMore cache.pending pending
+    → IsInStep store marks graph cache → IsInStep store marks graph (record cache { pending = pending })
+pending_in_step {store} {marks} pending {graph} {cache} are_more step = more_in_step step (more_of_pending marks cache.pending pending are_more)
 
-module _ (store : Store) (marks pending : Marks) (graph : Graph) (cache : Cache) (at : Property) (are_more : AreMore cache.pending pending)
+module _ {store : Store} {marks : Marks} (pending : Marks) {graph : Graph} {cache : Cache} (at : Property) (are_more : AreMore cache.pending pending)
     (marked : is_marked pending at ≡ true) (step : IsInStep store marks graph cache) where
   marked_here : is_marked (both marks pending) at ≡ true
   marked_here = both_marked marks pending at ∙ or_right (is_marked marks at) _ marked
@@ -109,13 +109,13 @@ module _ (store : Store) (marks pending : Marks) (graph : Graph) (cache : Cache)
   -- a binding that is made or taken away
   pub bound_in_step : (term : Term) → IsInStep store marks (bound graph at term) (record cache { pending = pending; kept = rest at cache.kept })
   bound_in_step term =
-      forgotten_in_step store marks (bound graph at term) (record cache { pending = pending }) at marked_here
+      forgotten_in_step at marked_here
       (stays_where_marked store store marks marks pending graph (with_binding (record { at = at; expr = term }) graph.bindings) cache
       (more_of_pending marks cache.pending pending are_more)
       (binding_is_marked store graph.bindings (both marks pending) (record { at = at; expr = term }) marked_here) step)
 
   pub unbound_in_step : IsInStep store marks (unbound graph at) (record cache { pending = pending; kept = rest at cache.kept })
   unbound_in_step =
-      forgotten_in_step store marks (unbound graph at) (record cache { pending = pending }) at marked_here
+      forgotten_in_step at marked_here
       (stays_where_marked store store marks marks pending graph (unbound graph at).bindings cache (more_of_pending marks cache.pending pending are_more)
       (unbinding_is_marked store graph.bindings (both marks pending) at marked_here) step)

@@ -1,27 +1,24 @@
 -- What the properties of a place showed, by object.
 use Rattle.std.proofs.Common.{◌≡◌, ◌∙◌, ℕ, zero, suc, ◌+◌, ◌<◌, ◌≤◌, ◌==◌, ◌&&◌, ◌||◌, nat_lt, Bool, true, false, cond, not, List, [], ◌∷◌, ◌++◌}
-use Rattle.std.proofs.Common.{Option, Some, None, All, Result, Ok, Err, OnErr}
-use Rattle.std.proofs.Common.{filter, filter_map, find, length, get_or, set, refl, sym, ap, ap₂, subst, arith, ⊎_elim}
-use Rattle.std.specs.List.{AllWithin, insert, remove, slice_get}
+use Rattle.std.proofs.Common.{Option, Some, None, All}
+use Rattle.std.proofs.Common.{filter, filter_map, length, get_or, set, refl, sym, ap, ap₂, subst, arith}
+use Rattle.std.specs.List.{insert, remove}
 use Rattle.std.specs.Option.{option_map_or, option_or}
-use Rattle.std.proofs.lemmas.Bool.{cases_lt, eq-eqb, eqb-true}
+use Rattle.std.proofs.lemmas.Bool.{eq-eqb, eqb-true}
 use Rattle.std.proofs.lemmas.Bool.Decides.{nat_tests}
-use Rattle.std.proofs.lemmas.Option.{none-some, slice_get-get_or}
-use Rattle.std.proofs.lemmas.List.{length-set}
-use Rattle.std.proofs.lemmas.List.Edits.{get_or-insert_above, get_or-insert_at, get_or-insert_below, length-insert}
+use Rattle.std.proofs.lemmas.Option.{none-some}
+use Rattle.std.proofs.lemmas.List.{get_or-set_same, length-set}
 use Rattle.std.proofs.lemmas.List.Elements.{All-append, All-cons, All-filter, All-nil, All-set}
 use Rattle.std.proofs.lemmas.List.Folds.{find-append}
 use Rattle.std.proofs.lemmas.List.Kept.{AllPairs-filter}
 use Rattle.variant_value.specs.Values.{IsOfKind}
 use Rattle.property_store.specs.declared.property.Property.{Property}
 use Rattle.property_store.specs.Property.{is_property}
-use Rattle.binding_values.specs.Sorted.{IsCountBefore, IsRising, is_before}
+use Rattle.binding_values.specs.Sorted.{IsGapAt, is_before}
 use Rattle.binding_values.specs.Graph.{AreShown, shown_at}
 use Rattle.binding_values.specs.declared.shown.Shown.{Shown}
-use Rattle.binding_values.proofs.ForCallers.{found_filter, inserted, is_other, is_property_sym, never_before, none_behind, pairs_append, stands_so}
-use Rattle.binding_values.proofs.ForCallers.{stands_within, with_rising}
-use Rattle.binding_values.proofs.SortedLemmas.{found_nowhere, found_there, left_without}
-use Rattle.binding_values.proofs.TouchedLemmas.{same_rows}
+use Rattle.binding_values.proofs.ForCallers.{found_filter, found_none, found_row, insert_rising, inserted, inserted_other, none_behind, others_before}
+use Rattle.binding_values.proofs.ForCallers.{pairs_append, same_rows, set_here, set_other, set_rising, without_none, without_row}
 use Rattle.binding_graph.specs.declared.shown_object.ShownObject.{ShownObject}
 use Rattle.binding_graph.specs.LastShown.{AreAsMany, AreByObject, AreInSlots, HasMoreSlots, IsPlaceOf, IsSlot, ShowSame, first_of, head, joined}
 use Rattle.binding_graph.specs.LastShown.{object_in, rows_of, slot_at, slots_of}
@@ -137,66 +134,34 @@ pub joined_same : (one other : List ShownObject) → AreByObject one → AreByOb
     → ((q : Property) → shown_at (joined one) q ≡ shown_at (joined other) q) → joined one ≡ joined other
 joined_same one other are is same = same_rows (joined one) (joined other) (joined_shown one are).rising (joined_shown other is).rising same
 
+-- the slot of a property was written in the object at a place: it holds a row of the property, or nothing
+pub record AreWritten (objects : List ShownObject) (at : Property) (place : ℕ) (slot : Option Shown) (old new : ShownObject) : Type 0 where
+  pub sound : AreByObject (set objects place new)
+  pub shown : (q : Property) → shown_at (joined (set objects place new)) q ≡ cond (is_property q at) slot (shown_at (joined objects) q)
+  pub as_many : length old.slots.items ≤ length new.slots.items → AreAsMany objects (set objects place new)
+  pub stays : IsPlaceOf (set objects place new) at.object place
+  pub empty : length new.slots.items ≡ 0 → (q : Property) → q.object ≡ at.object → shown_at (joined (set objects place new)) q ≡ None
+
 -- an object in place of another with its number
-
-find_set : {X : Type 0} (p : X → Bool) (xs : List X) (place : ℕ) (x : X) → place < length xs → AllWithin (λ y. p y ≡ false) xs 0 place → p x ≡ true
-    → find p (set xs place x) ≡ Some x
-find_set p [] place x within before here = absurd (omega arith)
-find_set p (y ∷ xs) zero x within before here = rw here refl
-find_set p (y ∷ xs) (suc place) x within before here =
-    let first : p y ≡ false = before 0 y (omega arith) (omega arith) in
-    rw first (find_set p xs place x (omega arith) (λ j e low high. before (suc j) e (omega arith) (omega arith)) here)
-
-find_other : {X : Type 0} (p : X → Bool) (xs : List X) (place : ℕ) (x : X) → ((d : X) → p (get_or xs place d) ≡ false) → p x ≡ false
-    → find p (set xs place x) ≡ find p xs
-find_other p [] place x there here = refl
-find_other p (y ∷ xs) zero x there here = let first : p y ≡ false = there y in rw (here, first) refl
-find_other p (y ∷ xs) (suc place) x there here = ap (λ later. cond (p y) (Some y) later) (find_other p xs place x there here)
-
-find_inserted : {X : Type 0} (p : X → Bool) (xs : List X) (place : ℕ) (x : X) → p x ≡ false → find p (insert xs place x) ≡ find p xs
-find_inserted p [] zero x here = rw here refl
-find_inserted p [] (suc place) x here = rw here refl
-find_inserted p (y ∷ xs) zero x here = rw here refl
-find_inserted p (y ∷ xs) (suc place) x here = ap (λ later. cond (p y) (Some y) later) (find_inserted p xs place x here)
-
-key_set : (xs : List ShownObject) (place : ℕ) (x d : ShownObject) (k : ℕ) → ((e : ShownObject) → (get_or xs place e).object ≡ x.object)
-    → (get_or (set xs place x) k d).object ≡ (get_or xs k d).object
-key_set [] place x d k same = refl
-key_set (y ∷ xs) zero x d zero same = sym (same y)
-key_set (y ∷ xs) zero x d (suc k) same = refl
-key_set (y ∷ xs) (suc place) x d zero same = refl
-key_set (y ∷ xs) (suc place) x d (suc k) same = key_set xs place x d k same
 
 head_is : (object other : ℕ) → ((other == object) && (0 == 0)) ≡ (other == object)
 head_is object other = grind (arith, nat_tests)
 
-module _ (objects : List ShownObject) (are : AreByObject objects) (object place : ℕ) (there : IsPlaceOf objects object place) where
+module _ {objects : List ShownObject} (are : AreByObject objects) {object place : ℕ} (there : IsPlaceOf objects object place) where
   -- the object is found at its place
-  pub found_object : (d : ShownObject) → object_in objects object ≡ Some (get_or objects place d)
-  found_object d = found_there head objects (first_of object) place there.count d there.within
-      (ap (λ n. (object == n) && (0 == 0)) (there.is d) ∙ by object)
-    where
-      by : (object : ℕ) → ((object == object) && (0 == 0)) ≡ true
-      by object = grind (arith, nat_tests)
-
   pub slots_there : (d : ShownObject) → slots_of objects object ≡ length (get_or objects place d).slots.items
-  slots_there d = ap (λ found. option_map_or (λ (of : ShownObject). length of.slots.items) found 0) (found_object d)
+  slots_there d = ap (λ found. option_map_or (λ (of : ShownObject). length of.slots.items) found 0) (found_row there are.rising d)
 
   pub shown_there : (d : ShownObject) (q : Property) → q.object ≡ object → shown_at (joined objects) q ≡ slot_at (get_or objects place d).slots.items q.number
   shown_there d q same = joined_at objects are q ∙ ap (λ found. option_map_or (λ (of : ShownObject). slot_at of.slots.items q.number) found None)
-      (ap (object_in objects) same ∙ found_object d)
+      (ap (object_in objects) same ∙ found_row there are.rising d)
 
   module _ (new : ShownObject) (same : new.object ≡ object) (filled : Filled new) where
     pub set_sound : AreByObject (set objects place new)
     set_sound = record {
-      rising = λ i j d lt within. subst (λ n. is_before (first_of n) (head (get_or (set objects place new) j d)) ≡ true) (sym (key i d))
-          (subst (λ n. is_before (head (get_or objects i d)) (first_of n) ≡ true) (sym (key j d))
-          (are.rising i j d lt (subst (λ n. j < n) (length-set objects place new) within)));
+      rising = set_rising are.rising new there (ap first_of (sym same));
       filled = All-set Filled objects place new filled are.filled;
     }
-      where
-        key : (k : ℕ) (d : ShownObject) → (get_or (set objects place new) k d).object ≡ (get_or objects k d).object
-        key k d = key_set objects place new d k (λ e. there.is e ∙ sym same)
 
     pub object_set : (other : ℕ) → object_in (set objects place new) other ≡ cond (other == object) (Some new) (object_in objects other)
     object_set other = by (other == object) refl
@@ -205,13 +170,11 @@ module _ (objects : List ShownObject) (are : AreByObject objects) (object place 
         new_is = ap (λ n. (other == n) && (0 == 0)) same ∙ head_is object other
 
         by : (here : Bool) → (other == object) ≡ here → object_in (set objects place new) other ≡ cond here (Some new) (object_in objects other)
-        by true e = find_set (is_head other) objects place new there.within
+        by true e = set_here (is_head other) objects place new there.within (new_is ∙ e)
             (λ k d low high. ap (λ n. is_property (first_of n) (head (get_or objects k d))) (eqb-true other object e)
-            ∙ (is_property_sym (first_of object) (head (get_or objects k d))
-            ∙ is_other (head (get_or objects k d)) (first_of object) (there.count.before k d low high)))
-            (new_is ∙ e)
-        by false e = find_other (is_head other) objects place new
-            (λ d. ap (λ n. (other == n) && (0 == 0)) (there.is d) ∙ (head_is object other ∙ e)) (new_is ∙ e)
+            ∙ others_before there are.rising k d low high)
+        by false e = set_other (is_head other) objects place new new (new_is ∙ e)
+            (ap (is_property (first_of other)) (there.is new) ∙ (head_is object other ∙ e))
 
     pub shown_set : (q : Property) → shown_at (joined (set objects place new)) q
         ≡ cond (q.object == object) (slot_at new.slots.items q.number) (shown_at (joined objects) q)
@@ -243,22 +206,13 @@ module _ (objects : List ShownObject) (are : AreByObject objects) (object place 
     -- its place stays
     pub place_set : IsPlaceOf (set objects place new) object place
     place_set = record {
-      count = record {
-        within = omega (arith, length-set objects place new, there.within);
-        before = λ k d low high. subst (λ n. is_before (first_of n) (first_of object) ≡ true)
-            (sym (key_set objects place new d k (λ e. there.is e ∙ sym same)))
-            (there.count.before k d low high);
-        behind = λ k d low high. subst (λ n. is_before (first_of n) (first_of object) ≡ false)
-            (sym (key_set objects place new d k (λ e. there.is e ∙ sym same)))
-            (there.count.behind k d low (subst (λ n. k < n) (length-set objects place new) high));
-      };
       within = omega (arith, length-set objects place new, there.within);
-      is = λ d. key_set objects place new d place (λ e. there.is e ∙ sym same) ∙ there.is d;
+      is = λ d. ap head (get_or-set_same objects place new d there.within) ∙ ap first_of same;
     }
 
   module _ (old : ShownObject) (old_is : old ≡ get_or objects place old) where
     old_object : old.object ≡ object
-    old_object = ap (λ (of : ShownObject). of.object) old_is ∙ there.is old
+    old_object = ap (λ (of : ShownObject). of.object) old_is ∙ ap (λ (p : Property). p.object) (there.is old)
 
     old_filled : Filled old
     old_filled = subst Filled (sym old_is) (are.filled place old there.within)
@@ -304,29 +258,22 @@ module _ (objects : List ShownObject) (are : AreByObject objects) (object place 
               let it = old_filled k shown f in
               (it.0 ∙ ap (λ o. let p : Property = record { object = o; number = 0 + k } in p) (old_object ∙ sym same), it.1)
 
-      pub written_sound : AreByObject (set objects place new)
-      written_sound = set_sound new same written_filled
-
-      pub shown_written : (q : Property) → shown_at (joined (set objects place new)) q
-          ≡ cond (is_property q (record { object = object; number = number })) slot (shown_at (joined objects) q)
-      shown_written q = shown_set new same written_filled q ∙ by (q.object == object) refl
+      pub slot_written : AreWritten objects (record { object = object; number = number }) place slot old new
+      slot_written = record {
+        sound = set_sound new same written_filled;
+        shown = λ q. shown_set new same written_filled q ∙ by q (q.object == object) refl;
+        as_many = slots_set new same written_filled old old_is;
+        stays = place_set new same written_filled;
+        empty = λ none q here. shown_set new same written_filled q
+            ∙ (ap (λ t. cond t (slot_at new.slots.items q.number) (shown_at (joined objects) q)) (eq-eqb q.object object here)
+            ∙ no_slot new.slots.items none q.number);
+      }
         where
-          by : (here : Bool) → (q.object == object) ≡ here → cond here (slot_at new.slots.items q.number) (shown_at (joined objects) q)
+          by : (q : Property) (here : Bool) → (q.object == object) ≡ here
+              → cond here (slot_at new.slots.items q.number) (shown_at (joined objects) q)
               ≡ cond (here && (q.number == number)) slot (shown_at (joined objects) q)
-          by true e = written q.number ∙ ap (cond (q.number == number) slot) (sym (old_shown q (eqb-true q.object object e)))
-          by false e = refl
-
-      pub slots_written : length old.slots.items ≤ length new.slots.items → AreAsMany objects (set objects place new)
-      slots_written more = slots_set new same written_filled old old_is more
-
-      written_place : IsPlaceOf (set objects place new) object place
-      written_place = place_set new same written_filled
-
-      -- without a slot left it shows nothing
-      nothing_left : length new.slots.items ≡ 0 → (q : Property) → q.object ≡ object → shown_at (joined (set objects place new)) q ≡ None
-      nothing_left none q here = shown_set new same written_filled q
-          ∙ (ap (λ t. cond t (slot_at new.slots.items q.number) (shown_at (joined objects) q)) (eq-eqb q.object object here)
-          ∙ no_slot new.slots.items none q.number)
+          by q true e = written q.number ∙ ap (cond (q.number == number) slot) (sym (old_shown q (eqb-true q.object object e)))
+          by q false e = refl
 
 -- an object that is inserted
 
@@ -336,13 +283,14 @@ joined_inserted [] (suc place) new none = ap (λ rows. rows ++ []) none
 joined_inserted (of ∷ objects) zero new none = ap (λ rows. rows ++ joined (of ∷ objects)) none
 joined_inserted (of ∷ objects) (suc place) new none = ap (λ rows. rows_of of ++ rows) (joined_inserted objects place new none)
 
-module _ (objects : List ShownObject) (are : AreByObject objects) (new : ShownObject) (place : ℕ) (count : IsCountBefore head objects (head new) place)
-    (other : (d : ShownObject) → place < length objects → is_property (head new) (head (get_or objects place d)) ≡ false) (none : new.slots.items ≡ []) where
+module _ {objects : List ShownObject} (are : AreByObject objects) (new : ShownObject) {place : ℕ} (gap : IsGapAt head objects (head new) place)
+    (none : new.slots.items ≡ []) where
   pub insert_same : ShowSame objects (insert objects place new)
   insert_same = record {
     sound = record {
-      rising = subst (IsRising head) (sym is) (with_rising head new objects are.rising);
-      filled = subst (All Filled) (sym is) (All-append Filled below (new ∷ above) (All-filter (λ of. is_before (head of) (head new)) Filled objects are.filled)
+      rising = insert_rising are.rising new gap;
+      filled = subst (All Filled) (sym (inserted new gap)) (All-append Filled below (new ∷ above)
+          (All-filter (λ of. is_before (head of) (head new)) Filled objects are.filled)
           (All-cons Filled new above empty (All-filter (λ of. is_before (head new) (head of)) Filled objects are.filled)));
     };
     same = λ q. ap (λ rows. shown_at rows q) (joined_inserted objects place new (ap (filter_map (λ slot. slot)) none));
@@ -355,50 +303,18 @@ module _ (objects : List ShownObject) (are : AreByObject objects) (new : ShownOb
       above : List ShownObject
       above = filter (λ of. is_before (head new) (head of)) objects
 
-      is : insert objects place new ≡ below ++ new ∷ above
-      is = inserted head new objects place are.rising count other
-
       empty : Filled new
       empty k shown holds = absurd (let never : None ≡ Some shown = sym (ap (λ slots. slot_at slots k) none) ∙ holds in cc)
 
       by : (object : ℕ) (here : Bool) → is_head object new ≡ here → slots_of objects object ≤ slots_of (insert objects place new) object
       by object true e =
-          let absent : object_in objects object ≡ None = ap (object_in objects) (head_same object new.object e)
-          ∙ found_nowhere head objects (head new) place count are.rising other in
+          let absent : object_in objects object ≡ None = ap (object_in objects) (head_same object new.object e) ∙ found_none gap in
           let zero_slots : slots_of objects object ≡ 0 = ap (λ found. option_map_or (λ (of : ShownObject). length of.slots.items) found 0) absent in
           omega (arith, zero_slots)
       by object false e =
           let level : slots_of (insert objects place new) object ≡ slots_of objects object =
-          ap (λ found. option_map_or (λ (of : ShownObject). length of.slots.items) found 0) (find_inserted (is_head object) objects place new e) in
+          ap (λ found. option_map_or (λ (of : ShownObject). length of.slots.items) found 0) (inserted_other (is_head object) objects place new e) in
           omega (arith, level)
-
-  pub insert_place : IsPlaceOf (insert objects place new) new.object place
-  insert_place = record {
-    count = record {
-      within = omega (arith, length-insert objects place new count.within, count.within);
-      before = λ k d low high. subst (λ (of : ShownObject). is_before (head of) (head new) ≡ true)
-          (sym (get_or-insert_below objects place new d k high count.within))
-          (count.before k d low high);
-      behind = λ k d low high. ⊎_elim (behind k d high) (level k d low) (cases_lt place k);
-    };
-    within = omega (arith, length-insert objects place new count.within, count.within);
-    is = λ d. ap (λ (of : ShownObject). of.object) (get_or-insert_at objects place new d count.within);
-  }
-    where
-      level : (k : ℕ) (d : ShownObject) → place ≤ k → k ≤ place → is_before (head (get_or (insert objects place new) k d)) (head new) ≡ false
-      level k d low high =
-          let same : k ≡ place = omega (arith, low, high) in
-          ap (λ n. is_before (head (get_or (insert objects place new) n d)) (head new)) same
-          ∙ (ap (λ (of : ShownObject). is_before (head of) (head new)) (get_or-insert_at objects place new d count.within) ∙ never_before (head new))
-
-      behind : (k : ℕ) (d : ShownObject) → k < length (insert objects place new) → place < k
-          → is_before (head (get_or (insert objects place new) k d)) (head new) ≡ false
-      behind zero d high low = absurd (omega (arith, low))
-      behind (suc k) d high low =
-          let more : k + 1 ≡ suc k = omega arith in
-          ap (λ n. is_before (head (get_or (insert objects place new) n d)) (head new)) (sym more)
-          ∙ (ap (λ (of : ShownObject). is_before (head of) (head new)) (get_or-insert_above objects place new d k (omega (arith, low)) count.within)
-          ∙ count.behind k d (omega (arith, low)) (omega (arith, high, length-insert objects place new count.within)))
 
 -- an object that goes
 
@@ -447,63 +363,29 @@ joined_without object (of ∷ objects) filled = by (is_head object of) refl
     by false e later = ap (λ rows. rows_of of ++ rows) later ∙ sym (filter_rows object (rows_of of) (joined objects)
         ∙ ap (λ rows. rows ++ filter (λ row. not (row.at.object == object)) (joined objects)) (rows_with object (rows_of of) false (each false e)))
 
-module _ (objects : List ShownObject) (are : AreByObject objects) (object place : ℕ) (count : IsCountBefore head objects (first_of object) place)
-    (stands : Bool) (asked : stands ≡ option_map_or (λ (of : ShownObject). is_property (first_of object) (head of)) (slice_get objects place) false) where
-  -- where it stands
-  pub place_so : stands ≡ true → IsPlaceOf objects object place
-  place_so is =
-      let within = stands_within head objects place (first_of object) stands asked is in record {
-        count = count;
-        within = within;
-        is = λ d. sym (head_same object (get_or objects place d).object (stands_so head objects place (first_of object) stands asked d within ∙ is));
-      }
-
-  pub removed_is : stands ≡ true → filter (λ of. not (is_head object of)) objects ≡ remove objects place
-  removed_is = left_without head objects place (first_of object) are.rising count stands asked
-
-  pub remove_sound : stands ≡ true → AreByObject (remove objects place)
-  remove_sound is = subst AreByObject (removed_is is) (record {
+module _ {objects : List ShownObject} (are : AreByObject objects) {object place : ℕ} where
+  pub remove_sound : IsPlaceOf objects object place → AreByObject (remove objects place)
+  remove_sound there = subst AreByObject (without_row there are.rising) (record {
     rising = AllPairs-filter (λ (earlier : ShownObject) (later : ShownObject). is_before (head earlier) (head later) ≡ true)
         (λ of. not (is_head object of)) objects are.rising;
     filled = All-filter (λ of. not (is_head object of)) Filled objects are.filled;
   })
 
-  pub joined_removed : stands ≡ true → joined (remove objects place) ≡ filter (λ row. not (row.at.object == object)) (joined objects)
-  joined_removed is = ap joined (sym (removed_is is)) ∙ joined_without object objects are.filled
+  pub joined_removed : IsPlaceOf objects object place → joined (remove objects place) ≡ filter (λ row. not (row.at.object == object)) (joined objects)
+  joined_removed there = ap joined (sym (without_row there are.rising)) ∙ joined_without object objects are.filled
 
-  -- where it does not stand, it shows nothing
-  not_there : stands ≡ false → object_in objects object ≡ None
-  not_there is = found_nowhere head objects (first_of object) place count are.rising
-      (λ d within. stands_so head objects place (first_of object) stands asked d within ∙ is)
+  -- an object that has no place shows nothing
+  module _ (gap : IsGapAt head objects (first_of object) place) where
+    pub nothing_shown : (q : Property) → q.object ≡ object → shown_at (joined objects) q ≡ None
+    nothing_shown q same = joined_at objects are q
+        ∙ ap (λ found. option_map_or (λ (of : ShownObject). slot_at of.slots.items q.number) found None) (ap (object_in objects) same ∙ found_none gap)
 
-  pub nothing_shown : stands ≡ false → (q : Property) → q.object ≡ object → shown_at (joined objects) q ≡ None
-  nothing_shown is q same = joined_at objects are q
-      ∙ ap (λ found. option_map_or (λ (of : ShownObject). slot_at of.slots.items q.number) found None) (ap (object_in objects) same ∙ not_there is)
+    pub nothing_removed : joined objects ≡ filter (λ row. not (row.at.object == object)) (joined objects)
+    nothing_removed = ap joined (sym (without_none gap)) ∙ joined_without object objects are.filled
 
-  pub nothing_removed : stands ≡ false → joined objects ≡ filter (λ row. not (row.at.object == object)) (joined objects)
-  nothing_removed is = same_rows (joined objects) (filter (λ row. not (row.at.object == object)) (joined objects)) shown.rising
-      (AllPairs-filter (λ (earlier : Shown) (later : Shown). is_before earlier.at later.at ≡ true) (λ row. not (row.at.object == object)) (joined objects)
-      shown.rising)
-      (λ q. by q (q.object == object) refl ∙ sym (found_filter (λ p. not (p.object == object)) (joined objects) q))
-    where
-      shown : AreShown (joined objects)
-      shown = joined_shown objects are
-
-      by : (q : Property) (here : Bool) → (q.object == object) ≡ here
-          → shown_at (joined objects) q ≡ cond (not (q.object == object)) (shown_at (joined objects) q) None
-      by q true e = nothing_shown is q (eqb-true q.object object e) ∙ ap (λ t. cond (not t) (shown_at (joined objects) q) None) (sym e)
-      by q false e = ap (λ t. cond (not t) (shown_at (joined objects) q) None) (sym e)
-
-  -- one that has a slot stands there
-  slot_so : (at : Property) → at.object ≡ object → at.number < slots_of objects at.object → stands ≡ true
-  slot_so at same has = by stands refl
-    where
-      by : (t : Bool) → stands ≡ t → t ≡ true
-      by true e = refl
-      by false e =
-          let none : slots_of objects at.object ≡ 0 = ap (λ found. option_map_or (λ (of : ShownObject). length of.slots.items) found 0)
-          (ap (object_in objects) same ∙ not_there e) in
-          absurd (omega (arith, has, none))
+    -- and has no slot
+    pub no_slots : slots_of objects object ≡ 0
+    no_slots = ap (λ found. option_map_or (λ (of : ShownObject). length of.slots.items) found 0) (found_none gap)
 
 -- what is shown after an object without rows went too
 shown_removed : (object : ℕ) (rows : List Shown) → ((q : Property) → q.object ≡ object → shown_at rows q ≡ None) → (q : Property)
@@ -514,69 +396,29 @@ shown_removed object rows none q = found_filter (λ p. not (p.object == object))
     by true e = sym (none q (eqb-true q.object object e))
     by false e = refl
 
-asked_there : (objects : List ShownObject) (object place : ℕ) → IsPlaceOf objects object place → (d : ShownObject)
-    → true ≡ option_map_or (λ (of : ShownObject). is_property (first_of object) (head of)) (slice_get objects place) false
-asked_there objects object place there d =
-    sym (ap (λ found. option_map_or (λ (of : ShownObject). is_property (first_of object) (head of)) found false) (slice_get-get_or objects place d there.within)
-    ∙ (ap (λ n. (object == n) && (0 == 0)) (there.is d) ∙ (head_is object object ∙ eq-eqb object object refl)))
-
-module _ (objects : List ShownObject) (are : AreByObject objects) (object place : ℕ) (there : IsPlaceOf objects object place)
-    (none : (q : Property) → q.object ≡ object → shown_at (joined objects) q ≡ None) (d : ShownObject) where
-  empty_removed_sound : AreByObject (remove objects place)
-  empty_removed_sound = remove_sound objects are object place there.count true (asked_there objects object place there d) refl
-
-  empty_removed : (q : Property) → shown_at (joined (remove objects place)) q ≡ shown_at (joined objects) q
-  empty_removed q =
-      ap (λ rows. shown_at rows q) (joined_removed objects are object place there.count true (asked_there objects object place there d) refl)
-      ∙ shown_removed object (joined objects) none q
-
 -- a row that is dropped, and its object, if no slot is left
-module _ (objects : List ShownObject) (are : AreByObject objects) (at : Property) (place : ℕ) (there : IsPlaceOf objects at.object place)
-    (old : ShownObject) (old_is : old ≡ get_or objects place old) (new : ShownObject) (same : new.object ≡ old.object)
-    (emptied : (k : ℕ) → slot_at new.slots.items k ≡ cond (k == at.number) None (slot_at old.slots.items k)) where
-  own : new.object ≡ at.object
-  own = same ∙ old_object objects are at.object place there old old_is
 
-  nothing : (shown : Shown) → None ≡ Some shown → (shown.at ≡ record { object = at.object; number = at.number }) × IsOfKind shown.kind shown.value
-  nothing shown is = absurd (none-some shown is)
+pub slot_emptied : {objects : List ShownObject} → AreByObject objects → {at : Property} {place : ℕ} → IsPlaceOf objects at.object place
+    → (old : ShownObject) → old ≡ get_or objects place old → (new : ShownObject) → new.object ≡ old.object
+    → ((k : ℕ) → slot_at new.slots.items k ≡ cond (k == at.number) None (slot_at old.slots.items k)) → AreWritten objects at place None old new
+slot_emptied are {at} there old old_is new same emptied =
+    slot_written are there old old_is at.number None (λ shown is. absurd (none-some shown is)) new (same ∙ old_object are there old old_is) emptied
 
-  abbrev left : List ShownObject
-  left = set objects place new
+module _ {objects : List ShownObject} {at : Property} {place : ℕ} {old new : ShownObject} (it : AreWritten objects at place None old new) where
+  pub dropped_sound : AreByObject (remove (set objects place new) place)
+  dropped_sound = remove_sound it.sound it.stays
 
-  pub emptied_sound : AreByObject left
-  emptied_sound = written_sound objects are at.object place there old old_is at.number None nothing new own emptied
-
-  pub emptied_shown : (q : Property) → shown_at (joined left) q ≡ cond (is_property q at) None (shown_at (joined objects) q)
-  emptied_shown = shown_written objects are at.object place there old old_is at.number None nothing new own emptied
-
-  left_place : IsPlaceOf left at.object place
-  left_place = written_place objects are at.object place there old old_is at.number None nothing new own emptied
-
-  module _ (none : length new.slots.items ≡ 0) where
-    shows_nothing : (q : Property) → q.object ≡ at.object → shown_at (joined left) q ≡ None
-    shows_nothing = nothing_left objects are at.object place there old old_is at.number None nothing new own emptied none
-
-    pub dropped_sound : AreByObject (remove left place)
-    dropped_sound = empty_removed_sound left emptied_sound at.object place left_place shows_nothing new
-
-    pub dropped_shown : (q : Property) → shown_at (joined (remove left place)) q ≡ cond (is_property q at) None (shown_at (joined objects) q)
-    dropped_shown q = empty_removed left emptied_sound at.object place left_place shows_nothing new q ∙ emptied_shown q
+  pub dropped_shown : length new.slots.items ≡ 0 → (q : Property)
+      → shown_at (joined (remove (set objects place new) place)) q ≡ cond (is_property q at) None (shown_at (joined objects) q)
+  dropped_shown none q =
+      ap (λ rows. shown_at rows q) (joined_removed it.sound it.stays)
+      ∙ (shown_removed at.object (joined (set objects place new)) (it.empty none) q ∙ it.shown q)
 
 -- the slot of a property that has one
-pub slot_there : (objects : List ShownObject) → AreByObject objects → (at : Property) (place : ℕ) → IsCountBefore head objects (first_of at.object) place
-    → at.number < slots_of objects at.object → IsSlot objects at place
-slot_there objects are at place count has = record {
-  object = there;
-  number = λ d. omega (arith, has, slots_there objects are at.object place there d);
-}
-  where
-    there : IsPlaceOf objects at.object place
-    there = place_so objects are at.object place count _ refl (slot_so objects are at.object place count _ refl at refl has)
-
-pub slot_has : (objects : List ShownObject) → AreByObject objects → (at : Property) (place : ℕ) → IsSlot objects at place
+pub slot_has : (objects : List ShownObject) → AreByObject objects → {at : Property} {place : ℕ} → IsSlot objects at place
     → at.number < slots_of objects at.object
-slot_has [] are at place slot = absurd (omega (arith, slot.object.within))
-slot_has (of ∷ objects) are at place slot = omega (arith, slot.number of, slots_there (of ∷ objects) are at.object place slot.object of)
+slot_has [] are slot = absurd (omega (arith, slot.object.within))
+slot_has (of ∷ objects) are slot = omega (arith, slot.number of, slots_there are slot.object of)
 
 -- slots that are made one after another
 
@@ -589,11 +431,6 @@ same_twice one two three first second = record {
 
 pub same_itself : (objects : List ShownObject) → AreByObject objects → ShowSame objects objects
 same_itself objects are = record { sound = are; same = λ q. refl; as_many = λ object. omega arith }
-
--- what is said of a result that is an error
-pub if_error : {T E : Type 0} (r : Result T E) (P : Type 0) → P → OnErr r P
-if_error (Ok value) P is = tt
-if_error (Err error) P is = is
 
 -- where nothing was shown, what is put is all
 pub all_put : (rows last new : List Shown) → AreShown rows → AreShown new → last ≡ [] → AreReplaced [] rows last new → new ≡ rows

@@ -1,9 +1,10 @@
 -- The graphs of places, and what is kept of them.
-use Rattle.std.proofs.Common.{◌≡◌, ◌≢◌, ◌∙◌, ◌==◌, ℕ, zero, suc, Bool, true, false, not, List, [], ◌∷◌, Option, Some, None, filter, is_some}
-use Rattle.std.proofs.Common.{Result, Ok, Err, IfNone, IfSome, OnErr, OnOk}
-use Rattle.std.proofs.Common.{cond, find, get_or, length, map, option_map, refl, set, sym, ap, ap₂, subst, ⊎_elim, arith}
+use Rattle.std.proofs.Common.{◌≡◌, ◌≢◌, ◌∙◌, ◌==◌, ℕ, Bool, true, false, not, List, [], ◌∷◌, Option, Some, None, filter, is_some}
+use Rattle.std.proofs.Common.{Result, Ok, Err, OnErr, OnOk}
+use Rattle.std.proofs.Common.{cond, find, get_or, length, option_map, refl, set, sym, ap, ap₂, subst, ⊎_elim, arith}
 use Rattle.std.proofs.lemmas.Bool.{both_ways, cases_Bool, eq-eqb, eqb-true}
-use Rattle.std.proofs.lemmas.List.{get_or-set_other, get_or-set_same, get_or_past, length-map}
+use Rattle.std.proofs.lemmas.List.{get_or-set_other, get_or-set_same, get_or_past, length-map, map-set, set-get_or}
+use Rattle.std.proofs.Math.ListN.{get_or-map}
 use Rattle.shared_rows.specs.Table.{IsPlace, Table, opened, with_place}
 use Rattle.shared_rows.proofs.ForCallers.{default_pushed, with_same}
 use Rattle.property_store.specs.declared.property.Property.{Property}
@@ -29,32 +30,19 @@ use Rattle.binding_graph.proofs.StepLemmas.{same_in_step}
 abbrev Made : Type 0
 Made = Option (Box BindingGraph Global)
 
-mapped_at : {Y : Type 0} (f : Made → Y) (xs : List Made) (place : ℕ) → get_or (map f xs) place (f None) ≡ f (get_or xs place None)
-mapped_at f [] place = refl
-mapped_at f (x ∷ xs) zero = refl
-mapped_at f (x ∷ xs) (suc place) = mapped_at f xs place
-
-mapped_set : {Y : Type 0} (f : Made → Y) (xs : List Made) (place : ℕ) (x : Made) → map f (set xs place x) ≡ set (map f xs) place (f x)
-mapped_set f [] place x = refl
-mapped_set f (y ∷ xs) zero x = refl
-mapped_set f (y ∷ xs) (suc place) x = ap (λ ys. f y ∷ ys) (mapped_set f xs place x)
-
 abbrev pub made_at : Table Made → ℕ → GraphAndCache
 made_at table place = pair_of (get_or table.places place None)
 
 pub graph_there : (table : Table Made) (place : ℕ) → graph_at (split table).graphs place ≡ (made_at table place).graph
-graph_there table place = mapped_at (λ (made : Made). (pair_of made).graph) table.places place
+graph_there table place = get_or-map (λ (made : Made). (pair_of made).graph) table.places place None
 
 pub cache_there : (table : Table Made) (place : ℕ) → cache_at (split table).caches place ≡ (made_at table place).cache
-cache_there table place = mapped_at (λ (made : Made). (pair_of made).cache) table.places place
+cache_there table place = get_or-map (λ (made : Made). (pair_of made).cache) table.places place None
 
 pub pair_there : (table : Table Made) (place : ℕ) → made_at table place ≡ pair_at (split table) place
 pair_there table place =
     ap₂ (λ graph cache. let pair : GraphAndCache = record { graph = graph; cache = cache } in pair) (sym (graph_there table place))
     (sym (cache_there table place))
-
-pub graph_now : (table : Table Made) (place : ℕ) (now : GraphAndCache) → now ≡ made_at table place → now.graph ≡ graph_at (split table).graphs place
-graph_now table place now stood = ap (λ (pair : GraphAndCache). pair.graph) stood ∙ sym (graph_there table place)
 
 pub place_there : (table : Table Made) (place : ℕ) → IsPlace (split table).graphs place → IsPlace table place
 place_there table place is_place = omega (arith, is_place, length-map {A = Made} {B = Graph})
@@ -67,7 +55,7 @@ none_there table place made is none = graph_there table place ∙ ap (λ (pair :
 pub with_pair : (table : Table Made) (place : ℕ) (made : Made)
     → (split (with_place table place made)).graphs ≡ with_graph (split table).graphs place (pair_of made).graph
 with_pair table place made = ap (λ places. let graphs : Table Graph = record { places = places; room = table.room } in graphs)
-    (mapped_set (λ (made : Made). (pair_of made).graph) table.places place made)
+    (map-set (λ (made : Made). (pair_of made).graph) table.places place made)
 
 pub with_pair_as : (table : Table Made) (place : ℕ) (made : Made) (graph : Graph) → (pair_of made).graph ≡ graph
     → (split (with_place table place made)).graphs ≡ with_graph (split table).graphs place graph
@@ -77,49 +65,18 @@ with_pair_as table place made graph is = with_pair table place made ∙ ap (with
 pub same_back : (table : Table Made) (place : ℕ) (now : GraphAndCache) (made : Made) → now ≡ made_at table place
     → (pair_of made).graph ≡ now.graph → (split (with_place table place made)).graphs ≡ (split table).graphs
 same_back table place now made stood same =
-    with_pair_as table place made (graph_at (split table).graphs place) (same ∙ graph_now table place now stood) ∙ with_same no_graph
-    (split table).graphs place
-
-pub put_back : {T E : Type 0} (r : Result T E) (table : Table Made) (place : ℕ) (now : GraphAndCache) (made : Made) → now ≡ made_at table place
-    → OnErr r ((pair_of made).graph ≡ now.graph) → OnErr r ((split (with_place table place made)).graphs ≡ (split table).graphs)
-put_back (Ok value) table place now made stood same = tt
-put_back (Err error) table place now made stood same = same_back table place now made stood same
+    with_pair_as table place made (graph_at (split table).graphs place)
+    (same ∙ (ap (λ (pair : GraphAndCache). pair.graph) stood ∙ sym (graph_there table place))) ∙ with_same no_graph (split table).graphs place
 
 -- where nothing of it has changed, nothing has
-set_same : {Y : Type 0} (xs : List Y) (place : ℕ) (default : Y) → set xs place (get_or xs place default) ≡ xs
-set_same [] place default = refl
-set_same (x ∷ xs) zero default = refl
-set_same (x ∷ xs) (suc place) default = ap (λ xs. x ∷ xs) (set_same xs place default)
-
 pub all_back : (table : Table Made) (place : ℕ) (now : GraphAndCache) (made : Made) → now ≡ made_at table place → pair_of made ≡ now
     → split (with_place table place made) ≡ split table
 all_back table place now made stood same =
     ap₂ (λ graphs caches. let both : Graphs = record { graphs = graphs; caches = caches } in both)
     (same_back table place now made stood (ap (λ (pair : GraphAndCache). pair.graph) same))
-    (mapped_set (λ (made : Made). (pair_of made).cache) table.places place made
+    (map-set (λ (made : Made). (pair_of made).cache) table.places place made
     ∙ (ap (set (split table).caches place) (ap (λ (pair : GraphAndCache). pair.cache) (same ∙ stood) ∙ sym (cache_there table place))
-    ∙ set_same (split table).caches place no_cache))
-
--- and one that does not stay is put there
-pub put_so : {T E : Type 0} (r : Result T E) (table : Table Made) (place : ℕ) (now : GraphAndCache) (made : Made) (change : Graph → Graph)
-    → now ≡ made_at table place → OnOk r ((pair_of made).graph ≡ change now.graph)
-    → OnOk r ((split (with_place table place made)).graphs ≡ with_graph (split table).graphs place (change (graph_at (split table).graphs place)))
-put_so (Ok value) table place now made change stood same = with_pair_as table place made (change (graph_at (split table).graphs place))
-    (same ∙ ap change (graph_now table place now stood))
-put_so (Err error) table place now made change stood same = tt
-
--- so where only one of both may be
-pub put_if_some : (r : Option Bool) (table : Table Made) (place : ℕ) (now : GraphAndCache) (made : Made) (change : Graph → Graph)
-    → now ≡ made_at table place → IfSome r (λ b. (pair_of made).graph ≡ change now.graph)
-    → IfSome r (λ b. (split (with_place table place made)).graphs ≡ with_graph (split table).graphs place (change (graph_at (split table).graphs place)))
-put_if_some (Some b) table place now made change stood same = with_pair_as table place made (change (graph_at (split table).graphs place))
-    (same ∙ ap change (graph_now table place now stood))
-put_if_some None table place now made change stood same = tt
-
-pub back_if_none : (r : Option Bool) (table : Table Made) (place : ℕ) (now : GraphAndCache) (made : Made) → now ≡ made_at table place
-    → IfNone r ((pair_of made).graph ≡ now.graph) → IfNone r ((split (with_place table place made)).graphs ≡ (split table).graphs)
-back_if_none (Some b) table place now made stood same = tt
-back_if_none None table place now made stood same = same_back table place now made stood same
+    ∙ set-get_or (split table).caches place no_cache))
 
 -- what is in step at each place
 
@@ -159,8 +116,7 @@ put_in_step old new table place made is_place stores marks here step =
     elsewhere other e =
         let apart : other ≢ place = λ same. both_ways (other == place) e (eq-eqb other place same) in
         subst (IsAt new other) (sym (ap pair_of (get_or-set_other table.places place other made None apart)))
-        (same_in_step (store_at old.shelves other) (store_at new.shelves other) (marks_at old.marks other) (marks_at new.marks other)
-        (made_at table other).graph (made_at table other).cache (stores other apart) (marks other apart) (at_place old table step other))
+        (same_in_step (stores other apart) (marks other apart) (at_place old table step other))
 
 -- nothing has changed
 pub same_step : (place : ℕ) (stores : StoresView) (old new : Graphs) → new ≡ old → InStep stores old → LeavesInStep place stores old new
@@ -178,13 +134,6 @@ with_in_step old new table place made is_place drained = put_in_step old new tab
 pub nothing_drained : (place : ℕ) (stores : StoresView) → IsDrained place stores stores
 nothing_drained place stores = record { shelves = refl; others = λ other apart. refl }
 
--- with the same stores
-pub stays_with : (stores : StoresView) (table : Table Made) (place : ℕ) (now : GraphAndCache) (made : Made) → IsPlace table place → now ≡ made_at table place
-    → StaysAt now (pair_of made) → InStep stores (split table) → InStep stores (split (with_place table place made))
-stays_with stores table place now made is_place stood stays step =
-    with_in_step stores stores table place made is_place (nothing_drained place stores)
-    (stays (store_at stores.shelves place) (marks_at stores.marks place) (subst (IsAt stores place) (sym stood) (at_place stores table step place))) step
-
 -- what is kept of other places
 pub others_kept : (table : Table Made) (place : ℕ) (made : Made) → OthersKept place (split table) (split (with_place table place made))
 others_kept table place made other apart =
@@ -196,6 +145,57 @@ pub kept_here : (table : Table Made) (place : ℕ) (made : Made) → IsPlace tab
     → cache_at (split (with_place table place made)).caches place ≡ (pair_of made).cache
 kept_here table place made is_place = cache_there (with_place table place made) place
     ∙ ap (λ (made : Made). (pair_of made).cache) (get_or-set_same table.places place made None is_place)
+
+-- the graph that a place lends, and that it gets back
+
+pub record IsLent (table : Table Made) (place : ℕ) (now : GraphAndCache) : Type 0 where
+  pub is : now ≡ made_at table place
+
+pub lent : (table : Table Made) (place : ℕ) {slot made : Made} {inner : Box BindingGraph Global} {now : GraphAndCache} → slot ≡ get_or table.places place None
+    → pair_of made ≡ pair_of slot → made ≡ Some inner → now ≡ inner.value → IsLent table place now
+lent table place there same some is = record { is = is ∙ (sym (ap pair_of some) ∙ (same ∙ ap pair_of there)) }
+
+pub unmade : (table : Table Made) (place : ℕ) {slot : Made} (made : Made) → slot ≡ get_or table.places place None → pair_of made ≡ pair_of slot
+    → split (with_place table place made) ≡ split table
+unmade table place {slot} made there same = all_back table place (pair_of slot) made (ap pair_of there) same
+
+module _ {table : Table Made} {place : ℕ} {now : GraphAndCache} (lent : IsLent table place now) where
+  pub graph_lent : now.graph ≡ graph_at (split table).graphs place
+  graph_lent = ap (λ (pair : GraphAndCache). pair.graph) lent.is ∙ sym (graph_there table place)
+
+  pub step_lent : (stores : StoresView) → InStep stores (split table) → IsAt stores place now
+  step_lent stores step = subst (IsAt stores place) (sym lent.is) (at_place stores table step place)
+
+  module _ {T E : Type 0} (r : Result T E) (made : Made) where
+    pub put_back : OnErr r ((pair_of made).graph ≡ now.graph) → OnErr r ((split (with_place table place made)).graphs ≡ (split table).graphs)
+    put_back = by r
+      where
+        by : (r : Result T E) → OnErr r ((pair_of made).graph ≡ now.graph) → OnErr r ((split (with_place table place made)).graphs ≡ (split table).graphs)
+        by (Ok value) same = tt
+        by (Err error) same = same_back table place now made lent.is same
+
+    pub put_so : (change : Graph → Graph) → OnOk r ((pair_of made).graph ≡ change now.graph)
+        → OnOk r ((split (with_place table place made)).graphs ≡ with_graph (split table).graphs place (change (graph_at (split table).graphs place)))
+    put_so change = by r
+      where
+        by : (r : Result T E) → OnOk r ((pair_of made).graph ≡ change now.graph)
+            → OnOk r ((split (with_place table place made)).graphs ≡ with_graph (split table).graphs place (change (graph_at (split table).graphs place)))
+        by (Ok value) same = with_pair_as table place made (change (graph_at (split table).graphs place)) (same ∙ ap change graph_lent)
+        by (Err error) same = tt
+
+  -- what other places keep stays, and all is in step
+  module _ (is_place : IsPlace (split table).graphs place) (made : Made) where
+    pub leaves_drained : {old new : StoresView} → IsDrained place old new → IsAt new place (pair_of made) → InStep old (split table)
+        → LeavesInStep place new (split table) (split (with_place table place made))
+    leaves_drained {old} {new} drained here step = record {
+      step = with_in_step old new table place made (place_there table place is_place) drained here step;
+      others = others_kept table place made;
+    }
+
+    pub leaves_stayed : (stores : StoresView) → StaysAt now (pair_of made) → InStep stores (split table)
+        → LeavesInStep place stores (split table) (split (with_place table place made))
+    leaves_stayed stores stays step = leaves_drained (nothing_drained place stores)
+        (stays (store_at stores.shelves place) (marks_at stores.marks place) (step_lent stores step)) step
 
 -- a place that is opened keeps nothing, and what is kept of others stays
 pub opened_kept : (table : Table Made) (place : ℕ) → cache_at (split (opened table None)).caches place

@@ -122,7 +122,8 @@ told_without object store bindings last written =
 
 -- the store without the object, by way of one that was drained
 
-module _ (place object : ℕ) (old drained dropped new : StoresView) (is_place : IsPlace old.shelves.table place) (drains : IsDrained place old drained)
+module _ (object : ℕ) {place : ℕ} {old drained : StoresView} (dropped new : StoresView) (is_place : IsPlace old.shelves.table place)
+    (drains : IsDrained place old drained)
     (drops : dropped.shelves ≡ with_store drained.shelves place (without object (store_at drained.shelves place))) (takes : new.shelves ≡ dropped.shelves) where
   pub removed_shelves : new.shelves ≡ with_store old.shelves place (without object (store_at old.shelves place))
   removed_shelves = takes ∙ (drops ∙ ap (λ shelves. with_store shelves place (without object (store_at shelves place))) drains.shelves)
@@ -145,17 +146,17 @@ module _ (place object : ℕ) (old drained dropped new : StoresView) (is_place :
       None)) shut)))
 
   -- where nothing was marked any longer, whatever is marked now is more
-  pub removed_in_step : (graph : Graph) (cache : Cache) → has_marks (marks_at drained.marks place) ≡ false
+  pub removed_in_step : {graph : Graph} {cache : Cache} → has_marks (marks_at drained.marks place) ≡ false
       → IsInStep (without object (store_at drained.shelves place)) (marks_at drained.marks place) graph cache
       → IsInStep (store_at new.shelves place) (marks_at new.marks place) graph cache
-  removed_in_step graph cache none step =
+  removed_in_step {graph} {cache} none step =
       subst (λ store. IsInStep store (marks_at new.marks place) graph cache)
       (ap (λ shelves. without object (store_at shelves place)) drains.shelves ∙ sym removed_store)
       (more_in_step step (more_of_both (marks_at drained.marks place) (marks_at new.marks place) cache.pending
       (λ q on. absurd (both_ways (is_marked (marks_at drained.marks place) q) (nothing_marked (marks_at drained.marks place) none q) on))))
 
   -- so where a place was drained, and what was kept of the object's properties was let go
-  module _ (graph : Graph) (cache : Cache) (kept : List CacheEntry) (before pending : Marks) (none : has_marks (marks_at drained.marks place) ≡ false)
+  module _ {graph : Graph} {cache : Cache} (kept : List CacheEntry) (before pending : Marks) (none : has_marks (marks_at drained.marks place) ≡ false)
       (marked : (number : ℕ) → number ≤ length (fields_at (store_at drained.shelves place) object)
       → is_marked pending (record { object = object; number = number }) ≡ true)
       (stays : StaysKept before cache.kept pending kept) (more : AreMore (both (marks_at old.marks place) cache.pending) before)
@@ -166,12 +167,12 @@ module _ (place object : ℕ) (old drained dropped new : StoresView) (is_place :
     gone : IsInStep (without object (store_at drained.shelves place)) (marks_at drained.marks place) (without_object object graph) left
     gone = gone_in_step (store_at drained.shelves place) (marks_at drained.marks place) graph left object marked
         (stays (store_at drained.shelves place) (marks_at drained.marks place) graph cache.evaluations
-        (drained_in_step old drained place graph cache before drains more step))
+        (drained_in_step drains more step))
 
     pub let_go_in_step : IsInStep (store_at new.shelves place) (marks_at new.marks place) (without_object object graph) left
-    let_go_in_step = removed_in_step (without_object object graph) left none gone
+    let_go_in_step = removed_in_step none gone
 
     pub hidden_in_step : IsInStep (store_at new.shelves place) (marks_at new.marks place)
         (record (without_object object graph) { last = unshown object graph.last }) left
-    hidden_in_step = removed_in_step (record (without_object object graph) { last = unshown object graph.last }) left none
+    hidden_in_step = removed_in_step none
         (unshown_in_step (store_at drained.shelves place) (marks_at drained.marks place) (without_object object graph) left object gone)

@@ -1,7 +1,6 @@
 -- What properties show, with a row more.
-use Rattle.std.proofs.Common.{◌≡◌, ◌∙◌, ℕ, suc, Bool, true, false, cond, List, ◌∷◌, Option, Some, None, filter, set, refl, ap, ap₂, arith}
+use Rattle.std.proofs.Common.{◌≡◌, ◌∙◌, suc, Bool, true, false, cond, List, ◌∷◌, Option, Some, None, filter, refl, ap, ap₂, arith}
 use Rattle.std.specs.Prelude.{if◌then◌else◌}
-use Rattle.std.specs.List.{insert, slice_get}
 use Rattle.std.specs.Option.{option_map_or, option_or}
 use Rattle.std.proofs.lemmas.Bool.{both_ways}
 use Rattle.std.proofs.lemmas.List.Elements.{All-append, All-cons, All-filter}
@@ -9,8 +8,8 @@ use Rattle.std.proofs.lemmas.List.Folds.{find-append}
 use Rattle.variant_value.specs.Values.{IsOfKind}
 use Rattle.property_store.specs.declared.property.Property.{Property}
 use Rattle.property_store.specs.Property.{is_property}
-use Rattle.binding_values.specs.Sorted.{IsCountBefore, IsRising, is_before}
-use Rattle.binding_values.proofs.ForCallers.{property_eq, inserted, is_behind, is_other, is_property_sym, replaced, stands_so, stands_within, with_rising}
+use Rattle.binding_values.specs.Sorted.{is_before}
+use Rattle.binding_values.proofs.ForCallers.{property_eq, is_behind, is_other, is_property_sym, with_rising}
 use Rattle.binding_values.specs.declared.shown.Shown.{Shown}
 use Rattle.binding_values.specs.Graph.{AreShown, shown_at}
 use Rattle.binding_graph.specs.Rows.{IsPut}
@@ -53,19 +52,6 @@ module _ (new : Shown) (rows : List Shown) where
     where
       Fits : Shown → Type 0
       Fits shown = IsOfKind shown.kind shown.value
-
-  -- the row in its place, by what was asked of the place
-  module _ (place : ℕ) (rising : IsRising (λ (shown : Shown). shown.at) rows) (count : IsCountBefore (λ (shown : Shown). shown.at) rows new.at place)
-      (stands : Bool) (asked : stands ≡ option_map_or (λ (shown : Shown). is_property new.at shown.at) (slice_get rows place) false) where
-    pub set_with : stands ≡ true → set rows place new ≡ with_shown new rows
-    set_with is =
-        let within = stands_within (λ (shown : Shown). shown.at) rows place new.at stands asked is in
-        replaced (λ (shown : Shown). shown.at) new rows place rising count new within
-        (stands_so (λ (shown : Shown). shown.at) rows place new.at stands asked new within ∙ is)
-
-    pub insert_with : stands ≡ false → insert rows place new ≡ with_shown new rows
-    insert_with is = inserted (λ (shown : Shown). shown.at) new rows place rising count
-        (λ d within. stands_so (λ (shown : Shown). shown.at) rows place new.at stands asked d within ∙ is)
 
 -- a row more of those that are put in place of others
 

@@ -30,15 +30,14 @@ use Rattle.binding_values.proofs.ForCallers.{changes_of_touched, merged_is_all}
 
 -- what was taken from the store is pending
 
-pub drained_in_step : (old new : StoresView) (place : ℕ) (graph : Graph) (cache : Cache) (pending : Marks) → IsDrained place old new
+pub drained_in_step : {old new : StoresView} {place : ℕ} {graph : Graph} {cache : Cache} {pending : Marks} → IsDrained place old new
     → AreMore (both (marks_at old.marks place) cache.pending) pending → IsInStep (store_at old.shelves place) (marks_at old.marks place) graph cache
     → IsInStep (store_at new.shelves place) (marks_at new.marks place) graph (record cache { pending = pending })
-drained_in_step old new place graph cache pending drained are_more step =
-    same_in_step (store_at old.shelves place) (store_at new.shelves place) (marks_at new.marks place) (marks_at new.marks place) graph
-    (record cache { pending = pending }) (ap (λ shelves. store_at shelves place) drained.shelves) refl
+drained_in_step {old} {new} {place} {graph} {cache} {pending} drained are_more step =
+    same_in_step (ap (λ shelves. store_at shelves place) drained.shelves) refl
     (more_in_step step (λ q on. both_marked (marks_at new.marks place) pending q ∙ or_right (is_marked (marks_at new.marks place) q) _ (are_more q on)))
 
-module _ (store : Store) (marks : Marks) (graph : Graph) (cache : Cache) (none : has_marks marks ≡ false) (some : cache.pending.all ≡ false)
+module _ {store : Store} {marks : Marks} {graph : Graph} {cache : Cache} (none : has_marks marks ≡ false) (some : cache.pending.all ≡ false)
     (step : IsInStep store marks graph cache) where
   same_marks : (q : Property) → is_marked (both marks cache.pending) q ≡ among q cache.pending.each
   same_marks q = both_marked marks cache.pending q ∙ ap₂ (λ s t. s || (t || among q cache.pending.each)) (nothing_marked marks none q) some

@@ -74,10 +74,10 @@ stays_where_marked store other marks more pending graph after cache are_more dif
     was_clear : (q : Property) → is_marked (both more pending) q ≡ false → is_marked (both marks cache.pending) q ≡ false
     was_clear q off = false_from_ne_true (is_marked (both marks cache.pending) q) (λ on. both_ways (is_marked (both more pending) q) off (are_more q on))
 
-pub stays_in_step : (store other : Store) (marks more : Marks) (graph : Graph) (cache : Cache) → AreMore marks more
+pub stays_in_step : {store other : Store} {marks more : Marks} {graph : Graph} {cache : Cache} → AreMore marks more
     → DiffersAt (both more cache.pending) (scene_of store graph.bindings) (scene_of other graph.bindings) → IsInStep store marks graph cache
     → IsInStep other more graph cache
-stays_in_step store other marks more graph cache are_more differs =
+stays_in_step {store} {other} {marks} {more} {graph} {cache} are_more differs =
     stays_where_marked store other marks more cache.pending graph graph.bindings cache (more_of_both marks more cache.pending are_more) differs
 
 -- more marks do no harm
@@ -98,9 +98,9 @@ more_in_step {store} {marks} {more} {pending} {graph} {cache} step are_more =
 
 -- where all that is bound is kept, and what properties showed is what they show
 
-pub complete_in_step : (store : Store) (graph : Graph) (cache : Cache) → IsComplete (scene_of store graph.bindings) (kept_of cache.kept)
-    → graph.last ≡ all_shown store graph.bindings → (marks : Marks) → IsInStep store marks graph cache
-complete_in_step store graph cache complete last marks = record {
+pub complete_in_step : {store : Store} {graph : Graph} {cache : Cache} → IsComplete (scene_of store graph.bindings) (kept_of cache.kept)
+    → graph.last ≡ all_shown store graph.bindings → {marks : Marks} → IsInStep store marks graph cache
+complete_in_step {store} {graph} {cache} complete last {marks} = record {
   right = complete_is_right (scene_of store graph.bindings) (both marks cache.pending) (kept_of cache.kept) complete;
   whole = λ q off. complete.whole q;
   last = λ q off. found q ∙ ap (λ outcome. option_map (λ (cell : Cell). shown_as q cell.kind outcome) (cell_in store q))
@@ -145,9 +145,9 @@ all_in_step store marks graph cache empty on = record {
 
 -- the same store and marks
 
-pub same_in_step : (store other : Store) (marks more : Marks) (graph : Graph) (cache : Cache) → other ≡ store → more ≡ marks → IsInStep store marks graph cache
-    → IsInStep other more graph cache
-same_in_step store other marks more graph cache e f step = subst (λ other. IsInStep other more graph cache) (sym e)
+pub same_in_step : {store other : Store} {marks more : Marks} {graph : Graph} {cache : Cache} → other ≡ store → more ≡ marks
+    → IsInStep store marks graph cache → IsInStep other more graph cache
+same_in_step {store} {other} {marks} {more} {graph} {cache} e f step = subst (λ other. IsInStep other more graph cache) (sym e)
     (subst (λ more. IsInStep store more graph cache) (sym f) step)
 
 -- another store at one place
@@ -170,23 +170,21 @@ module _ (old new : StoresView) (place : ℕ) (store : Store) (is_place : IsPlac
           (cache_at bindings.caches other)
       elsewhere apart =
           let not_there : other ≢ place = λ e. both_ways (other == place) apart (eq-eqb other place e) in
-          same_in_step (store_at old.shelves other) (store_at new.shelves other) (marks_at old.marks other) (marks_at new.marks other)
-          (graph_at bindings.graphs other) (cache_at bindings.caches other) (stands_elsewhere other not_there) (others other not_there) (step other)
+          same_in_step (stands_elsewhere other not_there) (others other not_there) (step other)
 
       own : (other == place) ≡ true → IsInStep (store_at new.shelves other) (marks_at new.marks other) (graph_at bindings.graphs other)
           (cache_at bindings.caches other)
       own same =
           subst (λ other. IsInStep (store_at new.shelves other) (marks_at new.marks other) (graph_at bindings.graphs other) (cache_at bindings.caches other))
           (sym (eqb-true other place same))
-          (same_in_step store (store_at new.shelves place) (marks_at new.marks place) (marks_at new.marks place) (graph_at bindings.graphs place)
-          (cache_at bindings.caches place) stands_there refl (here (graph_at bindings.graphs place) (cache_at bindings.caches place) (step place)))
+          (same_in_step stands_there refl (here (graph_at bindings.graphs place) (cache_at bindings.caches place) (step place)))
 
   -- what changes is marked besides what was
   pub marked_there : (these : Property → Bool) → AreMarked place these old.marks new.marks
       → ((bindings : List Binding) (marks : Marks) → ((q : Property) → these q ≡ true → is_marked marks q ≡ true)
       → DiffersAt marks (scene_of (store_at old.shelves place) bindings) (scene_of store bindings)) → StaysInStep old new
   marked_there these marked differs = changed_there marked.others
-      (λ graph cache. stays_in_step (store_at old.shelves place) store (marks_at old.marks place) (marks_at new.marks place) graph cache
+      (λ graph cache. stays_in_step
       (λ q on. marked.here q ∙ or_right (these q) _ on)
       (differs graph.bindings (both (marks_at new.marks place) cache.pending)
       (λ q on. both_marked (marks_at new.marks place) cache.pending q
@@ -195,7 +193,7 @@ module _ (old new : StoresView) (place : ℕ) (store : Store) (is_place : IsPlac
   -- all is marked
   pub all_marked_there : HasMarks place all_marks old.marks new.marks → StaysInStep old new
   all_marked_there marked = changed_there marked.others
-      (λ graph cache. stays_in_step (store_at old.shelves place) store (marks_at old.marks place) (marks_at new.marks place) graph cache
+      (λ graph cache. stays_in_step
       (λ q on. or_left (marks_at new.marks place).all _ all)
       (all_may_change (store_at old.shelves place) store graph.bindings graph.bindings (both (marks_at new.marks place) cache.pending)
       (or_left (marks_at new.marks place).all _ all)))
@@ -208,7 +206,7 @@ module _ (old new : StoresView) (place : ℕ) (store : Store) (is_place : IsPlac
       → ((bindings : List Binding) (marks : Marks) → DiffersAt marks (scene_of (store_at old.shelves place) bindings) (scene_of store bindings))
       → StaysInStep old new
   unmarked_there same differs = changed_there (λ other apart. same other)
-      (λ graph cache. stays_in_step (store_at old.shelves place) store (marks_at old.marks place) (marks_at new.marks place) graph cache
+      (λ graph cache. stays_in_step
       (λ q on. ap (λ marks. is_marked marks q) (same place) ∙ on) (differs graph.bindings (both (marks_at new.marks place) cache.pending)))
 
 -- each change of a store
@@ -269,12 +267,10 @@ module _ (old new : StoresView) (place object : ℕ)
       by : (found : Option Properties) → properties_of before object ≡ found → IsInStep (without object before) (marks_at new.marks place) graph cache
       by (Some of) e =
           let all : (marks_at new.marks place).all ≡ true = ap (λ (marks : Marks). marks.all) (at (Some of) e) in
-          stays_in_step before (without object before) (marks_at old.marks place) (marks_at new.marks place) graph cache
-          (λ q on. or_left (marks_at new.marks place).all _ all)
+          stays_in_step (λ q on. or_left (marks_at new.marks place).all _ all)
           (all_may_change before (without object before) graph.bindings graph.bindings (both (marks_at new.marks place) cache.pending)
           (or_left (marks_at new.marks place).all _ all)) step
-      by None e = same_in_step before (without object before) (marks_at old.marks place) (marks_at new.marks place) graph cache
-          (nothing_without before object e) (at None e) step
+      by None e = same_in_step (nothing_without before object e) (at None e) step
 
 pub removal_in_step : RemovalStaysInStep
 removal_in_step old new place object is_place has marked = changed_there old new place _ is_place has marked.others (removal_there old new place object marked)
@@ -288,8 +284,7 @@ nowhere_changed : (old new : StoresView) → ((place : ℕ) → store_at new.she
     → ((place : ℕ) → marks_at new.marks place ≡ marks_at old.marks place) → StaysInStep old new
 unfolding InStep
 nowhere_changed old new stores marks bindings step place =
-    same_in_step (store_at old.shelves place) (store_at new.shelves place) (marks_at old.marks place) (marks_at new.marks place)
-    (graph_at bindings.graphs place) (cache_at bindings.caches place) (stores place) (marks place) (step place)
+    same_in_step (stores place) (marks place) (step place)
 
 pub opening_in_step : OpeningStaysInStep
 opening_in_step old new layouts table marks = nowhere_changed old new

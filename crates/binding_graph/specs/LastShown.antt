@@ -6,7 +6,7 @@ use Rattle.property_store.specs.declared.property.Property.{Property}
 use Rattle.property_store.specs.Property.{is_property}
 use Rattle.variant_value.specs.Values.{IsOfKind}
 use Rattle.binding_values.specs.Graph.{shown_at}
-use Rattle.binding_values.specs.Sorted.{IsCountBefore, IsRising}
+use Rattle.binding_values.specs.Sorted.{IsRising, IsRowAt}
 use Rattle.binding_values.specs.declared.shown.Shown.{Shown}
 use Rattle.binding_graph.specs.declared.shown_object.ShownObject.{ShownObject}
 
@@ -61,10 +61,8 @@ pub record ShowSame (old new : List ShownObject) : Type 0 where
   pub as_many : AreAsMany old new
 
 -- An object has this place.
-pub record IsPlaceOf (objects : List ShownObject) (object place : ℕ) : Type 0 where
-  pub count : IsCountBefore head objects (first_of object) place
-  pub within : place < length objects
-  pub is : (default : ShownObject) → (slice_index_or objects place default).object ≡ object
+abbrev pub IsPlaceOf : List ShownObject → ℕ → ℕ → Type 0
+IsPlaceOf objects object place = IsRowAt head objects (first_of object) place
 
 -- The object of a property has this place, and the property has a slot.
 pub record IsSlot (objects : List ShownObject) (at : Property) (place : ℕ) : Type 0 where

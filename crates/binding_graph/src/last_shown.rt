@@ -1,16 +1,16 @@
 //! What the properties of a place showed, by object.
-ghost use Rattle.std.specs.Prelude.{◌≡◌, ◌==◌, [], if◌then◌else◌, IfOk, None, OnErr, OnOk, filter, not, option_map};
+ghost use Rattle.std.specs.Prelude.{◌≡◌, ◌==◌, [], if◌then◌else◌, IfErr, IfOk, None, OnErr, OnOk, filter, not, option_map};
 ghost use Rattle.property_store.specs.declared.property.Property.{Property};
 ghost use Rattle.property_store.specs.Property.{among, is_property};
 ghost use Rattle.variant_value.specs.Values.{IsOfKind};
 ghost use Rattle.binding_values.specs.Graph.{AreShown, shown_at};
-ghost use Rattle.binding_values.specs.Sorted.{IsCountBefore};
+ghost use Rattle.binding_values.specs.Sorted.{IsGapAt};
 ghost use Rattle.binding_graph.specs.LastShown.{AreAsMany, AreByObject, HaveSlots, IsPlaceOf, IsSlot, ShowSame, first_of, head, joined};
 ghost use Rattle.binding_graph.specs.Rows.{AreMerged, AreReplaced, IsPut};
 
 use crate::showing::Showing;
 use crate::shown_object::ShownObject;
-use binding_values::{Shown, count_before, is_at};
+use binding_values::{Shown, find_place, is_at};
 use property_store::Property;
 use std::alloc::{AllocError, Global};
 use std::marker::Model;
@@ -66,11 +66,10 @@ impl LastShown {
     pub(crate) fn at(&self, at: Property) -> Option<&Shown>
         ensures { option_map (λ shown. shown.now) result ≡ shown_at self.now at }
     {
-        let place = place_of(self.objects.as_slice(), at.object);
-        if !is_at(self.objects.as_slice(), place, first_of(at.object)) {
-            return None;
+        match place_of(self.objects.as_slice(), at.object) {
+            Ok(place) => self.objects[place].shown(at.number),
+            Err(_) => None,
         }
-        self.objects[place].shown(at.number)
     }
 
     /// Inserts what a property shows, or replaces what it showed.
@@ -89,9 +88,9 @@ impl LastShown {
     pub(crate) fn remove_object(&mut self, object: u32)
         ensures { self.new ≡ filter (λ shown. not (shown.at.object == object)) self.old }
     {
-        let place = place_of(self.objects.as_slice(), object);
-        if is_at(self.objects.as_slice(), place, first_of(object)) {
-            self.objects.remove(place);
+        match place_of(self.objects.as_slice(), object) {
+            Ok(place) => drop(self.objects.remove(place)),
+            Err(_) => {}
         }
     }
 
@@ -128,16 +127,17 @@ fn guess(objects: &[ShownObject], object: u32) -> usize {
     }
 }
 
-/// How many objects are before this one.
-fn place_of(objects: &[ShownObject], object: u32) -> usize
+/// The place of an object, or else the place where it would be inserted.
+fn place_of(objects: &[ShownObject], object: u32) -> Result<usize, usize>
     requires { AreByObject objects.now }
-    ensures { IsCountBefore head objects.now (first_of object) result }
+    ensures place { IfOk result (λ place. IsPlaceOf objects.now object place) }
+    ensures gap { IfErr result (λ place. IsGapAt head objects.now (first_of object) place) }
 {
     let guess = guess(objects, object);
     if is_at(objects, guess, first_of(object)) {
-        return guess;
+        return Ok(guess);
     }
-    count_before(objects, first_of(object))
+    find_place(objects, first_of(object))
 }
 
 /// Returns the place of an object, which is inserted if it is not there.
@@ -150,13 +150,14 @@ fn make_object(
     ensures same { ShowSame objects.old.items objects.new.items }
     ensures place { IfOk result (λ place. IsPlaceOf objects.new.items object place) }
 {
-    let place = place_of(objects.as_slice(), object);
-    if is_at(objects.as_slice(), place, first_of(object)) {
-        return Ok(place);
+    match place_of(objects.as_slice(), object) {
+        Ok(place) => Ok(place),
+        Err(place) => {
+            let slots = Vec::new(alloc);
+            objects.insert(place, ShownObject { object, slots })?;
+            Ok(place)
+        }
     }
-    let slots = Vec::new(alloc);
-    objects.insert(place, ShownObject { object, slots })?;
-    Ok(place)
 }
 
 /// Makes a slot for a property, and returns the place of its object.
@@ -214,8 +215,10 @@ fn put_all(objects: &mut Vec<ShownObject>, rest: Vec<Shown>)
     ensures sound { AreByObject objects.new.items }
 {
     for row in rest {
-        let place = place_of(objects.as_slice(), row.at.object);
-        put_at(objects, place, row);
+        match place_of(objects.as_slice(), row.at.object) {
+            Ok(place) => put_at(objects, place, row),
+            Err(_) => unreachable!(),
+        }
     }
 }
 
@@ -225,14 +228,15 @@ fn remove_row(objects: &mut Vec<ShownObject>, at: Property)
     ensures removed { (q : Property) → shown_at (joined objects.new.items) q ≡ (if is_property q at then None else shown_at (joined objects.old.items) q) }
     ensures sound { AreByObject objects.new.items }
 {
-    let place = place_of(objects.as_slice(), at.object);
-    if !is_at(objects.as_slice(), place, first_of(at.object)) {
-        return;
-    }
-    let of = &mut objects[place];
-    of.empty_slot(at.number);
-    if of.slots.is_empty() {
-        objects.remove(place);
+    match place_of(objects.as_slice(), at.object) {
+        Ok(place) => {
+            let of = &mut objects[place];
+            of.empty_slot(at.number);
+            if of.slots.is_empty() {
+                drop(objects.remove(place));
+            }
+        }
+        Err(_) => {}
     }
 }
 

@@ -3,12 +3,12 @@ ghost use Rattle.std.specs.Prelude.{◌≡◌, ◌<◌, ◌++◌, [], ◌∷◌,
 ghost use Rattle.std.specs.Option.{option_map_or};
 ghost use Rattle.shared_rows.specs.Table.{IsPlace};
 ghost use Rattle.property_store.specs.declared.property.Property.{Property};
-ghost use Rattle.property_store.specs.Property.{among, is_property};
+ghost use Rattle.property_store.specs.Property.{among};
 ghost use Rattle.property_store.specs.Store.{Properties};
 ghost use Rattle.property_store.specs.Table.{store_at};
-ghost use Rattle.binding_values.specs.Graph.{AreShown, all_shown, shown_as, shown_at, shown_now};
+ghost use Rattle.binding_values.specs.Graph.{all_shown, shown_as, shown_at, shown_now};
 ghost use Rattle.binding_graph.specs.Rows.{AreAbsent};
-ghost use Rattle.binding_values.specs.EvalResult.{IsClosed, IsRight, kept_of};
+ghost use Rattle.binding_values.specs.EvalResult.{kept_of};
 ghost use Rattle.binding_values.specs.Stored.{properties_of_object, scene_of};
 ghost use Rattle.binding_values.specs.Right.{IsComplete};
 

@@ -5,7 +5,7 @@ ghost use Rattle.variant_value.specs.Values.{IsOfKind};
 ghost use Rattle.binding_graph.specs.Rows.{IsPut};
 ghost use Rattle.binding_values.specs.Graph.{AreShown};
 
-use binding_values::{Shown, count_before, is_at};
+use binding_values::{Shown, find_place};
 use std::alloc::{AllocError, Global};
 use std::marker::Model;
 
@@ -82,12 +82,12 @@ fn put_reserved(rows: &mut Vec<Shown>, row: Shown)
     ensures put { IsPut row rows.old.items rows.new.items }
     ensures sound { AreShown rows.new.items }
 {
-    let place = count_before(rows.as_slice(), row.at);
-    if is_at(rows.as_slice(), place, row.at) {
-        rows[place] = row;
-        return;
-    }
-    if rows.insert(place, row).is_err() {
-        unreachable!();
+    match find_place(rows.as_slice(), row.at) {
+        Ok(place) => rows[place] = row,
+        Err(place) => {
+            if rows.insert(place, row).is_err() {
+                unreachable!();
+            }
+        }
     }
 }

@@ -14,32 +14,22 @@ use Rattle.term_core.specs.Forms.{is_within_limits}
 use Rattle.binding_values.specs.declared.binding.Binding.{Binding}
 use Rattle.property_store.specs.declared.property.Property.{Property}
 use Rattle.binding_values.specs.Binds.{AreBindings, put_refusal, with_binding}
-use Rattle.binding_values.specs.Scene.{term_at}
-use Rattle.property_store.specs.Property.{is_property}
-use Rattle.binding_values.specs.Sorted.{IsCountBefore, IsRising, is_before}
-use Rattle.binding_values.proofs.SortedLemmas.{found_nowhere, found_there, with_rising}
+use Rattle.binding_values.specs.Sorted.{IsCountBefore, IsGapAt, IsRising, IsRowAt, is_before}
+use Rattle.binding_values.proofs.SortedLemmas.{found_none, found_row, with_rising}
 
--- a property is not bound where no binding of it stands in its place
-unbound_there : (at : Property) (rows : List Binding) (count : ℕ) → IsRising (λ (binding : Binding). binding.at) rows
-    → IsCountBefore (λ (binding : Binding). binding.at) rows at count → ((d : Binding) → count < length rows → is_property at (get_or rows count d).at ≡ false)
-    → is_some (term_at rows at) ≡ false
-unbound_there at rows count rising is other = ap (λ (found : Option Binding). is_some (option_map (λ (binding : Binding). binding.expr) found))
-    (found_nowhere (λ (binding : Binding). binding.at) rows at count is rising other)
+-- one binding more is refused where there are too many, and another of a property that is bound is not
 
--- so one binding more is refused where there are too many, and another of a property that is bound is not
-
-pub free_there : (at : Property) (rows : List Binding) (count : ℕ) → IsCountBefore (λ (binding : Binding). binding.at) rows at count
-    → (d : Binding) → count < length rows → is_property at (get_or rows count d).at ≡ true → put_refusal rows at ≡ None
-free_there at rows count is d within here =
+pub free_there : {at : Property} {rows : List Binding} {place : ℕ} → IsRising (λ (binding : Binding). binding.at) rows
+    → IsRowAt (λ (binding : Binding). binding.at) rows at place → Binding → put_refusal rows at ≡ None
+free_there {at} {rows} rising there d =
     ap (λ (found : Option Binding). cond (is_some (option_map (λ (binding : Binding). binding.expr) found)) None
-    (cond (nat_le 1024 (length rows)) (Some Limit) None)) (found_there (λ (binding : Binding). binding.at) rows at count is d within here)
+    (cond (nat_le 1024 (length rows)) (Some Limit) None)) (found_row there rising d)
 
-module _ (at : Property) (rows : List Binding) (count : ℕ) (rising : IsRising (λ (binding : Binding). binding.at) rows)
-    (is : IsCountBefore (λ (binding : Binding). binding.at) rows at count)
-    (other : (d : Binding) → count < length rows → is_property at (get_or rows count d).at ≡ false) where
+module _ {at : Property} {rows : List Binding} {place : ℕ} (gap : IsGapAt (λ (binding : Binding). binding.at) rows at place) where
   by_count : (full : Bool) → nat_le 1024 (length rows) ≡ full → put_refusal rows at ≡ cond full (Some Limit) None
   by_count full e =
-      ap (λ (bound : Bool). cond bound None (cond (nat_le 1024 (length rows)) (Some Limit) None)) (unbound_there at rows count rising is other)
+      ap (λ (found : Option Binding). cond (is_some (option_map (λ (binding : Binding). binding.expr) found)) None
+      (cond (nat_le 1024 (length rows)) (Some Limit) None)) (found_none gap)
       ∙ ap (λ (full : Bool). cond full (Some Limit) None) e
 
   pub full_there : 1024 ≤ length rows → put_refusal rows at ≡ Some Limit

@@ -1,32 +1,20 @@
 -- What is kept is right where no mark reaches it, and it is the value where all that is bound is kept.
-use Rattle.std.proofs.Common.{◌≡◌, ◌∙◌, ◌⊎◌, Bool, true, false, cond, [], Option, Some, None, All, refl, sym, ap, subst, inl, inr}
+use Rattle.std.proofs.Common.{◌≡◌, ◌∙◌, ◌⊎◌, Bool, true, false, cond, [], Option, Some, None, refl, sym, ap, inl, inr}
 use Rattle.std.proofs.lemmas.Bool.{both_ways, false_from_ne_true}
 use Rattle.property_store.specs.declared.property.Property.{Property}
 use Rattle.property_store.specs.Marks.{Marks, is_marked, no_marks}
 use Rattle.property_store.specs.Pending.{AreMore}
-use Rattle.binding_values.specs.Scene.{Scene, plain, settled}
+use Rattle.binding_values.specs.Scene.{Scene, plain}
 use Rattle.binding_values.specs.declared.eval_result.EvalResult.{EvalResult}
 use Rattle.binding_values.specs.EvalResult.{IsClosed, IsKept, IsRight, IsUnbound, IsWithin, Keeping, known}
-use Rattle.binding_values.proofs.KeptLemmas.{fresh_unbound, hand_unbound, known_kept, known_none, known_unbound, none_some, same_evaluation, unbound_unkept}
+use Rattle.binding_values.proofs.KeptLemmas.{fresh_unbound, hand_unbound, known_kept, known_none, known_unbound, none_some, right_with, unbound_unkept}
 use Rattle.binding_values.specs.Right.{IsClear, IsComplete, IsRightBut, IsSpread, IsWhole, unmarked}
 
 -- a part of what is kept that has read none but its own is right too
 
 pub part_is_right : (scene : Scene) (less keeping : Keeping) → IsRight scene keeping → IsWithin less keeping → IsClosed scene less → IsRight scene less
 part_is_right scene less keeping right within closed q kept is =
-    let r = right q kept (within q kept is) in
-    let same = same_evaluation scene scene (known scene keeping) (known scene less) q.object r.term (λ k d lt. refl)
-    (subst (All (λ r. known scene less r ≡ known scene keeping r)) (sym r.reads) (λ k d lt. known_in _ (closed q kept is k d lt))) in
-    record {
-      cell = r.cell;
-      term = r.term;
-      there = r.there;
-      bound = r.bound;
-      outcome = ap (settled r.cell.kind) same.value ∙ r.outcome;
-      reads = same.reads
-          ∙ r.reads;
-      value = r.value;
-    }
+    right_with scene keeping less q kept (right q kept (within q kept is)) (λ k d lt. known_in _ (closed q kept is k d lt))
   where
     none_kept : (r : Property) → keeping r ≡ None → (o : Option EvalResult) → less r ≡ o → o ≡ None
     none_kept r none None e = refl

@@ -3,7 +3,6 @@ use Rattle.std.proofs.Common.{◌≡◌, ◌∙◌, ℕ, zero, suc, ◌<◌, Boo
 use Rattle.std.proofs.Common.{length, get_or, length-append, option_map, refl, sym, ap, subst, arith}
 use Rattle.std.specs.Prelude.{option_and_then}
 use Rattle.std.specs.List.{insert, slice_get}
-use Rattle.std.specs.Option.{option_map_or}
 use Rattle.std.proofs.lemmas.List.{get_or_append_left}
 use Rattle.std.proofs.lemmas.List.Elements.{All-append, All-cons, All-filter}
 use Rattle.std.proofs.lemmas.Option.{slice_get-get_or}
@@ -15,9 +14,9 @@ use Rattle.binding_values.specs.EvalResult.{kept_of}
 use Rattle.binding_values.specs.Listed.{IsListed}
 use Rattle.binding_values.specs.Order.{IsOrdered}
 use Rattle.property_store.specs.Property.{is_property}
-use Rattle.binding_values.specs.Sorted.{IsCountBefore, IsRising, is_before}
+use Rattle.binding_values.specs.Sorted.{IsGapAt, is_before}
 use Rattle.binding_values.proofs.FuelLemmas.{property_eq}
-use Rattle.binding_values.proofs.SortedLemmas.{found_nowhere, found_there, inserted, stands_so, stands_within, with_rising}
+use Rattle.binding_values.proofs.SortedLemmas.{found_none, insert_rising, inserted}
 
 module _ {X : Type 0} (p : X → Bool) where
   find_more : (xs : List X) (y x : X) → find p xs ≡ Some x → find p (xs ++ y ∷ []) ≡ Some x
@@ -93,10 +92,10 @@ module _ (rows : List CacheEntry) (order : List Entry) (is : IsOrdered rows orde
       by q (Some e) at = ap (option_and_then (λ (entry : Entry). slice_get (rows ++ row ∷ []) entry.row)) at ∙ kept_first q e at
 
   -- it has none so far
-  pub one_more : (place : ℕ) (new : Entry) → new.at ≡ row.at → new.row ≡ length rows → IsCountBefore (λ (entry : Entry). entry.at) order new.at place
-      → ((d : Entry) → place < length order → is_property new.at (get_or order place d).at ≡ false) → IsOrdered (rows ++ row ∷ []) (insert order place new)
-  one_more place new at_is row_is count other = record {
-    rising = subst (IsRising (λ (entry : Entry). entry.at)) (sym split) (with_rising (λ (entry : Entry). entry.at) new order is.rising);
+  pub one_more : (place : ℕ) (new : Entry) → new.at ≡ row.at → new.row ≡ length rows → IsGapAt (λ (entry : Entry). entry.at) order new.at place
+      → IsOrdered (rows ++ row ∷ []) (insert order place new)
+  one_more place new at_is row_is gap = record {
+    rising = insert_rising is.rising new gap;
     within = subst (All (λ (entry : Entry). entry.row < length (rows ++ row ∷ []))) (sym split)
         (All-append (λ (entry : Entry). entry.row < length (rows ++ row ∷ [])) (filter (λ (entry : Entry). is_before entry.at new.at) order)
         (new ∷ filter (λ (entry : Entry). is_before new.at entry.at) order)
@@ -109,11 +108,11 @@ module _ (rows : List CacheEntry) (order : List Entry) (is : IsOrdered rows orde
     where
       split : insert order place new ≡ filter (λ (entry : Entry). is_before entry.at new.at) order ++ new
           ∷ filter (λ (entry : Entry). is_before new.at entry.at) order
-      split = inserted (λ (entry : Entry). entry.at) new order place is.rising count other
+      split = inserted new gap
 
       nowhere : (q : Property) → is_property q new.at ≡ true → find (λ (entry : Entry). is_property q entry.at) order ≡ None
       nowhere q same = ap (λ (p : Property). find (λ (entry : Entry). is_property p entry.at) order) (property_eq q new.at same)
-          ∙ found_nowhere (λ (entry : Entry). entry.at) order new.at place count is.rising other
+          ∙ found_none gap
 
       last : slice_get (rows ++ row ∷ []) new.row ≡ Some row
       last = slice_get-get_or (rows ++ row ∷ []) new.row row (omega (arith, row_is, length-append rows (row ∷ [])))
@@ -159,30 +158,4 @@ pub ordered_more : (rows : List CacheEntry) (order new : List Entry) → IsOrder
     → IsOrdered (rows ++ row ∷ []) new
 ordered_more rows order new is row (inl stood) = subst (IsOrdered (rows ++ row ∷ [])) (sym stood.same) (still_ordered rows order is row stood.entry stood.found)
 ordered_more rows order new is row (inr entered) = subst (IsOrdered (rows ++ row ∷ [])) (sym entered.entered)
-    (one_more rows order is row entered.position (record { at = row.at; row = length rows }) refl refl entered.count entered.absent)
-
-pub listed_there : (order : List Entry) (at : Property) (place : ℕ) → IsRising (λ (entry : Entry). entry.at) order
-    → IsCountBefore (λ (entry : Entry). entry.at) order at place → (t : Bool)
-    → t ≡ option_map_or (λ (entry : Entry). is_property at entry.at) (slice_get order place) false → (row : ℕ) → t ≡ true → IsListed order order at row
-listed_there order at place rising count t asked row e =
-    let within = stands_within (λ (entry : Entry). entry.at) order place at t asked e in
-    let default : Entry = record { at = at; row = row } in
-    inl (record {
-      entry = get_or order place default;
-      found =
-          found_there (λ (entry : Entry). entry.at) order at place count default within
-          (stands_so (λ (entry : Entry). entry.at) order place at t asked default within ∙ e);
-      same = refl;
-    })
-
-pub listed_new : (order new : List Entry) (at : Property) (place : ℕ) → IsRising (λ (entry : Entry). entry.at) order
-    → IsCountBefore (λ (entry : Entry). entry.at) order at place → (t : Bool)
-    → t ≡ option_map_or (λ (entry : Entry). is_property at entry.at) (slice_get order place) false → (row : ℕ) → t ≡ false
-    → new ≡ insert order place (record { at = at; row = row }) → IsListed order new at row
-listed_new order new at place rising count t asked row e is =
-    inr (record {
-      position = place;
-      count = count;
-      absent = λ d within. stands_so (λ (entry : Entry). entry.at) order place at t asked d within ∙ e;
-      entered = is;
-    })
+    (one_more rows order is row entered.position (record { at = row.at; row = length rows }) refl refl entered.absent)

@@ -1,55 +1,35 @@
 -- What is kept from one change to the next.
-use Rattle.std.proofs.Common.{◌≡◌, ◌∙◌, ℕ, zero, suc, ◌<◌, Bool, true, false, cond, not, List, [], ◌∷◌, ◌++◌, Option, Some, None, All, filter, find, length}
+use Rattle.std.proofs.Common.{◌≡◌, ◌∙◌, ℕ, zero, suc, ◌<◌, Bool, true, false, cond, not, List, [], ◌∷◌, Option, Some, None, All, filter, find, length}
 use Rattle.std.proofs.Common.{get_or, set, refl, sym, ap, subst, arith}
 use Rattle.std.specs.Prelude.{option_and_then}
 use Rattle.std.specs.List.{AllWithin, cons_option, insert}
-use Rattle.property_store.proofs.ForCallers.{filter_all, none_passes}
+use Rattle.property_store.proofs.ForCallers.{filter_all}
 use Rattle.property_store.specs.declared.property.Property.{Property}
 use Rattle.property_store.specs.Property.{is_property}
 use Rattle.binding_values.specs.declared.eval_result.CacheEntry.{CacheEntry}
 use Rattle.binding_values.specs.declared.eval_result.EvalResult.{EvalResult}
 use Rattle.binding_values.specs.declared.kept_rows.KeptRow.{KeptRow}
-use Rattle.binding_values.specs.Keeping.{IsPut, entries, entry_of, fresh, held_by, standing}
+use Rattle.binding_values.specs.Keeping.{IsPut, entries, entry_of, fresh, held_by, renewed, standing}
 use Rattle.binding_values.specs.EvalResult.{IsWithin, kept_of}
-use Rattle.binding_values.specs.Sorted.{IsCountBefore, IsRising, is_before}
+use Rattle.binding_values.specs.Sorted.{IsGapAt, IsRising, IsRowAt, is_before}
 use Rattle.binding_values.proofs.FuelLemmas.{property_eq}
 use Rattle.binding_values.proofs.EvalCacheLemmas.{inserted_here, inserted_other}
-use Rattle.binding_values.proofs.SortedLemmas.{all_after, before_other, found_nowhere, found_there, inserted, is_other, replaced, with_rising}
+use Rattle.binding_values.proofs.SortedLemmas.{found_none, found_row, insert_rising, is_its_row, is_other, others_before, others_behind, set_rising}
+use Rattle.binding_values.proofs.SortedLemmas.{without_none}
 
 -- what is found where an element stands in place of another
 module _ {X : Type 0} (p : X → Bool) where
-  set_other : (xs : List X) (k : ℕ) (y d : X) → p y ≡ false → p (get_or xs k d) ≡ false → find p (set xs k y) ≡ find p xs
+  pub set_other : (xs : List X) (k : ℕ) (y d : X) → p y ≡ false → p (get_or xs k d) ≡ false → find p (set xs k y) ≡ find p xs
   set_other [] k y d e other = refl
   set_other (x ∷ xs) zero y d e other = rw (e, other) refl
   set_other (x ∷ xs) (suc k) y d e other = ap (λ rest. cond (p x) (Some x) rest) (set_other xs k y d e other)
 
-  set_here : (xs : List X) (k : ℕ) (y : X) → k < length xs → p y ≡ true → AllWithin (λ x. p x ≡ false) xs 0 k → find p (set xs k y) ≡ Some y
+  pub set_here : (xs : List X) (k : ℕ) (y : X) → k < length xs → p y ≡ true → AllWithin (λ x. p x ≡ false) xs 0 k → find p (set xs k y) ≡ Some y
   set_here [] k y lt e before = absurd (omega arith)
   set_here (x ∷ xs) zero y lt e before = rw e refl
   set_here (x ∷ xs) (suc k) y lt e before =
       let first : p x ≡ false = before 0 x (omega arith) (omega arith) in
       rw first (set_here xs k y (omega arith) e (λ j d low high. before (suc j) d (omega arith) (omega arith)))
-
--- rows stay in order
-
-module _ (rows : List KeptRow) (place : ℕ) (at : Property) (rising : IsRising (λ (row : KeptRow). row.at) rows)
-    (count : IsCountBefore (λ (row : KeptRow). row.at) rows at place) where
-  pub still_rising : (d : KeptRow) → place < length rows → is_property at (get_or rows place d).at ≡ true → (new : KeptRow) → at ≡ new.at
-      → IsRising (λ (row : KeptRow). row.at) (set rows place new)
-  still_rising d within here new is = subst (IsRising (λ (row : KeptRow). row.at)) (sym split) (with_rising (λ (row : KeptRow). row.at) new rows rising)
-    where
-      split : set rows place new ≡ (filter (λ (row : KeptRow). is_before row.at new.at) rows ++ new
-          ∷ filter (λ (row : KeptRow). is_before new.at row.at) rows)
-      split = replaced (λ (row : KeptRow). row.at) new rows place rising
-          (subst (λ (q : Property). IsCountBefore (λ (row : KeptRow). row.at) rows q place) is count) d within
-          (subst (λ (q : Property). is_property q (get_or rows place d).at ≡ true) is here)
-
-pub insert_rising : (rows : List KeptRow) (place : ℕ) (new : KeptRow) → IsRising (λ (row : KeptRow). row.at) rows
-    → IsCountBefore (λ (row : KeptRow). row.at) rows new.at place
-    → ((d : KeptRow) → place < length rows → is_property new.at (get_or rows place d).at ≡ false) → IsRising (λ (row : KeptRow). row.at) (insert rows place new)
-insert_rising rows place new rising count other =
-    subst (IsRising (λ (row : KeptRow). row.at)) (sym (inserted (λ (row : KeptRow). row.at) new rows place rising count other))
-    (with_rising (λ (row : KeptRow). row.at) new rows rising)
 
 -- what is kept of the property of a row, by what each row holds
 
@@ -137,67 +117,57 @@ module _ (held : KeptRow → Option EvalResult) where
       ∙ ap (λ (kept : Option EvalResult). cons_option (entry_of row.at kept) (held_by held rows)) held_is
   held_same (row ∷ rows) (suc k) new d lt at_is held_is = ap (cons_option (entry_of row.at (held row))) (held_same rows k new d (omega arith) at_is held_is)
 
-  module _ (rows : List KeptRow) (place : ℕ) (at : Property) (rising : IsRising (λ (row : KeptRow). row.at) rows)
-      (count : IsCountBefore (λ (row : KeptRow). row.at) rows at place) where
-    -- no row of the property stands in its place
-    module _ (other : (d : KeptRow) → place < length rows → is_property at (get_or rows place d).at ≡ false) where
-      nowhere : find (λ (row : KeptRow). is_property at row.at) rows ≡ None
-      nowhere = found_nowhere (λ (row : KeptRow). row.at) rows at place count rising other
-
+  module _ {rows : List KeptRow} {at : Property} {place : ℕ} (rising : IsRising (λ (row : KeptRow). row.at) rows) where
+    -- the property has no row
+    module _ (gap : IsGapAt (λ (row : KeptRow). row.at) rows at place) where
       pub none_there : kept_of (held_by held rows) at ≡ None
-      none_there = kept_at rows at rising ∙ ap (held_in held) nowhere
+      none_there = kept_at rows at rising ∙ ap (held_in held) (found_none gap)
 
       pub others_only : held_by held rows ≡ filter (λ (row : CacheEntry). not (is_property at row.at)) (held_by held rows)
-      others_only = ap (held_by held) (sym (all_others at rows (none_passes (λ (row : KeptRow). is_property at row.at) rows nowhere)))
-          ∙ held_filter (λ q. not (is_property at q)) rows
+      others_only = ap (held_by held) (sym (without_none gap)) ∙ held_filter (λ q. not (is_property at q)) rows
 
-    -- its row does
-    module _ (d : KeptRow) (within : place < length rows) (here : is_property at (get_or rows place d).at ≡ true) where
-      pub kept_there : kept_of (held_by held rows) at ≡ held (get_or rows place d)
-      kept_there = kept_at rows at rising ∙ ap (held_in held) (found_there (λ (row : KeptRow). row.at) rows at place count d within here)
+    -- it has one
+    module _ (there : IsRowAt (λ (row : KeptRow). row.at) rows at place) where
+      pub kept_there : (d : KeptRow) → d ≡ get_or rows place d → kept_of (held_by held rows) at ≡ held d
+      kept_there d is = kept_at rows at rising ∙ (ap (held_in held) (found_row there rising d) ∙ sym (ap held is))
 
       pub let_go : (new : KeptRow) → held new ≡ None
           → held_by held (set rows place new) ≡ filter (λ (row : CacheEntry). not (is_property at row.at)) (held_by held rows)
-      let_go new gone =
-          others_without at rows place new d gone within here (before_other (λ (row : KeptRow). row.at) rows at place count)
-          (λ k e low high. is_other at (get_or rows k e).at (all_after (λ (row : KeptRow). row.at) rows at place count rising d within here k e low high))
+      let_go new gone = others_without at rows place new new gone there.within (is_its_row there new) (others_before there rising)
+          (others_behind there rising)
           ∙ held_filter (λ q. not (is_property at q)) rows
 
   -- one row more, or another in place of one
 
-  module _ (rows : List KeptRow) (place : ℕ) (new : KeptRow) (rising : IsRising (λ (row : KeptRow). row.at) rows)
-      (count : IsCountBefore (λ (row : KeptRow). row.at) rows new.at place) where
+  module _ (row : CacheEntry) (kept_is : held (renewed row) ≡ Some row.kept) (rows : List KeptRow)
+      (rising : IsRising (λ (row : KeptRow). row.at) rows) where
     -- what is found of a property is the new row, or what was found before
-    put_by : (row : CacheEntry) → new.at ≡ row.at → held new ≡ Some row.kept → (after : List KeptRow) → IsRising (λ (row : KeptRow). row.at) after
-        → ((q : Property) → is_property q new.at ≡ true → find (λ (row : KeptRow). is_property q row.at) after ≡ Some new)
-        → ((q : Property) → is_property q new.at ≡ false → find (λ (row : KeptRow). is_property q row.at) after
+    put_by : (after : List KeptRow) → IsRising (λ (row : KeptRow). row.at) after
+        → ((q : Property) → is_property q row.at ≡ true → find (λ (row : KeptRow). is_property q row.at) after ≡ Some (renewed row))
+        → ((q : Property) → is_property q row.at ≡ false → find (λ (row : KeptRow). is_property q row.at) after
         ≡ find (λ (row : KeptRow). is_property q row.at) rows)
         → IsPut row (held_by held rows) (held_by held after)
-    put_by row at_is kept_is after risen same other q = kept_at after q risen
-        ∙ (by (is_property q new.at) refl ∙ ap (λ (p : Property). cond (is_property q p) (Some row.kept) (kept_of (held_by held rows) q)) at_is)
+    put_by after risen same other q = kept_at after q risen ∙ by (is_property q row.at) refl
       where
-        by : (t : Bool) → is_property q new.at ≡ t → held_in held (find (λ (row : KeptRow). is_property q row.at) after)
+        by : (t : Bool) → is_property q row.at ≡ t → held_in held (find (λ (row : KeptRow). is_property q row.at) after)
             ≡ cond t (Some row.kept) (kept_of (held_by held rows) q)
         by true e = ap (held_in held) (same q e) ∙ kept_is
         by false e = ap (held_in held) (other q e) ∙ sym (kept_at rows q rising)
 
-    module _ (other : (d : KeptRow) → place < length rows → is_property new.at (get_or rows place d).at ≡ false) where
-      pub put_new : (row : CacheEntry) → new.at ≡ row.at → held new ≡ Some row.kept → IsPut row (held_by held rows) (held_by held (insert rows place new))
-      put_new row at_is kept_is = put_by row at_is kept_is (insert rows place new) (insert_rising rows place new rising count other)
-          (λ q same. inserted_here (λ (row : KeptRow). is_property q row.at) rows place new same
-          (ap (λ (p : Property). find (λ (row : KeptRow). is_property p row.at) rows) (property_eq q new.at same)
-          ∙ nowhere rows place new.at rising count other))
-          (λ q differs. inserted_other (λ (row : KeptRow). is_property q row.at) rows place new differs)
+    pub put_new : {place : ℕ} → IsGapAt (λ (row : KeptRow). row.at) rows row.at place
+        → IsPut row (held_by held rows) (held_by held (insert rows place (renewed row)))
+    put_new {place} gap = put_by (insert rows place (renewed row)) (insert_rising rising (renewed row) gap)
+        (λ q same. inserted_here (λ (row : KeptRow). is_property q row.at) rows place (renewed row) same
+        (ap (λ (p : Property). find (λ (row : KeptRow). is_property p row.at) rows) (property_eq q row.at same) ∙ found_none gap))
+        (λ q differs. inserted_other (λ (row : KeptRow). is_property q row.at) rows place (renewed row) differs)
 
-    module _ (within : place < length rows) (here : is_property new.at (get_or rows place new).at ≡ true) where
-      pub put_there : (row : CacheEntry) → new.at ≡ row.at → held new ≡ Some row.kept → IsPut row (held_by held rows) (held_by held (set rows place new))
-      put_there row at_is kept_is =
-          put_by row at_is kept_is (set rows place new) (still_rising rows place new.at rising count new within here new refl)
-          (λ q same. set_here (λ (row : KeptRow). is_property q row.at) rows place new within same
-          (λ k d low high. ap (λ (p : Property). is_property p (get_or rows k d).at) (property_eq q new.at same)
-          ∙ before_other (λ (row : KeptRow). row.at) rows new.at place count k d low high))
-          (λ q differs. set_other (λ (row : KeptRow). is_property q row.at) rows place new new differs
-          (ap (is_property q) (sym (property_eq new.at (get_or rows place new).at here)) ∙ differs))
+    pub put_there : {place : ℕ} → IsRowAt (λ (row : KeptRow). row.at) rows row.at place
+        → IsPut row (held_by held rows) (held_by held (set rows place (renewed row)))
+    put_there {place} there = put_by (set rows place (renewed row)) (set_rising rising (renewed row) there refl)
+        (λ q same. set_here (λ (row : KeptRow). is_property q row.at) rows place (renewed row) there.within same
+        (λ k d low high. ap (λ (p : Property). is_property p (get_or rows k d).at) (property_eq q row.at same) ∙ others_before there rising k d low high))
+        (λ q differs. set_other (λ (row : KeptRow). is_property q row.at) rows place (renewed row) (renewed row) differs
+        (ap (is_property q) (there.is (renewed row)) ∙ differs))
 
 -- what is fresh is a last result
 pub fresh_is_last : (rows : List KeptRow) → IsRising (λ (row : KeptRow). row.at) rows → IsWithin (kept_of (standing rows)) (kept_of (entries rows))

@@ -239,6 +239,22 @@ right_is_known scene keeping right closed = knows scene scene keeping right agre
     agrees : Agrees scene scene keeping
     agrees q kept is = record { kind = refl; term = refl; names = λ term bound k d lt. refl; reads = λ k d lt. steady _ (closed q kept is k d lt) }
 
+-- a result is right by more of what is kept too, where all that it has read has the same value by that
+pub right_with : (scene : Scene) (keeping more : Keeping) (q : Property) (kept : EvalResult) → IsRightAt scene keeping q kept
+    → All (λ r. known scene more r ≡ known scene keeping r) kept.reads → IsRightAt scene more q kept
+right_with scene keeping more q kept r reads =
+    let same = same_evaluation scene scene (known scene keeping) (known scene more) q.object r.term (λ k d lt. refl)
+    (subst (All (λ r. known scene more r ≡ known scene keeping r)) (sym r.reads) reads) in
+    record {
+      cell = r.cell;
+      term = r.term;
+      there = r.there;
+      bound = r.bound;
+      outcome = ap (settled r.cell.kind) same.value ∙ r.outcome;
+      reads = same.reads ∙ r.reads;
+      value = r.value;
+    }
+
 pub more_is_right : (scene : Scene) (keeping more : Keeping) → IsRight scene keeping → IsClosed scene keeping → IsWithin keeping more
     → ((q : Property) (kept : EvalResult) → more q ≡ Some kept → keeping q ≡ None → IsRightAt scene more q kept) → IsRight scene more
 more_is_right scene keeping more right closed within rest q kept is = by (keeping q) refl
@@ -257,22 +273,7 @@ more_is_right scene keeping more right closed within rest q kept is = by (keepin
     same_kept : (k : EvalResult) → keeping q ≡ Some k → k ≡ kept
     same_kept k e = let both : Some k ≡ Some kept = sym (within q k e) ∙ is in cc
 
-    old : (k : EvalResult) → keeping q ≡ Some k → IsRightAt scene more q k
-    old k e =
-        let r = right q k e in
-        let same = same_evaluation scene scene (known scene keeping) (known scene more) q.object r.term (λ k d lt. refl)
-        (subst (All (λ r. known scene more r ≡ known scene keeping r)) (sym r.reads) (λ n d lt. known_in _ (closed q k e n d lt))) in
-        record {
-          cell = r.cell;
-          term = r.term;
-          there = r.there;
-          bound = r.bound;
-          outcome = ap (settled r.cell.kind) same.value ∙ r.outcome;
-          reads = same.reads
-              ∙ r.reads;
-          value = r.value;
-        }
-
     by : (o : Option EvalResult) → keeping q ≡ o → IsRightAt scene more q kept
     by None e = rest q kept is e
-    by (Some k) e = subst (IsRightAt scene more q) (same_kept k e) (old k e)
+    by (Some k) e = subst (IsRightAt scene more q) (same_kept k e)
+        (right_with scene keeping more q k (right q k e) (λ n d lt. known_in _ (closed q k e n d lt)))

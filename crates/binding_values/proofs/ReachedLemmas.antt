@@ -16,10 +16,11 @@ use Rattle.property_store.specs.Property.{among, is_property}
 use Rattle.binding_values.specs.declared.eval_result.CacheEntry.{CacheEntry}
 use Rattle.binding_values.specs.declared.eval_result.EvalResult.{EvalResult}
 use Rattle.binding_values.specs.declared.readers.Edge.{Edge}
-use Rattle.binding_values.specs.Keeping.{IsPut}
+use Rattle.binding_values.specs.declared.kept_rows.KeptRow.{KeptRow}
+use Rattle.binding_values.specs.Keeping.{IsPut, entries, standing}
 use Rattle.binding_values.specs.EvalResult.{IsWithin, Keeping, kept_of}
 use Rattle.binding_values.specs.Reached.{AreKeptToo, AreLetGo, HasReaders, IsLonger, IsReached, IsUnread, without}
-use Rattle.binding_values.specs.Readers.{AreAmong, AreFewer, IsEdgeAt, edge_of, is_ahead, leads_from}
+use Rattle.binding_values.specs.Readers.{AreAmong, AreFewer, IsEdgeAt, IsStart, edge_of, is_ahead, leads_from}
 use Rattle.binding_values.proofs.FuelLemmas.{is_itself, property_eq}
 use Rattle.binding_values.proofs.ReaderLemmas.{ahead_apart, leads_itself}
 use Rattle.binding_values.proofs.SortedLemmas.{is_property_sym}
@@ -63,10 +64,6 @@ without_twice at rows = filter_all (λ (row : CacheEntry). not (is_property at r
 pub readers_within : (some more : List CacheEntry) (edges : List Edge) → IsWithin (kept_of some) (kept_of more) → HasReaders more edges → HasReaders some edges
 readers_within some more edges within has q kept is = has q kept (within q kept is)
 
-pub readers_same : (one other : List CacheEntry) (edges : List Edge) → ((q : Property) → kept_of one q ≡ kept_of other q) → HasReaders other edges
-    → HasReaders one edges
-readers_same one other edges same has q kept is = has q kept (sym (same q) ∙ is)
-
 pub readers_without : (at : Property) (rows : List CacheEntry) (edges : List Edge) → HasReaders rows edges → HasReaders (without at rows) edges
 readers_without at rows edges has = readers_within (without at rows) rows edges (λ q kept is. (other_kept at rows q kept is).1) has
 
@@ -76,9 +73,6 @@ readers_more rows edges more among has q kept is k d lt = among _ (has q kept is
 pub readers_fewer : (at : Property) (rows : List CacheEntry) (old new : List Edge) → AreFewer at old new → HasReaders (without at rows) old
     → HasReaders (without at rows) new
 readers_fewer at rows old new fewer has q kept is k d lt = fewer.others (get_or kept.reads k d) q (other_kept at rows q kept is).0 (has q kept is k d lt)
-
-pub readers_of_none : (edges : List Edge) → HasReaders [] edges
-readers_of_none edges q kept is = absurd (cc)
 
 pub unread_within : (edges : List Edge) (old new : List CacheEntry) → IsWithin (kept_of new) (kept_of old) → (q : Property) → IsUnread edges old q
     → IsUnread edges new q
@@ -90,10 +84,7 @@ unread_within edges old new within q unread reader there = by (kept_of new reade
 
 -- touched properties
 
-among_join : (q : Property) (xs ys : List Property) → among q (xs ++ ys) ≡ (among q xs || among q ys)
-among_join q xs ys = list_any-append (is_property q) xs ys
-
-pub longer_itself : (l : List Property) → IsLonger l l
+longer_itself : (l : List Property) → IsLonger l l
 longer_itself l = ([], sym (end l))
   where
     end : (l : List Property) → l ++ [] ≡ l
@@ -107,7 +98,7 @@ pub longer_push : (old new : List Property) (x : Property) → IsLonger old new 
 longer_push old new x longer = longer_then old new (new ++ x ∷ []) longer (x ∷ [], refl)
 
 pub longer_among : (old new : List Property) → IsLonger old new → (q : Property) → among q old ≡ true → among q new ≡ true
-longer_among old new longer q there = ap (among q) longer.1 ∙ (among_join q old longer.0 ∙ or_left (among q old) (among q longer.0) there)
+longer_among old new longer q there = ap (among q) longer.1 ∙ (list_any-append (is_property q) old longer.0 ∙ or_left (among q old) (among q longer.0) there)
 
 pub longer_length : (old new : List Property) → IsLonger old new → length old ≤ length new
 longer_length old new longer = omega (arith, length-append old longer.0, ap length longer.1)
@@ -134,7 +125,7 @@ one_gone before touched at rows gone q = kept_without at rows q
     ∙ (ap (λ o. cond (is_property at q) None o) (gone q) ∙ (by (is_property at q) (among q touched) ∙ ap (λ b. cond b None (before q)) (sym joined)))
   where
     joined : among q (touched ++ at ∷ []) ≡ (among q touched || (is_property at q || false))
-    joined = among_join q touched (at ∷ []) ∙ ap (λ b. among q touched || (b || false)) (is_property_sym q at)
+    joined = list_any-append (is_property q) touched (at ∷ []) ∙ ap (λ b. among q touched || (b || false)) (is_property_sym q at)
 
     by : (t u : Bool) → cond t None (cond u None (before q)) ≡ cond (u || (t || false)) None (before q)
     by true true = refl
@@ -185,7 +176,7 @@ no_more at rows = omega (
   count_by-le-length (λ (row : CacheEntry). not (is_property at row.at)) rows,
 )
 
-pub within_without : (at : Property) (rows : List CacheEntry) → IsWithin (kept_of (without at rows)) (kept_of rows)
+within_without : (at : Property) (rows : List CacheEntry) → IsWithin (kept_of (without at rows)) (kept_of rows)
 within_without at rows q kept is = (other_kept at rows q kept is).1
 
 pub gone_more : (before : Keeping) (touched : List Property) (k : ℕ) (default : Property) (rows : List CacheEntry) → k < length touched
@@ -202,7 +193,7 @@ not_some : {A : Type 0} (o : Option A) → is_some o ≡ false → o ≡ None
 not_some None none = refl
 not_some (Some a) none = absurd (cc)
 
-pub touch_gone : (stood : Bool) (before : Keeping) (old new : List Property) (reader : Property) (rows after : List CacheEntry)
+touch_gone : (stood : Bool) (before : Keeping) (old new : List Property) (reader : Property) (rows after : List CacheEntry)
     → stood ≡ is_some (kept_of rows reader) → new ≡ cond stood (old ++ reader ∷ []) old → after ≡ without reader rows
     → AreLetGo before old rows → AreLetGo before new after
 touch_gone true before old new reader rows after is new_is after_is gone =
@@ -212,12 +203,12 @@ touch_gone false before old new reader rows after is new_is after_is gone =
     subst (λ touched. AreLetGo before touched after) (sym new_is)
     (subst (AreLetGo before old) (sym after_is) (none_gone_more before old reader rows (not_some (kept_of rows reader) (sym is)) gone))
 
-pub touch_longer : (stood : Bool) (first old new : List Property) (reader : Property) → new ≡ cond stood (old ++ reader ∷ []) old → IsLonger first old
+touch_longer : (stood : Bool) (first old new : List Property) (reader : Property) → new ≡ cond stood (old ++ reader ∷ []) old → IsLonger first old
     → IsLonger first new
 touch_longer true first old new reader new_is longer = subst (IsLonger first) (sym new_is) (longer_push first old reader longer)
 touch_longer false first old new reader new_is longer = subst (IsLonger first) (sym new_is) longer
 
-pub touch_less : (stood : Bool) (old new : List Property) (reader : Property) (rows after : List CacheEntry) → stood ≡ is_some (kept_of rows reader)
+touch_less : (stood : Bool) (old new : List Property) (reader : Property) (rows after : List CacheEntry) → stood ≡ is_some (kept_of rows reader)
     → new ≡ cond stood (old ++ reader ∷ []) old → after ≡ without reader rows → length after + length new ≤ length rows + length old
 touch_less true old new reader rows after is new_is after_is =
     let fewer = one_fewer reader rows (sym is) in
@@ -256,7 +247,7 @@ pub done_first : (edges : List Edge) (rows : List CacheEntry) (read : Property) 
     → AreDone edges rows read at
 done_first edges rows read at ahead k d low high leads = absurd (ahead_apart read (get_or edges k d) (ahead k d low high) leads)
 
-pub done_next : (edges : List Edge) (rows : List CacheEntry) (read reader : Property) (at : ℕ) → IsEdgeAt edges at (edge_of read reader)
+done_next : (edges : List Edge) (rows : List CacheEntry) (read reader : Property) (at : ℕ) → IsEdgeAt edges at (edge_of read reader)
     → AreDone edges rows read at → AreDone edges (without reader rows) read (at + 1)
 done_next edges rows read reader at is done k d low high leads = ⊎_elim
     (λ (front : k < at). none_without (record { object = (get_or edges k d).reader_object; number = (get_or edges k d).reader_number })
@@ -363,10 +354,45 @@ pub some_there : {A B : Type 0} (f : A → B) (o : Option A) (p : Option B) → 
 some_there f None p e there = absurd (cc)
 some_there f (Some a) p e there = ap is_some (sym e)
 
-pub none_there : {A B : Type 0} (f : A → B) (o : Option A) (p : Option B) → option_map f o ≡ p → is_some o ≡ false → p ≡ None
-none_there f None p e none = sym e
-none_there f (Some a) p e none = absurd (cc)
-
 pub by_result : {T E P Q X : Type 0} (r : Result T E) → (P → X) → (Q → X) → OnOk r P → OnErr r Q → X
 by_result (Ok v) ok err p q = ok p
 by_result (Err e) ok err p q = err q
+
+-- readers of a property that were touched, from where its edges begin to a position
+pub record AreTouched (edges : List Edge) (read : Property) (first rows : List KeptRow) (before touched : List Property) (at : ℕ) : Type 0 where
+  pub gone : (keeping : Keeping) → AreLetGo keeping before (standing first) → AreLetGo keeping touched (standing rows)
+  pub same : entries rows ≡ entries first
+  pub within : IsWithin (kept_of (standing rows)) (kept_of (standing first))
+  pub longer : IsLonger before touched
+  pub less : length (standing rows) + length touched ≤ length (standing first) + length before
+  pub done : AreDone edges (standing rows) read at
+  pub ahead : AllWithin (λ edge. is_ahead read edge ≡ false) edges at (length edges)
+
+pub touched_first : (edges : List Edge) (read : Property) (rows : List KeptRow) (touched : List Property) (at : ℕ) → IsStart edges read at
+    → AreTouched edges read rows rows touched touched at
+touched_first edges read rows touched at start = record {
+  gone = λ keeping was. was;
+  same = refl;
+  within = λ q kept is. is;
+  longer = longer_itself touched;
+  less = omega arith;
+  done = done_first edges (standing rows) read at start.0;
+  ahead = start.1;
+}
+
+-- the next one
+pub touched_next : {edges : List Edge} {read : Property} {first rows : List KeptRow} {before touched : List Property} {at : ℕ}
+    → AreTouched edges read first rows before touched at → (reader : Property) (next : ℕ) → IsEdgeAt edges at (edge_of read reader) → next ≡ at + 1
+    → (stood : Bool) → stood ≡ is_some (kept_of (standing rows) reader) → (new : List Property) → new ≡ cond stood (touched ++ reader ∷ []) touched
+    → (after : List KeptRow) → standing after ≡ without reader (standing rows) → entries after ≡ entries rows
+    → AreTouched edges read first after before new next
+touched_next {edges} {read} {first} {rows} {before} {touched} {at} it reader next edge next_is stood stood_is new new_is after after_is same = record {
+  gone = λ keeping was. touch_gone stood keeping touched new reader (standing rows) (standing after) stood_is new_is after_is (it.gone keeping was);
+  same = same ∙ it.same;
+  within = λ q kept there. it.within q kept (within_without reader (standing rows) q kept (ap (λ rows. kept_of rows q) (sym after_is) ∙ there));
+  longer = touch_longer stood before touched new reader new_is it.longer;
+  less = let less = touch_less stood touched new reader (standing rows) (standing after) stood_is new_is after_is in omega (arith, less, it.less);
+  done = subst (λ rows. AreDone edges rows read next) (sym after_is) (subst (AreDone edges (without reader (standing rows)) read) (sym next_is)
+      (done_next edges (standing rows) read reader at edge it.done));
+  ahead = λ k d low high. it.ahead k d (omega (arith, low, next_is)) high;
+}

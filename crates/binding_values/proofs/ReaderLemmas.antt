@@ -5,10 +5,8 @@ use Rattle.std.specs.Cmp.{IsTotalOrder}
 use Rattle.std.specs.Ordering.{is_eq, nat_cmp, ordering_then}
 use Rattle.std.specs.declared.cmp.Ordering.{Ordering}
 use Rattle.std.specs.declared.cmp.Ordering.TheVariants.{Less, Equal, Greater}
-use Rattle.std.specs.List.{AllWithin}
 use Rattle.std.specs.List.Sorted.{IsPartitionedBy}
 use Rattle.std.proofs.lemmas.Bool.{both_ways, cases_Bool, cases_lt}
-use Rattle.std.proofs.lemmas.List.{get_or_default}
 use Rattle.std.proofs.lemmas.Bool.Decides.{nat_tests}
 use Rattle.std.proofs.lemmas.Cmp.{nat_cmp_total, on_total, ranked, then_total}
 use Rattle.std.proofs.lemmas.List.Elements.{All-more, All-weaker}
@@ -106,22 +104,6 @@ module _ (edges : List Edge) (order : IsInOrder edge_cmp edges) (read : Property
         (cases_Bool (is_ahead read (get_or edges k d))),
   )
 
-  -- behind an edge that leads neither from a property before this one nor from this one, none leads from this one
-  pub past_all : (at : ℕ) (d : Edge) → at < length edges → is_ahead read (get_or edges at d) ≡ false → leads_from read (get_or edges at d) ≡ false
-      → AllWithin (λ edge. leads_from read edge ≡ false) edges at (length edges)
-  past_all at d within here other k e from inside = ⊎_elim
-      (λ (behind : at < k). later (get_or edges at e) (get_or edges k e) (order at k e behind inside)
-      (ap (is_ahead read) (get_or_default edges at e d within) ∙ here) (ap (leads_from read) (get_or_default edges at e d within) ∙ other))
-      (λ (there : k ≤ at). let same : k ≡ at = omega (arith, there, from) in
-      ap (λ n. leads_from read (get_or edges n e)) same ∙ (ap (leads_from read) (get_or_default edges at e d within) ∙ other))
-      (cases_lt at k)
-    where
-      later : (x y : Edge) → edge_cmp x y ≡ Less → is_ahead read x ≡ false → leads_from read x ≡ false → leads_from read y ≡ false
-      later x y less ahead leads = ⊎_elim
-          (λ (object : x.read_object < y.read_object). grind (arith, nat_tests, ahead, leads, object))
-          (λ (both : (x.read_object ≡ y.read_object) × (x.read_number ≤ y.read_number)). grind (arith, nat_tests, ahead, leads, both.0, both.1))
-          (earlier_edge x y less)
-
 -- more edges, and fewer
 
 pub more_edges : (edges : List Edge) (edge : Edge) → AreAmong edges (with_link edge_cmp edges edge)
@@ -153,9 +135,6 @@ edge_gone edges read reader = record {
       (other_edge read other reader q differs);
   few = fewer_links edges (edge_of read reader);
 }
-
-pub fewer_itself : (reader : Property) (edges : List Edge) → AreFewer reader edges edges
-fewer_itself reader edges = record { within = λ edge there. there; others = λ read q differs there. there; few = omega arith }
 
 pub fewer_then : (reader : Property) (a b c : List Edge) → AreFewer reader a b → AreFewer reader b c → AreFewer reader a c
 fewer_then reader a b c ab bc = record {

@@ -22,7 +22,7 @@ use Rattle.binding_values.proofs.MapLemmas.{given_but_last}
 use Rattle.binding_values.proofs.ChainLemmas.{passes_loop}
 use Rattle.binding_values.proofs.FuelLemmas.{is_itself, property_eq}
 use Rattle.binding_values.proofs.KeptLemmas.{fresh_bound, fresh_unbound, hand_unbound, known_kept, known_none, known_unbound, more_is_right, none_some}
-use Rattle.binding_values.proofs.KeptLemmas.{right_is_known, same_evaluation, unbound_unkept}
+use Rattle.binding_values.proofs.KeptLemmas.{right_is_known, right_with, same_evaluation, unbound_unkept}
 
 -- what an evaluation over what is kept reads: all but the last is settled
 
@@ -150,18 +150,9 @@ grows scene keeping more right closed within new = (more_is_right scene keeping 
     rest : (q : Property) (kept : EvalResult) → more q ≡ Some kept → keeping q ≡ None → IsRightAt scene more q kept
     rest q kept is none =
         let n = new q kept is none in
-        let same = same_evaluation scene scene (known scene keeping) (known scene more) q.object n.tried.term (λ k d lt. refl)
-        (subst (All (λ r. known scene more r ≡ known scene keeping r)) (sym n.tried.reads) n.same) in
-        record {
-          cell = n.tried.cell;
-          term = n.tried.term;
-          there = n.tried.there;
-          bound = n.tried.bound;
-          outcome = ap (settled n.tried.cell.kind) same.value
-              ∙ n.tried.outcome;
-          reads = same.reads ∙ n.tried.reads;
-          value = n.value;
-        }
+        let t = n.tried in
+        right_with scene keeping more q kept
+        (record { cell = t.cell; term = t.term; there = t.there; bound = t.bound; outcome = t.outcome; reads = t.reads; value = n.value }) n.same
 
     still_closed : IsClosed scene more
     still_closed q kept is = by (keeping q) refl
@@ -196,7 +187,7 @@ known_still scene keeping more right within unbound_new r (inl (kept, is)) = kno
 known_still scene keeping more right within unbound_new r (inr unbound) = known_none scene more r (unbound_new r unbound)
     ∙ (hand_unbound scene r unbound ∙ sym (known_unbound scene keeping right r unbound))
 
-still_settled : (scene : Scene) (keeping more : Keeping) → IsWithin keeping more → (r : Property) → IsSettled scene keeping r → IsSettled scene more r
+pub still_settled : (scene : Scene) (keeping more : Keeping) → IsWithin keeping more → (r : Property) → IsSettled scene keeping r → IsSettled scene more r
 still_settled scene keeping more within r (inl (kept, is)) = inl (kept, within r kept is)
 still_settled scene keeping more within r (inr unbound) = inr unbound
 

@@ -20,10 +20,6 @@ use Rattle.binding_values.specs.Right.{IsApart, IsComplete, IsRightBut, IsSpread
 use Rattle.binding_values.proofs.CompletenessLemmas.{rest_is_right}
 use Rattle.binding_values.proofs.FuelLemmas.{is_itself}
 
-pub still_settled : (scene : Scene) (less more : Keeping) → IsWithin less more → (q : Property) → IsSettled scene less q → IsSettled scene more q
-still_settled scene less more within q (inl kept) = inl (kept.0, within q kept.0 kept.1)
-still_settled scene less more within q (inr unbound) = inr unbound
-
 -- what is reached
 
 pub right_more : (scene : Scene) (old new : List Property) (keeping : Keeping) → IsLonger old new → IsRightBut scene (only old) keeping
@@ -93,9 +89,6 @@ apart_so scene at rows unbound reached = record {
 }
 
 -- where nothing is kept
-
-pub nothing_is_right : (scene : Scene) (touched : List Property) → IsRightBut scene (only touched) (kept_of [])
-nothing_is_right scene touched part within closed clear q kept is = absurd (let none : None ≡ Some kept = within q kept is in cc)
 
 pub bound_or_not : (store : Store) (bindings : List Binding) → IsWhole (scene_of store bindings) (only (map (λ binding. binding.at) bindings)) (kept_of [])
 bound_or_not store bindings q off = inr (by bindings off)

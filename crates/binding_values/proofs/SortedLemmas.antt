@@ -9,11 +9,12 @@ use Rattle.std.proofs.lemmas.List.Kept.{AllPairs-cons, AllPairs-filter}
 use Rattle.std.proofs.lemmas.Bool.{both_ways, cases_Bool, cases_lt}
 use Rattle.std.proofs.lemmas.List.{get_or_default}
 use Rattle.std.proofs.lemmas.Bool.Decides.{nat_tests}
+use Rattle.shared_rows.proofs.LinkLemmas.{filter_back, filter_front}
 use Rattle.property_store.specs.declared.property.Property.{Property}
 use Rattle.property_store.specs.Property.{is_property}
 use Rattle.property_store.proofs.ForCallers.{filter_all}
-use Rattle.binding_values.specs.Sorted.{IsCountBefore, IsRising, is_before}
-use Rattle.binding_values.proofs.FuelLemmas.{property_eq}
+use Rattle.binding_values.specs.Sorted.{IsCountBefore, IsGapAt, IsRising, IsRowAt, is_before}
+use Rattle.binding_values.proofs.FuelLemmas.{is_itself, property_eq}
 use Rattle.binding_values.proofs.MapLemmas.{pairs_append}
 
 -- the order of properties
@@ -112,66 +113,6 @@ find_first p (row ∷ rows) (suc k) d lt before here =
     let first : p row ≡ false = before 0 row (omega arith) (omega arith) in
     rw first (find_first p rows k d (omega arith) (λ j e low high. before (suc j) e (omega arith) (omega arith)) here)
 
-module _ {X : Type 0} (f : X → Property) (rows : List X) (at : Property) (count : ℕ) (is : IsCountBefore f rows at count) where
-  pub before_other : AllWithin (λ row. is_property at (f row) ≡ false) rows 0 count
-  before_other k d low high = is_property_sym at (f (get_or rows k d)) ∙ is_other (f (get_or rows k d)) at (is.before k d low high)
-
-  pub found_there : (d : X) → count < length rows → is_property at (f (get_or rows count d)) ≡ true
-      → find (λ row. is_property at (f row)) rows ≡ Some (get_or rows count d)
-  found_there d within here = find_first (λ row. is_property at (f row)) rows count d within before_other here
-
-  -- all from there on stand behind those of a property that has no row there
-  pub all_behind : IsRising f rows → ((d : X) → count < length rows → is_property at (f (get_or rows count d)) ≡ false)
-      → AllWithin (λ row. is_before at (f row) ≡ true) rows count (length rows)
-  all_behind rising none k d low high = ⊎_elim
-      (λ (later : count < k). before_trans at (f (get_or rows count d)) (f (get_or rows k d)) (first d (omega arith)) (rising count k d later high))
-      (λ (level : k ≤ count). let same : k ≡ count = omega (arith, low, level) in ap (λ n. is_before at (f (get_or rows n d))) same
-      ∙ first d (omega (arith, same, high)))
-      (cases_lt count k)
-    where
-      first : (d : X) → count < length rows → is_before at (f (get_or rows count d)) ≡ true
-      first d within = is_behind (f (get_or rows count d)) at (is.behind count d (omega arith) within) (none d within)
-
-  pub found_nowhere : IsRising f rows → ((d : X) → count < length rows → is_property at (f (get_or rows count d)) ≡ false)
-      → find (λ row. is_property at (f row)) rows ≡ None
-  found_nowhere rising none = find_none (λ row. is_property at (f row)) rows (λ k d lt. ⊎_elim
-      (λ (before : k < count). before_other k d (omega arith) before)
-      (λ (behind : count ≤ k). is_other at (f (get_or rows k d)) (all_behind rising none k d behind lt))
-      (cases_lt k count))
-
-  -- behind the row of the property all stand behind it
-  pub all_after : IsRising f rows → (d : X) → count < length rows → is_property at (f (get_or rows count d)) ≡ true
-      → AllWithin (λ row. is_before at (f row) ≡ true) rows (suc count) (length rows)
-  all_after rising d within here k e low high =
-      subst (λ (p : Property). is_before p (f (get_or rows k e)) ≡ true)
-      (ap f (get_or_default rows count e d within) ∙ sym (property_eq at (f (get_or rows count d)) here)) (rising count k e (omega arith) high)
-
--- a filter that the first ones pass, or those behind them
-
-pub filter_take : {X : Type 0} (p : X → Bool) (rows : List X) (k : ℕ) → k ≤ length rows → AllWithin (λ row. p row ≡ true) rows 0 k
-    → AllWithin (λ row. p row ≡ false) rows k (length rows) → filter p rows ≡ take k rows
-filter_take p [] zero le before behind = refl
-filter_take p [] (suc k) le before behind = absurd (omega arith)
-filter_take p (row ∷ rows) zero le before behind =
-    let here : p row ≡ false = behind 0 row (omega arith) (omega arith) in
-    rw here (filter_take p rows zero (omega arith) (λ j d low high. absurd (omega arith)) (λ j d low high. behind (suc j) d (omega arith) (omega arith)))
-filter_take p (row ∷ rows) (suc k) le before behind =
-    let here : p row ≡ true = before 0 row (omega arith) (omega arith) in
-    rw here (ap (λ ys. row ∷ ys) (filter_take p rows k (omega arith) (λ j d low high. before (suc j) d (omega arith) (omega arith))
-    (λ j d low high. behind (suc j) d (omega arith) (omega arith))))
-
-pub filter_drop : {X : Type 0} (p : X → Bool) (rows : List X) (k : ℕ) → AllWithin (λ row. p row ≡ false) rows 0 k
-    → AllWithin (λ row. p row ≡ true) rows k (length rows) → filter p rows ≡ drop k rows
-filter_drop p [] zero before behind = refl
-filter_drop p [] (suc k) before behind = refl
-filter_drop p (row ∷ rows) zero before behind =
-    let here : p row ≡ true = behind 0 row (omega arith) (omega arith) in
-    rw here (ap (λ ys. row ∷ ys) (filter_drop p rows zero (λ j d low high. absurd (omega arith))
-    (λ j d low high. behind (suc j) d (omega arith) (omega arith))))
-filter_drop p (row ∷ rows) (suc k) before behind =
-    let here : p row ≡ false = before 0 row (omega arith) (omega arith) in
-    rw here (filter_drop p rows k (λ j d low high. before (suc j) d (omega arith) (omega arith)) (λ j d low high. behind (suc j) d (omega arith) (omega arith)))
-
 -- a filter that all pass but one
 
 filter_but : {X : Type 0} (p : X → Bool) (rows : List X) (k : ℕ) → k < length rows → AllWithin (λ row. p row ≡ true) rows 0 k
@@ -185,6 +126,63 @@ filter_but p (row ∷ rows) (suc k) within before here behind =
     rw on (ap (λ ys. row ∷ ys) (filter_but p rows k (omega arith) (λ j d low high. before (suc j) d (omega arith) (omega arith)) here
     (λ j d low high. behind (suc j) d (omega arith) (omega arith))))
 
+-- the row of a property in its place
+module _ {X : Type 0} {f : X → Property} {rows : List X} {at : Property} {place : ℕ} (row : IsRowAt f rows at place) where
+  pub is_its_row : (d : X) → is_property at (f (get_or rows place d)) ≡ true
+  is_its_row d = subst (λ p. is_property at p ≡ true) (sym (row.is d)) (is_itself at)
+
+  module _ (rising : IsRising f rows) where
+    rows_before : AllWithin (λ row. is_before (f row) at ≡ true) rows 0 place
+    rows_before k d low high = subst (λ p. is_before (f (get_or rows k d)) p ≡ true) (row.is d) (rising k place d high row.within)
+
+    rows_behind : AllWithin (λ row. is_before at (f row) ≡ true) rows (suc place) (length rows)
+    rows_behind k d low high = subst (λ p. is_before p (f (get_or rows k d)) ≡ true) (row.is d) (rising place k d (omega (arith, low)) high)
+
+    pub others_before : AllWithin (λ row. is_property at (f row) ≡ false) rows 0 place
+    others_before k d low high = is_property_sym at (f (get_or rows k d)) ∙ is_other (f (get_or rows k d)) at (rows_before k d low high)
+
+    pub others_behind : AllWithin (λ row. is_property at (f row) ≡ false) rows (suc place) (length rows)
+    others_behind k d low high = is_other at (f (get_or rows k d)) (rows_behind k d low high)
+
+    pub counted : IsCountBefore f rows at place
+    counted = record {
+      within = omega (arith, row.within);
+      before = rows_before;
+      behind = λ k d low high. ⊎_elim
+          (λ (later : place < k). not_behind at (f (get_or rows k d)) (rows_behind k d later high))
+          (λ (level : k ≤ place). let same : k ≡ place = omega (arith, low, level) in ap (λ n. is_before (f (get_or rows n d)) at) same
+          ∙ (ap (λ p. is_before p at) (row.is d) ∙ never_before at))
+          (cases_lt place k);
+    }
+
+    pub found_row : (d : X) → find (λ row. is_property at (f row)) rows ≡ Some (get_or rows place d)
+    found_row d = find_first (λ row. is_property at (f row)) rows place d row.within others_before (is_its_row d)
+
+    pub without_row : filter (λ row. not (is_property at (f row))) rows ≡ remove rows place
+    without_row = filter_but (λ row. not (is_property at (f row))) rows place row.within (λ k d low high. ap not (others_before k d low high))
+        (λ d. ap not (is_its_row d)) (λ k d low high. ap not (others_behind k d low high))
+
+-- the place of a property that has no row
+module _ {X : Type 0} {f : X → Property} {rows : List X} {at : Property} {place : ℕ} (gap : IsGapAt f rows at place) where
+  all_other : All (λ row. is_property at (f row) ≡ false) rows
+  all_other k d lt = ⊎_elim
+      (λ (before : k < place). is_property_sym at (f (get_or rows k d)) ∙ is_other (f (get_or rows k d)) at (gap.before k d (omega arith) before))
+      (λ (behind : place ≤ k). is_other at (f (get_or rows k d)) (gap.behind k d behind lt))
+      (cases_lt k place)
+
+  pub gap_counted : IsCountBefore f rows at place
+  gap_counted = record {
+    within = gap.within;
+    before = gap.before;
+    behind = λ k d low high. not_behind at (f (get_or rows k d)) (gap.behind k d low high);
+  }
+
+  pub found_none : find (λ row. is_property at (f row)) rows ≡ None
+  found_none = find_none (λ row. is_property at (f row)) rows all_other
+
+  pub without_none : filter (λ row. not (is_property at (f row))) rows ≡ rows
+  without_none = filter_all (λ row. not (is_property at (f row))) rows (λ k d lt. ap not (all_other k d lt))
+
 -- another row in place of one, and one more row
 
 set_split : {X : Type 0} (xs : List X) (i : ℕ) (x : X) → i < length xs → set xs i x ≡ take i xs ++ x ∷ drop (suc i) xs
@@ -192,91 +190,68 @@ set_split [] i x lt = absurd (omega arith)
 set_split (y ∷ xs) zero x lt = refl
 set_split (y ∷ xs) (suc i) x lt = ap (λ zs. y ∷ zs) (set_split xs i x (omega arith))
 
-module _ {X : Type 0} (f : X → Property) (new : X) (rows : List X) (count : ℕ) (rising : IsRising f rows) (is : IsCountBefore f rows (f new) count) where
-  front : filter (λ row. is_before (f row) (f new)) rows ≡ take count rows
-  front = filter_take (λ row. is_before (f row) (f new)) rows count is.within is.before is.behind
-
-  -- in place of the binding of the same property
-  pub replaced : (d : X) → count < length rows → is_property (f new) (f (get_or rows count d)) ≡ true
-      → set rows count new ≡ (filter (λ row. is_before (f row) (f new)) rows ++ new ∷ filter (λ row. is_before (f new) (f row)) rows)
-  replaced d within here =
-      set_split rows count new within
-      ∙ (let back : filter (λ row. is_before (f new) (f row)) rows ≡ drop (suc count) rows =
-      filter_drop (λ row. is_before (f new) (f row)) rows (suc count) below (all_after f rows (f new) count is rising d within here) in
-      rw (front, back) refl)
+module _ {X : Type 0} {f : X → Property} (new : X) {rows : List X} {place : ℕ} where
+  -- in place of the row of the same property
+  pub replaced : IsRowAt f rows (f new) place → IsRising f rows
+      → set rows place new ≡ (filter (λ row. is_before (f row) (f new)) rows ++ new ∷ filter (λ row. is_before (f new) (f row)) rows)
+  replaced row rising =
+      let front : filter (λ row. is_before (f row) (f new)) rows ≡ take place rows =
+      filter_front (λ row. is_before (f row) (f new)) rows place (counted row rising).before (counted row rising).behind in
+      let back : filter (λ row. is_before (f new) (f row)) rows ≡ drop (suc place) rows =
+      filter_back (λ row. is_before (f new) (f row)) rows (suc place) below (rows_behind row rising) in
+      set_split rows place new row.within ∙ rw (front, back) refl
     where
-      below : (k : ℕ) (e : X) → 0 ≤ k → k < suc count → is_before (f new) (f (get_or rows k e)) ≡ false
-      below k e low high = ⊎_elim
-          (λ (before : k < count). not_behind (f (get_or rows k e)) (f new) (is.before k e low before))
-          (λ (level : count ≤ k).
-          let same : k ≡ count = omega (arith, level, high) in
-          ap (λ n. is_before (f new) (f (get_or rows n e))) same
-          ∙ (ap (λ (b : X). is_before (f new) (f b)) (get_or_default rows count e d within)
-          ∙ (ap (is_before (f new)) (sym (property_eq (f new) (f (get_or rows count d)) here)) ∙ never_before (f new))))
-          (cases_lt k count)
+      below : (k : ℕ) (d : X) → 0 ≤ k → k < suc place → is_before (f new) (f (get_or rows k d)) ≡ false
+      below k d low high = ⊎_elim
+          (λ (before : k < place). not_behind (f (get_or rows k d)) (f new) (rows_before row rising k d low before))
+          (λ (level : place ≤ k). let same : k ≡ place = omega (arith, level, high) in ap (λ n. is_before (f new) (f (get_or rows n d))) same
+          ∙ (ap (is_before (f new)) (row.is d) ∙ never_before (f new)))
+          (cases_lt k place)
 
   -- among the others
-  pub inserted : ((d : X) → count < length rows → is_property (f new) (f (get_or rows count d)) ≡ false)
-      → insert rows count new ≡ (filter (λ row. is_before (f row) (f new)) rows ++ new ∷ filter (λ row. is_before (f new) (f row)) rows)
-  inserted other =
-      let back : filter (λ row. is_before (f new) (f row)) rows ≡ drop count rows =
-      filter_drop (λ row. is_before (f new) (f row)) rows count (λ k d low high. not_behind (f (get_or rows k d)) (f new) (is.before k d low high))
-      (all_behind f rows (f new) count is rising other) in
+  pub inserted : IsGapAt f rows (f new) place
+      → insert rows place new ≡ (filter (λ row. is_before (f row) (f new)) rows ++ new ∷ filter (λ row. is_before (f new) (f row)) rows)
+  inserted gap =
+      let front : filter (λ row. is_before (f row) (f new)) rows ≡ take place rows =
+      filter_front (λ row. is_before (f row) (f new)) rows place gap.before
+      (λ k d low high. not_behind (f new) (f (get_or rows k d)) (gap.behind k d low high)) in
+      let back : filter (λ row. is_before (f new) (f row)) rows ≡ drop place rows =
+      filter_back (λ row. is_before (f new) (f row)) rows place (λ k d low high. not_behind (f (get_or rows k d)) (f new) (gap.before k d low high))
+      gap.behind in
       rw (front, back) refl
 
--- what is asked of the place
-module _ {X : Type 0} (f : X → Property) (rows : List X) (place : ℕ) (at : Property) where
-  abbrev pub Asked : Bool → Type 0
-  Asked t = t ≡ option_map_or (λ row. is_property at (f row)) (slice_get rows place) false
-
-  pub stands_within : (t : Bool) → Asked t → t ≡ true → place < length rows
-  stands_within t asked e = ⊎_elim
-      (λ (within : place < length rows). within)
-      (λ (past : length rows ≤ place). absurd
-      (let never : true ≡ false = sym e ∙ (asked ∙ ap (λ (found : Option X). option_map_or (λ row. is_property at (f row)) found false)
-      (slice_get_past rows place past)) in cc))
-      (cases_lt place (length rows))
-
-  pub stands_so : (t : Bool) → Asked t → (d : X) → place < length rows → is_property at (f (get_or rows place d)) ≡ t
-  stands_so t asked d within = sym (asked ∙ ap (λ (found : Option X). option_map_or (λ row. is_property at (f row)) found false)
+-- what is asked of a place
+module _ {X : Type 0} (f : X → Property) (rows : List X) (place : ℕ) (at : Property) (t : Bool)
+    (asked : t ≡ option_map_or (λ row. is_property at (f row)) (slice_get rows place) false) where
+  asked_within : (d : X) → place < length rows → is_property at (f (get_or rows place d)) ≡ t
+  asked_within d within = sym (asked ∙ ap (λ (found : Option X). option_map_or (λ row. is_property at (f row)) found false)
       (slice_get-get_or rows place d within))
 
-  -- where the row of the property stands, those before it are before the property
-  pub counted : IsRising f rows → (t : Bool) → Asked t → t ≡ true → IsCountBefore f rows at place
-  counted rising t asked e = record {
-    within = omega (arith, there);
-    before = λ k d low high. subst (λ p. is_before (f (get_or rows k d)) p ≡ true) (is d) (rising k place d high there);
+  pub row_there : t ≡ true → IsRowAt f rows at place
+  row_there stands = record { within = within; is = λ d. sym (property_eq at (f (get_or rows place d)) (asked_within d within ∙ stands)) }
+    where
+      within : place < length rows
+      within = ⊎_elim
+          (λ (within : place < length rows). within)
+          (λ (past : length rows ≤ place). absurd
+          (let never : true ≡ false = sym stands ∙ (asked ∙ ap (λ (found : Option X). option_map_or (λ row. is_property at (f row)) found false)
+          (slice_get_past rows place past)) in cc))
+          (cases_lt place (length rows))
+
+  pub gap_there : IsRising f rows → IsCountBefore f rows at place → t ≡ false → IsGapAt f rows at place
+  gap_there rising count fails = record {
+    within = count.within;
+    before = count.before;
     behind = λ k d low high. ⊎_elim
-        (λ (later : place < k). not_behind at (f (get_or rows k d))
-        (subst (λ p. is_before p (f (get_or rows k d)) ≡ true) (is d) (rising place k d later high)))
-        (λ (level : k ≤ place). let same : k ≡ place = omega (arith, low, level) in ap (λ n. is_before (f (get_or rows n d)) at) same
-        ∙ (ap (λ p. is_before p at) (is d) ∙ never_before at))
+        (λ (later : place < k). before_trans at (f (get_or rows place d)) (f (get_or rows k d)) (first d (omega (arith, later, high)))
+        (rising place k d later high))
+        (λ (level : k ≤ place). let same : k ≡ place = omega (arith, low, level) in ap (λ n. is_before at (f (get_or rows n d))) same
+        ∙ first d (omega (arith, same, high)))
         (cases_lt place k);
   }
     where
-      there : place < length rows
-      there = stands_within t asked e
-
-      is : (d : X) → f (get_or rows place d) ≡ at
-      is d = sym (property_eq at (f (get_or rows place d)) (stands_so t asked d there ∙ e))
-
-  -- what is left without the row of the property
-  module _ (rising : IsRising f rows) (is : IsCountBefore f rows at place) (t : Bool) (asked : Asked t) where
-    pub left_without : t ≡ true → filter (λ row. not (is_property at (f row))) rows ≡ remove rows place
-    left_without e =
-        let within = stands_within t asked e in
-        let here : (d : X) → is_property at (f (get_or rows place d)) ≡ true = λ d. stands_so t asked d within ∙ e in
-        filter_but (λ row. not (is_property at (f row))) rows place within (λ k d low high. ap not (before_other f rows at place is k d low high))
-        (λ d. ap not (here d))
-        (λ k d low high. ap not (is_other at (f (get_or rows k d)) (all_after f rows at place is rising d within (here d) k d low high)))
-
-    -- where it has none
-    pub all_left : t ≡ false → filter (λ row. not (is_property at (f row))) rows ≡ rows
-    all_left e = filter_all (λ row. not (is_property at (f row))) rows (λ k d lt. ap not (⊎_elim
-        (λ (before : k < place). before_other f rows at place is k d (omega arith) before)
-        (λ (behind : place ≤ k). is_other at (f (get_or rows k d))
-        (all_behind f rows at place is rising (λ d within. stands_so t asked d within ∙ e) k d behind lt))
-        (cases_lt k place)))
+      first : (d : X) → place < length rows → is_before at (f (get_or rows place d)) ≡ true
+      first d within = is_behind (f (get_or rows place d)) at (count.behind place d (omega arith) within) (asked_within d within ∙ fails)
 
 -- rows before, one, and rows behind
 
@@ -300,3 +275,11 @@ with_rising {X} f new rows rising =
 
     passes : All (λ row. is_before (f row) (f new) ≡ true) below
     passes = filter_passes (λ row. is_before (f row) (f new)) rows
+
+-- rows stay in order
+module _ {X : Type 0} {f : X → Property} {rows : List X} {place : ℕ} (rising : IsRising f rows) (new : X) where
+  pub set_rising : {at : Property} → IsRowAt f rows at place → at ≡ f new → IsRising f (set rows place new)
+  set_rising row is = subst (IsRising f) (sym (replaced new (subst (λ p. IsRowAt f rows p place) is row) rising)) (with_rising f new rows rising)
+
+  pub insert_rising : IsGapAt f rows (f new) place → IsRising f (insert rows place new)
+  insert_rising gap = subst (IsRising f) (sym (inserted new gap)) (with_rising f new rows rising)

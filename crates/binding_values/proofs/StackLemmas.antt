@@ -27,15 +27,6 @@ ats_append : (xs ys : List CacheEntry) → ats (xs ++ ys) ≡ ats xs ++ ats ys
 ats_append [] ys = refl
 ats_append (x ∷ xs) ys = ap (λ l. x.at ∷ l) (ats_append xs ys)
 
-among_append : (z : Property) (xs ys : List Property) → among z (xs ++ ys) ≡ (among z xs || among z ys)
-among_append z xs ys = list_any-append (is_property z) xs ys
-
-or_swap : (a b : Bool) → (a || b) ≡ (b || a)
-or_swap true true = refl
-or_swap true false = refl
-or_swap false true = refl
-or_swap false false = refl
-
 or_middle : (a b c : Bool) → (a || (b || c)) ≡ (b || (a || c))
 or_middle true true c = refl
 or_middle true false c = refl
@@ -53,7 +44,7 @@ among_reversed z [] = refl
 among_reversed z (row ∷ rest) =
     ap (λ l. among z (ats l)) (reverse-append (row ∷ []) rest)
     ∙ (ap (among z) (ats_append (reverse rest) (row ∷ []))
-    ∙ (among_append z (ats (reverse rest)) (row.at ∷ [])
+    ∙ (list_any-append (is_property z) (ats (reverse rest)) (row.at ∷ [])
     ∙ (or_end (among z (ats (reverse rest))) (is_property z row.at) ∙ ap (λ b. is_property z row.at || b) (among_reversed z rest))))
 
 same_unmet : (one other : List Property) → ((z : Property) → among z one ≡ among z other) → (bs : List Binding) → unmet one bs ≡ unmet other bs
@@ -106,10 +97,11 @@ pushed scene D B row next running t w fresh = (now, (λ q kept is. is), bottom_p
     fewer : unmet (ats D ++ next ∷ below) scene.bindings < unmet (ats D ++ below) scene.bindings
     fewer =
         let moved = same_unmet (ats D ++ next ∷ below) (next ∷ (ats D ++ below))
-        (λ z. among_append z (ats D) (next ∷ below) ∙
-        (or_middle (among z (ats D)) (is_property z next) (among z below) ∙ ap (λ b. is_property z next || b) (sym (among_append z (ats D) below))))
+        (λ z. list_any-append (is_property z) (ats D) (next ∷ below) ∙
+        (or_middle (among z (ats D)) (is_property z next) (among z below) ∙ ap (λ b. is_property z next || b)
+        (sym (list_any-append (is_property z) (ats D) below))))
         scene.bindings in
-        let unseen : among next (ats D ++ below) ≡ false = among_append next (ats D) below
+        let unseen : among next (ats D ++ below) ≡ false = list_any-append (is_property next) (ats D) below
         ∙ (ap (λ b. b || among next below) (not_among D next w.absent) ∙ fresh) in
         let less = unmet_less next w.term (ats D ++ below) scene.bindings w.bound unseen in
         omega (arith, moved, less)
@@ -184,30 +176,32 @@ all_looped scene D B row next running t w stands =
 
 -- the same, with what lists are told by equations
 
-pub ended_at : (scene : Scene) (D D' B B' : List CacheEntry) (row : CacheEntry) → IsRunning scene D B row.at → IsTried scene (kept_of D) row.at row.kept
+pub ended_at : {scene : Scene} {D B : List CacheEntry} (D' B' : List CacheEntry) (row : CacheEntry) → IsRunning scene D B row.at
+    → IsTried scene (kept_of D) row.at row.kept
     → All (IsSettled scene (kept_of D)) row.kept.reads → B ≡ [] → D' ≡ D ++ row ∷ [] → Stepped scene D B row.at D' B' None
-ended_at scene D D' B B' row running t all none more =
+ended_at {scene} {D} {B} D' B' row running t all none more =
     subst (λ l. Stepped scene D l row.at D' B' None) (sym none)
     (subst (λ l. Stepped scene D [] row.at l B' None) (sym more) (ended scene D row (subst (λ l. IsRunning scene D l row.at) none running) t all))
 
-pub popped_at : (scene : Scene) (D D' B B' : List CacheEntry) (entry row : CacheEntry) → IsRunning scene D B row.at → IsTried scene (kept_of D) row.at row.kept
+pub popped_at : {scene : Scene} {D B : List CacheEntry} (D' B' : List CacheEntry) (entry row : CacheEntry) → IsRunning scene D B row.at
+    → IsTried scene (kept_of D) row.at row.kept
     → All (IsSettled scene (kept_of D)) row.kept.reads → B ≡ B' ++ entry ∷ [] → D' ≡ D ++ row ∷ [] → Stepped scene D B row.at D' B' (Some entry.at)
-popped_at scene D D' B B' entry row running t all less more =
+popped_at {scene} {D} {B} D' B' entry row running t all less more =
     subst (λ l. Stepped scene D l row.at D' B' (Some entry.at)) (sym less)
     (subst (λ l. Stepped scene D (B' ++ entry ∷ []) row.at l B' (Some entry.at)) (sym more)
     (popped scene D B' entry row (subst (λ l. IsRunning scene D l row.at) less running) t all))
 
-pub pushed_at : (scene : Scene) (D B B' : List CacheEntry) (row : CacheEntry) (next : Property) → IsRunning scene D B row.at
+pub pushed_at : {scene : Scene} {D B : List CacheEntry} (B' : List CacheEntry) (row : CacheEntry) (next : Property) → IsRunning scene D B row.at
     → IsTried scene (kept_of D) row.at row.kept → WaitsFor scene (kept_of D) row.kept.reads next → is_property next row.at ≡ false → among next (ats B) ≡ false
     → B' ≡ B ++ row ∷ [] → Stepped scene D B row.at D B' (Some next)
-pushed_at scene D B B' row next running t w own below more =
+pushed_at {scene} {D} {B} B' row next running t w own below more =
     subst (λ l. Stepped scene D B row.at D l (Some next)) (sym more)
     (pushed scene D B row next running t w (ap₂ (λ a b. a || b) own (among_reversed next B ∙ below)))
 
-pub looped_at : (scene : Scene) (D D' D'' B B' : List CacheEntry) (row : CacheEntry) (next : Property) → IsRunning scene D B row.at
+pub looped_at : {scene : Scene} {D B : List CacheEntry} (D' D'' B' : List CacheEntry) (row : CacheEntry) (next : Property) → IsRunning scene D B row.at
     → IsTried scene (kept_of D) row.at row.kept → WaitsFor scene (kept_of D) row.kept.reads next → (is_property next row.at || among next (ats B)) ≡ true
     → D' ≡ D ++ row ∷ [] → D'' ≡ D' ++ reverse B → Stepped scene D B row.at D'' B' None
-looped_at scene D D' D'' B B' row next running t w stands one more =
+looped_at {scene} {D} {B} D' D'' B' row next running t w stands one more =
     let whole : D'' ≡ D ++ row ∷ reverse B = more ∙ (ap (λ l. l ++ reverse B) one ∙ append_assoc D (row ∷ []) (reverse B)) in
     subst (λ l. Stepped scene D B row.at l B' None) (sym whole)
     (all_looped scene D B row next running t w (ap (λ b. is_property next row.at || b) (among_reversed next B) ∙ stands))

@@ -34,10 +34,3 @@ module _ (store : Store) (q : Property) where
       by true e false f false g rest = rest
       by false e true f here g rest = ap (λ t. expr_of (cond t (Some b) (find wanted (filter (is_there store) bs)))) e ∙ rest
       by false e false f here g rest = rest
-
-  pub bound_there : (bs : List Binding) → is_some (term_at (filter (is_there store) bs) q) ≡ true → is_some (cell_in store q) ≡ true
-  bound_there bs some = by (is_some (cell_in store q)) (term_there bs)
-    where
-      by : (t : Bool) → term_at (filter (is_there store) bs) q ≡ cond t (term_at bs q) None → t ≡ true
-      by true e = refl
-      by false e = absurd (let never : true ≡ false = sym some ∙ ap is_some e in cc)

@@ -24,9 +24,6 @@ IsLoop cause = cause ≡ own BindingLoop
 abbrev pub IsSameOrLoop : Outcome → Outcome → Type 0
 IsSameOrLoop more some = (more ≡ some) ⊎ (more ≡ Err BindingLoop)
 
-abbrev pub All-map_at : {X : Type 0} {P Q : X → Type 0} → ((x : X) → P x → Q x) → (xs : List X) → All P xs → All Q xs
-All-map_at f xs all = λ k d lt. f _ (all k d lt)
-
 pub turn : (one other : Property → Outcome) (o : Option Property) → IfSome o (λ r. IsSameOrLoop (other r) (one r))
     → (reading other o ≡ reading one o) ⊎ Ended IsLoop (reading other o)
 turn one other None h = inl refl

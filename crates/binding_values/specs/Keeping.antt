@@ -1,5 +1,5 @@
 -- The results that are kept from one change to the next.
-use Rattle.std.specs.Prelude.{◌≡◌, List, Option, None, Some, filter_map, if◌then◌else◌, option_map}
+use Rattle.std.specs.Prelude.{◌≡◌, List, Option, None, Some, false, filter_map, if◌then◌else◌, option_map}
 use Rattle.binding_values.specs.declared.eval_result.CacheEntry.{CacheEntry}
 use Rattle.binding_values.specs.declared.eval_result.EvalResult.{EvalResult}
 use Rattle.binding_values.specs.declared.kept_rows.KeptRow.{KeptRow}
@@ -18,6 +18,10 @@ held_by held rows = filter_map (λ row. entry_of row.at (held row)) rows
 -- The result of a row that is not stale.
 abbrev pub fresh : KeptRow → Option EvalResult
 fresh row = if row.is_stale then None else row.kept
+
+-- The row of a new result.
+abbrev pub renewed : CacheEntry → KeptRow
+renewed row = record { at = row.at; kept = Some row.kept; is_stale = false }
 
 -- The results that are not stale.
 abbrev pub standing : List KeptRow → List CacheEntry

@@ -1,16 +1,15 @@
 -- An entry for a property.
-use Rattle.std.specs.Prelude.{◌≡◌, ◌<◌, ◌⊎◌, ℕ, false, List, Some, find, length, slice_index_or}
+use Rattle.std.specs.Prelude.{◌≡◌, ◌⊎◌, ℕ, List, Some, find}
 use Rattle.std.specs.List.{insert}
 use Rattle.binding_values.specs.declared.eval_cache.Entry.{Entry}
 use Rattle.property_store.specs.declared.property.Property.{Property}
 use Rattle.property_store.specs.Property.{is_property}
-use Rattle.binding_values.specs.Sorted.{IsCountBefore}
+use Rattle.binding_values.specs.Sorted.{IsGapAt}
 
 -- The entry was inserted in order.
 pub record IsEntered (old new : List Entry) (at : Property) (row : ℕ) : Type 0 where
   pub position : ℕ
-  pub count : IsCountBefore (λ entry. entry.at) old at position
-  pub absent : (default : Entry) → position < length old → is_property at (slice_index_or old position default).at ≡ false
+  pub absent : IsGapAt (λ entry. entry.at) old at position
   pub entered : new ≡ insert old position (record { at = at; row = row })
 
 -- There was an entry already.

@@ -1,10 +1,7 @@
 -- The outcome of an evaluation.
-use Rattle.std.specs.Prelude.{◌≡◌, Result, Ok, Err, None, Some}
+use Rattle.std.specs.Prelude.{◌≡◌, None, Some}
 use Rattle.shared_rows.specs.Table.{IsPlace}
 use Rattle.property_store.specs.Table.{store_at}
-use Rattle.variant_value.specs.declared.value.Value.{Value}
-use Rattle.term_evaluation.specs.declared.halt.Halt.{Halt}
-use Rattle.term_evaluation.specs.declared.halt.Halt.TheVariants.{Refused, Own, Memory}
 use Rattle.binding_values.specs.declared.known.BoundProperty.{BoundProperty}
 use Rattle.binding_values.specs.declared.known.Known.{Known}
 use Rattle.property_store.specs.declared.property.Property.{Property}
@@ -29,10 +26,3 @@ pub record IsBoundAs (scene : Scene) (bound : BoundProperty) : Type 0 where
 
 abbrev pub values_in : Known → Property → Outcome
 values_in knows = known (scene_in knows) (kept_of knows.done.now)
-
--- A fact if memory did not run out.
-abbrev pub IfEnds : {O : Type 0} → Result Value (Halt O) → Type 0 → Type 0
-IfEnds (Ok value) P = P
-IfEnds (Err (Refused code)) P = P
-IfEnds (Err (Own fault)) P = P
-IfEnds (Err Memory) P = Unit {0}

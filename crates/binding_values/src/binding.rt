@@ -1,6 +1,4 @@
 //! Bindings.
-ghost use Rattle.std.specs.Prelude.{◌≡◌};
-
 use crate::sorted::HasProperty;
 use property_store::Property;
 use term_core::Expr;

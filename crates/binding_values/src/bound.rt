@@ -9,7 +9,7 @@ ghost use Rattle.binding_values.specs.Sorted.{IsRising};
 ghost use Rattle.property_store.specs.Property.{is_property};
 
 use crate::binding::Binding;
-use crate::sorted::{count_before, is_at, row_at};
+use crate::sorted::{count_before, find_place, row_at};
 use plain_types::{Code, Fault};
 use property_store::Property;
 use std::alloc::Global;
@@ -79,27 +79,29 @@ impl Bound {
         ensures ok { OnOk result (self.new ≡ with_binding binding self.old) }
         ensures err { OnErr result (self.new ≡ self.old) }
     {
-        let place = count_before(self.rows.as_slice(), binding.at);
-        if is_at(self.rows.as_slice(), place, binding.at) {
-            self.rows[place] = binding;
-            return Ok(());
+        match find_place(self.rows.as_slice(), binding.at) {
+            Ok(place) => {
+                self.rows[place] = binding;
+                Ok(())
+            }
+            Err(place) => {
+                if self.rows.len() >= BINDINGS {
+                    return Err(Fault::Refused(Code::Limit));
+                }
+                self.rows.insert(place, binding)?;
+                Ok(())
+            }
         }
-        if self.rows.len() >= BINDINGS {
-            return Err(Fault::Refused(Code::Limit));
-        }
-        self.rows.insert(place, binding)?;
-        Ok(())
     }
 
     /// Binds a property no longer.
     pub fn remove(&mut self, at: Property)
         ensures { self.new ≡ filter (λ binding. not (is_property at binding.at)) self.old }
     {
-        let place = count_before(self.rows.as_slice(), at);
-        if !is_at(self.rows.as_slice(), place, at) {
-            return;
+        match find_place(self.rows.as_slice(), at) {
+            Ok(place) => drop(self.rows.remove(place)),
+            Err(_) => {}
         }
-        self.rows.remove(place);
     }
 
     /// Binds no property of an object any longer.

@@ -7,7 +7,7 @@ ghost use Rattle.binding_values.specs.Sorted.{IsRising};
 
 use crate::eval_result::{CacheEntry, EvalResult};
 use crate::kept_index::KeptIndex;
-use crate::sorted::{HasProperty, count_before, is_at, row_at};
+use crate::sorted::{HasProperty, find_place, row_at};
 use property_store::Property;
 use std::alloc::{AllocError, Global};
 use std::marker::Model;
@@ -119,10 +119,11 @@ fn enter(order: &mut Vec<Entry>, at: Property, row: usize) -> Result<(), AllocEr
     ensures ok { OnOk result (IsListed order.old.items order.new.items at row) }
     ensures err { OnErr result (order.new.items ≡ order.old.items) }
 {
-    let place = count_before(order, at);
-    if is_at(order, place, at) {
-        return Ok(());
+    match find_place(order, at) {
+        Ok(_) => Ok(()),
+        Err(place) => {
+            order.insert(place, Entry { at, row })?;
+            Ok(())
+        }
     }
-    order.insert(place, Entry { at, row })?;
-    Ok(())
 }

@@ -1,6 +1,8 @@
 //! Results of evaluations are kept in these rows.
 ghost use Rattle.std.specs.Prelude.{◌≡◌};
+ghost use Rattle.binding_values.specs.Keeping.{renewed};
 
+use crate::kept_rows::KeptRow;
 use crate::property::BindingError;
 use plain_types::Items;
 use property_store::Property;
@@ -35,11 +37,15 @@ impl Drop for CacheEntry {
 }
 
 impl CacheEntry {
-    /// The property, and what is kept of it.
-    pub(crate) fn into_parts(self) -> (Property, EvalResult)
-        ensures { result ≡ (self.at, self.kept) }
+    /// The row of a new result.
+    pub(crate) fn into_row(self) -> KeptRow
+        ensures { result ≡ renewed self }
     {
         let CacheEntry { at, kept } = self;
-        (at, kept)
+        KeptRow {
+            at,
+            kept: Some(kept),
+            is_stale: false,
+        }
     }
 }

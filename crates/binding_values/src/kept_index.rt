@@ -1,6 +1,6 @@
 //! The index keeps results of bound properties from one change to the next, and which of them have read which
 //! property.
-ghost use Rattle.std.specs.Prelude.{◌≡◌, ◌+◌, ◌≤◌, ◌∷◌, [], All, IsTrue, List, OnOk, false, filter, length, not};
+ghost use Rattle.std.specs.Prelude.{◌≡◌, ◌+◌, ◌≤◌, ◌∷◌, [], IsTrue, List, OnOk, false, filter, length, not};
 ghost use Rattle.std.specs.Option.{option_map};
 ghost use Rattle.property_store.specs.declared.property.Property.{Property};
 ghost use Rattle.property_store.specs.Property.{is_property};

@@ -9,7 +9,7 @@ ghost use Rattle.binding_values.specs.Reached.{AreKeptToo, HasReaders, without};
 ghost use Rattle.binding_values.specs.Sorted.{IsRising};
 
 use crate::eval_result::{CacheEntry, EvalResult};
-use crate::sorted::{HasProperty, count_before, is_at, row_at};
+use crate::sorted::{HasProperty, find_place, row_at};
 use property_store::{Property, is_property};
 use std::alloc::{AllocError, Global};
 use std::marker::Model;
@@ -117,23 +117,19 @@ impl KeptRows {
         ensures readers { IfNone result ((edges : List Edge) → HasReaders (entries self.old) edges → HasReaders (entries self.new) edges) }
         ensures left { IfSome result (λ left. (left ≡ row) × (self.new ≡ self.old) × (kept_of (standing self.old) row.at ≡ None)) }
     {
-        let place = count_before(self.rows.as_slice(), row.at);
-        if !is_at(self.rows.as_slice(), place, row.at) {
-            return Some(row);
+        match find_place(self.rows.as_slice(), row.at) {
+            Ok(place) => {
+                if self.rows[place].fresh().is_some() {
+                    return None;
+                }
+                if !self.rows[place].has_read(row.kept.reads.as_slice()) {
+                    return Some(row);
+                }
+                self.rows[place] = row.into_row();
+                None
+            }
+            Err(_) => Some(row),
         }
-        if self.rows[place].fresh().is_some() {
-            return None;
-        }
-        if !self.rows[place].has_read(row.kept.reads.as_slice()) {
-            return Some(row);
-        }
-        let (at, kept) = row.into_parts();
-        self.rows[place] = KeptRow {
-            at,
-            kept: Some(kept),
-            is_stale: false,
-        };
-        None
     }
 
     /// Keeps a result in place of any other of its property. Allocates nothing if the property has a row.
@@ -142,19 +138,17 @@ impl KeptRows {
         ensures entries { OnOk result (IsPut row (entries self.old) (entries self.new)) }
         ensures err { OnErr result (self.new ≡ self.old) }
     {
-        let (at, kept) = row.into_parts();
-        let new = KeptRow {
-            at,
-            kept: Some(kept),
-            is_stale: false,
-        };
-        let place = count_before(self.rows.as_slice(), at);
-        if is_at(self.rows.as_slice(), place, at) {
-            self.rows[place] = new;
-            return Ok(());
+        let new = row.into_row();
+        match find_place(self.rows.as_slice(), new.at) {
+            Ok(place) => {
+                self.rows[place] = new;
+                Ok(())
+            }
+            Err(place) => {
+                self.rows.insert(place, new)?;
+                Ok(())
+            }
         }
-        self.rows.insert(place, new)?;
-        Ok(())
     }
 
     /// Makes the result of a property stale, and returns whether one was kept.
@@ -163,13 +157,15 @@ impl KeptRows {
         ensures standing { standing self.new ≡ without at (standing self.old) }
         ensures entries { entries self.new ≡ entries self.old }
     {
-        let place = count_before(self.rows.as_slice(), at);
-        if !is_at(self.rows.as_slice(), place, at) {
-            return false;
+        match find_place(self.rows.as_slice(), at) {
+            Ok(place) => {
+                let row = &mut self.rows[place];
+                let stood = row.fresh().is_some();
+                row.is_stale = true;
+                stood
+            }
+            Err(_) => false,
         }
-        let stood = self.rows[place].fresh().is_some();
-        self.rows[place].is_stale = true;
-        stood
     }
 
     /// Returns the last result of a property, stale or not, and keeps nothing of it.
@@ -177,22 +173,20 @@ impl KeptRows {
         ensures standing { standing self.new ≡ without at (standing self.old) }
         ensures entries { entries self.new ≡ without at (entries self.old) }
     {
-        let place = count_before(self.rows.as_slice(), at);
-        if !is_at(self.rows.as_slice(), place, at) {
-            return None;
+        match find_place(self.rows.as_slice(), at) {
+            Ok(place) => self.rows[place].kept.take(),
+            Err(_) => None,
         }
-        self.rows[place].kept.take()
     }
 
     /// Removes the row of a property: call it if no result of the property is expected soon.
     pub fn remove(&mut self, at: Property)
         ensures { self.new ≡ filter (λ row. not (is_property at row.at)) self.old }
     {
-        let place = count_before(self.rows.as_slice(), at);
-        if !is_at(self.rows.as_slice(), place, at) {
-            return;
+        match find_place(self.rows.as_slice(), at) {
+            Ok(place) => drop(self.rows.remove(place)),
+            Err(_) => {}
         }
-        self.rows.remove(place);
     }
 
     /// Removes all rows.

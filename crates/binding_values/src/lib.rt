@@ -34,4 +34,4 @@ pub use laws::{law_chains, law_values};
 pub use property::BindingError;
 pub use run::outcome;
 pub use shown::{GROUPS, Shown};
-pub use sorted::{HasProperty, count_before, is_at, row_at};
+pub use sorted::{HasProperty, find_place, is_at};

@@ -1,8 +1,8 @@
 //! Rows of properties, by rising object and number.
-ghost use Rattle.std.specs.Prelude.{◌≡◌, ◌<◌, ◌≤◌, false, find, slice_get};
+ghost use Rattle.std.specs.Prelude.{◌≡◌, ◌<◌, ◌≤◌, IfErr, IfOk, false, find, slice_get};
 ghost use Rattle.std.specs.Option.{option_map, option_map_or};
 ghost use Rattle.property_store.specs.Property.{is_property};
-ghost use Rattle.binding_values.specs.Sorted.{IsCountBefore, IsRising};
+ghost use Rattle.binding_values.specs.Sorted.{IsCountBefore, IsGapAt, IsRising, IsRowAt};
 
 use crate::property::is_before;
 use property_store::{Property, is_property};
@@ -47,19 +47,6 @@ fn probe(low: usize, high: usize, near: usize) -> usize
     }
 }
 
-/// How many rows are before those of a property.
-#[inline(always)]
-pub fn count_before<T: HasProperty>(rows: &[T], at: Property) -> usize
-    requires { IsRising T.at rows.now }
-    ensures { IsCountBefore T.at rows.now at result }
-{
-    let guess = guess(rows, at);
-    if is_at(rows, guess, at) {
-        return guess;
-    }
-    search(rows, at, guess)
-}
-
 /// How many rows are before those of a property. They are searched from a guessed place, or from the last row, after which
 /// most rows are added.
 #[inline(never)]
@@ -91,14 +78,42 @@ pub fn is_at<T: HasProperty>(rows: &[T], place: usize, at: Property) -> bool
     }
 }
 
+/// The place of a property's row, or else the place where one would be inserted.
+#[inline(always)]
+pub fn find_place<T: HasProperty>(rows: &[T], at: Property) -> Result<usize, usize>
+    requires { IsRising T.at rows.now }
+    ensures row { IfOk result (λ place. IsRowAt T.at rows.now at place) }
+    ensures gap { IfErr result (λ place. IsGapAt T.at rows.now at place) }
+{
+    let guess = guess(rows, at);
+    if is_at(rows, guess, at) {
+        return Ok(guess);
+    }
+    let place = search(rows, at, guess);
+    if is_at(rows, place, at) {
+        return Ok(place);
+    }
+    Err(place)
+}
+
+/// How many rows are before those of a property.
+pub(crate) fn count_before<T: HasProperty>(rows: &[T], at: Property) -> usize
+    requires { IsRising T.at rows.now }
+    ensures { IsCountBefore T.at rows.now at result }
+{
+    match find_place(rows, at) {
+        Ok(place) => place,
+        Err(place) => place,
+    }
+}
+
 /// The row of a property.
-pub fn row_at<T: HasProperty>(rows: &[T], at: Property) -> Option<&T>
+pub(crate) fn row_at<T: HasProperty>(rows: &[T], at: Property) -> Option<&T>
     requires { IsRising T.at rows.now }
     ensures { option_map (λ row. row.now) result ≡ find (λ row. is_property at (T.at row)) rows.now }
 {
-    let place = count_before(rows, at);
-    if !is_at(rows, place, at) {
-        return None;
+    match find_place(rows, at) {
+        Ok(place) => Some(&rows[place]),
+        Err(_) => None,
     }
-    Some(&rows[place])
 }

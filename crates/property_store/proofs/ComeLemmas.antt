@@ -1,4 +1,5 @@
 -- Objects and places that come, and objects that go.
+use Rattle.std.proofs.lemmas.Option.{slice_get_past}
 use Rattle.std.proofs.Common.{◌≡◌, ◌∙◌, ℕ, ◌<◌, ◌==◌, ◌&&◌, ◌||◌, ◌++◌, nat_lt, not, Bool, true, false, cond, List, [], ◌∷◌, Some, None, length, get_or, refl}
 use Rattle.std.proofs.Common.{sym, ap, subst, arith, ⊎_elim, rules}
 use Rattle.std.proofs.lemmas.Grind.{common_steps}
@@ -19,12 +20,12 @@ use Rattle.property_store.specs.declared.row.Row.{Row}
 use Rattle.property_store.specs.Chain.{AreLinked, AreNew, first_of, is_all, is_linked}
 use Rattle.property_store.specs.Inside.{AreChained, AreKept, AreRows, IsKept, head_at, limited, link_at, marks_of, shelves_of, stock_of, store_of}
 use Rattle.property_store.specs.Marks.{AreMarked, HasMarks, Marks, all_marks, is_marked, is_new, marks_at, no_marks}
-use Rattle.property_store.specs.Store.{AreSound, Properties, Store, fields_in}
+use Rattle.property_store.specs.Store.{Store, fields_in}
 use Rattle.property_store.specs.Store as store
 use Rattle.property_store.specs.Table.{StoresView, fields_of, store_at, with_store}
 use Rattle.property_store.proofs.ChainLemmas.{linked_nothing}
 use Rattle.property_store.proofs.HeadLemmas.{AreMoved, has_moved, kept_moved, limited_moved, marked_moved, marks_there}
-use Rattle.property_store.proofs.LinkLemmas.{link_absent, link_before, link_new, link_past, new_linked, new_unlinked, unlinked_without}
+use Rattle.property_store.proofs.LinkLemmas.{link_absent, link_before, link_new, new_linked, new_unlinked, unlinked_without}
 use Rattle.property_store.proofs.MarkLemmas.{among_linked, each_none, marked_linked}
 use Rattle.property_store.proofs.PlaceLemmas.{after, inserted_all, kept_with, marks_seen, shelves_seen, without_sound}
 use Rattle.property_store.proofs.StoreLemmas.{IsRowOf, absent_kept, number, removed_shown}
@@ -159,7 +160,7 @@ module _ {layouts : List (List Field)} {rows : Table (List (Keyed Row))} {heads 
           either false = refl
 
       fresh_linked : is_all before ≡ false → (k : ℕ) → is_linked (slice_get row.links k) ≡ nat_lt k count
-      fresh_linked some k = search (rules, count, lt-ltb, link_past, le-ltb)
+      fresh_linked some k = search (rules, count, lt-ltb, slice_get_past, le-ltb)
 
       come_marked : (q : Property) → is_marked (marks_of list then) q ≡ (is_new n (fields_in layouts class) q || is_marked (marks_of here before) q)
       come_marked q = marked_linked list then q

@@ -1,4 +1,5 @@
 -- The heads of places, and the rows that they lead over.
+use Rattle.std.proofs.lemmas.Option.{slice_get_within}
 use Rattle.std.proofs.Common.{◌≡◌, ◌≢◌, ◌∙◌, ℕ, zero, suc, ◌==◌, ◌||◌, Bool, true, false, cond, List, [], ◌∷◌, Option, Some, None, length, get_or, refl, sym}
 use Rattle.std.proofs.Common.{ap, arith, ⊎_elim, rules}
 use Rattle.std.proofs.lemmas.Grind.{common_steps}
@@ -25,7 +26,7 @@ use Rattle.property_store.specs.Store.{fields_in}
 use Rattle.property_store.specs.Storing.{AreAsMany}
 use Rattle.property_store.specs.Table.{StoresView}
 use Rattle.property_store.proofs.ChainLemmas.{linked_more, linked_same, same_property}
-use Rattle.property_store.proofs.LinkLemmas.{link_elsewhere, link_here, link_of_old, link_within, links_same, same_properties}
+use Rattle.property_store.proofs.LinkLemmas.{link_elsewhere, link_here, link_of_old, links_same, same_properties}
 use Rattle.property_store.proofs.MarkLemmas.{each_same, marked_linked}
 use Rattle.property_store.proofs.KindLemmas.{as_many}
 use Rattle.property_store.proofs.PlaceLemmas.{IsChanged, marks_seen, shelves_seen, under_all}
@@ -127,7 +128,7 @@ module _ (rows : List (Keyed Row)) (key n : ℕ) (old row : Row) (is : IsRowOf r
     arith,
     nat_tests,
     number,
-    link_within old.links,
+    slice_get_within old.links,
     many_changed many,
     linked_more (link_at rows) (link_at (with_row rows key row)) (first_of first) (record { object = n; number = at }),
     link_of_old rows key n old row is numbered,
@@ -141,7 +142,7 @@ module _ (rows : List (Keyed Row)) (key n : ℕ) (old row : Row) (is : IsRowOf r
       → is_marked (marks_of (with_row rows key row) (cond linked (head.First (record { object = n; number = at })) first)) q
       ≡ (is_property (record { object = n; number = at }) q || is_marked (marks_of rows first) q)
   marked_marked at true marking q =
-      let within = link_within old.links at _ marking.0 in
+      let within = slice_get_within old.links at _ marking.0 in
       let to = link_to (first_of first) in
       marked_linked (with_row rows key row) (head.First (record { object = n; number = at })) q
       ∙ ⊎_elim

@@ -4,6 +4,7 @@ pub mod LinkLemmas
 pub mod MarkLemmas
 pub mod StoreLemmas
 pub mod PlaceLemmas
+pub mod ReadLemmas
 pub mod DynamicLemmas
 pub mod SearchLemmas
 pub mod KindLemmas

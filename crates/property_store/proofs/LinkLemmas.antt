@@ -1,4 +1,5 @@
 -- What link each property has where rows change.
+use Rattle.std.proofs.lemmas.Option.{slice_get_past, slice_get_within}
 use Rattle.std.proofs.Common.{◌≡◌, ◌≢◌, ◌∙◌, ℕ, zero, suc, ◌+◌, ◌<◌, ◌≤◌, ◌==◌, nat_lt, not, Bool, true, false, cond, List, [], ◌∷◌, ◌++◌, Option, Some, None}
 use Rattle.std.proofs.Common.{filter, find, map, length, set, refl, sym, ap, subst, arith, ⊎_elim, rules}
 use Rattle.std.proofs.lemmas.Grind.{common_steps}
@@ -34,20 +35,10 @@ link_other (y ∷ links) zero (suc m) x differ = refl
 link_other (y ∷ links) (suc n) zero x differ = refl
 link_other (y ∷ links) (suc n) (suc m) x differ = link_other links n m x (λ same. differ (ap suc same))
 
-pub link_within : {X : Type 0} (links : List X) (n : ℕ) (x : X) → slice_get links n ≡ Some x → n < length links
-link_within [] n x is = absurd (cc)
-link_within (y ∷ links) zero x is = omega arith
-link_within (y ∷ links) (suc n) x is = let less = link_within links n x is in omega arith
-
 pub link_stands : {X : Type 0} (links : List X) (n : ℕ) → IsSome (slice_get links n) → n < length links
 link_stands [] n is = absurd (both_ways false refl is)
 link_stands (y ∷ links) zero is = omega arith
 link_stands (y ∷ links) (suc n) is = let less = link_stands links n is in omega arith
-
-pub link_past : {X : Type 0} (links : List X) (n : ℕ) → length links ≤ n → slice_get links n ≡ None
-link_past [] n past = refl
-link_past (y ∷ links) zero past = absurd (omega arith)
-link_past (y ∷ links) (suc n) past = link_past links n (omega arith)
 
 pub link_back : {X : Type 0} (links : List X) (n : ℕ) (x : X) → slice_get links n ≡ Some x → set links n x ≡ links
 link_back [] n x is = refl
@@ -223,7 +214,7 @@ module _ (before after : Property → Option Link) (n count : ℕ) (first : Head
       off (head.First at) all links new k = absurd (both_ways false refl all)
       off head.All all links new k = ⊎_elim
           (λ (within : k < count). ap is_linked (new.each k within))
-          (λ (past : count ≤ k). ap is_linked (link_past links k (omega (arith, past, new.many))))
+          (λ (past : count ≤ k). ap is_linked (slice_get_past links k (omega (arith, past, new.many))))
           (cases_lt k count)
 
   module _ (some : is_all first ≡ false) where
@@ -252,7 +243,7 @@ module _ (before after : Property → Option Link) (n count : ℕ) (first : Head
             (λ (within : q.number < k). let less : nat_lt q.number k ≡ true = lt-ltb _ _ within in rw at (rw less refl))
             (λ (beyond : k ≤ q.number).
             let more : nat_lt q.number k ≡ false = le-ltb _ _ beyond in
-            rw at (rw more (ap is_linked (link_past links q.number (omega (arith, beyond, is, new.many))))))
+            rw at (rw more (ap is_linked (slice_get_past links q.number (omega (arith, beyond, is, new.many))))))
             (cases_lt q.number k)
     staged linked (suc left) k is =
         let within : k < count = omega (arith, is) in
@@ -314,7 +305,7 @@ module _ (at : Property) where
       by None there is = absurd (cc)
       by (Some row) there is =
           let here : (row.object == at.object) ≡ true = eq-eqb _ _ (row_numbered rows at.object row there) in
-          rw here (link_set row.links at.number link.Unmarked (link_within row.links at.number was is))
+          rw here (link_set row.links at.number link.Unmarked (slice_get_within row.links at.number was is))
 
   pub link_kept : (rows : List (Keyed Row)) (q : Property) → is_property at q ≡ false → link_at (without_link at rows) q ≡ link_at rows q
   link_kept rows q differ = ap (of_row q) (row_freed rows q.object) ∙ by (row_of rows q.object) refl

@@ -1,4 +1,5 @@
 -- The marks of a place.
+use Rattle.std.proofs.lemmas.Option.{slice_get_within}
 use Rattle.std.proofs.Common.{◌≡◌, ◌∙◌, ℕ, ◌<◌, ◌≤◌, ◌==◌, ◌&&◌, ◌||◌, nat_lt, not, Bool, true, false, cond, List, [], ◌∷◌, Option, Some, None, filter, length}
 use Rattle.std.proofs.Common.{refl, sym, ap, arith, ⊎_elim, rules}
 use Rattle.std.proofs.lemmas.Grind.{common_steps}
@@ -20,7 +21,6 @@ use Rattle.property_store.specs.Chain.{AreLinked, first_of, is_all, is_linked}
 use Rattle.property_store.specs.Inside.{link_at, marks_of, numbers_of, properties_in}
 use Rattle.property_store.specs.Marks.{has_marks, is_marked}
 use Rattle.property_store.proofs.ChainLemmas.{first_linked, nothing_linked, same_property}
-use Rattle.property_store.proofs.LinkLemmas.{link_within}
 
 -- a property that has a link is one of the properties
 number_stands : (object count : ℕ) (q : Property) → q.object ≡ object → q.number < count → among q (numbers_of object count) ≡ true
@@ -57,7 +57,7 @@ property_stands (first ∷ rest) q is =
       where
         by : (o : Option Link) → slice_get links number ≡ o → is_linked o ≡ true → number < length links
         by None e linked = absurd (both_ways false refl linked)
-        by (Some link) e linked = link_within links number link e
+        by (Some link) e linked = slice_get_within links number link e
 
 -- a property is marked where it is linked
 pub among_linked : (rows : List (Keyed Row)) (first : Head) (q : Property) → among q (marks_of rows first).each ≡ is_linked (link_at rows q)

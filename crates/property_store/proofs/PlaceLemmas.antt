@@ -1,10 +1,9 @@
 -- The stores of places in rows.
-use Rattle.std.proofs.Common.{Result, Ok, Err, OnErr, ◌≡◌, ◌∙◌, ℕ, ◌<◌, ◌==◌, nat_lt, cond, List, [], ◌∷◌, Some, None, filter, find, length, get_or, sym, ap}
+use Rattle.std.proofs.Common.{◌≡◌, ◌∙◌, ℕ, ◌<◌, ◌==◌, nat_lt, cond, List, [], ◌∷◌, Some, filter, find, length, get_or, sym, ap}
 use Rattle.std.proofs.Common.{subst, arith, rules}
 use Rattle.std.proofs.lemmas.Grind.{common_steps}
 use Rattle.std.proofs.lemmas.Bool.Decides.{nat_tests}
 use Rattle.std.specs.List.{All, AllPairs}
-use Rattle.std.specs.Option.{option_map}
 use Rattle.std.proofs.lemmas.List.{get_or-map, length-map, map-set}
 use Rattle.std.proofs.lemmas.List.Elements.{All-append, All-filter, All-map, All-set}
 use Rattle.shared_rows.specs.Table.{IsPlace, Table, with_place}
@@ -17,9 +16,9 @@ use Rattle.property_store.specs.Inside.{AreKept, AreRows, row_of, shelves_of, sh
 use Rattle.property_store.specs.Store.{AreSound, Properties, Store, added, changed, fields_in, fresh, properties_of}
 use Rattle.property_store.specs.Store as store
 use Rattle.property_store.specs.Table.{StoreTable, StoresView, store_at, with_store}
-use Rattle.property_store.proofs.ListLemmas.{found, map_same, mapped, unmapped}
+use Rattle.property_store.proofs.ListLemmas.{found, map_same, mapped}
 use Rattle.property_store.proofs.KindLemmas.{fresh_sound}
-use Rattle.property_store.proofs.StoreLemmas.{IsRowOf, absent_none, absent_unchanged, added_shown, changed_shown, number, properties_shown, row_stands, there}
+use Rattle.property_store.proofs.StoreLemmas.{IsRowOf, added_shown, changed_shown, number, row_stands, there}
 
 module _ {layouts : List (List Field)} (rows : Table (List (Keyed Row))) {seen : StoreTable} (view_is : shelves_of layouts rows ≡ seen) (place : ℕ) where
   pub rows_open : IsPlace seen.table place → IsPlace rows place
@@ -103,26 +102,6 @@ store_sound layouts rows sound each = record { rising = rising rows sound; each 
         let rise = sound.rising i j first lt inside in
         omega (arith, rise, at_i, at_j)
 
--- what is read of a place
-module _ {layouts : List (List Field)} (rows : Table (List (Keyed Row))) {seen : StoreTable} (view_is : shelves_of layouts rows ≡ seen) (place : ℕ)
-    (is_place : IsPlace seen.table place) (n : ℕ) where
-  properties_there : properties_of (store_at seen place) n ≡ option_map (shown layouts) (row_of (rows_at rows place) n)
-  properties_there = grind (arith, common_steps, store_there, properties_shown)
-
-  pub one_there : (row : Row) → Some row ≡ row_of (rows_at rows place) n → properties_of (store_at seen place) n ≡ Some (shown layouts row)
-  one_there row e = properties_there ∙ ap (option_map (shown layouts)) (sym e)
-
-  pub none_there : None ≡ row_of (rows_at rows place) n → properties_of (store_at seen place) n ≡ None
-  none_there e = properties_there ∙ ap (option_map (shown layouts)) (sym e)
-
-  -- no row has the number
-  module _ (none : key_of number (rows_at rows place) n ≡ None) where
-    pub nothing : properties_of (store_at seen place) n ≡ None
-    nothing = grind (arith, common_steps, store_there, absent_none)
-
-    pub nothing_changed : (change : Properties → Properties) → seen ≡ with_store seen place (changed change n (store_at seen place))
-    nothing_changed change = grind (arith, common_steps, store_there, unchanged_store, absent_unchanged)
-
 -- the row of a number is lent to a call, which changes it where it stands
 pub record IsChanged (layouts : List (List Field)) (rows new : Table (List (Keyed Row))) (seen : StoreTable) (place key n : ℕ) (old row : Row) : Type 0 where
   pub kept : AreKept layouts rows
@@ -188,15 +167,6 @@ found_sound layouts rows sound n row e =
 -- an object that comes
 module _ {layouts : List (List Field)} (rows : Table (List (Keyed Row))) {seen : StoreTable} (view_is : shelves_of layouts rows ≡ seen) (place : ℕ)
     (is_place : IsPlace seen.table place) (n : ℕ) where
-  pub no_key : properties_of (store_at seen place) n ≡ None → key_of number (rows_at rows place) n ≡ None
-  no_key none = grind (
-    arith,
-    nat_tests,
-    unmapped (shown layouts) (row_of (rows_at rows place) n) (sym (properties_there rows view_is place is_place n) ∙ none),
-    properties_there rows view_is place is_place n,
-    unmapped (λ (keyed : Keyed Row). keyed.row) (find (λ keyed. keyed.row.object == n) (rows_at rows place)),
-  )
-
   module _ (kept : AreKept layouts rows) (class key : ℕ) (row : Row) (is : shown layouts row ≡ fresh n (fields_in layouts class))
       (new : Table (List (Keyed Row))) (e : new ≡ with_place rows place (inserted number (rows_at rows place) key row)) where
     pub new_kept : AreKept layouts new
@@ -207,10 +177,6 @@ module _ {layouts : List (List Field)} (rows : Table (List (Keyed Row))) {seen :
 
     pub new_added : shelves_of layouts new ≡ with_store seen place (added (store_at seen place) n (fields_in seen.layouts class))
     new_added = search (rules, store_there, after, added_shown)
-
-pub on_err : {T E : Type 0} {A B : Type 0} (result : Result T E) → (A → B) → OnErr result A → OnErr result B
-on_err (Ok value) f h = tt
-on_err (Err error) f h = f h
 
 pub shelves_seen : {inside seen : StoresView} → inside ≡ seen → inside.shelves ≡ seen.shelves
 shelves_seen view_is = ap (λ (s : StoresView). s.shelves) view_is

@@ -1,4 +1,5 @@
 -- What is stored in a row, and what it marks.
+use Rattle.std.proofs.lemmas.Option.{slice_get_past}
 use Rattle.std.proofs.Common.{◌≡◌, ℕ, ◌<◌, ◌≤◌, Bool, true, false, is_some, List, Option, Some, None, Ok, Err, length, arith, rules}
 use Rattle.std.proofs.lemmas.Grind.{common_steps}
 use Rattle.std.proofs.lemmas.Bool.Decides.{nat_tests}
@@ -10,7 +11,6 @@ use Rattle.property_store.specs.declared.link.Link.{Link}
 use Rattle.property_store.specs.declared.row.Row.{Row}
 use Rattle.property_store.specs.Chain.{IsMarking}
 use Rattle.property_store.specs.Storing.{IsMarkedWith, IsStored, fit_in, is_other, refusal_in, with_fit}
-use Rattle.property_store.proofs.LinkLemmas.{link_past}
 use Rattle.property_store.proofs.WriteLemmas.{standing}
 
 module _ (fields : List Field) (number : ℕ) (value : Value) where
@@ -41,4 +41,4 @@ module _ (fields : List Field) (number : ℕ) (value : Value) where
     pub stored_nowhere : length fields ≤ number → (change linked : Bool) → linked ≡ false → None ≡ refusal_in fields number value
         → change ≡ is_other (fit_in fields number value) number old.values
         → IsStored fields number value first old (record old { values = values }) (Ok (record { is_change = change; is_linked = linked }))
-    stored_nowhere past change linked off refused answer = search (rules, link_past)
+    stored_nowhere past change linked off refused answer = search (rules, slice_get_past)

@@ -1,5 +1,6 @@
 -- A list whose elements are seen by a part of each.
-use Rattle.std.proofs.Common.{◌≡◌, ℕ, zero, suc, ◌+◌, ◌<◌, ◌≤◌, List, [], ◌∷◌, Some, None, Bool, not, cond, ap, refl, sym, subst, map, length, get_or, arith}
+use Rattle.std.proofs.Common.{◌≡◌, ℕ, zero, suc, ◌+◌, ◌<◌, ◌≤◌, List, [], ◌∷◌, Some, None, Bool, not, cond, ap, refl, sym, subst, ◌∙◌}
+use Rattle.std.proofs.Common.{map, length, get_or}
 use Rattle.std.specs.Prelude.{IsErrAnd, IsSomeAnd, IfOk, Option, Result, Ok, Err, slice_index_or}
 use Rattle.plain_types.specs.declared.code.Code.{Code}
 use Rattle.plain_types.specs.declared.fault.Fault.{Fault}
@@ -8,6 +9,8 @@ use Rattle.plain_types.specs.Answers.{RefusedBy}
 use Rattle.std.specs.List.{All, position, position_or_len, slice_get}
 use Rattle.std.proofs.lemmas.List.{length-map}
 use Rattle.std.proofs.lemmas.List.Elements.{All-map}
+use Rattle.std.proofs.lemmas.Option.{slice_get-map, slice_get_past, slice_get_read}
+use Rattle.std.specs.Option.{option_map}
 
 module _ {A B : Type 0} (part : A → B) where
   -- where a test of the parts passes first
@@ -31,15 +34,10 @@ module _ {A B : Type 0} (part : A → B) where
 
   -- the part at an index where an element was read, and where there is none
   pub part_read : (xs : List A) (i : ℕ) (x : A) → i < length xs → x ≡ get_or xs i x → slice_get (map part xs) i ≡ Some (part x)
-  part_read [] i x within is = absurd (omega (arith, within))
-  part_read (y ∷ ys) zero x within is = ap (λ z. Some (part z)) (sym is)
-  part_read (y ∷ ys) (suc i) x within is = part_read ys i x (omega (arith, within)) is
+  part_read xs i x within is = slice_get-map part xs i ∙ ap (option_map part) (slice_get_read xs (length xs) i x refl within is)
 
   pub none_beyond : (xs : List A) (i : ℕ) → length xs ≤ i → slice_get (map part xs) i ≡ None
-  none_beyond [] zero beyond = refl
-  none_beyond [] (suc i) beyond = refl
-  none_beyond (y ∷ ys) zero beyond = absurd (omega (arith, beyond))
-  none_beyond (y ∷ ys) (suc i) beyond = none_beyond ys i (omega (arith, beyond))
+  none_beyond xs i beyond = slice_get-map part xs i ∙ ap (option_map part) (slice_get_past xs i beyond)
 
 -- what follows of an answer that is there
 pub if_ok : {T E : Type 0} (P Q : T → Type 0) (r : Result T E) → ((x : T) → P x → Q x) → IfOk r P → IfOk r Q

@@ -4,9 +4,10 @@ use Rattle.std.proofs.Common.{is_some, arith}
 use Rattle.std.specs.Prelude.{IfOk, if◌then◌else◌, unwrap_or}
 use Rattle.std.specs.List.{All}
 use Rattle.std.specs.Option.{option_map_or}
+use Rattle.std.proofs.lemmas.Bool.{and_from, and_parts}
 use Rattle.std.proofs.lemmas.Bool.Decides.{nat_tests}
 use Rattle.std.proofs.lemmas.List.Elements.{All-nil, All-cons}
-use Rattle.serde_json.specs.Data.{Data, null, boolean, number, string, array, object, Items, no_items, item, Members, no_members, member}
+use Rattle.serde_json.specs.Data.{Data, array, object, Items, no_items, item, Members, no_members, member}
 use Rattle.serde_json.specs.Find.{get, as_array, as_bool, as_str}
 use Rattle.plain_types.specs.Names.{is_name}
 use Rattle.plain_types.specs.declared.code.Code.TheVariants.{BadValue, Limit}
@@ -80,10 +81,6 @@ record IsKept (scope : Scope) (P : Term → Type 0) : Type 0 where
   pairs : (operator : Operator) (a b : Term) → P a → P b → P (binary operator a b)
   choices : (test a b : Term) → P test → P a → P b → P (choice test a b)
 
-both_true : (a b : Bool) → (a && b) ≡ true → a ≡ true
-both_true true b e = refl
-both_true false b e = e
-
 module _ (scope : Scope) (P : Term → Type 0) (is : IsKept scope P) where
   argument_read : (json : Data) → IfOk (forms.argument_in scope json) P
   argument_read json = always P (natural_in json) _ (λ place. if_provided P (nat_lt place (forms.params scope)) (arg place) (is.arguments place))
@@ -95,19 +92,15 @@ module _ (scope : Scope) (P : Term → Type 0) (is : IsKept scope P) where
   property_read json = always P (at_key (codes "prop") json) _
       (λ property. always P (name_in property) _
       (λ name. always P (forms.subject_in json) _
-      (λ target. if_provided P _ (prop target name) (λ e. is.properties target name (both_true (forms.has_target scope target) _ e)))))
+      (λ target. if_provided P _ (prop target name) (λ e. is.properties target name (and_parts (forms.has_target scope target) _ e).0))))
 
   constant_read : (json : Data) → IfOk (constant_in json >>= λ value. Ok (const value)) P
   constant_read json = always P (constant_in json) _ is.constants
 
   mutual
     term_holds : (json : Data) → IfOk (forms.term_in scope json) P
-    term_holds null = tt
-    term_holds (boolean b) = tt
-    term_holds (number n) = tt
-    term_holds (string text) = tt
-    term_holds (array items) = tt
     term_holds (object inside) = either P (is_some (get (codes "prop") (object inside))) _ _ (property_read (object inside)) (only_member_read inside)
+    term_holds other = tt
 
     only_member_read : (inside : Members) → IfOk (forms.only_member scope inside) P
     only_member_read no_members = tt
@@ -124,31 +117,16 @@ module _ (scope : Scope) (P : Term → Type 0) (is : IsKept scope P) where
     only_member_read (member key json (member other more rest)) = tt
 
     binary_read : (operator : Operator) (json : Data) → IfOk (forms.binary_in scope operator json) P
-    binary_read operator null = tt
-    binary_read operator (boolean b) = tt
-    binary_read operator (number n) = tt
-    binary_read operator (string text) = tt
-    binary_read operator (object inside) = tt
-    binary_read operator (array no_items) = tt
-    binary_read operator (array (item a no_items)) = tt
     binary_read operator (array (item a (item b no_items))) =
         kept P P (forms.term_in scope a) _ (term_holds a) (λ x hx. kept P P (forms.term_in scope b) _ (term_holds b) (λ y hy. is.pairs operator x y hx hy))
-    binary_read operator (array (item a (item b (item c rest)))) = tt
+    binary_read operator other = tt
 
     choice_read : (json : Data) → IfOk (forms.choice_in scope json) P
-    choice_read null = tt
-    choice_read (boolean b) = tt
-    choice_read (number n) = tt
-    choice_read (string text) = tt
-    choice_read (object inside) = tt
-    choice_read (array no_items) = tt
-    choice_read (array (item t no_items)) = tt
-    choice_read (array (item t (item a no_items))) = tt
     choice_read (array (item t (item a (item b no_items)))) =
         kept P P (forms.term_in scope t) _ (term_holds t)
         (λ w hw. kept P P (forms.term_in scope a) _ (term_holds a)
         (λ x hx. kept P P (forms.term_in scope b) _ (term_holds b) (λ y hy. is.choices w x y hw hx hy)))
-    choice_read (array (item t (item a (item b (item c rest))))) = tt
+    choice_read other = tt
 
 term_read : (scope : Scope) (json : Data) → IfOk (forms.term_in scope json) (Term_ok scope)
 term_read scope json = term_holds scope (Term_ok scope) (record {
@@ -160,18 +138,14 @@ term_read scope json = term_holds scope (Term_ok scope) (record {
   choices = λ test a b ht ha hb. (ht, (ha, hb));
 }) json
 
-and_true : (a b : Bool) → IsTrue a → IsTrue b → IsTrue (a && b)
-and_true true b h k = k
-and_true false b h k = absurd (cc)
-
 unread : (n : ℕ) (json : Data) → IfOk (forms.term_in (Next n) json) (λ term. IsTrue (reads_nothing term))
 unread n json = term_holds (Next n) (λ term. IsTrue (reads_nothing term)) (record {
   constants = λ value. refl;
   arguments = λ place e. refl;
   states = refl;
   properties = λ target name e. absurd (cc);
-  pairs = λ operator a b ha hb. and_true (reads_nothing a) (reads_nothing b) ha hb;
-  choices = λ test a b ht ha hb. and_true (reads_nothing test) (reads_nothing a && reads_nothing b) ht (and_true (reads_nothing a) (reads_nothing b) ha hb);
+  pairs = λ operator a b ha hb. and_from (reads_nothing a) (reads_nothing b) ha hb;
+  choices = λ test a b ht ha hb. and_from (reads_nothing test) (reads_nothing a && reads_nothing b) ht (and_from (reads_nothing a) (reads_nothing b) ha hb);
 }) json
 
 -- what was read as the next state of a functor
@@ -275,7 +249,7 @@ choice_made scope json held failed h k = where_read (Act_ok scope) _ _
     (λ condition. kept (Acts_ok scope) (Act_ok scope) (unwrap_or held (Err BadValue)) _ h
     (λ a ha. kept (Acts_ok scope) (Act_ok scope) (unwrap_or failed (Ok [])) _ k
     (λ b hb. kept (Term_ok scope) (Act_ok scope) (forms.term_in scope condition) _ (term_read scope condition)
-    (λ test ht. ((ht, (ha.0, hb.0)), and_true (are_named (acts_of a)) (are_named (acts_of b)) ha.1 hb.1))))))
+    (λ test ht. ((ht, (ha.0, hb.0)), and_from (are_named (acts_of a)) (are_named (acts_of b)) ha.1 hb.1))))))
 
 action_made : (scope : Scope) (json : Data) (held failed : Option (Read (List Act))) → IfOk (unwrap_or held (Err BadValue)) (Acts_ok scope)
     → IfOk (unwrap_or failed (Ok [])) (Acts_ok scope) → IfOk (bodies.made scope json held failed) (Act_ok scope)
@@ -284,14 +258,10 @@ action_made scope json held failed h k = either (Act_ok scope) (is_some (get (co
 
 mutual
   act_read : (scope : Scope) (json : Data) → IfOk (bodies.act_in scope json) (Act_ok scope)
-  act_read scope null = tt
-  act_read scope (boolean b) = tt
-  act_read scope (number n) = tt
-  act_read scope (string text) = tt
-  act_read scope (array items) = tt
   act_read scope (object inside) = action_made scope (object inside) (bodies.branch_in scope (codes "then") inside)
       (bodies.branch_in scope (codes "else") inside) (branch_read scope (codes "then") inside (Err BadValue) tt)
       (branch_read scope (codes "else") inside (Ok []) (tt, refl))
+  act_read scope other = tt
 
   branch_read : (scope : Scope) (key : List ℕ) (inside : Members) (d : Read (List Act)) → IfOk d (Acts_ok scope)
       → IfOk (unwrap_or (bodies.branch_in scope key inside) d) (Acts_ok scope)
@@ -300,18 +270,14 @@ mutual
       (branch_read scope key rest d h)
 
   actions_read : (scope : Scope) (json : Data) → IfOk (bodies.actions_in scope json) (Acts_ok scope)
-  actions_read scope null = tt
-  actions_read scope (boolean b) = tt
-  actions_read scope (number n) = tt
-  actions_read scope (string text) = tt
-  actions_read scope (object inside) = tt
   actions_read scope (array items) = acts_read scope items
+  actions_read scope other = tt
 
   acts_read : (scope : Scope) (items : Items) → IfOk (bodies.acts_in scope items) (Acts_ok scope)
   acts_read scope no_items = (tt, refl)
   acts_read scope (item json rest) = kept (Act_ok scope) (Acts_ok scope) (bodies.act_in scope json) _ (act_read scope json)
       (λ x hx. kept (Acts_ok scope) (Acts_ok scope) (bodies.acts_in scope rest) _ (acts_read scope rest)
-      (λ xs hxs. ((hx.0, hxs.0), and_true (is_named x) (are_named (acts_of xs)) hx.1 hxs.1)))
+      (λ xs hxs. ((hx.0, hxs.0), and_from (is_named x) (are_named (acts_of xs)) hx.1 hxs.1)))
 
 -- a body that was read for so many parameters
 abbrev pub IsReadFor : ℕ → Body → Type 0
@@ -333,19 +299,12 @@ body_read n json = limited_read (Slot n) json
 pub functor_body_read : (n : ℕ) (json : Data) → IfOk (bodies.functor_body_of n json) (IsReadFor n)
 functor_body_read n json = limited_read (Functor n) json
 
--- what a call answers of what was read
-pub answered : {A : Type 0} (P : A → Type 0) (result : Result A Fault) (read : Read A) → Answers result read → IfOk read P → IfOk result P
-answered P (Ok value) read is h = let Q : Read _ → Type 0 = λ r. IfOk r P in subst Q is h
-answered P (Err fault) read is h = tt
+-- the body that a call answers, where what it answers was read
+pub answered : (n : ℕ) (result : Result Body Fault) (read : Read Body) → Answers result read → IfOk read (IsReadFor n)
+    → IfOk result (λ body. body.params ≡ n) × IfOk result bodies.IsBody
+answered n (Ok body) read is h = let Q : Read Body → Type 0 = λ r. IfOk r (IsReadFor n) in subst Q is h
+answered n (Err fault) read is h = (tt, tt)
 
 pub answers_next : {A B : Type 0} (result : Result B Fault) (read : Read A) (value : A) (next : A → Read B) → read ≡ Ok value → Answers result (next value)
     → Answers result (read >>= next)
 answers_next result read value next is h = rw is h
-
-pub read_params : (n : ℕ) (result : Result Body Fault) → IfOk result (IsReadFor n) → IfOk result (λ body. body.params ≡ n)
-read_params n (Ok body) h = h.0
-read_params n (Err fault) h = tt
-
-pub read_body : (n : ℕ) (result : Result Body Fault) → IfOk result (IsReadFor n) → IfOk result bodies.IsBody
-read_body n (Ok body) h = h.1
-read_body n (Err fault) h = tt

@@ -4,7 +4,7 @@ use Rattle.std.proofs.Common.{length, get_or, refl, ap, is_eq, nat_cmp, cond, ar
 use Rattle.std.specs.Cmp.Lexicographic.{slice_cmp}
 use Rattle.std.specs.Ordering.{match_ordering}
 use Rattle.std.proofs.lemmas.Map.Text.{is_eq-slice_cmp}
-use Rattle.serde_json.specs.Data.{Data, null, boolean, number, string, array, object, Members, no_members, member, depth, items_depth, members_depth}
+use Rattle.serde_json.specs.Data.{Data, object, Members, no_members, member, depth, items_depth, members_depth}
 use Rattle.serde_json.specs.Find.{get, get_member}
 use Rattle.serde_json.specs.View.{view, items_view}
 use Rattle.serde_json.specs.declared.value.Value.{Value}
@@ -25,15 +25,11 @@ branch_in-get scope key (member other json rest) = chosen (actions_in scope) jso
     (branch_in-get scope key rest)
 
 pub act_in-action_in : (scope : Scope) (json : Data) → act_in scope json ≡ action_in scope json
-act_in-action_in scope null = refl
-act_in-action_in scope (boolean b) = refl
-act_in-action_in scope (number n) = refl
-act_in-action_in scope (string text) = refl
-act_in-action_in scope (array items) = refl
 act_in-action_in scope (object inside) =
     ap (λ held. made scope (object inside) held (branch_in scope (codes "else") inside)) (branch_in-get scope (codes "then") inside)
     ∙ ap (λ failed. made scope (object inside) (option_map (actions_in scope) (get_member (codes "then") inside)) failed)
     (branch_in-get scope (codes "else") inside)
+act_in-action_in scope other = refl
 
 pub acts_in_reads : (scope : Scope) → ReadsAll (action_in scope) (acts_in scope)
 acts_in_reads scope json rest = ap (λ r. r >>= λ x. acts_in scope rest >>= λ xs. Ok (x ∷ xs)) (act_in-action_in scope json)
@@ -52,12 +48,8 @@ get_member_within key (member other json rest) e is = found_within (slice_cmp na
     (λ later. omega (arith, get_member_within key rest e later)) (omega arith) is
 
 pub get_falls : (key : List ℕ) (json e : Data) → get key json ≡ Some e → depth e < depth json
-get_falls key null e is = absurd (cc)
-get_falls key (boolean b) e is = absurd (cc)
-get_falls key (number n) e is = absurd (cc)
-get_falls key (string text) e is = absurd (cc)
-get_falls key (array items) e is = absurd (cc)
 get_falls key (object inside) e is = omega (arith, get_member_within key inside e is)
+get_falls key other e is = absurd (cc)
 
 pub item_within : (vs : List Value) (i : ℕ) (d : Value) → i < length vs → depth (view (get_or vs i d)) ≤ items_depth (items_view vs)
 item_within [] i d h = absurd (omega arith)

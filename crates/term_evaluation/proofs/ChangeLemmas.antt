@@ -1,7 +1,8 @@
 -- Actions with each of their expressions changed: they are as many, what they set keeps its name, and what holds of
 -- expressions, changed or not, holds of them.
-use Rattle.std.proofs.Common.{◌≡◌, ◌∙◌, ◌&&◌, ℕ, Bool, true, false, List, [], ◌∷◌, map, nat_le, IsTrue, refl, ap, ap₂, arith}
+use Rattle.std.proofs.Common.{◌≡◌, ◌∙◌, ◌&&◌, ℕ, List, [], ◌∷◌, map, nat_le, IsTrue, refl, ap, ap₂, arith}
 use Rattle.std.specs.List.{All, list_all}
+use Rattle.std.proofs.lemmas.Bool.{and_from, and_parts}
 use Rattle.std.proofs.lemmas.List.Elements.{All-nil, All-cons, All-head, All-tail}
 use Rattle.term_core.specs.declared.action.SingleAction.{SingleAction}
 use Rattle.term_core.specs.declared.action.SingleAction.TheVariants as e
@@ -13,15 +14,6 @@ use Rattle.term_core.specs.Forms.{is_within_limits}
 use Rattle.term_core.specs.Term.{Term}
 use Rattle.term_evaluation.specs.Unfolding.{effect_by, act_by, acts_by}
 use Rattle.term_evaluation.proofs.Branches.{branch_changed}
-
-pub both : (a b : Bool) → IsTrue (a && b) → IsTrue a × IsTrue b
-both true true e = (refl, refl)
-both true false e = absurd (cc)
-both false b e = absurd (cc)
-
-pub pair : (a b : Bool) → IsTrue a → IsTrue b → IsTrue (a && b)
-pair true b h k = k
-pair false b h k = absurd (cc)
 
 module _ (change : Term → Term) where
   -- the arguments that they take
@@ -35,12 +27,7 @@ module _ (change : Term → Term) where
     effect_takes : (plain : SingleAction) → EffectTakesAtMost m plain → EffectTakesAtMost n (effect_by change plain)
     effect_takes (e.Set of property value) h = each value h
     effect_takes (e.Emit of signal sent) h = terms_take sent h
-    effect_takes (e.Connect of signal to method mode unique single) h = tt
-    effect_takes (e.Disconnect of signal to method) h = tt
-    effect_takes (e.Delete target) h = tt
-    effect_takes (e.DeleteLater target) h = tt
-    effect_takes (e.Block of on) h = tt
-    effect_takes (e.SetParent of parent) h = tt
+    effect_takes other h = tt
 
     mutual
       act_takes : (action : Act) → ActTakesAtMost m action → ActTakesAtMost n (act_by change action)
@@ -72,13 +59,7 @@ module _ (change : Term → Term) where
 
   effect_named : (plain : SingleAction) → is_effect_named (effect_by change plain) ≡ is_effect_named plain
   effect_named (e.Set of property value) = refl
-  effect_named (e.Emit of signal sent) = refl
-  effect_named (e.Connect of signal to method mode unique single) = refl
-  effect_named (e.Disconnect of signal to method) = refl
-  effect_named (e.Delete target) = refl
-  effect_named (e.DeleteLater target) = refl
-  effect_named (e.Block of on) = refl
-  effect_named (e.SetParent of parent) = refl
+  effect_named other = refl
 
   mutual
     act_named : (action : Act) → is_named (act_by change action) ≡ is_named action
@@ -98,37 +79,32 @@ module _ (change : Term → Term) where
     terms_within : (terms : List Term) → IsTrue (list_all is_within_limits terms) → IsTrue (list_all is_within_limits (map change terms))
     terms_within [] h = refl
     terms_within (term ∷ rest) h =
-        let parts = both (is_within_limits term) (list_all is_within_limits rest) h in
-        pair _ _ (each term parts.0) (terms_within rest parts.1)
+        let parts = and_parts (is_within_limits term) (list_all is_within_limits rest) h in
+        and_from _ _ (each term parts.0) (terms_within rest parts.1)
 
     effect_within : (plain : SingleAction) → IsTrue (is_effect_limited plain) → IsTrue (is_effect_limited (effect_by change plain))
     effect_within (e.Set of property value) h = each value h
     effect_within (e.Emit of signal sent) h = terms_within sent h
-    effect_within (e.Connect of signal to method mode unique single) h = refl
-    effect_within (e.Disconnect of signal to method) h = refl
-    effect_within (e.Delete target) h = refl
-    effect_within (e.DeleteLater target) h = refl
-    effect_within (e.Block of on) h = refl
-    effect_within (e.SetParent of parent) h = refl
+    effect_within other h = refl
 
     mutual
       act_within : (action : Act) → IsTrue (is_limited action) → IsTrue (is_limited (act_by change action))
       act_within (single_action plain) h = effect_within plain h
       act_within (when test held failed) h =
-          let first = both (is_within_limits test) (are_limited held && are_limited failed) h in
-          let parts = both (are_limited held) (are_limited failed) first.1 in
-          pair _ _ (each test first.0) (pair _ _ (acts_within held parts.0) (acts_within failed parts.1))
+          let first = and_parts (is_within_limits test) (are_limited held && are_limited failed) h in
+          let parts = and_parts (are_limited held) (are_limited failed) first.1 in
+          and_from _ _ (each test first.0) (and_from _ _ (acts_within held parts.0) (acts_within failed parts.1))
 
       acts_within : (actions : Acts) → IsTrue (are_limited actions) → IsTrue (are_limited (acts_by change actions))
       acts_within nothing h = refl
       acts_within (more action rest) h =
-          let parts = both (is_limited action) (are_limited rest) h in
-          pair _ _ (act_within action parts.0) (acts_within rest parts.1)
+          let parts = and_parts (is_limited action) (are_limited rest) h in
+          and_from _ _ (act_within action parts.0) (acts_within rest parts.1)
 
     pub body_within : (actions : List Act) → IsTrue (is_body_limited actions) → IsTrue (is_body_limited (map (act_by change) actions))
     body_within actions h =
-        let parts = both (nat_le (counts (acts_of actions)) 32) (are_limited (acts_of actions)) h in
-        pair _ _ (ap (λ n. nat_le n 32) (body_counts actions) ∙ parts.0) (rw branch_changed (acts_within (acts_of actions) parts.1))
+        let parts = and_parts (nat_le (counts (acts_of actions)) 32) (are_limited (acts_of actions)) h in
+        and_from _ _ (ap (λ n. nat_le n 32) (body_counts actions) ∙ parts.0) (rw branch_changed (acts_within (acts_of actions) parts.1))
 
   -- where no expression is changed, no action is
 
@@ -140,12 +116,7 @@ module _ (change : Term → Term) where
     effect_same : (plain : SingleAction) → effect_by change plain ≡ plain
     effect_same (e.Set of property value) = ap (e.Set of property) (each value)
     effect_same (e.Emit of signal sent) = ap (e.Emit of signal) (terms_same sent)
-    effect_same (e.Connect of signal to method mode unique single) = refl
-    effect_same (e.Disconnect of signal to method) = refl
-    effect_same (e.Delete target) = refl
-    effect_same (e.DeleteLater target) = refl
-    effect_same (e.Block of on) = refl
-    effect_same (e.SetParent of parent) = refl
+    effect_same other = refl
 
     mutual
       act_same : (action : Act) → act_by change action ≡ action
@@ -175,12 +146,7 @@ module _ (change next : Term → Term) where
   effect_twice : (plain : SingleAction) → effect_by next (effect_by change plain) ≡ effect_by both_changes plain
   effect_twice (e.Set of property value) = refl
   effect_twice (e.Emit of signal sent) = ap (e.Emit of signal) (terms_twice sent)
-  effect_twice (e.Connect of signal to method mode unique single) = refl
-  effect_twice (e.Disconnect of signal to method) = refl
-  effect_twice (e.Delete target) = refl
-  effect_twice (e.DeleteLater target) = refl
-  effect_twice (e.Block of on) = refl
-  effect_twice (e.SetParent of parent) = refl
+  effect_twice other = refl
 
   mutual
     act_twice : (action : Act) → act_by next (act_by change action) ≡ act_by both_changes action

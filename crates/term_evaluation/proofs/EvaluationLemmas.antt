@@ -36,10 +36,7 @@ pub stands : {O : Type 0} (args : List Value) (read : Target → List ℕ → An
     → eval_by args read term ≡ Ok value
 stands args read (const v) value is = cc
 stands args read (arg place) value is = ap (λ (found : Option Value). answer (ok_or found BadValue)) is
-stands args read state value is = absurd (cc)
-stands args read (prop target name) value is = absurd (cc)
-stands args read (binary operator a b) value is = absurd (cc)
-stands args read (choice test a b) value is = absurd (cc)
+stands args read other value is = absurd (cc)
 
 -- two readers answer the same at a property
 abbrev Agreed : {O : Type 0} → (Target → List ℕ → Answer O) → (Target → List ℕ → Answer O) → Read → Type 0
@@ -47,9 +44,6 @@ Agreed one other read = one read.target read.name ≡ other read.target read.nam
 
 pub same_value : {O : Type 0} (term : Term) (args : List Value) (one other : Target → List ℕ → Answer O) → AgreeOn (reads_of term) one other
     → eval_by args one term ≡ eval_by args other term
-same_value (const value) args one other h = refl
-same_value (arg place) args one other h = refl
-same_value state args one other h = refl
 same_value (prop target name) args one other h = h 0 (record { target = target; name = name }) (omega arith)
 same_value (binary operator a b) args one other h =
     let first = same_value a args one other (first_part (Agreed one other) (reads_of a) (reads_of b) h) in
@@ -64,6 +58,7 @@ same_value (choice test a b) args one other h =
     ap (λ r. r >>= λ t. chosen (truth_in t) (eval_by args one a) (eval_by args one b)) condition
     ∙ (ap (λ r. eval_by args other test >>= λ t. chosen (truth_in t) r (eval_by args one b)) first
     ∙ ap (λ r. eval_by args other test >>= λ t. chosen (truth_in t) (eval_by args other a) r) second)
+same_value leaf args one other h = refl
 
 -- the same with the arguments put in
 
@@ -133,13 +128,8 @@ applied_short O Equal a b = truth_short _ (are_equal a b)
 applied_short O Concatenated a b = text_short _ (of_two text_in (λ x y. x ++ y) a b)
 
 constant_short : (value : Value) → IsTrue (is_short value) → IsShort value
-constant_short v.Invalid h = tt
-constant_short (v.Bool b) h = tt
-constant_short (v.Int z) h = tt
-constant_short (v.Uint n) h = tt
-constant_short (v.Longlong z) h = tt
-constant_short (v.Ulonglong n) h = tt
 constant_short (v.Text text) h = grind (arith, nat_tests)
+constant_short other h = tt
 
 argument_short : (args : List Value) (place : ℕ) → All IsShort args → IfSome (slice_get args place) IsShort
 argument_short [] place all = tt

@@ -3,7 +3,7 @@ use Rattle.std.proofs.Common.{◌≡◌, ℕ, zero, suc, ◌<◌, ◌&&◌, Bool
 use Rattle.std.specs.Prelude.{bytes_eq}
 use Rattle.std.specs.List.{find}
 use Rattle.std.specs.Option.{option_map_or}
-use Rattle.std.proofs.lemmas.Bool.{eqb-true, eq-eqb}
+use Rattle.std.proofs.lemmas.Bool.{and_parts, eqb-true, eq-eqb}
 use Rattle.variant_value.specs.declared.value.Value.{Value}
 use Rattle.term_core.specs.declared.target.Target.{Target}
 use Rattle.term_core.specs.declared.target.Target.TheVariants.{Itself, Sender, Child, Object}
@@ -20,26 +20,10 @@ use Rattle.std.specs.Bool.{Decides}
 
 target_decides : (a b : Target) → Decides (is_target a b) (a ≡ b)
 target_decides Itself Itself = (λ e. refl, λ e. refl)
-target_decides Itself Sender = (λ e. absurd (cc), λ e. absurd (cc))
-target_decides Itself (Child n) = (λ e. absurd (cc), λ e. absurd (cc))
-target_decides Itself (Object n) = (λ e. absurd (cc), λ e. absurd (cc))
-target_decides Sender Itself = (λ e. absurd (cc), λ e. absurd (cc))
 target_decides Sender Sender = (λ e. refl, λ e. refl)
-target_decides Sender (Child n) = (λ e. absurd (cc), λ e. absurd (cc))
-target_decides Sender (Object n) = (λ e. absurd (cc), λ e. absurd (cc))
-target_decides (Child m) Itself = (λ e. absurd (cc), λ e. absurd (cc))
-target_decides (Child m) Sender = (λ e. absurd (cc), λ e. absurd (cc))
 target_decides (Child m) (Child n) = (λ e. ap Child ((bytes_eq-Decides m n).0 e), λ e. (bytes_eq-Decides m n).1 (cc))
-target_decides (Child m) (Object n) = (λ e. absurd (cc), λ e. absurd (cc))
-target_decides (Object m) Itself = (λ e. absurd (cc), λ e. absurd (cc))
-target_decides (Object m) Sender = (λ e. absurd (cc), λ e. absurd (cc))
-target_decides (Object m) (Child n) = (λ e. absurd (cc), λ e. absurd (cc))
 target_decides (Object m) (Object n) = (λ e. ap Object (eqb-true m n e), λ e. eq-eqb m n (cc))
-
-both_true : (a b : Bool) → (a && b) ≡ true → (a ≡ true) × (b ≡ true)
-both_true true true e = (refl, refl)
-both_true true false e = absurd (cc)
-both_true false b e = absurd (cc)
+target_decides a b = (λ e. absurd (cc), λ e. absurd (cc))
 
 -- the row is about the property of its read, and about no other
 about_itself : {O : Type 0} (read : Target → List ℕ → Answer O) (target : Target) (name : List ℕ)
@@ -54,7 +38,7 @@ about_itself read target name = by (is_target target target) (bytes_eq name name
 about : {O : Type 0} (read : Target → List ℕ → Answer O) (target : Target) (name : List ℕ) (r : Read) → is_about target name (known_by read r) ≡ true
     → (target ≡ r.target) × (name ≡ r.name)
 about read target name r e =
-    let both = both_true (is_target target r.target) (bytes_eq name r.name) e in
+    let both = and_parts (is_target target r.target) (bytes_eq name r.name) e in
     ((target_decides target r.target).0 both.0, (bytes_eq-Decides name r.name).0 both.1)
 
 found : {O : Type 0} (read : Target → List ℕ → Answer O) (otherwise : Answer O) (reads : List Read) (k : ℕ) (d : Read) → k < length reads

@@ -7,7 +7,7 @@ use Rattle.std.proofs.lemmas.Bool.{cases_lt}
 use Rattle.variant_value.specs.declared.value.Value.{Value}
 use Rattle.variant_value.specs.Values.{truth_in}
 use Rattle.term_core.specs.declared.target.Target.{Target}
-use Rattle.term_core.specs.Term.{Term, const, arg, state, prop, binary, choice}
+use Rattle.term_core.specs.Term.{Term, prop, binary, choice}
 use Rattle.term_evaluation.specs.declared.reading.Read.{Read}
 use Rattle.term_evaluation.specs.Evaluation.{eval_by, chosen}
 use Rattle.term_evaluation.specs.Laws.{AgreeOn}
@@ -64,25 +64,23 @@ in_turn E r s q p f f' g g' (inr ended) next = ended_in_turn E r s q p f f' g g'
 abbrev pub Turn : {O : Type 0} → (Cause O → Type 0) → (Target → List ℕ → Answer O) → (Target → List ℕ → Answer O) → Read → Type 0
 Turn E one other read = (other read.target read.name ≡ one read.target read.name) ⊎ Ended E (other read.target read.name)
 
-at_branch : {O : Type 0} (E : Cause O → Type 0) (P : Read → Type 0) (truth : Option Bool) (a a' b b' : Answer O) (m m' n n' : List Read)
-    → (All P m → Follows E a m a' m') → (All P n → Follows E b n b' n') → All P (in_branch truth m n)
+at_branch : {O : Type 0} (E : Cause O → Type 0) (P : Read → Type 0) (truth : Option Bool) (a a' b b' : Answer O) (m m' k n n' l : List Read)
+    → (All P k → Follows E a m a' m') → (All P l → Follows E b n b' n') → All P (in_branch truth k l)
     → Follows E (chosen truth a b) (in_branch truth m n) (chosen truth a' b') (in_branch truth m' n')
-at_branch E P None a a' b b' m m' n n' f g h = inl (refl, refl)
-at_branch E P (Some true) a a' b b' m m' n n' f g h = f h
-at_branch E P (Some false) a a' b b' m m' n n' f g h = g h
+at_branch E P None a a' b b' m m' k n n' l f g h = inl (refl, refl)
+at_branch E P (Some true) a a' b b' m m' k n n' l f g h = f h
+at_branch E P (Some false) a a' b b' m m' k n n' l f g h = g h
+
+at_property : {O : Type 0} (E : Cause O → Type 0) (one other : Target → List ℕ → Answer O) (read : Read) → Turn E one other read
+    → Follows E (one read.target read.name) (read ∷ []) (other read.target read.name) (read ∷ [])
+at_property E one other read (inl e) = inl (e, refl)
+at_property E one other read (inr ended) = inr (ended, ([], refl))
 
 pub follows : {O : Type 0} (E : Cause O → Type 0) (term : Term) (args : List Value) (one other : Target → List ℕ → Answer O)
     → All (Turn E one other) (met_by args one term) → Follows E (eval_by args one term) (met_by args one term) (eval_by args other term)
     (met_by args other term)
-follows E (const value) args one other h = inl (refl, refl)
-follows E (arg place) args one other h = inl (refl, refl)
-follows E state args one other h = inl (refl, refl)
-follows E (prop target name) args one other h = at_once (h 0 (record { target = target; name = name }) (omega arith))
-  where
-    at_once : Turn E one other (record { target = target; name = name })
-        → Follows E (one target name) (record { target = target; name = name } ∷ []) (other target name) (record { target = target; name = name } ∷ [])
-    at_once (inl e) = inl (e, refl)
-    at_once (inr ended) = inr (ended, ([], refl))
+follows E (prop target name) args one other h =
+    at_property E one other (record { target = target; name = name }) (h 0 (record { target = target; name = name }) (omega arith))
 follows E (binary operator a b) args one other h =
     in_turn E (eval_by args one a) (eval_by args other a) (met_by args one a) (met_by args other a) _ _ _ _
     (follows E a args one other (first_part (Turn E one other) (met_by args one a) (behind (eval_by args one a) (λ x. met_by args one b)) h))
@@ -93,10 +91,11 @@ follows E (choice test a b) args one other h =
     in_turn E (eval_by args one test) (eval_by args other test) (met_by args one test) (met_by args other test) _ _ _ _
     (follows E test args one other (first_part (Turn E one other) (met_by args one test)
     (behind (eval_by args one test) (λ t. in_branch (truth_in t) (met_by args one a) (met_by args one b))) h))
-    (λ t e. at_branch E (Turn E one other) (truth_in t) _ _ _ _ _ _ _ _ (follows E a args one other) (follows E b args one other)
+    (λ t e. at_branch E (Turn E one other) (truth_in t) _ _ _ _ _ _ _ _ _ _ (follows E a args one other) (follows E b args one other)
     (subst (λ r. All (Turn E one other) (behind r (λ t. in_branch (truth_in t) (met_by args one a) (met_by args one b)))) e
     (last_part (Turn E one other) (met_by args one test)
     (behind (eval_by args one test) (λ t. in_branch (truth_in t) (met_by args one a) (met_by args one b))) h)))
+follows E leaf args one other h = inl (refl, refl)
 
 -- a fault of what is really read is the evaluation's
 
@@ -128,9 +127,6 @@ fault_at_branch cause read (Some false) a b m n f g h = g h
 
 pub fault_met : {O : Type 0} (cause : Cause O) (read : Read) (term : Term) (args : List Value) (one : Target → List ℕ → Answer O)
     → one read.target read.name ≡ Err cause → Contains (met_by args one term) read → eval_by args one term ≡ Err cause
-fault_met cause read (const value) args one e h = absurd (nothing read h)
-fault_met cause read (arg place) args one e h = absurd (nothing read h)
-fault_met cause read state args one e h = absurd (nothing read h)
 fault_met cause read (prop target name) args one e h = ap (λ (r : Read). one r.target r.name) (alone _ read h) ∙ e
 fault_met cause read (binary operator a b) args one e h =
     fault_in_turn cause read (eval_by args one a) (met_by args one a) _ _
@@ -142,6 +138,7 @@ fault_met cause read (choice test a b) args one e h =
     (fault_met cause read test args one e)
     (λ t is c. fault_at_branch cause read (truth_in t) _ _ _ _ (fault_met cause read a args one e) (fault_met cause read b args one e) c)
     h
+fault_met cause read leaf args one e h = absurd (nothing read h)
 
 -- an evaluation goes on only behind a value
 
@@ -181,10 +178,6 @@ goes_at_branch P (Some false) m n f g = g
 
 pub goes_on : {O : Type 0} (term : Term) (args : List Value) (one : Target → List ℕ → Answer O)
     → EachButLast (λ read. IsValue (one read.target read.name)) (met_by args one term)
-goes_on (const value) args one = λ k d lt. absurd (omega arith)
-goes_on (arg place) args one = λ k d lt. absurd (omega arith)
-goes_on state args one = λ k d lt. absurd (omega arith)
-goes_on (prop target name) args one = λ k d lt. absurd (omega arith)
 goes_on (binary operator a b) args one = goes_in_turn (λ read. IsValue (one read.target read.name)) (eval_by args one a) (met_by args one a) _
     (goes_on a args one) (λ x is. (values_met a args one x is, goes_on b args one))
 goes_on (choice test a b) args one = goes_in_turn (λ read. IsValue (one read.target read.name)) (eval_by args one test) (met_by args one test) _
@@ -192,6 +185,7 @@ goes_on (choice test a b) args one = goes_in_turn (λ read. IsValue (one read.ta
       values_met test args one t is,
       goes_at_branch (λ read. IsValue (one read.target read.name)) (truth_in t) _ _ (goes_on a args one) (goes_on b args one),
     ))
+goes_on leaf args one = λ k d lt. absurd (omega arith)
 
 -- an evaluation that the other ends: what the other came to is the first of what the one comes to
 
@@ -207,25 +201,11 @@ back_in_turn E P r s q p f f' g g' first next h = by (first (first_part P p (beh
     by (inl (e, m)) = in_turn E r s q p f f' g g' (inl (e, m)) (λ x is. next x (subst (λ a. All P (behind a g')) (e ∙ is) rest))
     by (inr ended) = ended_in_turn E r s q p f f' g g' ended
 
-back_at_branch : {O : Type 0} (E : Cause O → Type 0) (P : Read → Type 0) (truth : Option Bool) (a a' b b' : Answer O) (m m' n n' : List Read)
-    → (All P m' → Follows E a m a' m') → (All P n' → Follows E b n b' n') → All P (in_branch truth m' n')
-    → Follows E (chosen truth a b) (in_branch truth m n) (chosen truth a' b') (in_branch truth m' n')
-back_at_branch E P None a a' b b' m m' n n' f g h = inl (refl, refl)
-back_at_branch E P (Some true) a a' b b' m m' n n' f g h = f h
-back_at_branch E P (Some false) a a' b b' m m' n n' f g h = g h
-
 pub follows_back : {O : Type 0} (E : Cause O → Type 0) (term : Term) (args : List Value) (one other : Target → List ℕ → Answer O)
     → All (Turn E one other) (met_by args other term) → Follows E (eval_by args one term) (met_by args one term) (eval_by args other term)
     (met_by args other term)
-follows_back E (const value) args one other h = inl (refl, refl)
-follows_back E (arg place) args one other h = inl (refl, refl)
-follows_back E state args one other h = inl (refl, refl)
-follows_back E (prop target name) args one other h = at_once (h 0 (record { target = target; name = name }) (omega arith))
-  where
-    at_once : Turn E one other (record { target = target; name = name })
-        → Follows E (one target name) (record { target = target; name = name } ∷ []) (other target name) (record { target = target; name = name } ∷ [])
-    at_once (inl e) = inl (e, refl)
-    at_once (inr ended) = inr (ended, ([], refl))
+follows_back E (prop target name) args one other h =
+    at_property E one other (record { target = target; name = name }) (h 0 (record { target = target; name = name }) (omega arith))
 follows_back E (binary operator a b) args one other h =
     back_in_turn E (Turn E one other) (eval_by args one a) (eval_by args other a) (met_by args one a) (met_by args other a) _ _ _ _
     (follows_back E a args one other)
@@ -234,8 +214,9 @@ follows_back E (binary operator a b) args one other h =
 follows_back E (choice test a b) args one other h =
     back_in_turn E (Turn E one other) (eval_by args one test) (eval_by args other test) (met_by args one test) (met_by args other test) _ _ _ _
     (follows_back E test args one other)
-    (λ t all. back_at_branch E (Turn E one other) (truth_in t) _ _ _ _ _ _ _ _ (follows_back E a args one other) (follows_back E b args one other) all)
+    (λ t all. at_branch E (Turn E one other) (truth_in t) _ _ _ _ _ _ _ _ _ _ (follows_back E a args one other) (follows_back E b args one other) all)
     h
+follows_back E leaf args one other h = inl (refl, refl)
 
 -- with the same answers where it goes it goes the same way
 pub same_met : {O : Type 0} (term : Term) (args : List Value) (one other : Target → List ℕ → Answer O) → AgreeOn (met_by args one term) one other

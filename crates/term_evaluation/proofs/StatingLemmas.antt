@@ -14,26 +14,22 @@ use Rattle.term_core.specs.Forms.{is_within_limits}
 use Rattle.term_core.specs.Term.{Term, const, arg, state, prop, binary, choice, nodes, is_short, has_short_texts}
 use Rattle.term_evaluation.specs.Stating.{put_in, state_value, stated_term, with_state}
 use Rattle.term_evaluation.specs.Unfolding.{act_by, unfolded_body, unfolded_term}
-use Rattle.term_evaluation.proofs.ChangeLemmas.{both, pair, body_takes, body_counts, body_named, body_within, body_same, body_twice}
+use Rattle.std.proofs.lemmas.Bool.{and_from, and_parts}
+use Rattle.term_evaluation.proofs.ChangeLemmas.{body_takes, body_counts, body_named, body_within, body_same, body_twice}
 
 takes_stated : (n m : ℕ) (term : Term) → TakesAtMost m term → TakesAtMost m (stated_term (Some n) term)
-takes_stated n m (const value) h = tt
 takes_stated n m (arg place) h = h
-takes_stated n m state h = tt
-takes_stated n m (prop target name) h = tt
 takes_stated n m (binary operator a b) h = (takes_stated n m a h.0, takes_stated n m b h.1)
 takes_stated n m (choice test a b) h = (takes_stated n m test h.0, (takes_stated n m a h.1.0, takes_stated n m b h.1.1))
+takes_stated n m other h = tt
 
 pub state_takes : (body : Body) (n : ℕ) → ActsTakeAtMost body.params (acts_of body.actions) → ActsTakeAtMost body.params (acts_of (with_state n body).actions)
 state_takes body n h = body_takes (stated_term (Some n)) body.params body.params (takes_stated n body.params) body.actions h
 
 nodes_stated : (n : ℕ) (term : Term) → nodes (stated_term (Some n) term) ≡ nodes term
-nodes_stated n (const value) = refl
-nodes_stated n (arg place) = refl
-nodes_stated n state = refl
-nodes_stated n (prop target name) = refl
 nodes_stated n (binary operator a b) = omega (arith, nodes_stated n a, nodes_stated n b)
 nodes_stated n (choice test a b) = omega (arith, nodes_stated n test, nodes_stated n a, nodes_stated n b)
+nodes_stated n other = refl
 
 pub state_counts : (body : Body) (n : ℕ) → counts (acts_of (with_state n body).actions) ≡ counts (acts_of body.actions)
 state_counts body n = body_counts (stated_term (Some n)) body.actions
@@ -60,17 +56,17 @@ texts_stated n (arg place) h = refl
 texts_stated n state h = short_state n
 texts_stated n (prop target name) h = refl
 texts_stated n (binary operator a b) h =
-    let each = both (has_short_texts a) (has_short_texts b) h in
-    pair _ _ (texts_stated n a each.0) (texts_stated n b each.1)
+    let each = and_parts (has_short_texts a) (has_short_texts b) h in
+    and_from _ _ (texts_stated n a each.0) (texts_stated n b each.1)
 texts_stated n (choice test a b) h =
-    let first = both (has_short_texts test) (has_short_texts a && has_short_texts b) h in
-    let each = both (has_short_texts a) (has_short_texts b) first.1 in
-    pair _ _ (texts_stated n test first.0) (pair _ _ (texts_stated n a each.0) (texts_stated n b each.1))
+    let first = and_parts (has_short_texts test) (has_short_texts a && has_short_texts b) h in
+    let each = and_parts (has_short_texts a) (has_short_texts b) first.1 in
+    and_from _ _ (texts_stated n test first.0) (and_from _ _ (texts_stated n a each.0) (texts_stated n b each.1))
 
 within_stated : (n : ℕ) (term : Term) → IsTrue (is_within_limits term) → IsTrue (is_within_limits (stated_term (Some n) term))
 within_stated n term h =
-    let each = both (nat_le (nodes term) 64) (has_short_texts term) h in
-    pair _ _ (ap (λ m. nat_le m 64) (nodes_stated n term) ∙ each.0) (texts_stated n term each.1)
+    let each = and_parts (nat_le (nodes term) 64) (has_short_texts term) h in
+    and_from _ _ (ap (λ m. nat_le m 64) (nodes_stated n term) ∙ each.0) (texts_stated n term each.1)
 
 pub state_limits : (body : Body) (n : ℕ) → IsTrue (is_body_limited body.actions) → IsTrue (is_body_limited (with_state n body).actions)
 state_limits body n h = body_within (stated_term (Some n)) (within_stated n) body.actions h
@@ -86,14 +82,12 @@ argument_same zero = refl
 argument_same (suc place) = refl
 
 term_same : (term : Term) → put_in None [] term ≡ term
-term_same (const value) = refl
 term_same (arg place) = argument_same place
-term_same state = refl
-term_same (prop target name) = refl
 term_same (binary operator a b) = ap₂ (binary operator) (term_same a) (term_same b)
 term_same (choice test a b) =
     ap (λ test. choice test (put_in None [] a) (put_in None [] b)) (term_same test)
     ∙ ap₂ (choice test) (term_same a) (term_same b)
+term_same other = refl
 
 pub body_copied : (body : Body) (actions : List Act) → actions ≡ map (act_by (put_in None [])) body.actions
     → record { params = body.params; actions = actions } ≡ body

@@ -20,6 +20,6 @@ loop-row-preserved c = record {
       let it : get_or c.args.rows.now k d ≡ c.row-item.result = ap (λ n. get_or c.args.rows.now n d) same
       ∙ (get_or_default c.args.rows.now c.loop-row.row-index d c.row-item.result c.loop-row-test.true ∙ sym c.row-item.is) in
       subst (λ (row : Shown). row.at.number < slots_of c.make_slot.new.objects.items row.at.object) (sym it)
-      (slot_has c.make_slot.new.objects.items c.make_slot.ensures.same.sound c.row-item.result.at c.in_ok-make_slot.field-0 c.in_ok-make_slot.ensures.slot))
+      (slot_has c.make_slot.new.objects.items c.make_slot.ensures.same.sound c.in_ok-make_slot.ensures.slot))
       (cases_lt k c.loop-row.row-index);
 }

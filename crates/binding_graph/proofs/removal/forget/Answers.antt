@@ -6,13 +6,10 @@ use Rattle.binding_graph.proofs.GraphAndCacheLemmas.{forgotten_in_step, pending_
 use Rattle.binding_graph.proofs.removal.forget.Goals as goal
 
 pub returns-then-is_none-clause-step : goal.returns-then-is_none-clause-step
-returns-then-is_none-clause-step c = λ store marks graph evaluations step. pending_in_step store marks c.mark.new.self graph
-    (record { kept = c.args.kept.now; pending = c.args.pending.now; evaluations = evaluations }) c.mark.ensures.kept step
+returns-then-is_none-clause-step c = λ store marks graph evaluations step. pending_in_step c.mark.new.self c.mark.ensures.kept step
 
 pub returns-clause-step : goal.returns-clause-step
 returns-clause-step c = λ store marks graph evaluations step.
     rw c.forget.ensures
-    (forgotten_in_step store marks graph (record { kept = c.args.kept.now; pending = c.mark.new.self; evaluations = evaluations }) c.args.at
-    (both_marked marks c.mark.new.self c.args.at ∙ or_right (is_marked marks c.args.at) _ c.mark.ensures.marked)
-    (pending_in_step store marks c.mark.new.self graph (record { kept = c.args.kept.now; pending = c.args.pending.now; evaluations = evaluations })
-    c.mark.ensures.kept step))
+    (forgotten_in_step c.args.at (both_marked marks c.mark.new.self c.args.at ∙ or_right (is_marked marks c.args.at) _ c.mark.ensures.marked)
+    (pending_in_step c.mark.new.self c.mark.ensures.kept step))

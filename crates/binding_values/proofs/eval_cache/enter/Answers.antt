@@ -1,11 +1,20 @@
-use Rattle.binding_values.proofs.EvalCacheLemmas.{listed_new, listed_there}
+use Rattle.std.proofs.Common.{get_or, inl, inr, refl}
+use Rattle.binding_values.specs.declared.eval_cache.Entry.{Entry}
+use Rattle.binding_values.proofs.SortedLemmas.{found_row}
 use Rattle.binding_values.proofs.eval_cache.enter.Goals as goal
 
-pub returns-then-is_at-clause-ok : goal.returns-then-is_at-clause-ok
-returns-then-is_at-clause-ok c = listed_there c.args.order.now.items c.args.at c.count_before-place.result c.requires
-    (rw c.deref.ensures.value at c.count_before-place.ensures) c.is_at.result (rw c.deref-2.ensures.value at c.is_at.ensures) c.args.row c.if-is_at.true
+pub returns-in-Ok-clause-ok : goal.returns-in-Ok-clause-ok
+returns-in-Ok-clause-ok c =
+    let default : Entry = record { at = c.args.at; row = c.args.row } in
+    inl (record {
+      entry = get_or c.args.order.now.items c.in-Ok.field-0 default;
+      found = found_row (rw c.deref.ensures.value at c.in-Ok.ensures.row) c.requires default;
+      same = refl;
+    })
 
-pub returns-clause-ok : goal.returns-clause-ok
-returns-clause-ok c = listed_new c.args.order.now.items _ c.args.at c.count_before-place.result c.requires
-    (rw c.deref.ensures.value at c.count_before-place.ensures) c.is_at.result
-    (rw c.deref-2.ensures.value at c.is_at.ensures) c.args.row c.if-is_at.false c.in_ok-insert.ensures.items
+pub returns-in_ok-insert-in-Err-clause-ok : goal.returns-in_ok-insert-in-Err-clause-ok
+returns-in_ok-insert-in-Err-clause-ok c = inr (record {
+  position = c.in-Err.place;
+  absent = rw c.deref.ensures.value at c.in-Err.ensures.gap;
+  entered = c.in_ok-insert-in-Err.ensures.items;
+})

@@ -12,10 +12,10 @@ use Rattle.binding_values.proofs.KeptLemmas.{unbound_unkept}
 use Rattle.binding_values.proofs.RunLemmas.{settled_unless_loop, tried_but_last}
 use Rattle.binding_values.proofs.run.look.Goals as goal
 
-was_tried : (scene : Scene) (keeping : Keeping) (top : BoundProperty) → IsBoundAs scene top → keeping top.at ≡ None → (kept : EvalResult)
+was_tried : {scene : Scene} {keeping : Keeping} {top : BoundProperty} → IsBoundAs scene top → keeping top.at ≡ None → (kept : EvalResult)
     → kept.outcome ≡ evaluated scene (known scene keeping) top.at.object top.kind top.expr.now
     → kept.reads ≡ met scene (known scene keeping) top.at.object top.expr.now → IsTried scene keeping top.at kept
-was_tried scene keeping top bound absent kept outcome reads = record {
+was_tried {scene} {keeping} {top} bound absent kept outcome reads = record {
   cell = bound.cell;
   term = top.expr.now;
   there = bound.there;
@@ -35,8 +35,8 @@ pub returns-then-not-is_loop-clause-settled : goal.returns-then-not-is_loop-clau
 returns-then-not-is_loop-clause-settled c =
     let scene = scene_of (store_at c.args.stores.now.shelves c.args.place) c.args.bindings.now in
     settled_unless_loop scene (kept_of c.args.done.now) c.args.top.at c.in_ok-kept.kept
-    (was_tried scene (kept_of c.args.done.now) c.args.top c.requires.bound c.requires.absent c.in_ok-kept.kept c.in_ok-kept.ensures.outcome
-    c.in_ok-kept.ensures.reads) (sym c.is_loop.ensures ∙ c.if-not-is_loop.true)
+    (was_tried c.requires.bound c.requires.absent c.in_ok-kept.kept c.in_ok-kept.ensures.outcome c.in_ok-kept.ensures.reads)
+    (sym c.is_loop.ensures ∙ c.if-not-is_loop.true)
 
 pub waits_for-next-requires-clause-ready : goal.waits_for-next-requires-clause-ready
 waits_for-next-requires-clause-ready c = record {
@@ -49,5 +49,4 @@ waits_for-next-requires-clause-but_last c =
     let scene = scene_of (store_at c.args.stores.now.shelves c.args.place) c.args.bindings.now in
     subst (EachButLast (IsSettled scene (kept_of c.args.done.now))) (sym c.as_slice.ensures)
     (tried_but_last scene (kept_of c.args.done.now) c.args.top.at c.in_ok-kept.kept
-    (was_tried scene (kept_of c.args.done.now) c.args.top c.requires.bound c.requires.absent c.in_ok-kept.kept c.in_ok-kept.ensures.outcome
-    c.in_ok-kept.ensures.reads))
+    (was_tried c.requires.bound c.requires.absent c.in_ok-kept.kept c.in_ok-kept.ensures.outcome c.in_ok-kept.ensures.reads))

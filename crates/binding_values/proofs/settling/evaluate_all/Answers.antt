@@ -5,7 +5,7 @@ use Rattle.property_store.specs.Table.{store_at}
 use Rattle.binding_values.specs.EvalResult.{kept_of}
 use Rattle.binding_values.specs.Run.{IsSettled}
 use Rattle.binding_values.specs.Stored.{scene_of}
-use Rattle.binding_values.proofs.SettlingLemmas.{still_settled}
+use Rattle.binding_values.proofs.RunLemmas.{still_settled}
 use Rattle.binding_values.proofs.settling.evaluate_all.Goals as goal
 
 pub loop-at-preserved : goal.loop-at-preserved

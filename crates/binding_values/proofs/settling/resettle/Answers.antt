@@ -6,19 +6,13 @@ use Rattle.binding_values.specs.Stored.{scene_of}
 use Rattle.binding_values.proofs.SettlingLemmas.{is_complete, is_same, rest_right, right_more, whole_more}
 use Rattle.binding_values.proofs.settling.resettle.Goals as goal
 
-pub refresh-requires-clause-right : goal.refresh-requires-clause-right
-refresh-requires-clause-right c =
+pub refresh-requires : goal.refresh-requires
+refresh-requires c =
     let scene = scene_of (store_at c.args.stores.now.shelves c.args.place) c.args.bindings.now in
-    (rest_right scene (kept_of c.args.kept.now) c.reach.new.touched.items c.reach.new.self c.in_ok-reach.ensures.reached
+    let rest = rest_right scene (kept_of c.args.kept.now) c.reach.new.touched.items c.reach.new.self c.in_ok-reach.ensures.reached
     (right_more scene c.args.touched.now.items c.reach.new.touched.items (kept_of c.args.kept.now) c.in_ok-reach.ensures.longer c.requires.right)
-    (whole_more scene c.args.touched.now.items c.reach.new.touched.items (kept_of c.args.kept.now) c.in_ok-reach.ensures.longer c.requires.whole)).0
-
-pub refresh-requires-clause-closed : goal.refresh-requires-clause-closed
-refresh-requires-clause-closed c =
-    let scene = scene_of (store_at c.args.stores.now.shelves c.args.place) c.args.bindings.now in
-    (rest_right scene (kept_of c.args.kept.now) c.reach.new.touched.items c.reach.new.self c.in_ok-reach.ensures.reached
-    (right_more scene c.args.touched.now.items c.reach.new.touched.items (kept_of c.args.kept.now) c.in_ok-reach.ensures.longer c.requires.right)
-    (whole_more scene c.args.touched.now.items c.reach.new.touched.items (kept_of c.args.kept.now) c.in_ok-reach.ensures.longer c.requires.whole)).1
+    (whole_more scene c.args.touched.now.items c.reach.new.touched.items (kept_of c.args.kept.now) c.in_ok-reach.ensures.longer c.requires.whole) in
+    record { ready = c.requires.ready; right = rest.0; closed = rest.1 }
 
 -- where it ended well
 all_four : {T E P Q R S X : Type 0} (r : Result T E) → (P → Q → R → S → X) → OnOk r P → OnOk r Q → OnOk r R → OnOk r S → OnOk r X

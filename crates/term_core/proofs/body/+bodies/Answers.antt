@@ -1,5 +1,4 @@
-use Rattle.std.proofs.Common.{◌≡◌, ◌∙◌, ◌≤◌, ◌+◌, ◌∷◌, drop, sym, ap, subst, arith, rules, codes}
-use Rattle.std.proofs.lemmas.List.{drop_more}
+use Rattle.std.proofs.Common.{◌∙◌, ◌≤◌, sym, subst, arith, rules, codes}
 use Rattle.serde_json.specs.Data.{depth, items_depth}
 use Rattle.serde_json.specs.View.{view, items_view}
 use Rattle.std.proofs.lemmas.Grind.{common_steps}
@@ -27,24 +26,16 @@ actions_of-action-requires t c =
 
 pub actions_of-returns-in_err-action : goal.actions_of-returns-in_err-action
 actions_of-returns-in_err-action t c =
-    let l = c.loop-json in
-    let xs = c.args.list.now in
-    let x = c.json-item.result in
-    let here : drop l.json-index xs ≡ x ∷ drop (l.json-index + 1) xs = drop_more xs l.json-index x (omega arith)
-    ∙ ap (λ y. y ∷ drop (l.json-index + 1) xs) (sym c.json-item.is) in
-    let refused = concatenated_refused (action_in c.args.scope) (acts_in c.args.scope)
-    (acts_in_reads c.args.scope) l.found.items x _ _ _ here l.invariant c.in_err-action.field-0.0 c.in_err-action.ensures in
+    let scope = c.args.scope in
+    let refused = concatenated_refused (action_in scope) (acts_in scope) (acts_in_reads scope) c.loop-json.found.items c.json-item.result
+    c.args.list.now c.loop-json.json-index _ (omega arith) c.json-item.is c.loop-json.invariant c.in_err-action.field-0.0 c.in_err-action.ensures in
     search rules
 
 pub actions_of-loop-json-preserved : goal.actions_of-loop-json-preserved
 actions_of-loop-json-preserved t c =
-    let l = c.loop-json in
-    let xs = c.args.list.now in
-    let x = c.json-item.result in
-    let here : drop l.json-index xs ≡ x ∷ drop (l.json-index + 1) xs = drop_more xs l.json-index x (omega arith)
-    ∙ ap (λ y. y ∷ drop (l.json-index + 1) xs) (sym c.json-item.is) in
-    rw c.in_ok-push.ensures.items (concatenated_step (action_in c.args.scope) (acts_in c.args.scope)
-    (acts_in_reads c.args.scope) _ _ x _ _ here c.in_ok-action.ensures ∙ l.invariant)
+    let scope = c.args.scope in
+    rw c.in_ok-push.ensures.items (concatenated_step (action_in scope) (acts_in scope) (acts_in_reads scope) _ _ c.json-item.result
+    c.args.list.now c.loop-json.json-index (omega arith) c.json-item.is c.in_ok-action.ensures ∙ c.loop-json.invariant)
 
 pub actions_of-returns : goal.actions_of-returns
 actions_of-returns t c = grind (arith, common_steps)

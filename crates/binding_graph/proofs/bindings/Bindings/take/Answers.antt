@@ -2,7 +2,7 @@ use Rattle.std.proofs.Common.{◌∙◌, None, ap, refl, sym}
 use Rattle.binding_values.specs.Graph.{is_bound, Graph, unbound}
 use Rattle.binding_graph.specs.Inside.{pair_of, split}
 use Rattle.binding_graph.specs.Table.{Graphs, graph_at}
-use Rattle.binding_graph.proofs.PlaceLemmas.{all_back, graph_now, none_there, others_kept, place_there, same_step, stays_with, unbound_already, with_pair_as}
+use Rattle.binding_graph.proofs.PlaceLemmas.{IsLent, graph_lent, leaves_stayed, lent, none_there, same_step, unbound_already, unmade, with_pair_as}
 use Rattle.binding_graph.proofs.StepLemmas.{write_in_step}
 use Rattle.binding_graph.proofs.bindings.Bindings.take.Goals as goal
 
@@ -11,30 +11,27 @@ returns-then-not-is_bound-clause-graph c = unbound_already c.args.self.now.graph
 
 pub returns-in_default-clause-graph : goal.returns-in_default-clause-graph
 returns-in_default-clause-graph c = rw (← c.self.view_is)
-    (ap (λ (graphs : Graphs). graphs.graphs) (all_back c.self.inside.graphs c.args.place (pair_of c.get_mut.result.now) c.get_mut.result.now (ap pair_of
-    (c.get_mut.ensures.value None)) refl)
+    (ap (λ (graphs : Graphs). graphs.graphs) (unmade c.self.inside.graphs c.args.place _ (c.get_mut.ensures.value None) refl)
     ∙ unbound_already (split c.self.inside.graphs).graphs c.args.place c.args.at (ap (λ (graph : Graph). is_bound graph.bindings c.args.at)
     (none_there c.self.inside.graphs c.args.place c.get_mut.result.now (c.get_mut.ensures.value None) (ap pair_of c.in_default.is))))
 
 pub returns-in_default-clause-step : goal.returns-in_default-clause-step
 returns-in_default-clause-step c = rw (← c.self.view_is)
-    (same_step c.args.place c.write.new.self (split c.self.inside.graphs) _ (all_back c.self.inside.graphs c.args.place
-    (pair_of c.get_mut.result.now) c.get_mut.result.now (ap pair_of (c.get_mut.ensures.value None)) refl)
+    (same_step c.args.place c.write.new.self (split c.self.inside.graphs) _
+    (unmade c.self.inside.graphs c.args.place _ (c.get_mut.ensures.value None) refl)
     (write_in_step c.args.stores.now c.write.new.self c.args.place c.args.at.object c.args.at.number c.in_ok-value.value c.requires.places.1
     c.write.ensures.new c.write.ensures.marks (split c.self.inside.graphs) (rw (← c.self.view_is) at c.requires.step)))
+
+-- the graph that the place lends
+lent_here : (c : goal.After-self-2-1) → IsLent c.self.inside.graphs c.args.place c.deref_mut.result.now
+lent_here c = lent c.self.inside.graphs c.args.place (c.get_mut.ensures.value None) refl c.in-Some.is c.deref_mut.ensures.value
 
 pub returns-clause-graph : goal.returns-clause-graph
 returns-clause-graph c = rw (← c.self.view_is)
     (with_pair_as c.self.inside.graphs c.args.place _ (unbound (graph_at (split c.self.inside.graphs).graphs c.args.place) c.args.at)
-    (c.unbind.ensures.graph ∙ ap (λ graph. unbound graph c.args.at) (graph_now c.self.inside.graphs c.args.place c.deref_mut.result.now
-    (c.deref_mut.ensures.value ∙ (sym (ap pair_of c.in-Some.is) ∙ ap pair_of (c.get_mut.ensures.value None))))))
+    (c.unbind.ensures.graph ∙ ap (λ graph. unbound graph c.args.at) (graph_lent (lent_here c))))
 
 pub returns-clause-step : goal.returns-clause-step
-returns-clause-step c = record {
-  step = stays_with c.write.new.self c.self.inside.graphs c.args.place c.deref_mut.result.now _ (place_there c.self.inside.graphs c.args.place (rw
-      (← c.self.view_is) at c.requires.places.0)) (c.deref_mut.ensures.value ∙ (sym (ap pair_of c.in-Some.is) ∙ ap pair_of
-      (c.get_mut.ensures.value None))) c.unbind.ensures.step
-      (write_in_step c.args.stores.now c.write.new.self c.args.place c.args.at.object c.args.at.number c.in_ok-value.value c.requires.places.1
-      c.write.ensures.new c.write.ensures.marks (split c.self.inside.graphs) (rw (← c.self.view_is) at c.requires.step));
-  others = rw (← c.self.view_is) (others_kept c.self.inside.graphs c.args.place _);
-}
+returns-clause-step c = rw (← c.self.view_is) (leaves_stayed (lent_here c) (rw (← c.self.view_is) at c.requires.places.0) _ _ c.unbind.ensures.step
+    (write_in_step c.args.stores.now c.write.new.self c.args.place c.args.at.object c.args.at.number c.in_ok-value.value c.requires.places.1
+    c.write.ensures.new c.write.ensures.marks (split c.self.inside.graphs) (rw (← c.self.view_is) at c.requires.step)))

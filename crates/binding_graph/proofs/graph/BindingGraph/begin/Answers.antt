@@ -1,6 +1,4 @@
 use Rattle.std.proofs.Common.{◌+◌}
-use Rattle.property_store.specs.Marks.{marks_at}
-use Rattle.property_store.specs.Table.{store_at}
 use Rattle.binding_graph.specs.GraphAndCache.{IsAt}
 use Rattle.binding_graph.proofs.GraphAndCacheLemmas.{at_depth}
 use Rattle.binding_graph.proofs.graph.BindingGraph.begin.Goals as goal
@@ -15,7 +13,4 @@ stands c = elim c.if-self-eq0.branch [
 
 pub returns-clause-step : goal.returns-clause-step
 returns-clause-step c =
-    at_depth (store_at c.if-self-eq0.stores.shelves c.args.place) (marks_at c.if-self-eq0.stores.marks c.args.place)
-    (record { bindings = c.self-2.inside.bindings; last = c.self-2.inside.last; depth = c.self-2.inside.depth })
-    (record { kept = c.self-2.inside.kept; pending = c.self-2.inside.pending; evaluations = c.self-2.inside.evaluations }) (c.self-2.inside.depth + 1)
-    (rw (← c.self-2.view_is) at (stands c))
+    at_depth (c.self-2.inside.depth + 1) (rw (← c.self-2.view_is) at (stands c))

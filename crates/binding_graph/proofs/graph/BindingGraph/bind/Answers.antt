@@ -7,7 +7,5 @@ returns-in_err-put-clause-step c = rw (← c.self.view_is, c.in_err-put.ensures.
 pub returns-clause-step : goal.returns-clause-step
 returns-clause-step c =
     rw (← c.self.view_is, c.in_ok-put.ensures.ok, c.forget.ensures)
-    (λ store marks step. bound_in_step store marks c.mark_once.new.self
-    (record { bindings = c.self.inside.bindings; last = c.self.inside.last; depth = c.self.inside.depth })
-    (record { kept = c.self.inside.kept; pending = c.self.inside.pending; evaluations = c.self.inside.evaluations }) c.args.at c.mark_once.ensures.kept
+    (λ store marks step. bound_in_step c.mark_once.new.self c.args.at c.mark_once.ensures.kept
     c.mark_once.ensures.marked step c.args.expr)

@@ -5,5 +5,4 @@ use Rattle.binding_graph.proofs.graph.BindingGraph.end.Goals as goal
 pub returns-clause-step : goal.returns-clause-step
 returns-clause-step c =
     rw (← c.self.view_is)
-    (λ store marks step. at_depth store marks (record { bindings = c.self.inside.bindings; last = c.self.inside.last; depth = c.self.inside.depth })
-    (record { kept = c.self.inside.kept; pending = c.self.inside.pending; evaluations = c.self.inside.evaluations }) (c.self.inside.depth - 1) step)
+    (λ store marks step. at_depth (c.self.inside.depth - 1) step)

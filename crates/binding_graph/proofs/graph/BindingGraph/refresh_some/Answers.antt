@@ -1,5 +1,4 @@
 use Rattle.std.proofs.Common.{◌≡◌, ◌∙◌, ap, subst, sym}
-use Rattle.property_store.specs.Marks.{marks_at}
 use Rattle.property_store.specs.Table.{store_at}
 use Rattle.binding_values.specs.Sorted.{IsRising}
 use Rattle.binding_values.specs.Graph.{all_shown}
@@ -12,35 +11,23 @@ use Rattle.binding_graph.proofs.graph.BindingGraph.refresh_some.Goals as goal
 pub settle-requires-clause-right : goal.settle-requires-clause-right
 settle-requires-clause-right c =
     rw c.take-touched.ensures.taken
-    (touched_right (store_at c.args.stores.now.shelves c.args.place) (marks_at c.args.stores.now.marks c.args.place)
-    (record { bindings = c.self.inside.bindings; last = c.self.inside.last; depth = c.self.inside.depth })
-    (record { kept = c.self.inside.kept; pending = c.self.inside.pending; evaluations = c.self.inside.evaluations })
-    c.requires.taken (rw (← c.self.view_is) at c.requires.some) (rw (← c.self.view_is) at c.requires.step))
+    (touched_right c.requires.taken (rw (← c.self.view_is) at c.requires.some) (rw (← c.self.view_is) at c.requires.step))
 
 pub settle-requires-clause-whole : goal.settle-requires-clause-whole
 settle-requires-clause-whole c =
     rw c.take-touched.ensures.taken
-    (touched_whole (store_at c.args.stores.now.shelves c.args.place) (marks_at c.args.stores.now.marks c.args.place)
-    (record { bindings = c.self.inside.bindings; last = c.self.inside.last; depth = c.self.inside.depth })
-    (record { kept = c.self.inside.kept; pending = c.self.inside.pending; evaluations = c.self.inside.evaluations })
-    c.requires.taken (rw (← c.self.view_is) at c.requires.some) (rw (← c.self.view_is) at c.requires.step))
+    (touched_whole c.requires.taken (rw (← c.self.view_is) at c.requires.some) (rw (← c.self.view_is) at c.requires.step))
 
 pub returns-clause-told : goal.returns-clause-told
 returns-clause-told c = rw (← c.self.view_is)
-    (λ on. c.in_ok-told.ensures on ∙ sym (told_so (store_at c.args.stores.now.shelves c.args.place) (marks_at c.args.stores.now.marks c.args.place)
-    (record { bindings = c.self.inside.bindings; last = c.self.inside.last; depth = c.self.inside.depth })
-    (record { kept = c.self.inside.kept; pending = c.self.inside.pending; evaluations = c.self.inside.evaluations })
-    c.requires.taken (rw (← c.self.view_is) at c.requires.some)
+    (λ on. c.in_ok-told.ensures on ∙ sym (told_so c.requires.taken (rw (← c.self.view_is) at c.requires.some)
     (rw (← c.self.view_is) at c.requires.step) c.law_sound.ensures.store c.law_sound.ensures.bindings c.settle.new.self c.settle.new.touched.items
     c.in_ok-made.ensures.complete c.in_ok-made.ensures.same (rw c.take-touched.ensures.taken at c.in_ok-made.ensures.more) c.in_ok-now.now
     (rw c.as_mut_slice.ensures.value at c.in_ok-now.ensures.shown)
     c.args.written (subst (IsRising (λ (shown : Shown). shown.at)) c.now.view_is c.now.invariant.rising)))
 
 all_so : (c : goal.After-drop-absent-2) → c.replace.new.self ≡ all_shown (store_at c.args.stores.now.shelves c.args.place) c.self.inside.bindings
-all_so c = merged_so (store_at c.args.stores.now.shelves c.args.place) (marks_at c.args.stores.now.marks c.args.place)
-    (record { bindings = c.self.inside.bindings; last = c.self.inside.last; depth = c.self.inside.depth })
-    (record { kept = c.self.inside.kept; pending = c.self.inside.pending; evaluations = c.self.inside.evaluations })
-    c.requires.taken (rw (← c.self.view_is) at c.requires.some)
+all_so c = merged_so c.requires.taken (rw (← c.self.view_is) at c.requires.some)
     (rw (← c.self.view_is) at c.requires.step) c.law_sound.ensures.store c.law_sound.ensures.bindings c.settle.new.self c.settle.new.touched.items
     c.in_ok-made.ensures.complete c.in_ok-made.ensures.same (rw c.take-touched.ensures.taken at c.in_ok-made.ensures.more) c.in_ok-now.now
     (rw c.as_mut_slice.ensures.value at c.in_ok-now.ensures.shown)
@@ -54,7 +41,4 @@ returns-clause-ok c = rw (← c.self.view_is) (ap (λ last. record { bindings = 
 
 pub returns-clause-step : goal.returns-clause-step
 returns-clause-step c =
-    complete_in_step (store_at c.args.stores.now.shelves c.args.place)
-    (record { bindings = c.self.inside.bindings; last = c.replace.new.self; depth = c.self.inside.depth })
-    (record { kept = c.settle.new.self; pending = c.give_back.new.self; evaluations = c.saturating_add-self-inside.result })
-    c.in_ok-made.ensures.complete (all_so c) (marks_at c.args.stores.now.marks c.args.place)
+    complete_in_step c.in_ok-made.ensures.complete (all_so c)

@@ -4,7 +4,5 @@ use Rattle.binding_graph.proofs.graph.BindingGraph.unbind.Goals as goal
 pub returns-clause-step : goal.returns-clause-step
 returns-clause-step c =
     rw (← c.self.view_is, c.remove.ensures, c.forget.ensures)
-    (λ store marks step. unbound_in_step store marks c.mark_once.new.self
-    (record { bindings = c.self.inside.bindings; last = c.self.inside.last; depth = c.self.inside.depth })
-    (record { kept = c.self.inside.kept; pending = c.self.inside.pending; evaluations = c.self.inside.evaluations }) c.args.at c.mark_once.ensures.kept
+    (λ store marks step. unbound_in_step c.mark_once.new.self c.args.at c.mark_once.ensures.kept
     c.mark_once.ensures.marked step)

@@ -1,12 +1,11 @@
-use Rattle.std.proofs.Common.{◌≡◌}
-use Rattle.binding_graph.specs.LastShown.{joined}
-use Rattle.binding_graph.proofs.LastShownLemmas.{if_error, joined_same, joined_shown}
+use Rattle.shared_rows.proofs.ForCallers.{on_err}
+use Rattle.binding_graph.proofs.LastShownLemmas.{joined_same, joined_shown}
 use Rattle.binding_graph.proofs.last_shown.LastShown.put.Goals as goal
 
 pub returns-in_err-place-clause-err : goal.returns-in_err-place-clause-err
 returns-in_err-place-clause-err c = rw (← c.self.view_is)
-    (if_error c.from_residual.result (joined c.make_slot.new.objects.items ≡ joined c.self.inside.objects.items)
-    (joined_same c.make_slot.new.objects.items c.self.inside.objects.items c.make_slot.ensures.same.sound c.self.invariant c.make_slot.ensures.same.same))
+    (on_err c.from_residual.result (joined_same c.make_slot.new.objects.items c.self.inside.objects.items c.make_slot.ensures.same.sound
+    c.self.invariant c.make_slot.ensures.same.same))
 
 pub returns-clause-sound : goal.returns-clause-sound
 returns-clause-sound c = joined_shown c.put_at.new.objects.items c.put_at.ensures.sound

@@ -1,20 +1,17 @@
-use Rattle.std.proofs.Common.{◌∙◌, ap}
+use Rattle.std.proofs.Common.{◌∙◌, ap, arith}
 use Rattle.binding_graph.specs.LastShown.{joined}
 use Rattle.binding_graph.proofs.LastShownLemmas.{joined_removed, nothing_removed, remove_sound}
 use Rattle.binding_graph.proofs.last_shown.LastShown.remove_object.Goals as goal
 
+pub remove-requires : goal.remove-requires
+remove-requires c = omega (arith, (rw c.as_slice.ensures.value at c.in-Ok.ensures.place).within, c.self.inside.objects.ok)
+
 pub invariant_of-self : goal.invariant_of-self
-invariant_of-self c = rw c.remove.ensures.items (remove_sound c.self.inside.objects.items c.self.invariant c.args.object c.place_of-place.result
-    (rw c.as_slice.ensures.value at c.place_of-place.ensures) c.is_at.result (rw (c.first_of.ensures, c.as_slice-2.ensures.value) at c.is_at.ensures)
-    c.if-is_at.true)
+invariant_of-self c = rw c.remove.ensures.items (remove_sound c.self.invariant (rw c.as_slice.ensures.value at c.in-Ok.ensures.place))
 
-pub returns-then-is_at : goal.returns-then-is_at
-returns-then-is_at c = rw (← c.self.view_is) (ap joined c.remove.ensures.items
-    ∙ joined_removed c.self.inside.objects.items c.self.invariant c.args.object c.place_of-place.result
-    (rw c.as_slice.ensures.value at c.place_of-place.ensures) c.is_at.result (rw (c.first_of.ensures, c.as_slice-2.ensures.value) at c.is_at.ensures)
-    c.if-is_at.true)
+pub returns-in-Ok : goal.returns-in-Ok
+returns-in-Ok c = rw (← c.self.view_is) (ap joined c.remove.ensures.items
+    ∙ joined_removed c.self.invariant (rw c.as_slice.ensures.value at c.in-Ok.ensures.place))
 
-pub returns-else-is_at : goal.returns-else-is_at
-returns-else-is_at c = rw (← c.self.view_is) (nothing_removed c.self.inside.objects.items c.self.invariant c.args.object c.place_of-place.result
-    (rw c.as_slice.ensures.value at c.place_of-place.ensures) c.is_at.result (rw (c.first_of.ensures, c.as_slice-2.ensures.value) at c.is_at.ensures)
-    c.if-is_at.false)
+pub returns-in-Err : goal.returns-in-Err
+returns-in-Err c = rw (← c.self.view_is) (nothing_removed c.self.invariant (rw c.as_slice.ensures.value at c.in-Err.ensures.gap))

@@ -3,31 +3,22 @@ use Rattle.std.proofs.lemmas.List.Kept.{AllPairs-filter}
 use Rattle.binding_values.specs.declared.kept_rows.KeptRow.{KeptRow}
 use Rattle.binding_values.specs.Sorted.{IsRising, is_before}
 use Rattle.property_store.specs.Property.{is_property}
-use Rattle.binding_values.proofs.SortedLemmas.{all_left, left_without, stands_within}
+use Rattle.binding_values.proofs.SortedLemmas.{without_none, without_row}
 use Rattle.binding_values.proofs.kept_rows.KeptRows.remove.Goals as goal
 
-pub returns-then-not-is_at : goal.returns-then-not-is_at
-returns-then-not-is_at c = rw (← c.self.view_is)
-    (sym (all_left (λ (row : KeptRow). row.at) c.self.inside.rows.items c.count_before-place.result c.args.at c.self.invariant
-    (rw c.as_slice.ensures.value at c.count_before-place.ensures) c.is_at.result (rw c.as_slice-2.ensures.value at c.is_at.ensures) c.if-not-is_at.true))
-
 pub remove-requires : goal.remove-requires
-remove-requires c =
-    let within = stands_within (λ (row : KeptRow). row.at) c.self.inside.rows.items c.count_before-place.result c.args.at c.is_at.result
-    (rw c.as_slice-2.ensures.value at c.is_at.ensures) c.if-not-is_at.false in
-    omega (arith, c.self.inside.rows.ok.0, within)
+remove-requires c = omega (arith, c.self.inside.rows.ok.0, (rw c.as_slice.ensures.value at c.in-Ok.ensures.row).within)
 
 pub invariant_of-self : goal.invariant_of-self
 invariant_of-self c =
     subst (IsRising (λ (row : KeptRow). row.at))
-    (left_without (λ (row : KeptRow). row.at) c.self.inside.rows.items c.count_before-place.result c.args.at c.self.invariant
-    (rw c.as_slice.ensures.value at c.count_before-place.ensures) c.is_at.result (rw c.as_slice-2.ensures.value at c.is_at.ensures) c.if-not-is_at.false
-    ∙ sym c.remove.ensures.items)
+    (without_row (rw c.as_slice.ensures.value at c.in-Ok.ensures.row) c.self.invariant ∙ sym c.remove.ensures.items)
     (AllPairs-filter (λ (earlier : KeptRow) (later : KeptRow). is_before earlier.at later.at ≡ true)
     (λ (row : KeptRow). not (is_property c.args.at row.at)) c.self.inside.rows.items c.self.invariant)
 
-pub returns : goal.returns
-returns c = rw (← c.self.view_is)
-    (c.remove.ensures.items
-    ∙ sym (left_without (λ (row : KeptRow). row.at) c.self.inside.rows.items c.count_before-place.result c.args.at c.self.invariant
-    (rw c.as_slice.ensures.value at c.count_before-place.ensures) c.is_at.result (rw c.as_slice-2.ensures.value at c.is_at.ensures) c.if-not-is_at.false))
+pub returns-in-Ok : goal.returns-in-Ok
+returns-in-Ok c = rw (← c.self.view_is)
+    (c.remove.ensures.items ∙ sym (without_row (rw c.as_slice.ensures.value at c.in-Ok.ensures.row) c.self.invariant))
+
+pub returns-in-Err : goal.returns-in-Err
+returns-in-Err c = rw (← c.self.view_is) (sym (without_none (rw c.as_slice.ensures.value at c.in-Err.ensures.gap)))

@@ -1,4 +1,4 @@
-use Rattle.std.proofs.Common.{◌≡◌, ◌&&◌, List, arith, cond, length, map, nat_lt, not, refl, rules}
+use Rattle.std.proofs.Common.{◌≡◌, ◌&&◌, List, arith, cond, length, nat_lt, not, refl, rules}
 use Rattle.std.specs.declared.option.Option.TheVariants as option
 use Rattle.std.proofs.lemmas.Grind.{common_steps}
 use Rattle.std.proofs.lemmas.List.{length-map}
@@ -11,13 +11,13 @@ use Rattle.property_store.specs.Chain.{AreNew, is_all}
 use Rattle.property_store.specs.Inside.{head_at, limited, shown}
 use Rattle.property_store.specs.Store.{fields_in, fresh}
 use Rattle.property_store.proofs.ComeLemmas.{come_kept, come_marks}
-use Rattle.property_store.proofs.PlaceLemmas.{new_added, new_kept, no_key, shelves_seen}
+use Rattle.property_store.proofs.PlaceLemmas.{new_added, new_kept, shelves_seen}
+use Rattle.property_store.proofs.ReadLemmas.{key_absent}
 use Rattle.property_store.proofs.StoreLemmas.{number}
 use Rattle.property_store.proofs.stores.Stores.add_object.Goals as goal
 
 pub insert-requires-clause-absent : goal.insert-requires-clause-absent
-insert-requires-clause-absent c = no_key (limited c.self.inside.rows c.self.inside.heads.room)
-    (shelves_seen c.self.view_is) c.args.place c.requires.place c.args.object c.requires.absent
+insert-requires-clause-absent c = key_absent c.self.invariant c.self.view_is c.requires.place c.args.object c.requires.absent
 
 -- the row that is added
 abbrev row : (c : goal.After-set_first) → Row
@@ -36,8 +36,7 @@ are_new : (c : goal.After-set_first) → AreNew c.args.object (length (fields c)
 are_new c = search rules
 
 none : (c : goal.After-set_first) → key_of number (rows_at c.self.inside.rows c.args.place) c.args.object ≡ option.None
-none c = no_key (limited c.self.inside.rows c.self.inside.heads.room)
-    (shelves_seen c.self.view_is) c.args.place c.requires.place c.args.object c.requires.absent
+none c = key_absent c.self.invariant c.self.view_is c.requires.place c.args.object c.requires.absent
 
 heads_are : (c : goal.After-set_first) → c.set_first.new.heads
     ≡ with_place c.self.inside.heads c.args.place

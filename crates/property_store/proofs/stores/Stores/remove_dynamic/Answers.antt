@@ -1,10 +1,11 @@
 use Rattle.std.proofs.Common.{[], arith, refl, sym}
 use Rattle.std.proofs.lemmas.Grind.{common_steps}
 use Rattle.shared_rows.specs.Rows.{rows_at}
-use Rattle.property_store.specs.Inside.{head_at, limited}
+use Rattle.property_store.specs.Inside.{head_at}
 use Rattle.property_store.specs.Store.{without_dynamic}
 use Rattle.property_store.proofs.HeadLemmas.{IsRowChanged, as_changed, row_changed, same_head}
-use Rattle.property_store.proofs.PlaceLemmas.{nothing_changed, rows_open, shelves_seen, under_sound}
+use Rattle.property_store.proofs.PlaceLemmas.{under_sound}
+use Rattle.property_store.proofs.ReadLemmas.{place_open, store_unchanged}
 use Rattle.property_store.proofs.WriteLemmas.{dynamic_removed, removed_kept}
 use Rattle.property_store.proofs.WrittenLemmas.{kept_beside, marks_beside}
 use Rattle.property_store.proofs.stores.Stores.remove_dynamic.Goals as goal
@@ -18,14 +19,13 @@ changed c =
     (same_head c.self.inside.heads c.args.place)
 
 pub returns-in_default-clause-stores : goal.returns-in_default-clause-stores
-returns-in_default-clause-stores c = nothing_changed (limited c.self.inside.rows c.self.inside.heads.room)
-    (shelves_seen c.self.view_is) c.args.place c.requires c.args.object (sym c.in_default.ensures.found) (without_dynamic c.args.name.now)
+returns-in_default-clause-stores c = store_unchanged c.self.invariant c.self.view_is c.requires c.args.object (sym c.in_default.ensures.found)
+    (without_dynamic c.args.name.now)
 
 pub update-requires-clause-callable : goal.update-requires-clause-callable
 update-requires-clause-callable c = λ lent under.
     (under_sound c.self.inside.layouts (rows_at c.self.inside.rows c.args.place)
-    (c.self.invariant.sound c.args.place [] (rows_open (limited c.self.inside.rows c.self.inside.heads.room)
-    (shelves_seen c.self.view_is) c.args.place c.requires)) c.in-Some.key lent.now under).distinct
+    (c.self.invariant.sound c.args.place [] (place_open c.self.invariant c.self.view_is c.requires)) c.in-Some.key lent.now under).distinct
 
 pub invariant_of-self : goal.invariant_of-self
 invariant_of-self c = kept_beside (changed c) c.update.ensures.3.met.rest refl

@@ -1,9 +1,11 @@
 use Rattle.std.proofs.Common.{arith, refl, sym}
 use Rattle.std.proofs.lemmas.Grind.{common_steps}
-use Rattle.property_store.specs.Inside.{head_at, limited}
+use Rattle.std.proofs.lemmas.Result.{on_err_weaker}
+use Rattle.property_store.specs.Inside.{head_at}
 use Rattle.property_store.specs.Store.{with_dynamic}
 use Rattle.property_store.proofs.HeadLemmas.{IsRowChanged, as_changed, row_changed, same_head}
-use Rattle.property_store.proofs.PlaceLemmas.{nothing, nothing_changed, on_err, shelves_seen, stock_same}
+use Rattle.property_store.proofs.PlaceLemmas.{stock_same}
+use Rattle.property_store.proofs.ReadLemmas.{object_absent, store_unchanged}
 use Rattle.property_store.proofs.WriteLemmas.{dynamic_set, set_kept}
 use Rattle.property_store.proofs.WrittenLemmas.{kept_beside, marks_beside}
 use Rattle.property_store.proofs.stores.Stores.set_dynamic.Goals as goal
@@ -17,12 +19,11 @@ changed c =
     (same_head c.self.inside.heads c.args.place)
 
 pub returns-in_default-clause-refused : goal.returns-in_default-clause-refused
-returns-in_default-clause-refused c = rw (nothing (limited c.self.inside.rows c.self.inside.heads.room)
-    (shelves_seen c.self.view_is) c.args.place c.requires.place c.args.object (sym c.in_default.ensures.found)) refl
+returns-in_default-clause-refused c = rw (object_absent c.self.invariant c.self.view_is c.requires.place c.args.object (sym c.in_default.ensures.found)) refl
 
 pub returns-in_default-clause-ok : goal.returns-in_default-clause-ok
-returns-in_default-clause-ok c = nothing_changed (limited c.self.inside.rows c.self.inside.heads.room)
-    (shelves_seen c.self.view_is) c.args.place c.requires.place c.args.object (sym c.in_default.ensures.found) (with_dynamic c.args.name c.args.value)
+returns-in_default-clause-ok c = store_unchanged c.self.invariant c.self.view_is c.requires.place c.args.object (sym c.in_default.ensures.found)
+    (with_dynamic c.args.name c.args.value)
 
 pub invariant_of-self : goal.invariant_of-self
 invariant_of-self c = kept_beside (changed c) c.update.ensures.3.met.rest refl (set_kept (as_changed (changed c)) c.update.ensures.3.met c.requires.short)
@@ -38,7 +39,7 @@ returns-clause-marks c = marks_beside (changed c) c.update.ensures.3.met.rest re
 
 pub returns-clause-err : goal.returns-clause-err
 returns-clause-err c =
-    on_err c.update.result (λ same. stock_same same (marks_beside (changed c) c.update.ensures.3.met.rest refl))
+    on_err_weaker c.update.result (λ same. stock_same same (marks_beside (changed c) c.update.ensures.3.met.rest refl))
     (dynamic_set (as_changed (changed c)) c.update.ensures.3.met).err
 
 pub find-requires : goal.find-requires

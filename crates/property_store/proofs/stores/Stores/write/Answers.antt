@@ -1,19 +1,19 @@
 use Rattle.std.proofs.Common.{◌≡◌, Err, None, Ok, arith, cond, refl, sym, rules}
 use Rattle.std.proofs.lemmas.Grind.{common_steps}
 use Rattle.property_store.specs.declared.link.Head.TheVariants.{First}
-use Rattle.property_store.specs.Inside.{head_at, limited}
+use Rattle.property_store.specs.Inside.{head_at}
 use Rattle.property_store.specs.Store.{fields_in, properties_of}
 use Rattle.property_store.specs.Storing.{IsStored}
 use Rattle.property_store.specs.Table.{store_at}
 use Rattle.property_store.proofs.HeadLemmas.{IsRowChanged, as_changed, each_many, row_changed, same_head}
-use Rattle.property_store.proofs.PlaceLemmas.{nothing, rows_open, shelves_seen}
+use Rattle.property_store.proofs.ReadLemmas.{object_absent, place_open}
 use Rattle.property_store.proofs.WriteLemmas.{nothing_written, row_written}
 use Rattle.property_store.proofs.WrittenLemmas.{nothing_marked, refused_same, stored_kept, stored_marks}
 use Rattle.property_store.proofs.stores.Stores.write.Goals as goal
 
 -- there is no such object
 nothing_there : (c : goal.After-drop-value) → properties_of (store_at c.args.self.now.shelves c.args.place) c.args.object ≡ None
-nothing_there c = nothing (limited c.self.inside.rows c.self.inside.heads.room) (shelves_seen c.self.view_is) c.args.place c.requires.place c.args.object
+nothing_there c = object_absent c.self.invariant c.self.view_is c.requires.place c.args.object
     (sym c.in_default.ensures.found)
 
 pub returns-in_default-clause-refused : goal.returns-in_default-clause-refused
@@ -31,7 +31,7 @@ returns-in_default-clause-marks c = nothing_marked c.args.place c.args.object (s
 
 pub write_under-requires-clause-many : goal.write_under-requires-clause-many
 write_under-requires-clause-many c = each_many c.self.invariant c.args.place
-    (rows_open (limited c.self.inside.rows c.self.inside.heads.room) (shelves_seen c.self.view_is) c.args.place c.requires.place)
+    (place_open c.self.invariant c.self.view_is c.requires.place)
 
 -- the value is refused
 refused_row : (c : goal.In-Err) → IsRowChanged c.self.inside.layouts c.self.inside.rows c.self.inside.heads c.write_under.new.rows c.self.inside.heads

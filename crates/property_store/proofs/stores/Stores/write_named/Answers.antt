@@ -1,19 +1,19 @@
 use Rattle.std.proofs.Common.{◌≡◌, Err, None, Ok, arith, cond, refl, sym, rules}
 use Rattle.std.proofs.lemmas.Grind.{common_steps}
 use Rattle.property_store.specs.declared.link.Head.TheVariants.{First}
-use Rattle.property_store.specs.Inside.{head_at, limited}
+use Rattle.property_store.specs.Inside.{head_at}
 use Rattle.property_store.specs.Store.{fields_in, properties_of}
 use Rattle.property_store.specs.Storing.{IsNamed}
 use Rattle.property_store.specs.Table.{store_at}
 use Rattle.property_store.proofs.HeadLemmas.{IsRowChanged, as_changed, row_changed, same_head, under_many}
-use Rattle.property_store.proofs.PlaceLemmas.{nothing, rows_open, shelves_seen}
+use Rattle.property_store.proofs.ReadLemmas.{object_absent, place_open}
 use Rattle.property_store.proofs.WriteLemmas.{name_written, nothing_named}
 use Rattle.property_store.proofs.WrittenLemmas.{named_kept, named_marks, named_same, no_name_marked}
 use Rattle.property_store.proofs.stores.Stores.write_named.Goals as goal
 
 -- there is no such object
 nothing_there : (c : goal.In_default) → properties_of (store_at c.args.self.now.shelves c.args.place) c.args.object ≡ None
-nothing_there c = nothing (limited c.self.inside.rows c.self.inside.heads.room) (shelves_seen c.self.view_is) c.args.place c.requires.place c.args.object
+nothing_there c = object_absent c.self.invariant c.self.view_is c.requires.place c.args.object
     (sym c.in_default.ensures.found)
 
 pub returns-in_default-clause-answer : goal.returns-in_default-clause-answer
@@ -28,7 +28,7 @@ returns-in_default-clause-marks c = no_name_marked c.args.place c.args.object (s
 
 pub update-requires-clause-callable : goal.update-requires-clause-callable
 update-requires-clause-callable c = λ lent under. under_many c.self.invariant c.args.place
-    (rows_open (limited c.self.inside.rows c.self.inside.heads.room) (shelves_seen c.self.view_is) c.args.place c.requires.place) c.in-Some.key lent.now under
+    (place_open c.self.invariant c.self.view_is c.requires.place) c.in-Some.key lent.now under
 
 -- the value is refused
 refused_row : (c : goal.In-Err) → IsRowChanged c.self.inside.layouts c.self.inside.rows c.self.inside.heads c.update.new.self c.self.inside.heads
