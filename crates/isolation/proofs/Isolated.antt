@@ -1,9 +1,9 @@
--- Each session of a run is ts if alone.
+-- Each session of a run is as if alone.
 use Rattle.std.proofs.Common.{◌≡◌, true, false, List, [], ◌∷◌, ◌++◌, map, refl, sym, ap, ◌∙◌, ⊎_elim, arith, append_assoc}
 use Rattle.std.proofs.lemmas.Bool.{cases_Bool}
 use Rattle.isolation.specs.Machine.{Machine, IsLawful, Tagged}
-use Rattle.isolation.specs.World.{effect, all_arrive, after, world_after}
-use Rattle.isolation.specs.Alone.{Item, Own, Arrival, given, items, alone_after, alone_lines, alone_posts}
+use Rattle.isolation.specs.World.{effect, all_arrive, after}
+use Rattle.isolation.specs.Alone.{Item, Own, Arrival, items, alone_after, alone_lines, alone_posts}
 use Rattle.isolation.specs.Laws.{IsAlone, FirstHalf}
 use Rattle.isolation.proofs.Worlds.{after-other, after-own}
 
@@ -30,28 +30,14 @@ module _ {Name State Command Line Post : Type 0} (m : Machine Name State Command
       ∙ sym (append_assoc (m.does s state command).posts _ _)
   alone_posts-append s state (Arrival from post ∷ xs) ys = alone_posts-append s (m.arrives state from post) xs ys
 
-  -- what comes in a run of two lists, one after another
-  pub items-append : (s : Name) (world : Name → State) (ts us : List (Tagged Name Command))
-      → items m s world (ts ++ us) ≡ items m s world ts ++ items m s (world_after m world ts) us
-  items-append s world [] us = refl
-  items-append s world (t ∷ ts) us = ap (λ rest. given m s world t ++ rest) (items-append s (after m world t) ts us)
-      ∙ sym (append_assoc (given m s world t) _ _)
-
-  -- posts of another session before the other items
-  alone_after-posts : (s : Name) (state : State) (from : Name) (posts : List Post) (rest : List (Item Name Command Post))
-      → alone_after m s state (map (Arrival from) posts ++ rest) ≡ alone_after m s (all_arrive m state from posts) rest
-  alone_after-posts s state from [] rest = refl
-  alone_after-posts s state from (post ∷ posts) rest = alone_after-posts s (m.arrives state from post) from posts rest
-
-  alone_lines-posts : (s : Name) (state : State) (from : Name) (posts : List Post) (rest : List (Item Name Command Post))
-      → alone_lines m s state (map (Arrival from) posts ++ rest) ≡ alone_lines m s (all_arrive m state from posts) rest
-  alone_lines-posts s state from [] rest = refl
-  alone_lines-posts s state from (post ∷ posts) rest = alone_lines-posts s (m.arrives state from post) from posts rest
-
-  alone_posts-posts : (s : Name) (state : State) (from : Name) (posts : List Post) (rest : List (Item Name Command Post))
-      → alone_posts m s state (map (Arrival from) posts ++ rest) ≡ alone_posts m s (all_arrive m state from posts) rest
-  alone_posts-posts s state from [] rest = refl
-  alone_posts-posts s state from (post ∷ posts) rest = alone_posts-posts s (m.arrives state from post) from posts rest
+  -- what is made of items is made of those after the posts of another session
+  after-posts : {A : Type 0} (made : State → List (Item Name Command Post) → A)
+      → ((state : State) (from : Name) (post : Post) (rest : List (Item Name Command Post))
+      → made state (Arrival from post ∷ rest) ≡ made (m.arrives state from post) rest)
+      → (state : State) (from : Name) (posts : List Post) (rest : List (Item Name Command Post))
+      → made state (map (Arrival from) posts ++ rest) ≡ made (all_arrive m state from posts) rest
+  after-posts made one state from [] rest = refl
+  after-posts made one state from (post ∷ posts) rest = one state from post _ ∙ after-posts made one (m.arrives state from post) from posts rest
 
   module _ (lawful : IsLawful m) where
     -- a command of s itself
@@ -75,9 +61,9 @@ module _ {Name State Command Line Post : Type 0} (m : Machine Name State Command
         let posts = (effect m world t).posts in
         let later = items m s (after m world t) ts in
         record {
-          lines = grind (arith, rest.lines, other, now, alone_lines-posts s (world s) t.session posts later);
-          posts = grind (arith, rest.posts, other, now, alone_posts-posts s (world s) t.session posts later);
-          state = grind (arith, rest.state, other, now, alone_after-posts s (world s) t.session posts later);
+          lines = grind (arith, rest.lines, other, now, after-posts (alone_lines m s) (λ state from post rest. refl) (world s) t.session posts later);
+          posts = grind (arith, rest.posts, other, now, after-posts (alone_posts m s) (λ state from post rest. refl) (world s) t.session posts later);
+          state = grind (arith, rest.state, other, now, after-posts (alone_after m s) (λ state from post rest. refl) (world s) t.session posts later);
         }
 
     pub first_half : FirstHalf m

@@ -5,7 +5,7 @@ use Rattle.isolation.specs.Machine.{Effect, Machine, IsLawful, Tagged}
 use Rattle.isolation.specs.World.{world_after, entries_of, only, effect, all_arrive, after, world_lines, at_session}
 use Rattle.isolation.specs.Influence.{joined, IsClosed, Agree}
 use Rattle.isolation.specs.Laws.{InterleavingLaw, SameForAll, FinalStates, LeavingOut}
-use Rattle.isolation.proofs.Worlds.{after-other, after-own, strangers, names-all_arrive, length-world_lines}
+use Rattle.isolation.proofs.Worlds.{after-other, after-own, strangers, names-all_arrive, length-world_lines, other_session}
 
 -- of the kept entries, those that pass a narrower test
 pub entries_of-only : {Name Command Entry : Type 0} (test keep : Name → Bool) → ((name : Name) → test name ≡ true → keep name ≡ true)
@@ -71,9 +71,7 @@ module _ {Name State Command Line Post : Type 0} (m : Machine Name State Command
   pub Agree-left_out : (keep : Name → Bool) (world other : Name → State) (t : Tagged Name Command) → Agree keep world other → keep t.session ≡ false
       → ((r : Name) → keep r ≡ true → m.names (world r) t.session ≡ false) → Agree keep (after m world t) other
   Agree-left_out keep world other t agree left_out unknown = λ name passes.
-      let differs : m.same name t.session ≡ false = false_from_ne_true _
-      (λ e. both_ways (keep t.session) left_out (ap keep (sym (lawful.equal name t.session e)) ∙ passes)) in
-      agree name passes ∙ sym (strangers m lawful world t name differs (unknown name passes))
+      agree name passes ∙ sym (strangers m lawful world t name (other_session m lawful keep name t.session passes left_out) (unknown name passes))
 
   -- what no kept session joins
   pub unknown_to_kept : (keep : Name → Bool) (world : Name → State) (t : Tagged Name Command) (ts : List (Tagged Name Command)) → IsClosed m keep world (t ∷ ts)

@@ -1,10 +1,10 @@
 -- Inputs in pieces, of which some are left out.
 use Rattle.std.proofs.Common.{◌≡◌, Bool, true, cond, List, [], ◌∷◌, ◌++◌, filter, refl, sym, ap, ap₂, ◌∙◌, ⊎_elim, arith}
 use Rattle.std.proofs.lemmas.Bool.{cases_Bool}
-use Rattle.isolation.specs.Machine.{Effect, Machine, IsLawful, Tagged}
-use Rattle.isolation.specs.World.{only, effect, after, world_after, world_lines, at_session}
+use Rattle.isolation.specs.Machine.{Effect, Machine, IsLawful}
+use Rattle.isolation.specs.World.{effect, after, world_lines, at_session}
 use Rattle.isolation.specs.Influence.{influences}
-use Rattle.isolation.specs.Pieces.{Piece, Given, Faulty, Answer, Told, Blamed, commands_of, answer_passes, only_pieces, piece_answers, said, told}
+use Rattle.isolation.specs.Pieces.{Piece, Given, Faulty, Answer, Told, Blamed, commands_of, answer_passes, piece_answers, said, told}
 use Rattle.isolation.specs.Laws.{LeavingOutPieces, SaidStays, SaidByInfluence, ToldAlone}
 use Rattle.isolation.proofs.Isolated.{first_half}
 use Rattle.isolation.proofs.LeftOut.{IsClosed-after, effect-kept, Agree-kept, Agree-left_out, unknown_to_kept}
@@ -25,35 +25,7 @@ commands_of-append [] ys = refl
 commands_of-append (Given t ∷ xs) ys = ap (λ ts. t ∷ ts) (commands_of-append xs ys)
 commands_of-append (Faulty fault ∷ xs) ys = commands_of-append xs ys
 
--- the commands of the kept pieces are the kept commands
-pub commands_of-only_pieces : {Name Command Fault : Type 0} (keep : Name → Bool) (passes : Fault → Bool) (pieces : List (Piece Name Command Fault))
-    → commands_of (only_pieces keep passes pieces) ≡ only keep (commands_of pieces)
-commands_of-only_pieces keep passes [] = refl
-commands_of-only_pieces keep passes (Given t ∷ pieces) =
-    let rest : commands_of (only_pieces keep passes pieces) ≡ only keep (commands_of pieces) = commands_of-only_pieces keep passes pieces in
-    ⊎_elim (λ e. rw e (ap (λ ts. t ∷ ts) rest)) (λ e. rw e rest) (cases_Bool (keep t.session))
-commands_of-only_pieces keep passes (Faulty fault ∷ pieces) =
-    let rest : commands_of (only_pieces keep passes pieces) ≡ only keep (commands_of pieces) = commands_of-only_pieces keep passes pieces in
-    ⊎_elim (λ e. rw e rest) (λ e. rw e rest) (cases_Bool (passes fault))
-
 module _ {Name State Command Line Post : Type 0} (m : Machine Name State Command Line Post) where
-  -- the answers to two inputs, one after another
-  pub piece_answers-append : {Fault : Type 0} (world : Name → State) (xs ys : List (Piece Name Command Fault))
-      → piece_answers m world (xs ++ ys) ≡ piece_answers m world xs ++ piece_answers m (world_after m world (commands_of xs)) ys
-  piece_answers-append world [] ys = refl
-  piece_answers-append world (Given t ∷ xs) ys = ap (λ answers. Told t.session (effect m world t).lines ∷ answers)
-      (piece_answers-append (after m world t) xs ys)
-  piece_answers-append world (Faulty fault ∷ xs) ys = ap (λ answers. Blamed fault ∷ answers) (piece_answers-append world xs ys)
-
-  -- one more piece at the end
-  pub piece_answers-given : {Fault : Type 0} (world : Name → State) (xs : List (Piece Name Command Fault)) (t : Tagged Name Command)
-      → piece_answers m world (xs ++ Given t ∷ []) ≡ piece_answers m world xs ++ Told t.session (effect m (world_after m world (commands_of xs)) t).lines ∷ []
-  piece_answers-given world xs t = piece_answers-append world xs (Given t ∷ [])
-
-  pub piece_answers-faulty : {Fault : Type 0} (world : Name → State) (xs : List (Piece Name Command Fault)) (fault : Fault)
-      → piece_answers m world (xs ++ Faulty fault ∷ []) ≡ piece_answers m world xs ++ Blamed fault ∷ []
-  piece_answers-faulty world xs fault = piece_answers-append world xs (Faulty fault ∷ [])
-
   -- what the commands of s are told is what they are told in the run of the commands
   pub told-piece_answers : {Fault : Type 0} (s : Name) (world : Name → State) (pieces : List (Piece Name Command Fault))
       → told m s (piece_answers m world pieces) ≡ at_session m s (commands_of pieces) (world_lines m world (commands_of pieces))

@@ -1,14 +1,14 @@
--- A run of the commands that a slice keeps.
-use Rattle.std.proofs.Common.{◌≡◌, Bool, true, false, cond, ◌||◌, ◌&&◌, List, [], ◌∷◌, ◌++◌, length, map, filter, refl, sym, ap, ap₂, subst, ◌∙◌, ⊎_elim, arith}
+-- The members of a slice, and the notes that give it.
+use Rattle.std.proofs.Common.{◌≡◌, Bool, true, false, ◌||◌, ◌&&◌, List, [], ◌∷◌, ◌++◌, length, map, filter, refl, sym, ap, ap₂, subst, ◌∙◌, ⊎_elim, arith}
 use Rattle.std.proofs.Common.{suc}
 use Rattle.std.specs.List.{list_any}
-use Rattle.std.proofs.lemmas.Bool.{both_ways, false_from_ne_true, or_cases, or_left, or_right, or_parts, and_parts}
-use Rattle.isolation.specs.Machine.{Effect, Machine, IsLawful, Tagged}
+use Rattle.std.proofs.lemmas.Bool.{or_cases, or_left, or_right, or_parts, and_parts}
+use Rattle.isolation.specs.Machine.{Machine, IsLawful, Tagged}
 use Rattle.isolation.specs.World.{after, world_after, is_in}
-use Rattle.isolation.specs.Influence.{Self, Joined, joined, Influences, KnowsAll, Agree}
+use Rattle.isolation.specs.Influence.{Self, Joined, joined, Influences, KnowsAll}
 use Rattle.isolation.specs.Slice.{Slice, Note, kept, with_mark, matters, slice, IsNote, AreNotes, notes_of, back}
-use Rattle.isolation.specs.Laws.{SameFor, SliceLaw, SliceFromMembers, SliceWithinInfluence, NotesGiveSlice, NotesAreRight}
-use Rattle.isolation.proofs.LeftOut.{names-after, joined-after, effect-kept, Agree-kept, Agree-left_out}
+use Rattle.isolation.specs.Laws.{SliceWithinInfluence, NotesGiveSlice, NotesAreRight}
+use Rattle.isolation.proofs.LeftOut.{names-after, joined-after}
 use Rattle.isolation.proofs.Reaching.{Reached-more, is_in-front, is_in-back}
 
 -- what is kept of entries made one by one
@@ -66,39 +66,6 @@ module _ {Name State Command Line Post : Type 0} (m : Machine Name State Command
         let listed = is_in-members s (after m world t) ts in
         is_in-with_mark (matters m world rest.members t.session) t.session rest s listed
 
-    -- a command of a member before what two lists tell alike
-    pub same_before : (s : Name) (world other : Name → State) (t : Tagged Name Command) (ts : List (Tagged Name Command)) (members : List Name)
-        (marks : List Bool) → Agree (λ name. is_in m name (t.session ∷ members)) world other
-        → ((next : Name → State) → Agree (λ name. is_in m name members) (after m world t) next → SameFor m s (after m world t) ts next (kept marks ts))
-        → SameFor m s world (t ∷ ts) other (t ∷ kept marks ts)
-    same_before s world other t ts members marks agree later =
-        let does_same = effect-kept m lawful (λ name. is_in m name (t.session ∷ members)) world other t agree (or_left _ _ (lawful.itself t.session)) in
-        let agrees = Agree-kept m lawful (λ name. is_in m name (t.session ∷ members)) world other t agree (or_left _ _ (lawful.itself t.session)) in
-        let same = later (after m other t) (λ name in_rest. agrees name (or_right (m.same name t.session) _ in_rest)) in
-        record {
-          lines = ap₂ (λ (e : Effect State Line Post) (entries : List (List Line)). cond (m.same s t.session) (e.lines ∷ entries) entries) does_same same.lines;
-          state = same.state;
-        }
-
-    -- one more command before a run, by its mark
-    kept_step : (s : Name) (world other : Name → State) (t : Tagged Name Command) (ts : List (Tagged Name Command)) (rest : Slice Name) (mark : Bool)
-        → mark ≡ matters m world rest.members t.session → is_in m s rest.members ≡ true
-        → Agree (λ name. is_in m name (with_mark mark t.session rest).members) world other
-        → ((next : Name → State) → Agree (λ name. is_in m name rest.members) (after m world t) next
-        → SameFor m s (after m world t) ts next (kept rest.marks ts)) → SameFor m s world (t ∷ ts) other (kept (with_mark mark t.session rest).marks (t ∷ ts))
-    kept_step s world other t ts rest true is listed agree later = same_before s world other t ts rest.members rest.marks agree later
-    kept_step s world other t ts rest false is listed agree later =
-        let parts = or_parts (is_in m t.session rest.members) _ (sym is) in
-        let unknown = λ (r : Name) (in_rest : is_in m r rest.members ≡ true). unknown_to_members world rest.members t.session parts.1 r lawful in_rest in
-        let agrees = Agree-left_out m lawful (λ name. is_in m name rest.members) world other t agree parts.0 unknown in
-        let same = later other agrees in
-        let differs : m.same s t.session ≡ false = false_from_ne_true _
-        (λ e. both_ways (is_in m t.session rest.members) parts.0 (ap (λ n. is_in m n rest.members) (sym (lawful.equal s t.session e)) ∙ listed)) in
-        record {
-          lines = rw differs same.lines;
-          state = same.state;
-        }
-
     -- of one more member, which is one already or which a member joins
     within_step : (s : Name) (world : Name → State) (t : Tagged Name Command) (ts : List (Tagged Name Command)) (rest : Slice Name) (mark : Bool)
         → mark ≡ matters m world rest.members t.session → ((r : Name) → is_in m r rest.members ≡ true → Influences m world (t ∷ ts) s r) → (name : Name)
@@ -113,16 +80,6 @@ module _ {Name State Command Line Post : Type 0} (m : Machine Name State Command
         (or_cases (is_in m t.session rest.members) _ (sym is))))
         (λ later. members name later)
         (or_cases (m.same name t.session) _ listed)
-
-    -- a run of the kept commands, from any world that is alike at the members
-    pub slice_from_members : SliceFromMembers m
-    slice_from_members s world other [] agree = record { lines = refl; state = agree s (or_left _ _ (lawful.itself s)) }
-    slice_from_members s world other (t ∷ ts) agree = kept_step s world other t ts (slice m s (after m world t) ts)
-        (matters m world (slice m s (after m world t) ts).members t.session) refl (is_in-members s (after m world t) ts) agree
-        (λ next agrees. slice_from_members s (after m world t) next ts agrees)
-
-    pub slice_law : SliceLaw m
-    slice_law s world ts = slice_from_members s world world ts (λ name listed. refl)
 
     -- a member of the slice influences s
     pub slice_within_influence : SliceWithinInfluence m

@@ -1,10 +1,10 @@
 -- Runs in which some commands find no memory.
-use Rattle.std.proofs.Common.{◌≡◌, ◌⊎◌, inl, inr, Bool, true, false, not, ◌&&◌, List, [], ◌∷◌, Some, map, refl, sym, ap, ap₂, ◌∙◌, ⊎_elim}
-use Rattle.std.proofs.lemmas.Bool.{cases_Bool, both_ways, false_from_ne_true, cond-true}
+use Rattle.std.proofs.Common.{◌≡◌, ◌⊎◌, inl, inr, Bool, true, false, not, ◌&&◌, List, [], ◌∷◌, Some, refl, sym, ap, ap₂, ◌∙◌, ⊎_elim}
+use Rattle.std.proofs.lemmas.Bool.{cases_Bool, cond-true}
 use Rattle.isolation.specs.Machine.{Effect, Machine, IsLawful, Tagged}
-use Rattle.isolation.specs.World.{after, all_arrive, effect, entries_of, world_lines}
+use Rattle.isolation.specs.World.{after, all_arrive, effect}
 use Rattle.isolation.specs.Spared.{AreSpared, BeginsAnew, EndIn, IsLossy, Mortal, SparedLaw, Told, heard}
-use Rattle.isolation.proofs.Worlds.{after-other, after-own, all_arrive-stranger, strangers}
+use Rattle.isolation.proofs.Worlds.{after-other, after-own, all_arrive-stranger, other_session, strangers}
 use Rattle.isolation.proofs.LeftOut.{IsClosed-after, unknown_to_kept}
 
 module _ {Name State Command Line Post : Type 0} (m : Machine Name State Command Line Post) (anew : Command → Bool) (lawful : IsLawful m) where
@@ -55,48 +55,28 @@ module _ {Name State Command Line Post : Type 0} (m : Machine Name State Command
       → IsLossy m anew old new t told → keep t.session ≡ false → ((r : Name) → keep r ≡ true → m.names (world r) t.session ≡ false)
       → EndIn m anew keep world old → EndIn m anew keep (after m world t) new
   stands_left_out keep world old new t told step left_out unknown stood = λ name passes.
-      let differs : m.same name t.session ≡ false = false_from_ne_true _
-      (λ e. both_ways (keep t.session) left_out (ap keep (sym (lawful.equal name t.session e)) ∙ passes)) in
+      let differs = other_session m lawful keep name t.session passes left_out in
       other_stands world old new t step.posts name (step.others name differs)
       (all_arrive-stranger m lawful (world name) t.session step.posts (unknown name passes)
       ∙ sym (strangers m lawful world t name differs (unknown name passes)))
       (stood name passes)
-
-  entry_kept : (keep : Name → Bool) (t : Tagged Name Command) (ts : List (Tagged Name Command)) (told : Told Line) (rest : List (Told Line)) (lines : List Line)
-      (others : List (List Line))
-      → keep t.session ≡ true → told.lines ≡ Some lines
-      → map (λ (one : Told Line). one.lines) (entries_of keep ts rest) ≡ map Some (entries_of keep ts others)
-      → map (λ (one : Told Line). one.lines) (entries_of keep (t ∷ ts) (told ∷ rest)) ≡ map Some (entries_of keep (t ∷ ts) (lines ∷ others))
-  entry_kept keep t ts told rest lines others passes some same = rw passes (ap₂ (λ x xs. x ∷ xs) some same)
-
-  entry_left_out : (keep : Name → Bool) (t : Tagged Name Command) (ts : List (Tagged Name Command)) (told : Told Line) (rest : List (Told Line))
-      (lines : List Line) (others : List (List Line))
-      → keep t.session ≡ false
-      → map (λ (one : Told Line). one.lines) (entries_of keep ts rest) ≡ map Some (entries_of keep ts others)
-      → map (λ (one : Told Line). one.lines) (entries_of keep (t ∷ ts) (told ∷ rest)) ≡ map Some (entries_of keep (t ∷ ts) (lines ∷ others))
-  entry_left_out keep t ts told rest lines others left_out same = rw left_out same
 
   -- one more command of a session that passes the test,
   spared_step : (keep : Name → Bool) (world : Name → State) (new : Name → Mortal State) (t : Tagged Name Command) (ts : List (Tagged Name Command))
       (told : Told Line) (rest : List (Told Line))
       → keep t.session ≡ true → told.lines ≡ Some (effect m world t).lines
       → AreSpared m anew keep (after m world t) ts rest new → AreSpared m anew keep world (t ∷ ts) (told ∷ rest) new
-  spared_step keep world new t ts told rest passes said later =
-      record {
-        lines = entry_kept keep t ts told rest (effect m world t).lines (world_lines m (after m world t) ts) passes said later.lines;
-        states = later.states;
-      }
+  spared_step keep world new t ts told rest passes said later = record {
+    lines = rw passes (ap₂ (λ x xs. x ∷ xs) said later.lines);
+    states = later.states;
+  }
 
   -- and of one that does not
   left_out_step : (keep : Name → Bool) (world : Name → State) (new : Name → Mortal State) (t : Tagged Name Command) (ts : List (Tagged Name Command))
       (told : Told Line) (rest : List (Told Line))
       → keep t.session ≡ false
       → AreSpared m anew keep (after m world t) ts rest new → AreSpared m anew keep world (t ∷ ts) (told ∷ rest) new
-  left_out_step keep world new t ts told rest left_out later =
-      record {
-        lines = entry_left_out keep t ts told rest (effect m world t).lines (world_lines m (after m world t) ts) left_out later.lines;
-        states = later.states;
-      }
+  left_out_step keep world new t ts told rest left_out later = record { lines = rw left_out later.lines; states = later.states }
 
   pub spared_law : SparedLaw m anew
   spared_law begins keep world old new [] [] closed stood steps done = record { lines = refl; states = rw steps stood }

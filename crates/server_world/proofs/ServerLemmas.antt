@@ -1,5 +1,5 @@
 -- A server over its engine: when it has found memory refused, which names it knows, and what a command makes of it.
-use Rattle.std.proofs.Common.{◌≡◌, ◌⊎◌, ◌&&◌, inl, inr, ℕ, Bool, true, false, true≢false, not, cond, List, [], ◌∷◌, ◌++◌, Option, Some, None, Result, Ok, Err}
+use Rattle.std.proofs.Common.{◌≡◌, ◌⊎◌, ◌&&◌, inl, inr, ℕ, Bool, true, false, true≢false, not, cond, List, [], ◌∷◌, ◌++◌, Option, Some, None, Result}
 use Rattle.std.proofs.Common.{IfNone, IsErr, IsTrue, IsFalse, refl, sym, ap, subst, ◌∙◌, ⊎_elim}
 use Rattle.std.specs.Prelude.{bytes_eq}
 use Rattle.std.specs.List.{list_any}
@@ -23,6 +23,7 @@ use Rattle.session_engine.specs.Core.{EngineState, place}
 use Rattle.session_engine.specs.Items.{BeginsAnew}
 use Rattle.session_engine.specs.Sessions.{AreSound, AreWell, IsStep, is_reset}
 use Rattle.session_engine.proofs.EngineLemmas.{position-any, position-None}
+use Rattle.session_engine.proofs.ItemsLemmas.{none_of_err}
 use Rattle.server_world.specs.Names.{with_name}
 use Rattle.server_world.specs.Server.{Server, IsLost, StaysOut, failed, seen_by_name, sessions, settings, was_refused}
 
@@ -54,7 +55,7 @@ module _ (old new : Server) (same : new.memory_refused ≡ old.memory_refused) w
   refused_first was now = ⊎_elim (λ inside. inside) (λ outside. absurd (both_ways _ (found_elsewhere old was) (sym same ∙ outside))) (or_cases _ _ now)
 
   -- so a step of the engine is one of the server
-  pub step_of_engine : (name : List ℕ) (asked : Asked) (told : Option (List Line))
+  step_of_engine : (name : List ℕ) (asked : Asked) (told : Option (List Line))
       → IsStep (engine.seen_by_name old.engine) (engine.seen_by_name new.engine) name asked told → IsStep (seen_by_name old) (seen_by_name new) name asked told
   step_of_engine name asked told step = record {
     lines = λ found. step.lines (found_in_engine new found);
@@ -76,7 +77,7 @@ module _ (old new : Server) (same : new.memory_refused ≡ old.memory_refused) w
   }
 
 -- nothing is done for a name that could not be entered
-pub step_out : (old new : Server) (name : List ℕ) (asked : Asked) → StaysOut old.engine new.engine name → AreWell (engine.seen_by_name old.engine)
+step_out : (old new : Server) (name : List ℕ) (asked : Asked) → StaysOut old.engine new.engine name → AreWell (engine.seen_by_name old.engine)
     → AreSound (engine.seen_by_name old.engine) → IsStep (seen_by_name old) (seen_by_name new) name asked None
 step_out old new name asked out well sound =
     let refused : IsTrue (was_refused new) = refused_in_engine new out.refused in
@@ -105,9 +106,22 @@ step_out old new name asked out well sound =
       named = λ is all. subst (λ (sessions : List ℕ → Session). (other : List ℕ) → AreNamed (sessions other).state) (sym out.sessions) all;
     }
 
-pub none_of_err : {T E : Type 0} (result : Result T E) → IsErr result → result_ok result ≡ None
-none_of_err (Ok value) h = absurd (cc)
-none_of_err (Err error) h = refl
+-- what a server does whose engine enters a session, or cannot, and then does its command
+module _ (old : Server) (entered : EngineState) (name : List ℕ) (asked : Asked) where
+  abbrev with_engine : EngineState → Server
+  with_engine engine = record { engine = engine; memory_refused = old.memory_refused }
+
+  pub step_refused : {E : Type 0} (result : Result (List Line) E) → IsErr result → StaysOut old.engine entered name
+      → AreWell (engine.seen_by_name old.engine) → AreSound (engine.seen_by_name old.engine)
+      → IsStep (seen_by_name old) (seen_by_name (with_engine entered)) name asked (result_ok result)
+  step_refused result failed out well sound = subst (IsStep (seen_by_name old) (seen_by_name (with_engine entered)) name asked)
+      (sym (none_of_err result failed)) (step_out old (with_engine entered) name asked out well sound)
+
+  pub step_entered : (new : EngineState) (told : Option (List Line)) → engine.seen_by_name entered ≡ engine.seen_by_name old.engine
+      → IsStep (engine.seen_by_name entered) (engine.seen_by_name new) name asked told
+      → IsStep (seen_by_name old) (seen_by_name (with_engine new)) name asked told
+  step_entered new told seen step = step_of_engine old (with_engine new) refl name asked told
+      (subst (λ sessions. IsStep sessions (engine.seen_by_name new) name asked told) seen step)
 
 -- with a name that has a place the names stay, and one that has none goes last
 pub with_name-there : (sessions : EngineState) (name : List ℕ) (at : ℕ) → place sessions name ≡ Some at

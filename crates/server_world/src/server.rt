@@ -1,5 +1,5 @@
 //! Sessions that come with their first command, and runs of their commands.
-ghost use Rattle.std.specs.Prelude.{◌≡◌, ◌⊎◌, ◌≤◌, ◌<◌, ◌++◌, ◌∷◌, [], All, List, ℕ, Some, length, map, IsTrue, IsFalse, IfOk, OnOk, OnErr};
+ghost use Rattle.std.specs.Prelude.{◌≡◌, ◌⊎◌, ◌<◌, ◌++◌, ◌∷◌, [], All, List, ℕ, Some, length, map, IsTrue, IsFalse, IfOk, OnOk, OnErr};
 ghost use Rattle.std.specs.Result.{result_ok};
 ghost use Rattle.isolation.specs.Slice.{Note, back};
 ghost use Rattle.session_model.specs.Asked.{asked, tag};
@@ -16,7 +16,7 @@ ghost use Rattle.server_world.specs.Server.{IsLost, IsNew, KnowsAtMost, OnlyRefu
 ghost use Rattle.server_world.specs.Server.{seen_by_name, seen_as, settings, states, was_refused};
 ghost use Rattle.server_world.specs.Spared.{SparesItsSession};
 ghost use Rattle.server_world.specs.Runs.{AreSteps, IsBlamed, IsEntry, IsIsolated, IsLater, IsWorldRun, tags};
-ghost use Rattle.server_world.specs.Noting.{IsNoted, IsWithin, StopsShort, kept_places, marked_from, name_at, named};
+ghost use Rattle.server_world.specs.Noting.{IsNoted, IsWithin, StopsShort, marked_from, name_at, named};
 ghost use Rattle.server_world.specs.NotedRuns.{AnswersPlaces, IsKeptRun, Stops};
 
 use crate::notes::Notes;

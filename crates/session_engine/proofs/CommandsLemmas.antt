@@ -530,32 +530,35 @@ module _ (caller : SessionContext) (asked : Asked) (old new : Tables) (was now :
     (names : List (List ℕ)) (engine : EngineState) (whole : IsWhole (engine_state caller.setup.now names old was))
     (fits : (state : State) → IsFittingAsked (settings_of caller.setup.now) state asked) (is : engine_state caller.setup.now names old was ≡ engine)
     (given : Some caller.name.now ≡ slice_get names caller.place) where
+  abbrev before : EngineState
+  before = engine_state caller.setup.now names old was
+
+  abbrev after : EngineState
+  after = engine_state caller.setup.now names new now
+
   module _ (name : List ℕ) (there : place engine name ≡ Some caller.place) where
     same : name ≡ caller.name.now
-    same = named_at (engine_state caller.setup.now names old was) name caller.place caller.name.now (ap (λ engine. place engine name) is ∙ there) given
+    same = named_at before name caller.place caller.name.now (ap (λ engine. place engine name) is ∙ there) given
 
-    here : place (engine_state caller.setup.now names old was) caller.name.now ≡ Some caller.place
-    here = subst (λ name. place (engine_state caller.setup.now names old was) name ≡ Some caller.place) same (ap (λ engine. place engine name) is ∙ there)
+    here : place before caller.name.now ≡ Some caller.place
+    here = subst (λ name. place before name ≡ Some caller.place) same (ap (λ engine. place engine name) is ∙ there)
 
-    its_ending : Ended (engine_state caller.setup.now names old was) (engine_state caller.setup.now names new now) caller.place caller.name.now asked
-        (answer_lines result) obeyed.failing
+    its_ending : Ended before after caller.place caller.name.now asked (answer_lines result) obeyed.failing
     its_ending = ends caller asked old new names was now result obeyed
 
-    pub done_whole : IsWhole (engine_state caller.setup.now names new now)
+    pub done_whole : IsWhole after
     done_whole = whole_after _ _ caller.place caller.name.now asked (answer_lines result) obeyed.failing whole fits here its_ending
 
-    pub done_step : IsStep (seen_by_name engine) (seen_by_name (engine_state caller.setup.now names new now)) name asked (answer_lines result)
-    done_step = subst (λ (engine : EngineState). IsStep (seen_by_name engine) (seen_by_name (engine_state caller.setup.now names new now)) name asked
-        (answer_lines result)) is
-        (subst (λ name. IsStep (seen_by_name (engine_state caller.setup.now names old was))
-        (seen_by_name (engine_state caller.setup.now names new now)) name asked (answer_lines result)) (sym same)
+    pub done_step : IsStep (seen_by_name engine) (seen_by_name after) name asked (answer_lines result)
+    done_step = subst (λ (engine : EngineState). IsStep (seen_by_name engine) (seen_by_name after) name asked (answer_lines result)) is
+        (subst (λ name. IsStep (seen_by_name before) (seen_by_name after) name asked (answer_lines result)) (sym same)
         (step_of _ _ caller.place caller.name.now asked (answer_lines result) obeyed.failing whole fits here its_ending))
 
-    now_there : place (engine_state caller.setup.now names new now) name ≡ Some caller.place
+    now_there : place after name ≡ Some caller.place
     now_there = ap (λ engine. place engine name) is ∙ there
 
     own : session_at old caller.place ≡ sessions engine name
-    own = sym (sessions-place (engine_state caller.setup.now names old was) name caller.place now_there) ∙ ap (λ engine. sessions engine name) is
+    own = sym (sessions-place before name caller.place now_there) ∙ ap (λ engine. sessions engine name) is
 
     -- what the call returns, by the name of its session
     ReturnsIn : EngineState → List ℕ → Session → Type 0
@@ -568,9 +571,9 @@ module _ (caller : SessionContext) (asked : Asked) (old new : Tables) (was now :
     returns_named =
         subst (ReturnsIn engine name) own
         (subst (λ (engine : EngineState). ReturnsIn engine name (session_at old caller.place)) is
-        (subst (λ name. ReturnsIn (engine_state caller.setup.now names old was) name (session_at old caller.place)) (sym same) obeyed.returns))
+        (subst (λ name. ReturnsIn before name (session_at old caller.place)) (sym same) obeyed.returns))
 
-    pub done_answered : IsAnswered engine (engine_state caller.setup.now names new now) name asked result
+    pub done_answered : IsAnswered engine after name asked result
     done_answered = record {
       returns = returns_named;
       refused = stays result obeyed.refused;
@@ -578,19 +581,17 @@ module _ (caller : SessionContext) (asked : Asked) (old new : Tables) (was now :
       fine = (ends_so result obeyed.fails).1;
     }
       where
-        stays : (result : Result (List Line) Fault) → OnRefused result (new ≡ old)
-            → OnRefused result (sessions (engine_state caller.setup.now names new now) ≡ sessions engine)
+        stays : (result : Result (List Line) Fault) → OnRefused result (new ≡ old) → OnRefused result (sessions after ≡ sessions engine)
         stays (Ok lines) kept = tt
         stays (Err (Refused code)) kept = ap (λ tables. sessions (engine_state caller.setup.now names tables now)) kept ∙ ap sessions is
         stays (Err Memory) kept = tt
 
-        ends_so : (result : Result (List Line) Fault) → OnMemory result
-            ((session_at new caller.place ≡ failed_session) × IsFalse (is_shut (session_at old caller.place) asked))
-            → OnMemory result (sessions (engine_state caller.setup.now names new now) name ≡ failed_session)
-            × OnMemory result (IsFalse (is_shut (sessions engine name) asked))
+        ends_so : (result : Result (List Line) Fault)
+            → OnMemory result ((session_at new caller.place ≡ failed_session) × IsFalse (is_shut (session_at old caller.place) asked))
+            → OnMemory result (sessions after name ≡ failed_session) × OnMemory result (IsFalse (is_shut (sessions engine name) asked))
         ends_so (Ok lines) fails = (tt, tt)
         ends_so (Err (Refused code)) fails = (tt, tt)
         ends_so (Err Memory) fails = (
-          sessions-place (engine_state caller.setup.now names new now) name caller.place now_there ∙ fails.0,
+          sessions-place after name caller.place now_there ∙ fails.0,
           subst (λ (session : Session). IsFalse (is_shut session asked)) own fails.1,
         )

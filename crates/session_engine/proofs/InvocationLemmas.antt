@@ -1,6 +1,6 @@
 -- The command that calls a slot or sends a signal.
-use Rattle.std.proofs.Common.{◌≡◌, ◌<◌, ◌-◌, ◌==◌, ◌&&◌, ℕ, Bool, true, false, cond, List, [], ◌∷◌, Option, Some, None, Ok, Err, slice_get, sym, ap, refl}
-use Rattle.std.proofs.Common.{if◌then◌else◌, ◌∙◌, arith}
+use Rattle.std.proofs.Common.{◌≡◌, ◌<◌, ◌-◌, ◌==◌, ◌&&◌, ℕ, Bool, true, false, cond, List, [], ◌∷◌, Option, Some, None, Result, Ok, Err, IsErrAnd, slice_get}
+use Rattle.std.proofs.Common.{sym, ap, refl, if◌then◌else◌, ◌∙◌, arith}
 use Rattle.std.proofs.lemmas.Bool.{cond-true, cond-false, cond_both}
 use Rattle.std.proofs.lemmas.Bool.Decides.{nat_tests}
 use Rattle.std.proofs.lemmas.List.Quantifiers.{position-Some}
@@ -13,6 +13,7 @@ use Rattle.plain_types.specs.declared.fault.Fault.{Fault}
 use Rattle.plain_types.specs.declared.fault.Fault.TheVariants.{Memory, Refused}
 use Rattle.plain_types.specs.Answers.{Answers}
 use Rattle.serde_json.specs.Data.{Data}
+use Rattle.signature_core.specs.declared.kind.Kind.{Kind}
 use Rattle.signature_core.specs.declared.signature.Signature.{Signature}
 use Rattle.signature_core.specs.Reading.{signature_of}
 use Rattle.variant_value.specs.declared.value.Value.{Value}
@@ -20,10 +21,12 @@ use Rattle.class_table.specs.declared.class.Method.{Method}
 use Rattle.class_table.specs.Lookup.{is_same, method_number, methods}
 use Rattle.event_queue.specs.declared.event.Priority.{Priority}
 use Rattle.session_model.specs.declared.line.Answer.TheVariants as a
+use Rattle.session_model.specs.declared.line.Line.{Line}
 use Rattle.session_model.specs.declared.line.Line.TheVariants as line
+use Rattle.session_model.specs.declared.post.Post.{Post}
 use Rattle.session_model.specs.Absence.{absence}
 use Rattle.session_model.specs.Agenda.{method_items, with_turn}
-use Rattle.session_model.specs.Asked.{Invoke}
+use Rattle.session_model.specs.Asked.{Asked, Invoke}
 use Rattle.session_model.specs.Execution.{Execution, line_told, turn_taken, used_up}
 use Rattle.session_model.specs.Effects.{does_next, ended}
 use Rattle.session_model.specs.Items.{Emit, Item, Next, Run, puts}
@@ -33,8 +36,7 @@ use Rattle.session_model.specs.Settings.{Settings}
 use Rattle.plain_types.specs.declared.connection_type.ConnectionType.{ConnectionType}
 use Rattle.session_model.specs.Posting.{is_queued, enqueue_refusal}
 use Rattle.session_model.specs.Refusing.{later_refusal, values_refusal}
-use Rattle.session_model.specs.Signals.{asked_method, asked_values, invoked, invoked_later, invokes}
-use Rattle.session_model.specs.Thread.{performs}
+use Rattle.session_model.specs.Signals.{asked_method, asked_values, invoked, invoked_later, invokes, values_of}
 use Rattle.session_model.specs.State.{State}
 use Rattle.session_model.proofs.ForCallers.{at_end, performs_invoke, refusal_invoke, replies_last}
 use Rattle.session_tables.specs.declared.tables.Tables.{Tables}
@@ -47,7 +49,7 @@ use Rattle.dispatch.specs.declared.command_output.CommandOutput.{CommandOutput}
 use Rattle.session_engine.specs.Commands.{Performs, its_effect, its_refusal, reply_after}
 use Rattle.session_effects.specs.Setup.{settings_of}
 use Rattle.dispatch.specs.CommandOutput.{doing_at, fresh_output}
-use Rattle.session_engine.proofs.CommandsLemmas.{at_first_reaches, or_second, replied_last}
+use Rattle.session_engine.proofs.CommandsLemmas.{at_first_reaches, or_second, replied_last, starved_last}
 use Rattle.dispatch.specs.Agenda.{RunsNext}
 use Rattle.dispatch.specs.Prefix.{IsPrefix}
 use Rattle.dispatch.proofs.ForCallers.{front_same}
@@ -97,11 +99,36 @@ pub kinds_are : (settings : Settings) (state : State) (target index : ℕ) (meth
     → method.signature.kinds ≡ kinds_at (methods_of settings state target) index
 kinds_are settings state target index method has = ap (λ (found : Option Method). option_map_or (λ method. method.signature.kinds) found []) has
 
+-- a method that the text of a call names, of an object that is there, and what the arguments of the call become
+pub record IsInvoked (caller : SessionContext) (object : ℕ) (text : List ℕ) (args : List Data) (old : Tables) (index : ℕ) (values : List Value)
+    (method : Method) : Type 0 where
+  pub there : None ≡ absence (state_at old caller.place) object
+  pub named : IsAsked (settings_of caller.setup.now) (state_at old caller.place) object text (Some index)
+  pub has : Some method ≡ method_at (settings_of caller.setup.now) (state_at old caller.place) object index
+  pub given : asked_values (settings_of caller.setup.now) (state_at old caller.place) object index args ≡ Ok values
+
+pub is_invoked : (caller : SessionContext) (object : ℕ) (text : List ℕ) (args : List Data) (old : Tables) (class index : ℕ) (found : Option ℕ)
+    (method : Method) (kinds : List Kind) (values : List Value)
+    → None ≡ absence (state_at old caller.place) object → HasClass (state_at old caller.place) object class
+    → number_named (methods (settings_of caller.setup.now).classes class) text ≡ Ok found → found ≡ Some index
+    → Some method ≡ slice_get (methods (settings_of caller.setup.now).classes class) index → kinds ≡ method.signature.kinds
+    → values_of kinds args ≡ Ok values → IsInvoked caller object text args old index values method
+is_invoked caller object text args old class index found method kinds values there class_has names is row kinds_is converted =
+    let settings = settings_of caller.setup.now in
+    let state = state_at old caller.place in
+    let has = method_is settings state object class index method class_has row in
+    record {
+      there = there;
+      named = named_in settings state object class text (Some index) class_has (names ∙ ap Ok is);
+      has = has;
+      given = ap (λ kinds. values_of kinds args) (sym (kinds_is ∙ kinds_are settings state object index method has)) ∙ converted;
+    }
+
 -- a method that is called at once: a slot takes a turn for that
 abbrev pub called_now : Bool → List Item → Execution → Next
 called_now signal items doing = if signal then puts items doing else with_turn doing (puts items)
 
-pub invoked_is : (settings : Settings) (place : ℕ) (tables : Tables) (output : CommandOutput) (object index : ℕ) (values : List Value) (method : Method)
+invoked_is : (settings : Settings) (place : ℕ) (tables : Tables) (output : CommandOutput) (object index : ℕ) (values : List Value) (method : Method)
     → output ≡ fresh_output settings.turns → Some method ≡ method_at settings (state_at tables place) object index
     → called_now method.is_signal (method_items object index 0 values 0 0 method) (doing_at place tables output [])
     ≡ invoked settings (state_at tables place) object index values
@@ -152,100 +179,90 @@ module _ (settings : Settings) (items : List Item) (doing : Execution) where
   pub now_sent : (signal : Bool) → signal ≡ true → (done : Execution) → run settings items doing ≡ done → runs signal ≡ done
   now_sent signal sent done does = ap runs sent ∙ does
 
--- why a method is not invoked, where the object is there and the signature spelled
-module _ (caller : SessionContext) (object : ℕ) (text : List ℕ) (args : List Data) (mode : ConnectionType) (priority : Priority) (old new : Tables)
-    (signature : Signature)
-    (there : None ≡ absence (state_at old caller.place) object) (spelled : ok_or (signature_of text) BadSignature ≡ Ok signature) where
+-- what a call of a method comes to
+module _ (caller : SessionContext) (object : ℕ) (text : List ℕ) (args : List Data) (mode : ConnectionType) (priority : Priority) (old : Tables) where
   abbrev the_settings : Settings
   the_settings = settings_of caller.setup.now
 
   abbrev the_state : State
   the_state = state_at old caller.place
 
-  abbrev the_refusal : Option Code
-  the_refusal = its_refusal caller (Invoke object text args mode priority) old
+  abbrev the_call : Asked
+  the_call = Invoke object text args mode priority
 
-  -- then it goes by the method that is found
-  pub refusal_found : (found : Option ℕ) → asked_method the_settings the_state object text ≡ found
+  abbrev the_refusal : Option Code
+  the_refusal = its_refusal caller the_call old
+
+  -- why it is refused goes by the method that is found
+  pub refusal_found : (found : Option ℕ) → None ≡ absence the_state object → IsAsked the_settings the_state object text found
       → the_refusal ≡ option_or (values_refusal the_settings the_state object args found) (later_refusal the_state mode found)
-  refusal_found found asked =
+  refusal_found found there named =
       refusal_invoke the_settings caller.name.now the_state object text args mode priority ∙ or_second _ _ there
       ∙ ap (λ (signature : Found Signature). option_or (result_err signature)
       (option_or (values_refusal the_settings the_state object args (asked_method the_settings the_state object text))
-      (later_refusal the_state mode (asked_method the_settings the_state object text)))) spelled
-      ∙ ap (λ (found : Option ℕ). option_or (values_refusal the_settings the_state object args found) (later_refusal the_state mode found)) asked
+      (later_refusal the_state mode (asked_method the_settings the_state object text)))) named.spelled
+      ∙ ap (λ (found : Option ℕ). option_or (values_refusal the_settings the_state object args found) (later_refusal the_state mode found)) named.asked
 
   -- where there is none it is not refused
-  pub refusal_absent : asked_method the_settings the_state object text ≡ None → the_refusal ≡ None
-  refusal_absent asked = refusal_found None asked ∙ by (is_queued mode)
+  pub refusal_absent : None ≡ absence the_state object → IsAsked the_settings the_state object text None → the_refusal ≡ None
+  refusal_absent there named = refusal_found None there named ∙ by (is_queued mode)
     where
       by : (b : Bool) → cond (b && false) (enqueue_refusal the_state.queue) None ≡ None
       by true = refl
       by false = refl
 
-  module _ (index : ℕ) (values : List Value) (asked : asked_method the_settings the_state object text ≡ Some index)
-      (given : asked_values the_settings the_state object index args ≡ Ok values) where
+  module _ {index : ℕ} {values : List Value} {method : Method} (it : IsInvoked caller object text args old index values method) where
     refusal_given : the_refusal ≡ later_refusal the_state mode (Some index)
-    refusal_given = refusal_found (Some index) asked
-        ∙ ap (λ (given : Found (List Value)). option_or (result_err given) (later_refusal the_state mode (Some index))) given
+    refusal_given = refusal_found (Some index) it.there it.named
+        ∙ ap (λ (given : Found (List Value)). option_or (result_err given) (later_refusal the_state mode (Some index))) it.given
 
-    -- a call that is made at once is not refused any more
-    pub refusal_now : is_queued mode ≡ false → the_refusal ≡ None
+    -- one that is made at once is not refused any more
+    refusal_now : is_queued mode ≡ false → the_refusal ≡ None
     refusal_now at_once = refusal_given ∙ ap (λ (b : Bool). cond (b && true) (enqueue_refusal the_state.queue) None) at_once
 
     -- and one that is made later where it cannot be posted
     pub refusal_later : is_queued mode ≡ true → the_refusal ≡ enqueue_refusal the_state.queue
     refusal_later later = refusal_given ∙ ap (λ (b : Bool). cond (b && true) (enqueue_refusal the_state.queue) None) later
 
--- what is invoked at once tells its reply last
-pub invoke_runs : (caller : SessionContext) (object : ℕ) (text : List ℕ) (args : List Data) (mode : ConnectionType) (priority : Priority) (old : Tables)
-    (before : CommandOutput) (index : ℕ) (values : List Value) (method : Method) → before ≡ fresh_output caller.setup.now.turns
-    → Some method ≡ method_at (settings_of caller.setup.now) (state_at old caller.place) object index
-    → is_queued mode ≡ false → asked_method (settings_of caller.setup.now) (state_at old caller.place) object text ≡ Some index
-    → asked_values (settings_of caller.setup.now) (state_at old caller.place) object index args ≡ Ok values
-    → let next = called_now method.is_signal (method_items object index 0 values 0 0 method) (doing_at caller.place old before []) in
-    its_effect caller (Invoke object text args mode priority) old
-    ≡ ended (line_told (run (settings_of caller.setup.now) next.items next.doing) (line.Reply (a.Truth true)))
-invoke_runs caller object text args mode priority old before index values method fresh has at_once found given =
-    let settings = settings_of caller.setup.now in
-    let state = state_at old caller.place in
-    performs_invoke settings caller.name.now state object text args mode priority
-    ∙ ap (invokes settings state object args mode priority) found
-    ∙ cond-false (is_queued mode) _ _ at_once
-    ∙ ap (λ (given : Found (List Value)). does_next settings (invoked settings state object index (result_unwrap_or given [])) (a.Truth true)) given
-    ∙ replies_last settings (invoked settings state object index values) (a.Truth true)
-    ∙ ap (λ (next : Next). ended (line_told (run settings next.items next.doing) (line.Reply (a.Truth true))))
-    (sym (invoked_is settings caller.place old before object index values method fresh has))
+    -- it is posted then, and replied at once
+    pub posts_invoked : is_queued mode ≡ true → its_effect caller the_call old ≡ invoked_later the_state object index values priority
+    posts_invoked later =
+        performs_invoke the_settings caller.name.now the_state object text args mode priority
+        ∙ ap (invokes the_settings the_state object args mode priority) it.named.asked
+        ∙ cond-true (is_queued mode) _ _ later
+        ∙ ap (λ (given : Found (List Value)). invoked_later the_state object index (result_unwrap_or given []) priority) it.given
 
--- so it is performed
-pub performs_invoked : {T E : Type 0} (caller : SessionContext) (object : ℕ) (text : List ℕ) (args : List Data) (mode : ConnectionType) (priority : Priority)
-    (old new : Tables) (before after : CommandOutput) (value : T) (index : ℕ) (values : List Value) (method : Method)
-    → before ≡ fresh_output caller.setup.now.turns
-    → Some method ≡ method_at (settings_of caller.setup.now) (state_at old caller.place) object index
-    → is_queued mode ≡ false → its_refusal caller (Invoke object text args mode priority) old ≡ None
-    → asked_method (settings_of caller.setup.now) (state_at old caller.place) object text ≡ Some index
-    → asked_values (settings_of caller.setup.now) (state_at old caller.place) object index args ≡ Ok values
-    → RunsNext {E = E} caller (λ earlier. called_now method.is_signal (method_items object index 0 values 0 0 method)
-    (doing_at caller.place old before earlier)) old new before after (Ok value)
-    → Performs caller (Invoke object text args mode priority) old new after.failing (reply_after after.lines) (Ok (a.Truth true))
-performs_invoked caller object text args mode priority old new before after value index values method fresh has at_once passed found given does =
-    replied_last caller (Invoke object text args mode priority) old new after (a.Truth true) does.posts passed
-    (invoke_runs caller object text args mode priority old before index values method fresh has at_once found given
-    ∙ ap (λ done. ended (line_told done (line.Reply (a.Truth true)))) (does.runs []))
-    (at_first_reaches caller old new before after does.posts fresh does.reaches)
+    -- what is invoked at once tells its reply last
+    module _ (new : Tables) (before after : CommandOutput) (fresh : before ≡ fresh_output caller.setup.now.turns) (at_once : is_queued mode ≡ false) where
+      abbrev the_start : List Post → Next
+      the_start earlier = called_now method.is_signal (method_items object index 0 values 0 0 method) (doing_at caller.place old before earlier)
 
--- what is invoked later is posted, and replied at once
-pub posts_invoked : (caller : SessionContext) (object : ℕ) (text : List ℕ) (args : List Data) (mode : ConnectionType) (priority : Priority) (state : State)
-    (index : ℕ) (values : List Value)
-    → is_queued mode ≡ true → asked_method (settings_of caller.setup.now) state object text ≡ Some index
-    → asked_values (settings_of caller.setup.now) state object index args ≡ Ok values
-    → performs (settings_of caller.setup.now) caller.name.now state (Invoke object text args mode priority) ≡ invoked_later state object index values priority
-posts_invoked caller object text args mode priority state index values later found given =
-    let settings = settings_of caller.setup.now in
-    performs_invoke settings caller.name.now state object text args mode priority
-    ∙ ap (invokes settings state object args mode priority) found
-    ∙ cond-true (is_queued mode) _ _ later
-    ∙ ap (λ (given : Found (List Value)). invoked_later state object index (result_unwrap_or given []) priority) given
+      invoke_runs : its_effect caller the_call old
+          ≡ ended (line_told (run the_settings (the_start []).items (the_start []).doing) (line.Reply (a.Truth true)))
+      invoke_runs =
+          performs_invoke the_settings caller.name.now the_state object text args mode priority
+          ∙ ap (invokes the_settings the_state object args mode priority) it.named.asked
+          ∙ cond-false (is_queued mode) _ _ at_once
+          ∙ ap (λ (given : Found (List Value)). does_next the_settings (invoked the_settings the_state object index (result_unwrap_or given []))
+          (a.Truth true)) it.given
+          ∙ replies_last the_settings (invoked the_settings the_state object index values) (a.Truth true)
+          ∙ ap (λ (next : Next). ended (line_told (run the_settings next.items next.doing) (line.Reply (a.Truth true))))
+          (sym (invoked_is the_settings caller.place old before object index values method fresh it.has))
+
+      -- so it is performed
+      pub performs_invoked : {T E : Type 0} (value : T) → RunsNext {E = E} caller the_start old new before after (Ok value)
+          → Performs caller the_call old new after.failing (reply_after after.lines) (Ok (a.Truth true))
+      performs_invoked value does =
+          replied_last caller the_call old new after (a.Truth true) does.posts (refusal_now at_once)
+          (invoke_runs ∙ ap (λ done. ended (line_told done (line.Reply (a.Truth true)))) (does.runs []))
+          (at_first_reaches caller old new before after does.posts fresh does.reaches)
+
+      -- also where memory was wanted
+      pub starved_invoked : {T E U : Type 0} (error : E) (lines : U → List Line) (result : Result U Fault) → IsErrAnd result (λ fault. fault ≡ Memory)
+          → RunsNext {T = T} caller the_start old new before after (Err error) → Performs caller the_call old new after.failing lines result
+      starved_invoked error lines result wanted does =
+          starved_last caller the_call old new after does.posts _ _ lines result wanted (refusal_now at_once) invoke_runs (does.front [])
+          (at_first_reaches caller old new before after does.posts fresh does.reaches)
 
 -- a method that has a number is there
 pub method_there : (settings : Settings) (state : State) (target class : ℕ) (signature : Signature) (index : ℕ) → HasClass state target class

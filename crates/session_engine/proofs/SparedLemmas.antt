@@ -120,34 +120,39 @@ others_then old middle new name posts more same first second = λ other elsewher
 session_is : (session : Session) → IsFalse session.failed → session ≡ record { state = session.state; failed = false }
 session_is session well = ap (λ failed. record { state = session.state; failed = failed }) well
 
+-- items behind one that leaves the session in this state, told from the settings before that one
+rest_spared : (settings : Settings) (state : State) (middle new : Sessions) (name : List ℕ) (items : List Coming) (more : List Line)
+    → middle.settings ≡ settings → states_of middle name ≡ state → SparesItsSession middle new name items more
+    → (more ≡ all_lines (alone_lines (machine settings) name state items))
+    × (new.session name ≡ record { state = alone_after (machine settings) name state items; failed = false })
+    × OthersHear middle new name (alone_posts (machine settings) name state items)
+rest_spared settings state middle new name items more same is rest = (
+  rest.lines ∙ ap₂ (λ (settings : Settings) (state : State). all_lines (alone_lines (machine settings) name state items)) same is,
+  rest.own ∙ ap₂ (λ (settings : Settings) (state : State). record { state = alone_after (machine settings) name state items; failed = false }) same is,
+  subst (OthersHear middle new name) (ap₂ (λ (settings : Settings) (state : State). alone_posts (machine settings) name state items) same is) rest.others,
+)
+
 -- one item, and then those behind it
 spared_then : (old middle new : Sessions) (name : List ℕ) (item : Coming) (items : List Coming) (lines more : List Line)
     → DoesOne old middle name item lines → SparesItsSession middle new name items more → SparesItsSession old new name (item ∷ items) (lines ++ more)
 spared_then old middle new name (theory.Own asked) items lines more one rest =
-    let m = machine old.settings in
-    let state = ap (λ (session : Session). session.state) one.own in
+    let after = after_of old.settings name (states_of old name) (theory.Own asked) in
+    let (its_lines, its_own, hear) = rest_spared old.settings after middle new name items more one.settings
+    (ap (λ (session : Session). session.state) one.own) rest in
     record {
-      lines = ap₂ (λ xs ys. xs ++ ys) one.lines
-          (rest.lines ∙ ap₂ (λ (settings : Settings) (state : State). all_lines (alone_lines (machine settings) name state items)) one.settings state);
-      own = rest.own ∙ ap₂ (λ (settings : Settings) (state : State). record { state = alone_after (machine settings) name state items; failed = false })
-          one.settings state;
+      lines = ap₂ (λ xs ys. xs ++ ys) one.lines its_lines;
+      own = its_own;
       others = others_then old middle new name (posts_of old.settings name (states_of old name) (theory.Own asked))
-          (alone_posts m name (after_of old.settings name (states_of old name) (theory.Own asked)) items) one.settings one.others
-          (subst (OthersHear middle new name) (ap₂ (λ (settings : Settings) (state : State). alone_posts (machine settings) name state items) one.settings
-          state) rest.others);
+          (alone_posts (machine old.settings) name after items) one.settings one.others hear;
     }
 spared_then old middle new name (theory.Arrival from post) items lines more one rest =
-    let m = machine old.settings in
-    let state = ap (λ (session : Session). session.state) one.own in
+    let after = after_of old.settings name (states_of old name) (theory.Arrival from post) in
+    let (its_lines, its_own, hear) = rest_spared old.settings after middle new name items more one.settings
+    (ap (λ (session : Session). session.state) one.own) rest in
     record {
-      lines = ap₂ (λ xs ys. xs ++ ys) one.lines
-          (rest.lines ∙ ap₂ (λ (settings : Settings) (state : State). all_lines (alone_lines (machine settings) name state items)) one.settings state);
-      own = rest.own ∙ ap₂ (λ (settings : Settings) (state : State). record { state = alone_after (machine settings) name state items; failed = false })
-          one.settings state;
-      others = others_then old middle new name [] (alone_posts m name (after_of old.settings name (states_of old name) (theory.Arrival from post)) items)
-          one.settings one.others
-          (subst (OthersHear middle new name) (ap₂ (λ (settings : Settings) (state : State). alone_posts (machine settings) name state items) one.settings
-          state) rest.others);
+      lines = ap₂ (λ xs ys. xs ++ ys) one.lines its_lines;
+      own = its_own;
+      others = others_then old middle new name [] (alone_posts (machine old.settings) name after items) one.settings one.others hear;
     }
 
 pub spared_items : (old new : Sessions) (name : List ℕ) (items : List Coming) (told : Option (List Line)) (lines : List Line)

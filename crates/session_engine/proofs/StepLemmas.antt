@@ -83,10 +83,26 @@ after_posts_fresh classes from posts = sym (after_posts_stranger classes from po
 module _ (old new : EngineState) (at : ℕ) (name : List ℕ) (asked : Asked) (told : Option (List Line)) (failing : Bool) (whole : IsWhole old)
     (named : (state : State) → IsFittingAsked old.settings state asked) (there : place old name ≡ Some at)
     (ended : Ended old new at name asked told failing) where
-  own : sessions old name ≡ session_at old.tables at
+  -- the session at the place, before and after
+  abbrev was_there : Session
+  was_there = session_at old.tables at
+
+  abbrev now_there : Session
+  now_there = session_at new.tables at
+
+  abbrev ItsOwn : Type 0
+  ItsOwn = Own old.settings name asked told ended.posts was_there now_there
+
+  abbrev ItsMark : Type 0
+  ItsMark = Marks old.memory_refused new.memory_refused failing told
+
+  abbrev StaysKept : Session → Type 0
+  StaysKept = IsKept old.settings new.memory_refused
+
+  own : sessions old name ≡ was_there
   own = sessions-place old name at there
 
-  now_own : sessions new name ≡ session_at new.tables at
+  now_own : sessions new name ≡ now_there
   now_own = sessions-place new name at (ap (position (bytes_eq name)) ended.names ∙ there)
 
   -- by name: this one, or any other
@@ -134,51 +150,50 @@ module _ (old new : EngineState) (at : ℕ) (name : List ℕ) (asked : Asked) (t
   less : IsFalse new.memory_refused → IsFalse old.memory_refused
   less found = by ended.mark
     where
-      by : Marks old.memory_refused new.memory_refused failing told → IsFalse old.memory_refused
+      by : ItsMark → IsFalse old.memory_refused
       by (Quiet none some e) = sym e ∙ found
       by (Loud either e) = absurd (both_ways _ found e)
 
-  kept_own : IsKept old.settings new.memory_refused (session_at new.tables at)
+  kept_own : StaysKept now_there
   kept_own = by ended.own ended.mark
     where
-      by : Own old.settings name asked told ended.posts (session_at old.tables at) (session_at new.tables at)
-          → Marks old.memory_refused new.memory_refused failing told → IsKept old.settings new.memory_refused (session_at new.tables at)
-      by (Told lines e posts) mark = subst (IsKept old.settings new.memory_refused) (sym e)
+      by : ItsOwn → ItsMark → StaysKept now_there
+      by (Told lines e posts) mark = subst StaysKept (sym e)
           (record {
-            well = λ found. not_shut old.settings name (session_at old.tables at) asked ((whole.kept at).well (less found));
-            sound = sound_after old.settings name (session_at old.tables at) asked whole.settings (named (session_at old.tables at).state)
+            well = λ found. not_shut old.settings name was_there asked ((whole.kept at).well (less found));
+            sound = sound_after old.settings name was_there asked whole.settings (named was_there.state)
                 (whole.kept at).sound;
           })
       by (GaveUp nothing e front) (Quiet none some f) = let no : false ≡ true = ap is_some (sym nothing) ∙ some in absurd (true≢false (sym no))
-      by (GaveUp nothing e front) (Loud either f) = subst (λ mark. IsKept old.settings mark (session_at new.tables at)) (sym f)
+      by (GaveUp nothing e front) (Loud either f) = subst (λ mark. IsKept old.settings mark now_there) (sym f)
           (subst (IsKept old.settings true) (sym e) (kept_gone old.settings))
 
   -- what it has posted is right
   right : All IsRightPost ended.posts
   right = by ended.own
     where
-      own_front : (posts : List Post) → IsPrefix posts (session_does old.settings name (session_at old.tables at) asked).posts → All IsRightPost posts
-      own_front = right_front old.settings name (session_at old.tables at) asked whole.settings (named (session_at old.tables at).state) (whole.kept at).sound
+      own_front : (posts : List Post) → IsPrefix posts (session_does old.settings name was_there asked).posts → All IsRightPost posts
+      own_front = right_front old.settings name was_there asked whole.settings (named was_there.state) (whole.kept at).sound
 
-      by : Own old.settings name asked told ended.posts (session_at old.tables at) (session_at new.tables at) → All IsRightPost ended.posts
+      by : ItsOwn → All IsRightPost ended.posts
       by (Told lines e posts) = subst (All IsRightPost) (sym posts)
-          (right_posts old.settings name (session_at old.tables at) asked whole.settings (named (session_at old.tables at).state) (whole.kept at).sound)
+          (right_posts old.settings name was_there asked whole.settings (named was_there.state) (whole.kept at).sound)
       by (GaveUp nothing e front) = own_front ended.posts front
 
-  kept_other : (other : ℕ) → eqb other at ≡ false → IsPlaced old.tables other → IsKept old.settings new.memory_refused (session_at new.tables other)
+  kept_other : (other : ℕ) → eqb other at ≡ false → IsPlaced old.tables other → StaysKept (session_at new.tables other)
   kept_other other apart placed = by ended.mark
     where
-      after_posts_one : IsKept old.settings new.memory_refused (after_posts old.settings.classes name ended.posts (session_at old.tables other))
+      after_posts_one : StaysKept (after_posts old.settings.classes name ended.posts (session_at old.tables other))
       after_posts_one = kept_after_posts old.settings old.memory_refused new.memory_refused name ended.posts (session_at old.tables other) less right
           (whole.kept other)
 
-      by : Marks old.memory_refused new.memory_refused failing told → IsKept old.settings new.memory_refused (session_at new.tables other)
-      by (Quiet none some e) = subst (IsKept old.settings new.memory_refused) (sym (ended.others.all none other apart placed)) after_posts_one
+      by : ItsMark → StaysKept (session_at new.tables other)
+      by (Quiet none some e) = subst StaysKept (sym (ended.others.all none other apart placed)) after_posts_one
       by (Loud either e) = either_way (ended.others.hear other apart placed)
         where
           either_way : ReceivesPosts old.settings.classes name ended.posts (session_at old.tables other) (session_at new.tables other)
-              → IsKept old.settings new.memory_refused (session_at new.tables other)
-          either_way (inl f) = subst (IsKept old.settings new.memory_refused) (sym f) after_posts_one
+              → StaysKept (session_at new.tables other)
+          either_way (inl f) = subst StaysKept (sym f) after_posts_one
           either_way (inr f) = subst (λ mark. IsKept old.settings mark (session_at new.tables other)) (sym e)
               (subst (IsKept old.settings true) (sym f.2) (kept_gone old.settings))
 
@@ -197,17 +212,16 @@ module _ (old new : EngineState) (at : ℕ) (name : List ℕ) (asked : Asked) (t
       even : AreEven new.tables
       even = ended.others.shape.even whole.even
 
-      kept : (other : ℕ) → IsKept old.settings new.memory_refused (session_at new.tables other)
+      kept : (other : ℕ) → StaysKept (session_at new.tables other)
       kept other = by (eqb other at) (ltb other (length new.tables.failed.places)) refl refl
         where
           by : (same within : Bool) → eqb other at ≡ same → ltb other (length new.tables.failed.places) ≡ within
-              → IsKept old.settings new.memory_refused (session_at new.tables other)
-          by true within e f = let is : at ≡ other = grind (arith, nat_tests, e) in subst
-              (λ other. IsKept old.settings new.memory_refused (session_at new.tables other)) is kept_own
+              → StaysKept (session_at new.tables other)
+          by true within e f = let is : at ≡ other = grind (arith, nat_tests, e) in subst (λ other. StaysKept (session_at new.tables other)) is kept_own
           by false true e f = let less : other < length old.tables.failed.places = grind (arith, nat_tests, f, ended.others.shape.places) in kept_other other e
               (placed_by old.tables other whole.even less)
           by false false e f = let past : length new.tables.failed.places ≤ other = grind (arith, nat_tests, f) in
-              subst (IsKept old.settings new.memory_refused) (sym (session_past new.tables other even past)) (kept_fresh old.settings new.memory_refused)
+              subst StaysKept (sym (session_past new.tables other even past)) (kept_fresh old.settings new.memory_refused)
 
   -- where memory was never refused no session had failed
   fine : IsFalse new.memory_refused → (other : List ℕ) → (sessions old other).failed ≡ false
@@ -216,7 +230,7 @@ module _ (old new : EngineState) (at : ℕ) (name : List ℕ) (asked : Asked) (t
   quiet : IsFalse new.memory_refused → failing ≡ false
   quiet found = by ended.mark
     where
-      by : Marks old.memory_refused new.memory_refused failing told → failing ≡ false
+      by : ItsMark → failing ≡ false
       by (Quiet none some e) = none
       by (Loud either e) = absurd (both_ways _ found e)
 
@@ -225,16 +239,16 @@ module _ (old new : EngineState) (at : ℕ) (name : List ℕ) (asked : Asked) (t
   named_all is all = each (λ other. AreNamed (sessions new other).state) (subst (λ (session : Session). AreNamed session.state) (sym now_own) (by ended.own))
       (λ other elsewhere. named_hears old.settings.classes name ended.posts (sessions old other) (sessions new other) (hears_other other elsewhere) (all other))
     where
-      by : Own old.settings name asked told ended.posts (session_at old.tables at) (session_at new.tables at) → AreNamed (session_at new.tables at).state
+      by : ItsOwn → AreNamed now_there.state
       by (Told lines e posts) = subst (λ (session : Session). AreNamed session.state) (sym e)
-          (named_after old.settings name (session_at old.tables at) asked whole.settings is
+          (named_after old.settings name was_there asked whole.settings is
           (subst (λ (session : Session). AreNamed session.state) own (all name)))
       by (GaveUp nothing e front) = subst (λ (session : Session). AreNamed session.state) (sym e) keeps_named.at_first
 
   pub step_of : IsStep (seen_by_name old) (seen_by_name new) name asked told
   step_of = by ended.own ended.mark
     where
-      kept_mark : Marks old.memory_refused new.memory_refused failing told → IsTrue old.memory_refused → IsTrue new.memory_refused
+      kept_mark : ItsMark → IsTrue old.memory_refused → IsTrue new.memory_refused
       kept_mark (Quiet none some e) was = e ∙ was
       kept_mark (Loud either e) was = e
 
@@ -263,14 +277,13 @@ module _ (old new : EngineState) (at : ℕ) (name : List ℕ) (asked : Asked) (t
               (λ differ. differ)
               (cases_Bool (bytes_eq other name))
 
-      blames : Marks old.memory_refused new.memory_refused failing told → IsFalse old.memory_refused → IsTrue new.memory_refused
+      blames : ItsMark → IsFalse old.memory_refused → IsTrue new.memory_refused
           → (told ≡ None) ⊎ AnotherFails (seen_by_name old) (seen_by_name new) name
       blames (Quiet none some e) was now = absurd (both_ways _ was (sym e ∙ now))
       blames (Loud (inl nothing) e) was now = inl nothing
       blames (Loud (inr some) e) was now = inr (another some)
 
-      by : Own old.settings name asked told ended.posts (session_at old.tables at) (session_at new.tables at)
-          → Marks old.memory_refused new.memory_refused failing told → IsStep (seen_by_name old) (seen_by_name new) name asked told
+      by : ItsOwn → ItsMark → IsStep (seen_by_name old) (seen_by_name new) name asked told
       by (Told lines e posts) mark =
           let left : sessions new name ≡ session_after old.settings name (sessions old name) asked = now_own ∙ e
           ∙ ap (λ session. session_after old.settings name session asked) (sym own) in
@@ -324,7 +337,7 @@ module _ (old new : EngineState) (at : ℕ) (name : List ℕ) (asked : Asked) (t
             named = named_all;
           }
         where
-          loud : Marks old.memory_refused new.memory_refused failing told → new.memory_refused ≡ true
+          loud : ItsMark → new.memory_refused ≡ true
           loud (Quiet none some f) = let no : false ≡ true = ap is_some (sym nothing) ∙ some in absurd (true≢false (sym no))
           loud (Loud either f) = f
 

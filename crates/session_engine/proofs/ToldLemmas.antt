@@ -1,5 +1,5 @@
 -- A command that brings its session to another state, does what there is to do for it, and then replies.
-use Rattle.std.proofs.Common.{◌≡◌, false, List, [], None, Result, Ok, Err, IsErrAnd, refl, sym, ap, ◌∙◌}
+use Rattle.std.proofs.Common.{◌≡◌, false, List, [], None, Result, Ok, Err, IsErrAnd, refl, sym, ap, subst, ◌∙◌}
 use Rattle.plain_types.specs.declared.fault.Fault.{Fault}
 use Rattle.plain_types.specs.declared.fault.Fault.TheVariants.{Memory}
 use Rattle.session_model.specs.declared.line.Answer.{Answer}
@@ -23,7 +23,7 @@ use Rattle.dispatch.specs.declared.command_output.CommandOutput.{CommandOutput}
 use Rattle.dispatch.specs.Agenda.{RunsItems}
 use Rattle.dispatch.specs.CommandOutput.{doing_at, fresh_output}
 use Rattle.dispatch.proofs.ForCallers.{reaches_none}
-use Rattle.session_engine.specs.Commands.{Performs, its_effect, its_refusal, reply_after}
+use Rattle.session_engine.specs.Commands.{Performs, its_effect, its_refusal, reply_after, reply_once_told}
 use Rattle.session_engine.proofs.CommandsLemmas.{at_first_reaches, replied_last, starved_last}
 
 -- what there is to do, where the session has come from one state to another
@@ -62,3 +62,12 @@ module _ (caller : SessionContext) (asked : Asked) (old middle new : Tables) (be
       → RunsItems {T = T} caller items middle new before after (Err error) → Performs caller asked old new after.failing lines result
   starved_told error lines result wanted does = starved_last caller asked old new after does.posts _ _ lines result wanted passed told_runs (does.front [])
       (told_reaches does.posts does.reaches)
+
+  -- in both cases, where the result is the reply or that memory ran out
+  pub told_performs : {T E : Type 0} (told : Result T E) (result : Result Answer Fault) → result ≡ reply_once_told told answer
+      → RunsItems caller items middle new before after told → Performs caller asked old new after.failing (reply_after after.lines) result
+  told_performs (Ok value) result is does =
+      subst (Performs caller asked old new after.failing (reply_after after.lines)) (sym is) (performs_told value does)
+  told_performs (Err error) result is does =
+      subst (Performs caller asked old new after.failing (reply_after after.lines)) (sym is)
+      (starved_told error (reply_after after.lines) (Err Memory) refl does)

@@ -1,10 +1,11 @@
 -- The effect of a command on the session at a place.
-use Rattle.std.specs.Prelude.{◌≡◌, ℕ, Bool, eqb, List, [], ◌∷◌, Option, ◌++◌, ◌||◌, Result, OnOk, IsFalse, IsTrue}
+use Rattle.std.specs.Prelude.{◌≡◌, ℕ, Bool, eqb, List, [], ◌∷◌, Option, ◌++◌, ◌||◌, Result, Ok, Err, OnOk, IsFalse, IsTrue}
 use Rattle.isolation.specs.Machine.{Effect}
 use Rattle.class_table.specs.declared.class.Class.{Class}
 use Rattle.plain_types.specs.declared.code.Code.{Code}
 use Rattle.plain_types.specs.Answers.{OnDone, OnMemory}
 use Rattle.plain_types.specs.declared.fault.Fault.{Fault}
+use Rattle.plain_types.specs.declared.fault.Fault.TheVariants.{Memory}
 use Rattle.session_model.specs.declared.line.Answer.{Answer}
 use Rattle.session_model.specs.declared.line.Line.{Line}
 use Rattle.session_model.specs.declared.line.Line.TheVariants.{Reply}
@@ -33,6 +34,11 @@ reply_lines answer = Reply answer ∷ []
 -- The lines of a reply, after earlier lines.
 abbrev pub reply_after : List Line → Answer → List Line
 reply_after lines answer = lines ++ Reply answer ∷ []
+
+-- The result of a command that replies in this way, unless memory ran out for what precedes the reply.
+abbrev pub reply_once_told : {T E : Type 0} → Result T E → Answer → Result Answer Fault
+reply_once_told (Ok value) answer = Ok answer
+reply_once_told (Err error) answer = Err Memory
 
 -- Why a command of a session that has not failed is refused, and its effect if it is not.
 abbrev pub its_refusal : SessionContext → Asked → Tables → Option Code

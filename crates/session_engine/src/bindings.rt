@@ -8,7 +8,7 @@ ghost use Rattle.session_model.specs.Asked.{Begin, Bind, End, Unbind};
 ghost use Rattle.session_model.specs.Binding.{reads_refusal};
 ghost use Rattle.session_model.specs.Operations.{behind};
 ghost use Rattle.session_tables.specs.Tables.{IsPlaced, state_at};
-ghost use Rattle.session_engine.specs.Commands.{Performs, reply_after, reply_lines};
+ghost use Rattle.session_engine.specs.Commands.{Performs, reply_after, reply_lines, reply_once_told};
 ghost use Rattle.dispatch.specs.CommandOutput.{fresh_output};
 
 use dispatch::{CallContext, CommandOutput, FunctorTable, tell};
@@ -16,7 +16,7 @@ use plain_types::{Code, Fault, Text};
 use session_effects::SessionContext;
 use session_model::Answer;
 use session_tables::Tables;
-use std::alloc::Global;
+use std::alloc::{AllocError, Global};
 use term_core::{Expr, Target};
 use term_evaluation::{Read, reads_of};
 
@@ -39,8 +39,8 @@ pub fn bind<F: FunctorTable>(
     let expr = Expr::from_json(alloc, to)?;
     check_reads(alloc, tables, place, object, &expr)?;
     let changes = tables.bind(place, at, expr)?;
-    tell(actor, tables, output, changes, 0)?;
-    Ok(Answer::Truth(true))
+    let told = tell(actor, tables, output, changes, 0);
+    reply(told, Answer::Truth(true))
 }
 
 /// Refuses an expression that reads what a binding may not read: the first such refusal, in preorder.
@@ -91,8 +91,8 @@ pub fn unbind<F: FunctorTable>(
     let at = tables.asked_property(place, object, property.as_str())?;
     let was_bound = tables.stores.is_bound(place, at);
     let changes = tables.unbind(place, at)?;
-    tell(actor, tables, output, changes, 0)?;
-    Ok(Answer::Truth(was_bound))
+    let told = tell(actor, tables, output, changes, 0);
+    reply(told, Answer::Truth(was_bound))
 }
 
 /// Begins a group, which holds back notifications of changes, and replies how many are open.
@@ -115,6 +115,16 @@ pub fn end<F: FunctorTable>(
     ensures { Performs actor.now.caller End tables.old tables.new output.new.failing (reply_after output.new.lines) result }
 {
     let (left, changes) = tables.end(actor.caller.place)?;
-    tell(actor, tables, output, changes, 0)?;
-    Ok(Answer::Number(left))
+    let told = tell(actor, tables, output, changes, 0);
+    reply(told, Answer::Number(left))
+}
+
+/// Replies, unless memory ran out for what precedes the reply.
+fn reply(told: Result<(), AllocError>, answer: Answer) -> Result<Answer, Fault>
+    ensures { result ≡ reply_once_told told answer }
+{
+    match told {
+        Ok(()) => Ok(answer),
+        Err(_) => Err(Fault::Memory),
+    }
 }

@@ -1,5 +1,5 @@
 //! The command that takes what waits in the session.
-ghost use Rattle.std.specs.Prelude.{◌≡◌, ◌∷◌, [], OnOk};
+ghost use Rattle.std.specs.Prelude.{◌≡◌, ◌∷◌, []};
 ghost use Rattle.session_model.specs.Agenda.{call_items, event_items};
 ghost use Rattle.session_model.specs.Asked.{Spin};
 ghost use Rattle.session_model.specs.Items as item;
@@ -7,7 +7,7 @@ ghost use Rattle.session_tables.specs.Tables.{IsPlaced, state_at};
 ghost use Rattle.session_effects.specs.Setup.{settings_of};
 ghost use Rattle.dispatch.specs.Agenda.{RunsItems};
 ghost use Rattle.session_engine.specs.Commands.{Performs, reply_after};
-ghost use Rattle.dispatch.specs.CommandOutput.{doing_at, fresh_output};
+ghost use Rattle.dispatch.specs.CommandOutput.{fresh_output};
 
 use dispatch::{CallContext, CommandOutput, FunctorTable, delete, run_functor, run_method};
 use event_queue::{Event, QueuedCall};

@@ -1,9 +1,9 @@
 //! The commands by which sessions publish and join signals, and the one that resets a session.
-ghost use Rattle.std.specs.Prelude.{◌≡◌, false};
+ghost use Rattle.std.specs.Prelude.{false};
 ghost use Rattle.plain_types.specs.Answers.{Answers};
 ghost use Rattle.session_model.specs.Asked as model;
 ghost use Rattle.session_model.specs.Asked.{Leave, Publish, Reset, Unpublish};
-ghost use Rattle.session_model.specs.Sharing.{asked_kinds, kinds_named};
+ghost use Rattle.session_model.specs.Sharing.{asked_kinds};
 ghost use Rattle.session_tables.specs.Tables.{IsPlaced};
 ghost use Rattle.session_engine.specs.Commands.{Obeys, Performs, reply_lines};
 

@@ -6,7 +6,7 @@ use Rattle.std.specs.List.{cons_option}
 use Rattle.std.specs.Option.{option_and_then, option_map_or}
 use Rattle.std.proofs.lemmas.Bool.{not-true}
 use Rattle.std.proofs.lemmas.Bool.Decides.{nat_tests}
-use Rattle.std.proofs.lemmas.List.Elements.{All-filter, filter_map-append, filter_passes}
+use Rattle.std.proofs.lemmas.List.Elements.{recursion_from_All, All-filter, filter_map-append, filter_passes}
 use Rattle.variant_value.specs.declared.value.Value.{Value}
 use Rattle.variant_value.specs.Values.{is_same}
 use Rattle.property_store.specs.declared.field.Field.{Field}
@@ -23,10 +23,10 @@ use Rattle.binding_values.specs.Scene.{Cell, Outcome, choose, evaluated, plain}
 use Rattle.property_store.specs.Property.{is_property}
 use Rattle.binding_values.specs.Sorted.{IsRising}
 use Rattle.binding_values.specs.Stored.{cell_in, cell_of, properties_in, scene_of}
-use Rattle.binding_values.proofs.ForCallers.{plain_rule, property_eq, all_given, is_other}
-use Rattle.binding_values.proofs.ForCallers.{found_in_all, all_shown_sound, same_value}
+use Rattle.binding_values.proofs.ForCallers.{plain_rule, property_eq, all_given, is_other, found_in_all, all_shown_sound, same_value}
 use Rattle.session_model.proofs.BindingLemmas.{found_number, graph_sound_none}
 use Rattle.session_model.proofs.QuietLemmas.{all_in_turn, changed_one, found_changed, none_made, quiet, rows_of_now}
+use Rattle.session_model.proofs.FilterLemmas.{filter-none}
 
 -- an element that was written, and the others
 got_set : {X : Type 0} (xs : List X) (n : ℕ) (x old : X) → slice_get xs n ≡ Some old → slice_get (set xs n x) n ≡ Some x
@@ -58,11 +58,6 @@ stored_shown s q = ap (λ (outcome : Outcome). option_map (λ (cell : Cell). sho
     by (Some cell) = refl
 
 -- a row of a property stands once among rows by rising object and number
-filter_none : {X : Type 0} (p : X → Bool) (xs : List X) → All (λ x. p x ≡ false) xs → filter p xs ≡ []
-filter_none p [] none = refl
-filter_none p (x ∷ xs) none = let here : p x ≡ false = none 0 x (omega arith) in rw here
-    (filter_none p xs (λ index default within. none (suc index) default (omega arith)))
-
 only_one : (q : Property) (rows : List Shown) → IsRising (λ (shown : Shown). shown.at) rows
     → filter (λ (shown : Shown). is_property q shown.at) rows ≡ option_map_or (λ (shown : Shown). shown ∷ []) (shown_at rows q) []
 only_one q [] rising = refl
@@ -74,9 +69,9 @@ only_one q (row ∷ rows) rising = by (is_property q row.at) refl
 
     by : (here : Bool) → is_property q row.at ≡ here → filter test rows ≡ option_map_or (λ (shown : Shown). shown ∷ []) (find test rows) []
         → cond here (row ∷ filter test rows) (filter test rows) ≡ option_map_or (λ (shown : Shown). shown ∷ []) (cond here (Some row) (find test rows)) []
-    by true e later = ap (λ rest. row ∷ rest) (filter_none test rows (λ index default within.
+    by true e later = ap (λ rest. row ∷ rest) (filter-none test rows (recursion_from_All (λ (shown : Shown). test shown ≡ false) rows (λ index default within.
         subst (λ (p : Property). is_property p (get_or rows index default).at ≡ false) (sym (property_eq q row.at e))
-        (is_other row.at (get_or rows index default).at (rising 0 (suc index) default (omega arith) (omega arith)))))
+        (is_other row.at (get_or rows index default).at (rising 0 (suc index) default (omega arith) (omega arith))))))
     by false e later = later
 
 -- nothing is warned of what stands for no error, and nothing is told of what shows what it showed

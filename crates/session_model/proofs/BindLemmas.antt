@@ -11,7 +11,7 @@ use Rattle.std.specs.Result.{result_err}
 use Rattle.session_model.proofs.BindableLemmas.{may_be_bound}
 use Rattle.session_model.proofs.DeclaredLemmas.{declared_with_binding_taken}
 use Rattle.session_model.proofs.FittingToldLemmas.{ending_fits}
-use Rattle.session_model.proofs.KeepingLemmas.{Keeps, done, refused, replied, told}
+use Rattle.session_model.proofs.KeepingLemmas.{Keeps, done, refused, replied, told, leaves_with}
 use Rattle.session_model.proofs.NamedLemmas.{named_beside, named_with_binding_taken, tells_named}
 use Rattle.session_model.proofs.ShowingLemmas.{ending, ending_stays, tells}
 use Rattle.session_model.proofs.StateLemmas.{whole_with_binding, whole_with_binding_taken, whole_with_group, whole_without_group}
@@ -29,6 +29,7 @@ use Rattle.session_model.specs.State.{State, with_binding, with_binding_taken, w
 use Rattle.session_model.specs.Thread.{Settings, performs}
 use Rattle.session_model.specs.declared.line.Answer.TheVariants as a
 use Rattle.binding_values.specs.Graph as graph
+use Rattle.session_model.proofs.FittingClassLemmas.{fits_own}
 
 module _ (settings : Settings) (self : List ℕ) (state : State) where
   module _ (target : ℕ) (property : List ℕ) (to : Data) where
@@ -94,14 +95,11 @@ module _ (settings : Settings) (state : State) where
       by (Err code) is passed = refused settings state (Bind target property to) code
       by (Ok bound) is passed =
           let its = may_be_bound state target property to bound is in
-          told settings state (Bind target property to) (with_binding state bound.at bound.term) (Some bound.at) (a.Truth true) (record {
-            sound = λ sound. record { whole = whole_with_binding state bound.at bound.term its.bindable its.short passed sound.whole; living = sound.living };
-            declared = λ sound declared. declared;
-            fitting = λ fits. (let fit = fits.fit in record
-                { objects = fit.objects; events = fit.events; connections = fit.connections; publications = fit.publications; joins = fit.joins });
-            named = λ are is named. named_beside state named (with_binding state bound.at bound.term) refl refl;
-            joins = λ plain test held. held;
-          })
+          told settings state (Bind target property to) (with_binding state bound.at bound.term) (Some bound.at) (a.Truth true)
+          (leaves_with settings state (Bind target property to) _ _ _ _ _
+          (λ sound. whole_with_binding state bound.at bound.term its.bindable its.short passed sound.whole) (λ declared. declared)
+          (λ before. fits_own settings state before.fit)
+          (λ asked named. named_beside state named (with_binding state bound.at bound.term) refl refl) (λ plain test held. held))
 
   pub unbind_keeps : (target : ℕ) (property : List ℕ) → Keeps settings state (Unbind target property)
       (unbinds_found settings state (asked_property state target property))
@@ -109,36 +107,21 @@ module _ (settings : Settings) (state : State) where
     where
       by : (found : Found Property) → Keeps settings state (Unbind target property) (unbinds_found settings state found)
       by (Err code) = refused settings state (Unbind target property) code
-      by (Ok at) = told settings state (Unbind target property) (with_binding_taken state at) (Some at) (a.Truth (is_bound state.graph.bindings at)) (record {
-        sound = λ sound. record { whole = whole_with_binding_taken state at sound.whole; living = sound.living };
-        declared = λ sound declared. declared_with_binding_taken settings.classes state declared at;
-        fitting = λ fits. (let fit = fits.fit in record
-            { objects = fit.objects; events = fit.events; connections = fit.connections; publications = fit.publications; joins = fit.joins });
-        named = λ are is named. named_with_binding_taken state named at;
-        joins = λ plain test held. held;
-      })
+      by (Ok at) = told settings state (Unbind target property) (with_binding_taken state at) (Some at) (a.Truth (is_bound state.graph.bindings at))
+          (leaves_with settings state (Unbind target property) _ _ _ _ _ (λ sound. whole_with_binding_taken state at sound.whole)
+          (λ declared. declared_with_binding_taken settings.classes state declared at) (λ before. fits_own settings state before.fit)
+          (λ asked named. named_with_binding_taken state named at) (λ plain test held. held))
 
   pub begin_keeps : begin_refusal state.graph ≡ None → Keeps settings state Begin (begins state)
-  begin_keeps passed = replied settings state Begin (with_group state) _ (record {
-    sound = λ sound. record { whole = whole_with_group state passed sound.whole; living = sound.living };
-    declared = λ sound declared. declared;
-    fitting = λ fits. (let fit = fits.fit in record
-        { objects = fit.objects; events = fit.events; connections = fit.connections; publications = fit.publications; joins = fit.joins });
-    named = λ are is named. named_beside state named (with_group state) refl refl;
-    joins = λ plain test held. held;
-  })
+  begin_keeps passed = replied settings state Begin (with_group state) _ (leaves_with settings state Begin _ _ _ _ _
+      (λ sound. whole_with_group state passed sound.whole) (λ declared. declared) (λ before. fits_own settings state before.fit)
+      (λ asked named. named_beside state named (with_group state) refl refl) (λ plain test held. held))
 
   pub end_keeps : Keeps settings state End (ends settings state)
   end_keeps = done settings state End (ending settings state) (a.Number after.graph.depth) (record {
     none = ending_stays settings state;
-    leaves = record {
-      sound = λ sound. record { whole = whole_without_group state sound.whole; living = sound.living };
-      declared = λ sound declared. declared;
-      fitting = λ fits. (let fit = fits.fit in record
-          { objects = fit.objects; events = fit.events; connections = fit.connections; publications = fit.publications; joins = fit.joins });
-      named = λ are is named. named_beside state named after refl refl;
-      joins = λ plain test held. held;
-    };
+    leaves = leaves_with settings state End _ _ _ _ _ (λ sound. whole_without_group state sound.whole) (λ declared. declared)
+        (λ before. fits_own settings state before.fit) (λ asked named. named_beside state named after refl refl) (λ plain test held. held);
     items = λ fits. ending_fits settings fits.are.table state fits.sound.whole (whole_without_group state fits.sound.whole) fits.declared;
     posts = All-nil IsRightPost;
     names = λ are is named. cond_both (is_open after.graph) [] changed (All IsNamedItem) (λ deep. All-nil IsNamedItem) (λ last. tells_named settings after 0 _);

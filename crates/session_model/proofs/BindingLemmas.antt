@@ -24,8 +24,7 @@ use Rattle.binding_values.specs.Binds.{with_binding}
 use Rattle.property_store.specs.Property.{is_property}
 use Rattle.binding_values.specs.Sorted.{is_before}
 use Rattle.binding_values.specs.Stored.{is_bindable, numbered, properties_in, properties_of_object}
-use Rattle.binding_values.proofs.ForCallers.{fewer_sound, with_limited, property_eq, never_before, not_behind, with_rising}
-use Rattle.binding_values.proofs.ForCallers.{all_shown_sound}
+use Rattle.binding_values.proofs.ForCallers.{fewer_sound, with_limited, property_eq, never_before, not_behind, with_rising, all_shown_sound}
 use Rattle.session_model.specs.State.{closed}
 
 -- the properties that an object declares, where it is there

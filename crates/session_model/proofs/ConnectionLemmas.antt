@@ -1,6 +1,6 @@
 -- What each change leaves of the connections of a session.
 use Rattle.std.proofs.Common.{◌≡◌, ◌+◌, ◌-◌, ◌^◌, ◌<◌, ◌≤◌, ◌==◌, ◌&&◌, ℕ, Bool, true, false, not, cond, List, [], ◌∷◌, ◌++◌, All, Option, Some, None, filter}
-use Rattle.std.proofs.Common.{find, length, nat_le, refl, sym, ap, ◌∙◌, subst, arith, ⊎_elim}
+use Rattle.std.proofs.Common.{length, nat_le, refl, sym, ap, ◌∙◌, arith, ⊎_elim}
 use Rattle.std.specs.List.{list_any}
 use Rattle.std.specs.Option.{option_or}
 use Rattle.std.proofs.lemmas.Bool.{cases_Bool, eqb-true, or_left}
@@ -144,12 +144,3 @@ there_without old new gone fewer number other there =
 pub tied_without : (old new : State) (number : ℕ) → numbers new.forest.rows ≡ filter (λ key. not (key == number)) (numbers old.forest.rows)
     → (rows : List Connection) → Ends (λ end. (end == number) ≡ false) rows → All (IsTied old) rows → All (IsTied new) rows
 tied_without old new number fewer rows others = tied_to old new (λ end. (end == number) ≡ false) (there_without old new number fewer) rows others
-
--- what holds of every connection holds of one that is found
-pub of_found : (P : Connection → Type 0) (test : Connection → Bool) (rows : List Connection) (row : Connection) → find test rows ≡ Some row → All P rows → P row
-of_found P test [] row found all = absurd (cc)
-of_found P test (first ∷ rest) row found all = by (test first) found (λ found. of_found P test rest row found (All-tail P first rest all))
-  where
-    by : (passes : Bool) → cond passes (Some first) (find test rest) ≡ Some row → (find test rest ≡ Some row → P row) → P row
-    by true found later = let same : first ≡ row = cc in subst P same (All-head P first rest all)
-    by false found later = later found

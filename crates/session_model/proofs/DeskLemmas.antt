@@ -4,7 +4,7 @@ use Rattle.std.proofs.Common.{refl, sym, ap, ◌∙◌, arith}
 use Rattle.std.specs.List.{All, AllByRecursion, list_any}
 use Rattle.std.proofs.lemmas.Bool.Decides.{nat_tests}
 use Rattle.std.proofs.lemmas.List.{length-append}
-use Rattle.std.proofs.lemmas.List.Elements.{All-filter, All-from_recursion, All-push, All-weaker, recursion_from_All}
+use Rattle.std.proofs.lemmas.List.Elements.{All-filter, All-from_recursion, All-push, All-weaker}
 use Rattle.std.proofs.lemmas.List.Kept.{AllPairs-filter}
 use Rattle.std.proofs.lemmas.List.Quantifiers.{all_pairs_push}
 use Rattle.std.proofs.lemmas.List.Sums.{count_by-le-length, length-filter}
@@ -18,6 +18,7 @@ use Rattle.publish_board.specs.Desk.{Desk, IsSound, join_refusal, with_join, lef
 use Rattle.publish_board.specs.Rows.{has_name, is_join}
 use Rattle.session_model.specs.State.{OfDesk, State}
 use Rattle.session_model.proofs.ConnectionLemmas.{there_more, there_same, there_without}
+use Rattle.session_model.proofs.FilterLemmas.{all_left}
 
 pub sound_bare : IsSound no_desk
 sound_bare = record { few_publications = omega arith; few_joins = omega arith; distinct = λ i j default below within. absurd (omega arith) }
@@ -126,29 +127,12 @@ module _ (P : ℕ → Type 0) (desk : Desk) (all : OfDesk P desk) where
     joins = All-filter (λ (join : Join). not (join.object == object)) (λ join. P join.object) desk.joins all.joins;
   }
 
--- of the rows that are left when an object is taken out, each has another
-others_left : {X : Type 0} (P : ℕ → Type 0) (of : X → ℕ) (object : ℕ) (rows : List X) → All (λ row. P (of row)) rows
-    → All (λ row. P (of row) × ((of row == object) ≡ false)) (filter (λ row. not (of row == object)) rows)
-others_left {X} P of object rows all = All-from_recursion (λ row. P (of row) × ((of row == object) ≡ false)) _
-    (those rows (recursion_from_All (λ row. P (of row)) rows all))
-  where
-    those : (rows : List X) → AllByRecursion (λ row. P (of row)) rows
-        → AllByRecursion (λ row. P (of row) × ((of row == object) ≡ false)) (filter (λ row. not (of row == object)) rows)
-    those [] all = tt
-    those (row ∷ rest) all = by (of row == object) refl (those rest all.1)
-      where
-        by : (same : Bool) → (of row == object) ≡ same → AllByRecursion (λ row. P (of row) × ((of row == object) ≡ false))
-            (filter (λ row. not (of row == object)) rest)
-            → AllByRecursion (λ row. P (of row) × ((of row == object) ≡ false))
-            (cond (not same) (row ∷ filter (λ row. not (of row == object)) rest) (filter (λ row. not (of row == object)) rest))
-        by true is later = later
-        by false is later = ((all.0, is), later)
-
+-- each object of the desk that is left when one is taken out is another
 pub of_others : (P : ℕ → Type 0) (desk : Desk) (object : ℕ) → OfDesk P desk
     → OfDesk (λ number. P number × ((number == object) ≡ false)) (without_object object desk)
 of_others P desk object all = record {
-  publications = others_left P (λ (row : Publication). row.object) object desk.publications all.publications;
-  joins = others_left P (λ (join : Join). join.object) object desk.joins all.joins;
+  publications = all_left (λ (row : Publication). P row.object) (λ (row : Publication). row.object == object) desk.publications all.publications;
+  joins = all_left (λ (join : Join). P join.object) (λ (join : Join). join.object == object) desk.joins all.joins;
 }
 
 -- the objects stand still where the numbers of objects stay the same

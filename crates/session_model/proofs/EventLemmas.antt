@@ -13,7 +13,7 @@ use Rattle.session_model.specs.Execution.{Execution, begun, first_taken, turn_ta
 use Rattle.session_model.specs.Effects.{replies}
 use Rattle.session_model.specs.Events.{spins}
 use Rattle.session_model.specs.Fitting.{IsFittingOperation, IsFittingItem, IsRightPost}
-use Rattle.session_model.specs.Items.{Item, Spin, puts}
+use Rattle.session_model.specs.Items.{Spin, puts}
 use Rattle.session_model.specs.Named.{IsNamedItem}
 use Rattle.session_model.specs.Refusing.{refusal}
 use Rattle.session_model.specs.Signals.{does_found}

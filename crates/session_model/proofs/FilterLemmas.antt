@@ -1,7 +1,10 @@
 -- What is left of a list by a test.
-use Rattle.std.proofs.Common.{◌≡◌, ◌&&◌, ◌||◌, Bool, true, false, cond, List, [], ◌∷◌, Some, None, filter, find, refl, ap, subst, arith, ⊎_elim}
-use Rattle.std.specs.List.{AllByRecursion, list_any}
-use Rattle.std.proofs.lemmas.Bool.{cases_Bool}
+use Rattle.std.proofs.Common.{◌≡◌, ◌&&◌, ◌||◌, ℕ, Bool, true, false, cond, List, [], ◌∷◌, Some, None, filter, find, get_or, not, refl, slice_get, ap}
+use Rattle.std.proofs.Common.{subst, arith, ⊎_elim}
+use Rattle.std.specs.List.{All, AllByRecursion, list_any}
+use Rattle.std.proofs.lemmas.Bool.{cases_Bool, not-true}
+use Rattle.std.proofs.lemmas.List.Elements.{All-filter, All-head, All-tail, All-from_recursion, filter_passes, recursion_from_All}
+use Rattle.std.proofs.lemmas.Option.{get_or_from_slice_get, slice_get_within}
 
 -- two tests one after the other
 pub filter-both : {X : Type 0} (p q : X → Bool) (xs : List X) → filter q (filter p xs) ≡ filter (λ x. p x && q x) xs
@@ -62,9 +65,25 @@ none-found q (first ∷ xs) e = by (q first) e (none-found q xs)
 
 -- what holds of each of some rows holds of those of them that are left
 pub each_left : {X : Type 0} (P : X → Type 0) (test : X → Bool) (xs : List X) → AllByRecursion P xs → AllByRecursion P (filter test xs)
-each_left P test [] all = tt
-each_left P test (x ∷ xs) all = by (test x) (each_left P test xs all.1)
+each_left P test xs all = recursion_from_All P (filter test xs) (All-filter test P xs (All-from_recursion P xs all))
+
+-- what is left where some are taken out does not pass their test
+pub all_left : {X : Type 0} (P : X → Type 0) (test : X → Bool) (xs : List X) → All P xs
+    → All (λ x. P x × (test x ≡ false)) (filter (λ x. not (test x)) xs)
+all_left P test xs all index default within = (
+  All-filter (λ x. not (test x)) P xs all index default within,
+  not-true (test (get_or (filter (λ x. not (test x)) xs) index default)) (filter_passes (λ x. not (test x)) xs index default within),
+)
+
+-- what holds of each holds of one that is found
+pub of_found : {X : Type 0} (P : X → Type 0) (test : X → Bool) (xs : List X) (x : X) → find test xs ≡ Some x → All P xs → P x
+of_found P test [] x found all = absurd (cc)
+of_found P test (first ∷ rest) x found all = by (test first) found (λ found. of_found P test rest x found (All-tail P first rest all))
   where
-    by : (kept : Bool) → AllByRecursion P (filter test xs) → AllByRecursion P (cond kept (x ∷ filter test xs) (filter test xs))
-    by true rest = (all.0, rest)
-    by false rest = rest
+    by : (passes : Bool) → cond passes (Some first) (find test rest) ≡ Some x → (find test rest ≡ Some x → P x) → P x
+    by true found later = let same : first ≡ x = cc in subst P same (All-head P first rest all)
+    by false found later = later found
+
+-- what holds of each holds of the one at an index
+pub of_slice : {X : Type 0} (P : X → Type 0) (xs : List X) (index : ℕ) (x : X) → slice_get xs index ≡ Some x → All P xs → P x
+of_slice P xs index x is all = subst P (get_or_from_slice_get xs index x x is) (all index x (slice_get_within xs index x is))

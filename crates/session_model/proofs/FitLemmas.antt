@@ -86,11 +86,8 @@ read_kind kind json value e = by kind e
 
     by : (kind : Kind) → value_of kind json ≡ Ok value → IsOfKind kind value
     by k.Bool e = truth (as_bool json) e
-    by k.Int e = whole k.Int (whole_number json) e
-    by k.Uint e = whole k.Uint (whole_number json) e
-    by k.Longlong e = whole k.Longlong (whole_number json) e
-    by k.Ulonglong e = whole k.Ulonglong (whole_number json) e
     by k.Text e = spelled (as_str json) e
+    by kind e = whole kind (whole_number json) e
 
 -- a value that is converted to a kind
 converted_kind : (kind : Kind) (value new : Value) → (ok_or (converted kind value) BadValue >>= short) ≡ Ok new → IsOfKind kind new
@@ -114,11 +111,8 @@ converted_kind kind value new e = by kind e
 
     by : (kind : Kind) → (ok_or (converted kind value) BadValue >>= short) ≡ Ok new → IsOfKind kind new
     by k.Bool e = truth (truth_in value) e
-    by k.Int e = whole k.Int (number_in value) e
-    by k.Uint e = whole k.Uint (number_in value) e
-    by k.Longlong e = whole k.Longlong (number_in value) e
-    by k.Ulonglong e = whole k.Ulonglong (number_in value) e
     by k.Text e = spelled (text_in value) e
+    by kind e = whole kind (number_in value) e
 
 -- the value that a piece of JSON is by itself is short
 inferred_short : (json : Data) (value : Value) → inferred json ≡ Ok value → IsShort value
@@ -137,18 +131,64 @@ inferred_short (d.number n) value e = whole (as_integer n) e
     whole None e = absurd (cc)
     whole (Some z) e = made z _ _ _ refl refl refl e
 inferred_short (d.string text) value e = (text_short text value e).1
-inferred_short (d.array items) value e = absurd (cc)
-inferred_short (d.object fields) value e = absurd (cc)
+inferred_short _ value e = absurd (cc)
 
 -- and so is what is no text that is too long
 short_short : (value new : Value) → short value ≡ Ok new → IsShort new
-short_short v.Invalid new e = given IsShort v.Invalid new tt e
-short_short (v.Bool b) new e = given IsShort (v.Bool b) new tt e
-short_short (v.Int z) new e = given IsShort (v.Int z) new tt e
-short_short (v.Uint n) new e = given IsShort (v.Uint n) new tt e
-short_short (v.Longlong z) new e = given IsShort (v.Longlong z) new tt e
-short_short (v.Ulonglong n) new e = given IsShort (v.Ulonglong n) new tt e
 short_short (v.Text text) new e = (text_short text new e).1
+short_short value new e = given IsShort value new tt e
+
+-- what a command or an action writes is one of these
+module _ (state : State) (object : ℕ) (name : List ℕ) (Q : Writing → Type 0) (nothing : Q Nothing)
+    (sets : (place : DeclaredField) (value : Value) → declared state object name ≡ Some place → IsOfKind place.kind value → Q (Declared place.number value))
+    (adds : (value : Value) → IsShort value → dynamic_refusal state.store object name ≡ None → Q (Dynamic name value)) (removes : Q (Removed name)) where
+  added_by : (value : Value) (writing : Writing) → IsShort value
+      → option_map_or Err (dynamic_refusal state.store object name) (Ok (Dynamic name value)) ≡ Ok writing → Q writing
+  added_by value writing is_short e = by (dynamic_refusal state.store object name) refl e
+    where
+      by : (refusal : Option Code) → dynamic_refusal state.store object name ≡ refusal → option_map_or Err refusal (Ok (Dynamic name value)) ≡ Ok writing
+          → Q writing
+      by (Some code) is e = absurd (cc)
+      by None is e = let same : Dynamic name value ≡ writing = cc in subst Q same (adds value is_short is)
+
+  dynamic_by : (value : Value) (writing : Writing) → IsShort value → dynamic_writing state object name value ≡ Ok writing → Q writing
+  dynamic_by v.Invalid writing is_short e = let same : Removed name ≡ writing = cc in subst Q same removes
+  dynamic_by value writing is_short e = added_by value writing is_short e
+
+  placed_by : (place : DeclaredField) (found : Found Value) (writing : Writing) → declared state object name ≡ Some place
+      → ((value : Value) → found ≡ Ok value → IsOfKind place.kind value)
+      → (found >>= λ value. Ok (Declared place.number value)) ≡ Ok writing → Q writing
+  placed_by place (Err code) writing is kind e = absurd (cc)
+  placed_by place (Ok value) writing is kind e = let same : Declared place.number value ≡ writing = cc in subst Q same
+      (sets place value is (kind value refl))
+
+  named_by : (found : Found Value) (writing : Writing) → ((value : Value) → found ≡ Ok value → IsShort value)
+      → (found >>= dynamic_writing state object name) ≡ Ok writing → Q writing
+  named_by (Err code) writing short e = absurd (cc)
+  named_by (Ok value) writing short e = dynamic_by value writing (short value refl) e
+
+  -- what a command writes
+  pub asked_by : (json : Data) (writing : Writing) → asked_writing state object name json ≡ Ok writing → Q writing
+  asked_by json writing e = by (declared state object name) refl e
+    where
+      place_by : (place : DeclaredField) (json : Data) → declared state object name ≡ Some place → asked_place json place ≡ Ok writing → Q writing
+      place_by place d.null is e = let same : Nothing ≡ writing = cc in subst Q same nothing
+      place_by place json is e = placed_by place (value_of place.kind json) writing is (read_kind place.kind json) e
+
+      by : (found : Option DeclaredField) → declared state object name ≡ found
+          → option_map_or (asked_place json) found (inferred json >>= dynamic_writing state object name) ≡ Ok writing → Q writing
+      by None is e = named_by (inferred json) writing (inferred_short json) e
+      by (Some place) is e = place_by place json is e
+
+  -- and what an action does
+  pub acted_by : (value : Value) (writing : Writing) → acted_writing state object name value ≡ Ok writing → Q writing
+  acted_by value writing e = by (declared state object name) refl e
+    where
+      by : (found : Option DeclaredField) → declared state object name ≡ found
+          → option_map_or (λ place. ok_or (converted place.kind value) BadValue >>= short >>= λ value. Ok (Declared place.number value)) found
+          (short value >>= dynamic_writing state object name) ≡ Ok writing → Q writing
+      by None is e = named_by (short value) writing (short_short value) e
+      by (Some place) is e = placed_by place (ok_or (converted place.kind value) BadValue >>= short) writing is (converted_kind place.kind value) e
 
 module _ (state : State) (object : ℕ) (name : List ℕ) where
   -- a declared property takes a value of its kind
@@ -173,66 +213,13 @@ module _ (state : State) (object : ℕ) (name : List ℕ) where
       numbered (Some number) e = found number (slice_get of.fields number) refl e
 
   -- a dynamic one a short value, where there is room
-  set_fit : (value : Value) (writing : Writing) → IsShort value
-      → option_map_or Err (dynamic_refusal state.store object name) (Ok (Dynamic name value)) ≡ Ok writing → IsFit state object writing
-  set_fit value writing is_short e = by (dynamic_refusal state.store object name) refl e
-    where
-      by : (refusal : Option Code) → dynamic_refusal state.store object name ≡ refusal → option_map_or Err refusal (Ok (Dynamic name value)) ≡ Ok writing
-          → IsFit state object writing
-      by (Some code) is e = absurd (cc)
-      by None is e =
-          let same : Dynamic name value ≡ writing = cc in
-          subst (IsFit state object) same
-          (λ of there sound. with_dynamic_sound of name value sound is_short (sym (ap (option_and_then (λ of. refusal_of_name name of.dynamic)) there) ∙ is))
+  added_fit : (value : Value) → IsShort value → dynamic_refusal state.store object name ≡ None → IsFit state object (Dynamic name value)
+  added_fit value is_short free of there sound =
+      with_dynamic_sound of name value sound is_short (sym (ap (option_and_then (λ of. refusal_of_name name of.dynamic)) there) ∙ free)
 
-  dynamic_fit : (value : Value) (writing : Writing) → IsShort value → dynamic_writing state object name value ≡ Ok writing → IsFit state object writing
-  dynamic_fit v.Invalid writing is_short e = let same : Removed name ≡ writing = cc in subst (IsFit state object) same
-      (λ of there sound. without_dynamic_sound of name sound)
-  dynamic_fit (v.Bool b) writing is_short e = set_fit (v.Bool b) writing is_short e
-  dynamic_fit (v.Int z) writing is_short e = set_fit (v.Int z) writing is_short e
-  dynamic_fit (v.Uint n) writing is_short e = set_fit (v.Uint n) writing is_short e
-  dynamic_fit (v.Longlong z) writing is_short e = set_fit (v.Longlong z) writing is_short e
-  dynamic_fit (v.Ulonglong n) writing is_short e = set_fit (v.Ulonglong n) writing is_short e
-  dynamic_fit (v.Text text) writing is_short e = set_fit (v.Text text) writing is_short e
-
-  -- a value that is found is written
-  placed_fit : (place : DeclaredField) (found : Found Value) (writing : Writing) → declared state object name ≡ Some place
-      → ((value : Value) → found ≡ Ok value → IsOfKind place.kind value)
-      → (found >>= λ value. Ok (Declared place.number value)) ≡ Ok writing → IsFit state object writing
-  placed_fit place (Err code) writing is kind e = absurd (cc)
-  placed_fit place (Ok value) writing is kind e = let same : Declared place.number value ≡ writing = cc in subst (IsFit state object) same
-      (declared_fit place value is (kind value refl))
-
-  named_fit : (found : Found Value) (writing : Writing) → ((value : Value) → found ≡ Ok value → IsShort value)
-      → (found >>= dynamic_writing state object name) ≡ Ok writing → IsFit state object writing
-  named_fit (Err code) writing short e = absurd (cc)
-  named_fit (Ok value) writing short e = dynamic_fit value writing (short value refl) e
-
-  -- what a command writes
+  -- what a command writes, and what an action does
   pub asked_fit : (json : Data) (writing : Writing) → asked_writing state object name json ≡ Ok writing → IsFit state object writing
-  asked_fit json writing e = by (declared state object name) refl e
-    where
-      place_fit : (place : DeclaredField) (json : Data) → declared state object name ≡ Some place → asked_place json place ≡ Ok writing
-          → IsFit state object writing
-      place_fit place d.null is e = let same : Nothing ≡ writing = cc in subst (IsFit state object) same tt
-      place_fit place (d.boolean b) is e = placed_fit place (value_of place.kind (d.boolean b)) writing is (read_kind place.kind (d.boolean b)) e
-      place_fit place (d.number n) is e = placed_fit place (value_of place.kind (d.number n)) writing is (read_kind place.kind (d.number n)) e
-      place_fit place (d.string text) is e = placed_fit place (value_of place.kind (d.string text)) writing is (read_kind place.kind (d.string text)) e
-      place_fit place (d.array items) is e = placed_fit place (value_of place.kind (d.array items)) writing is (read_kind place.kind (d.array items)) e
-      place_fit place (d.object fields) is e = placed_fit place (value_of place.kind (d.object fields)) writing is (read_kind place.kind (d.object fields)) e
+  asked_fit = asked_by state object name (IsFit state object) tt declared_fit added_fit (λ of there sound. without_dynamic_sound of name sound)
 
-      by : (found : Option DeclaredField) → declared state object name ≡ found
-          → option_map_or (asked_place json) found (inferred json >>= dynamic_writing state object name) ≡ Ok writing → IsFit state object writing
-      by None is e = named_fit (inferred json) writing (inferred_short json) e
-      by (Some place) is e = place_fit place json is e
-
-  -- and what an action does
   pub acted_fit : (value : Value) (writing : Writing) → acted_writing state object name value ≡ Ok writing → IsFit state object writing
-  acted_fit value writing e = by (declared state object name) refl e
-    where
-      by : (found : Option DeclaredField) → declared state object name ≡ found
-          → option_map_or (λ place. ok_or (converted place.kind value) BadValue >>= short >>= λ value. Ok (Declared place.number value)) found
-          (short value >>= dynamic_writing state object name) ≡ Ok writing
-          → IsFit state object writing
-      by None is e = named_fit (short value) writing (short_short value) e
-      by (Some place) is e = placed_fit place (ok_or (converted place.kind value) BadValue >>= short) writing is (converted_kind place.kind value) e
+  acted_fit = acted_by state object name (IsFit state object) tt declared_fit added_fit (λ of there sound. without_dynamic_sound of name sound)

@@ -32,6 +32,7 @@ use Rattle.session_model.specs.Signals.{values_of, with_value}
 use Rattle.session_model.specs.State.{State, shown}
 use Rattle.session_model.specs.Targets.{all_converted, all_evaluated, evaluated, outcome, object_of, reads}
 use Rattle.session_model.proofs.FitLemmas.{read_kind}
+use Rattle.session_model.proofs.FilterLemmas.{of_found}
 
 -- the first of them serve parameters that are the first
 front_arguments : (front rest : List Kind) (args : List Value) → AreArguments (front ++ rest) args → AreArguments front (take (length front) args)
@@ -107,8 +108,7 @@ module _ (state : State) (properties : stored.IsSound state.store) (bound : grap
           → IfSome (option_map (λ (named : Named). named.value) named) IsShort
       free of sound None e = tt
       free of sound (Some named) e =
-          let there = found (λ (named : Named). bytes_eq named.name name) of.dynamic named e in
-          subst (λ (named : Named). IsShort named.value) (there.is named) (sound.dynamic_short there.at named there.within)
+          of_found (λ (named : Named). IsShort named.value) (λ (named : Named). bytes_eq named.name name) of.dynamic named e sound.dynamic_short
 
       numbered : (of : Properties) → AreSound of → (number : Option ℕ)
           → IfSome (option_map_or (λ number. Some (shown state object number).0) number (dynamic_value name of.dynamic)) IsShort
@@ -120,8 +120,7 @@ module _ (state : State) (properties : stored.IsSound state.store) (bound : grap
           (dynamic_value name of.dynamic)) of) IsShort
       by None e = tt
       by (Some of) e =
-          let there = found (λ (of : Properties). of.object == object) state.store of e in
-          numbered of (subst AreSound (there.is of) (properties.each there.at of there.within)) (field_number name of.fields)
+          numbered of (of_found AreSound (λ (of : Properties). of.object == object) state.store of e properties.each) (field_number name of.fields)
 
   reads_short : (self sender : ℕ) (target : Target) (name : List ℕ) → IfOk (reads state self sender target name) IsShort
   reads_short self sender target name = by (is_there state.forest.rows (object_of state self sender target))

@@ -6,11 +6,11 @@ use Rattle.std.proofs.lemmas.List.Elements.{All-append, All-cons, All-filter, Al
 use Rattle.plain_types.specs.declared.code.Code.TheVariants.{TurnsUsedUp}
 use Rattle.connection_list.specs.declared.connection.Connection.{Connection}
 use Rattle.connection_list.specs.Ends.{matches, touches}
-use Rattle.connection_list.specs.Rows.{has_number, numbered}
+use Rattle.connection_list.specs.Rows.{Rows, has_number, numbered}
 use Rattle.event_queue.specs.declared.event.Event.{Event}
 use Rattle.event_queue.specs.declared.event.Event.TheVariants as event
 use Rattle.event_queue.specs.declared.event.QueuedCall.{QueuedCall}
-use Rattle.event_queue.specs.Queue.{has_room}
+use Rattle.event_queue.specs.Queue.{Queue, has_room}
 use Rattle.object_tree.specs.declared.row.Row.{Row}
 use Rattle.publish_board.specs.declared.join.Join.{Join}
 use Rattle.publish_board.specs.declared.publication.Publication.{Publication}
@@ -22,21 +22,25 @@ use Rattle.session_model.specs.declared.line.Line.TheVariants.{Warning}
 use Rattle.session_model.specs.declared.post.Post.{Post}
 use Rattle.session_model.specs.Agenda.{queued}
 use Rattle.session_model.specs.Operations.{operation_done, with_operation}
-use Rattle.session_model.specs.Execution.{Execution, dying, first_taken, in_state, lost, enqueued, posting, severed, single_shot_broken, line_told, turn_taken}
-use Rattle.session_model.specs.Execution.{used_up, stepped}
+use Rattle.session_model.specs.Execution.{Execution, dying, first_taken, in_state, lost, enqueued, posting, severed, single_shot_broken, line_told}
+use Rattle.session_model.specs.Execution.{turn_taken, used_up, stepped}
 use Rattle.session_model.specs.Fitting.{IsConnected, IsFittingOperation, IsFittingEvent, IsFittingItem, IsJoined, IsPublished, IsRightPost}
 use Rattle.session_model.specs.Items.{Item, Next, puts}
 use Rattle.session_model.specs.Settings.{Settings}
 use Rattle.session_model.specs.State.{State, with_event, without_connections}
-use Rattle.session_model.specs.Writing.{Declared, Dynamic, Nothing, Removed, Writing, with_writing}
-use Rattle.session_model.proofs.FittingClassLemmas.{Fits}
+use Rattle.session_model.specs.Writing.{Nothing, Writing, with_writing}
+use Rattle.session_model.proofs.FittingClassLemmas.{AllFit, Fits}
 use Rattle.session_model.proofs.QueueLemmas.{each_dropped, each_posted, each_taken}
+use Rattle.publish_board.specs.Desk.{Desk}
 
 module _ (settings : Settings) (rows : List Row) where
   -- what a session holds fits the objects of these rows, and what it has posted is right
-  pub record Carries (doing : Execution) : Type 0 where
-    pub fits : Fits settings rows doing.state
-    pub posts : All IsRightPost doing.posts
+  pub record AllCarried (queue : Queue) (connections : Rows) (desk : Desk) (posted : List Post) : Type 0 where
+    pub fits : AllFit settings rows queue connections desk
+    pub posts : All IsRightPost posted
+
+  abbrev pub Carries : Execution → Type 0
+  Carries doing = AllCarried doing.state.queue doing.state.connections doing.state.desk doing.posts
 
   -- and so after an item, with all that is to be done first then
   pub record Comes (next : Next) : Type 0 where
@@ -44,7 +48,7 @@ module _ (settings : Settings) (rows : List Row) where
     pub items : All (IsFittingItem settings next.doing.state) next.items
 
   -- fewer connections fit
-  fits_without : (state : State) (test : Connection → Bool) → Fits settings rows state → Fits settings rows (without_connections state test)
+  pub fits_without : (state : State) (test : Connection → Bool) → Fits settings rows state → Fits settings rows (without_connections state test)
   fits_without state test fit = record {
     events = fit.events;
     connections = All-filter (λ row. not (test row)) (IsConnected settings rows) state.connections.rows fit.connections;
@@ -53,7 +57,7 @@ module _ (settings : Settings) (rows : List Row) where
   }
 
   -- and one more event that fits
-  fits_event : (state : State) (event : Event) → IsFittingEvent settings rows event → Fits settings rows state → Fits settings rows (with_event state event)
+  pub fits_event : (state : State) (event : Event) → IsFittingEvent settings rows event → Fits settings rows state → Fits settings rows (with_event state event)
   fits_event state event new fit = record {
     events = each_posted (IsFittingEvent settings rows) state.queue event new fit.events;
     connections = fit.connections;
@@ -70,25 +74,17 @@ module _ (settings : Settings) (rows : List Row) where
     joins = fit.joins;
   }
   fits_operation state (d.Disconnect pattern) may fit = fits_without state (matches pattern) fit
-  fits_operation state (d.SetParent target parent) may fit = record
-      { events = fit.events; connections = fit.connections; publications = fit.publications; joins = fit.joins }
   fits_operation state (d.DeleteLater target) may fit = fits_event state (event.Deletion target) tt fit
-  fits_operation state (d.Block target on) may fit =
-      record { events = fit.events; connections = fit.connections; publications = fit.publications; joins = fit.joins }
+  fits_operation state _ may fit = fit
 
   pub fits_writing : (state : State) (object : ℕ) (writing : Writing) → Fits settings rows state → Fits settings rows (with_writing state object writing)
-  fits_writing state object (Declared number value) fit = record
-      { events = fit.events; connections = fit.connections; publications = fit.publications; joins = fit.joins }
-  fits_writing state object (Dynamic name value) fit = record
-      { events = fit.events; connections = fit.connections; publications = fit.publications; joins = fit.joins }
-  fits_writing state object (Removed name) fit =
-      record { events = fit.events; connections = fit.connections; publications = fit.publications; joins = fit.joins }
   fits_writing state object Nothing fit = fit
+  fits_writing state object _ fit = fit
 
   module _ (doing : Execution) (on : Carries doing) where
     pub told_carries : (said : Line) → Carries (line_told doing said)
     unfolding line_told
-    told_carries said = record { fits = on.fits; posts = on.posts }
+    told_carries said = on
 
     pub posting_carries : (more : List Post) → All IsRightPost more → Carries (posting doing more)
     unfolding posting
@@ -96,12 +92,12 @@ module _ (settings : Settings) (rows : List Row) where
 
     pub turn_carries : Carries (turn_taken doing)
     unfolding turn_taken
-    turn_carries = record { fits = on.fits; posts = on.posts }
+    turn_carries = on
 
     pub used_up_carries : Carries (used_up doing)
     unfolding used_up
     used_up_carries = cond_both doing.spent doing (record doing { spent = true; lines = doing.lines ++ Warning TurnsUsedUp None ∷ [] }) Carries (λ spent. on)
-        (λ fresh. record { fits = on.fits; posts = on.posts })
+        (λ fresh. on)
 
     pub shot_carries : (row : Connection) → Carries (single_shot_broken doing row)
     unfolding single_shot_broken
@@ -129,12 +125,7 @@ module _ (settings : Settings) (rows : List Row) where
     lost_carries : Carries (lost doing)
     unfolding lost
     lost_carries = record {
-      fits = record {
-        events = on.fits.events;
-        connections = on.fits.connections;
-        publications = on.fits.publications;
-        joins = on.fits.joins;
-      };
+      fits = record { events = on.fits.events; connections = on.fits.connections; publications = on.fits.publications; joins = on.fits.joins };
       posts = on.posts;
     }
 
@@ -160,11 +151,7 @@ module _ (settings : Settings) (rows : List Row) where
 
     pub dying_carries : (target : ℕ) → Carries (dying doing target)
     unfolding dying
-    dying_carries target = record {
-      fits = record
-          { events = on.fits.events; connections = on.fits.connections; publications = on.fits.publications; joins = on.fits.joins };
-      posts = on.posts;
-    }
+    dying_carries target = on
 
     pub severed_carries : (target : ℕ) → Carries (severed doing target)
     unfolding severed

@@ -2,7 +2,6 @@
 use Rattle.std.proofs.Common.{◌≡◌, ℕ, true, List, [], ◌++◌, Option, Some, None, is_some, slice_get, refl, sym, ap, subst, ◌∙◌}
 use Rattle.std.specs.List.{All}
 use Rattle.std.specs.Option.{option_map, option_map_or, option_or}
-use Rattle.std.proofs.lemmas.Bool.{eqb-true}
 use Rattle.std.proofs.lemmas.List.Folds.{find-append}
 use Rattle.signature_core.specs.Kinds.{fits}
 use Rattle.variant_value.specs.declared.value.Value.{Value}
@@ -13,13 +12,12 @@ use Rattle.plain_types.specs.declared.callee.Callee.{Callee}
 use Rattle.plain_types.specs.declared.callee.Callee.TheVariants as callee
 use Rattle.event_queue.specs.declared.event.Event.{Event}
 use Rattle.event_queue.specs.declared.event.Event.TheVariants as event
-use Rattle.event_queue.specs.Queue.{object_of}
+use Rattle.event_queue.specs.Queue.{Queue, object_of}
 use Rattle.object_tree.specs.declared.row.Row.{Row}
 use Rattle.object_tree.specs.Forest as tree
 use Rattle.object_tree.specs.Forest.{Forest}
 use Rattle.object_tree.specs.Rows.{has_number, is_there, row_of}
 use Rattle.object_tree.proofs.ForCallers.{at_place}
-use Rattle.property_store.proofs.ForCallers.{found}
 use Rattle.publish_board.specs.declared.join.Join.{Join}
 use Rattle.stored_slots.specs.Functors.{AreArguments}
 use Rattle.session_model.specs.Arriving.{kinds_of}
@@ -28,6 +26,9 @@ use Rattle.session_model.specs.Methods.{is_signal_at, kinds_at, methods_by}
 use Rattle.session_model.specs.Settings.{Settings}
 use Rattle.session_model.specs.State.{IsWhole, OfDesk, State}
 use Rattle.session_model.proofs.ConnectionLemmas.{Ends}
+use Rattle.connection_list.specs.Rows.{Rows}
+use Rattle.publish_board.specs.Desk.{Desk}
+use Rattle.session_model.proofs.ForestLemmas.{of_row}
 
 -- the class of an object
 abbrev pub class_at : List Row → ℕ → Option ℕ
@@ -106,12 +107,16 @@ module _ (settings : Settings) (old new : List Row) where
     few = fit.few;
   }
 
+-- these events, connections, publications and joins fit the objects of these rows
+pub record AllFit (settings : Settings) (rows : List Row) (queue : Queue) (joined : Rows) (desk : Desk) : Type 0 where
+  pub events : All (IsFittingEvent settings rows) queue.events
+  pub connections : All (IsConnected settings rows) joined.rows
+  pub publications : All (IsPublished settings rows) desk.publications
+  pub joins : All (IsJoined settings rows) desk.joins
+
 -- what a session holds fits the objects of these rows
-pub record Fits (settings : Settings) (rows : List Row) (state : State) : Type 0 where
-  pub events : All (IsFittingEvent settings rows) state.queue.events
-  pub connections : All (IsConnected settings rows) state.connections.rows
-  pub publications : All (IsPublished settings rows) state.desk.publications
-  pub joins : All (IsJoined settings rows) state.desk.joins
+abbrev pub Fits : Settings → List Row → State → Type 0
+Fits settings rows state = AllFit settings rows state.queue state.connections state.desk
 
 -- of its own rows
 pub fits_own : (settings : Settings) (state : State) → IsFitting settings state → Fits settings state.forest.rows state
@@ -146,11 +151,7 @@ kept_class old new kept number there = by (row_of new number) refl there
   where
     by : (row : Option Row) → row_of new number ≡ row → is_some row ≡ true → option_map (λ (row : Row). row.class) row ≡ class_at old number
     by None is e = absurd (cc)
-    by (Some row) is e =
-        let it = found (has_number number) new row is in
-        let had : class_at old row.number ≡ Some row.class = subst (λ (row : Row). class_at old row.number ≡ Some row.class) (it.is row)
-        (kept it.at row it.within) in
-        sym had ∙ ap (class_at old) (eqb-true row.number number it.passes)
+    by (Some row) is e = sym (of_row (λ number class dying. class_at old number ≡ Some class) new number row is kept)
 
 -- and so was the object there
 pub was_there : (old new : List Row) (number : ℕ) → is_there new number ≡ true → SameClass old new number → is_there old number ≡ true

@@ -94,47 +94,41 @@ module _ (settings : Settings) (state : State) (sender : ℕ) (signal : Found �
   abbrev Joins : NewConnection → Type 0
   Joins new = MayBeConnected settings state.forest.rows new.sender new.signal new.receiver new.callee
 
+  -- where a signal and a callee are found and fit, what is made of both joins them
+  made_joins : (made : ℕ → ℕ → NewConnection) (fit : ℕ → ℕ → Bool) (There : ℕ → Type 0) (found : Found ℕ) → ((index : ℕ) → found ≡ Ok index → There index)
+      → ((s c : ℕ) → is_signal_at (methods_of settings state sender) s ≡ true → There c → fit s c ≡ true → Joins (made s c)) → (new : NewConnection)
+      → (signal >>= λ s. found >>= λ c. cond (fit s c) (Ok (made s c)) (Err DoesNotFit)) ≡ Ok new → Joins new
+  made_joins made fit There found callees joins new e = by signal found signals callees e
+    where
+      tested : (s c : ℕ) → is_signal_at (methods_of settings state sender) s ≡ true → There c → (fits : Bool) → fit s c ≡ fits
+          → cond fits (Ok (made s c)) (Err DoesNotFit) ≡ Ok new → Joins new
+      tested s c one other true is e = let same : made s c ≡ new = cc in subst Joins same (joins s c one other is)
+      tested s c one other false is e = absurd (cc)
+
+      by : (one other : Found ℕ) → ((index : ℕ) → one ≡ Ok index → is_signal_at (methods_of settings state sender) index ≡ true)
+          → ((index : ℕ) → other ≡ Ok index → There index)
+          → (one >>= λ s. other >>= λ c. cond (fit s c) (Ok (made s c)) (Err DoesNotFit)) ≡ Ok new → Joins new
+      by (Err code) other signals callees e = absurd (cc)
+      by (Ok s) (Err code) signals callees e = absurd (cc)
+      by (Ok s) (Ok c) signals callees e = tested s c (signals s refl) (callees c refl) (fit s c) refl e
+
   -- a connection that is found joins a signal to a method that it fits
   pub connection_fits : (receiver : ℕ) (method : Found ℕ)
       → ((index : ℕ) → method ≡ Ok index → is_some (slice_get (methods_of settings state receiver) index) ≡ true) → (mode : ConnectionType) (single : Bool)
       → (new : NewConnection) → new_connection settings state sender signal receiver method mode single ≡ Ok new → Joins new
-  connection_fits receiver method methods mode single new e = by signal method signals methods e
-    where
-      made : ℕ → ℕ → NewConnection
-      made s m = record { sender = sender; signal = s; receiver = receiver; callee = callee.Method m; mode = mode; single = single }
-
-      tested : (s m : ℕ) → is_signal_at (methods_of settings state sender) s ≡ true → is_some (slice_get (methods_of settings state receiver) m) ≡ true
-          → (fit : Bool) → fits_at settings state sender s receiver m ≡ fit → cond fit (Ok (made s m)) (Err DoesNotFit) ≡ Ok new → Joins new
-      tested s m one other true is e = let same : made s m ≡ new = cc in subst Joins same (record { signal_there = one; callee = other; fitting = is })
-      tested s m one other false is e = absurd (cc)
-
-      by : (one other : Found ℕ) → ((index : ℕ) → one ≡ Ok index → is_signal_at (methods_of settings state sender) index ≡ true)
-          → ((index : ℕ) → other ≡ Ok index → is_some (slice_get (methods_of settings state receiver) index) ≡ true)
-          → (one >>= λ s. other >>= λ m. cond (fits_at settings state sender s receiver m) (Ok (made s m)) (Err DoesNotFit)) ≡ Ok new → Joins new
-      by (Err code) other signals methods e = absurd (cc)
-      by (Ok s) (Err code) signals methods e = absurd (cc)
-      by (Ok s) (Ok m) signals methods e = tested s m (signals s refl) (methods m refl) (fits_at settings state sender s receiver m) refl e
+  connection_fits receiver method methods mode single = made_joins
+      (λ s m. record { sender = sender; signal = s; receiver = receiver; callee = callee.Method m; mode = mode; single = single })
+      (λ s m. fits_at settings state sender s receiver m) (λ m. is_some (slice_get (methods_of settings state receiver) m) ≡ true) method methods
+      (λ s m one other is. record { signal_there = one; callee = other; fitting = is })
 
   -- or to a functor
   pub functor_connection_fits : (context : ℕ) (functor : Found ℕ) → ((index : ℕ) → functor ≡ Ok index → is_some (slice_get settings.functors index) ≡ true)
       → (mode : ConnectionType) (single : Bool)
       → (new : NewConnection) → new_functor_connection settings state sender signal context functor mode single ≡ Ok new → Joins new
-  functor_connection_fits context functor functors mode single new e = by signal functor signals functors e
-    where
-      made : ℕ → ℕ → NewConnection
-      made s f = record { sender = sender; signal = s; receiver = context; callee = callee.Functor f; mode = mode; single = single }
-
-      tested : (s f : ℕ) → is_signal_at (methods_of settings state sender) s ≡ true → is_some (slice_get settings.functors f) ≡ true
-          → (fit : Bool) → fits_functor settings state sender s f ≡ fit → cond fit (Ok (made s f)) (Err DoesNotFit) ≡ Ok new → Joins new
-      tested s f one other true is e = let same : made s f ≡ new = cc in subst Joins same (record { signal_there = one; callee = other; fitting = is })
-      tested s f one other false is e = absurd (cc)
-
-      by : (one other : Found ℕ) → ((index : ℕ) → one ≡ Ok index → is_signal_at (methods_of settings state sender) index ≡ true)
-          → ((index : ℕ) → other ≡ Ok index → is_some (slice_get settings.functors index) ≡ true)
-          → (one >>= λ s. other >>= λ f. cond (fits_functor settings state sender s f) (Ok (made s f)) (Err DoesNotFit)) ≡ Ok new → Joins new
-      by (Err code) other signals functors e = absurd (cc)
-      by (Ok s) (Err code) signals functors e = absurd (cc)
-      by (Ok s) (Ok f) signals functors e = tested s f (signals s refl) (functors f refl) (fits_functor settings state sender s f) refl e
+  functor_connection_fits context functor functors mode single = made_joins
+      (λ s f. record { sender = sender; signal = s; receiver = context; callee = callee.Functor f; mode = mode; single = single })
+      (λ s f. fits_functor settings state sender s f) (λ f. is_some (slice_get settings.functors f) ≡ true) functor functors
+      (λ s f one other is. record { signal_there = one; callee = other; fitting = is })
 
 -- so does the operation that makes it
 pub operation_fits : (settings : Settings) (rows : List Row) (found : Found NewConnection) (unique : Bool)

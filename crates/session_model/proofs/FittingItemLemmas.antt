@@ -1,17 +1,15 @@
 -- Each item leaves a session that fits the classes and the functors, and what it comes to fits.
 use Rattle.std.proofs.Common.{◌≡◌, ◌+◌, ℕ, Bool, true, false, List, [], ◌∷◌, ◌++◌, Option, Some, None, Ok, Err, is_some, slice_get, refl, sym, ap, subst, ◌∙◌}
 use Rattle.std.specs.List.{All, list_all}
-use Rattle.std.specs.Option.{option_map_or, option_or}
-use Rattle.std.specs.Result.{result_err}
-use Rattle.std.proofs.lemmas.Bool.{and_parts, cond_both}
+use Rattle.std.specs.Option.{option_map_or}
+use Rattle.std.proofs.lemmas.Bool.{and_parts}
 use Rattle.std.proofs.lemmas.List.Elements.{All-append, All-cons, All-head, All-map, All-nil, All-tail, All-weaker}
-use Rattle.plain_types.specs.declared.code.Code.{Code}
 use Rattle.signature_core.specs.declared.signature.Signature.{Signature}
 use Rattle.variant_value.specs.declared.value.Value.{Value}
 use Rattle.variant_value.specs.Values.{IsShort}
 use Rattle.term_core.specs.declared.action.SingleAction.{SingleAction}
 use Rattle.term_core.specs.declared.action.SingleAction.TheVariants as e
-use Rattle.term_core.specs.Act.{Acts, acts_of, are_limited, single_action, is_effect_limited, more, nothing, when}
+use Rattle.term_core.specs.Act.{Acts, acts_of, are_limited, more, nothing}
 use Rattle.term_core.specs.Forms.{is_within_limits}
 use Rattle.term_core.specs.Term.{Term}
 use Rattle.class_table.specs.declared.class.Method.{Method}
@@ -19,7 +17,7 @@ use Rattle.class_table.specs.Lookup.{methods}
 use Rattle.plain_types.specs.declared.callee.Callee.TheVariants as callee
 use Rattle.object_tree.specs.declared.row.Row.{Row}
 use Rattle.object_tree.specs.Refusing.{object_refusal}
-use Rattle.object_tree.specs.Rows.{children, has_number, is_there, row_of}
+use Rattle.object_tree.specs.Rows.{children, is_there, row_of}
 use Rattle.property_store.proofs.ForCallers.{found}
 use Rattle.stored_slots.specs.declared.functor.Functor.{Functor}
 use Rattle.stored_slots.specs.Functors.{AreArguments}
@@ -27,29 +25,28 @@ use Rattle.term_evaluation.specs.Stating.{after, with_state}
 use Rattle.session_model.specs.declared.call.TheConstants.{DESTROYED}
 use Rattle.session_model.specs.declared.operation.Operation.{Operation}
 use Rattle.session_model.specs.declared.operation.Operation.TheVariants as d
-use Rattle.session_model.specs.declared.line.Answer.TheVariants as a
-use Rattle.session_model.specs.declared.line.Line.TheVariants as line
-use Rattle.session_model.specs.Absence.{absence}
-use Rattle.session_model.specs.Acts.{act_refusal, acted, acts, chosen, connection, emission, pattern, warns_or, with_found, writing}
-use Rattle.session_model.specs.Agenda.{binding_line, call_line, connection_of, functor_line, functor_ran, delete_children, lives, lives_below, ran, step}
-use Rattle.session_model.specs.Operations.{behind, operation_done, operation_refusal, found_refusal}
-use Rattle.session_model.specs.Execution.{Execution, dying, severed, line_told, stepped}
+use Rattle.session_model.specs.Absence.{absence, named_absence}
+use Rattle.session_model.specs.Acts.{act_operation, acts, branch, connection, emission, pattern}
+use Rattle.session_model.specs.Agenda.{call_line, functor_line, functor_ran, delete_children, ran, step}
+use Rattle.session_model.specs.Operations.{behind, operation_done}
+use Rattle.session_model.specs.Execution.{Execution, dying, severed, line_told, stepped, used_up}
 use Rattle.session_model.specs.Fitting.{AreSettings, IsCall, IsFittingOperation, IsFittingItem, IsFittingUnderWay, IsSent}
 use Rattle.session_model.specs.Functors.{functor_at}
-use Rattle.session_model.specs.Items.{Act, Call, Detach, Delete, Emit, Remove, Item, DeleteChild, Next, Reply, ReplySpun, Run, RunFunctor, Spin, Warn, WarnOf}
-use Rattle.session_model.specs.Items.{puts}
+use Rattle.session_model.specs.Items.{Act, Detach, Delete, Emit, Remove, Item, DeleteChild, Next, Warn, puts}
 use Rattle.session_model.specs.Methods.{Found, ◌>>=◌, is_signal_at, kinds_at, method_at, method_with, methods_by, methods_of, signal_with}
-use Rattle.session_model.specs.Posting.{spin_of}
 use Rattle.session_model.specs.Settings.{Settings}
 use Rattle.session_model.specs.Showing.{comes_to}
 use Rattle.session_model.specs.State.{IsDeclared, IsWhole, State, without_object, functor_state}
-use Rattle.session_model.specs.Targets.{all_converted, all_evaluated, named_object_of, object_of, truth_evaluated}
-use Rattle.session_model.specs.Writing.{Writing, with_writing, written, written_property}
+use Rattle.session_model.specs.Targets.{all_converted, all_evaluated, named_object_of, object_of}
+use Rattle.session_model.specs.Writing.{with_writing, written, written_property}
 use Rattle.session_model.proofs.FittingArgumentLemmas.{all_evaluated_short, converted_arguments, short_arguments}
-use Rattle.session_model.proofs.FittingCallLemmas.{connection_comes, emitted_comes, spun_comes}
+use Rattle.session_model.proofs.FittingCallLemmas.{callee_gone_comes, functor_comes, method_comes, sends_comes, takes_comes}
+use Rattle.session_model.proofs.StepLemmas.{Cases, step_cases}
+use Rattle.plain_types.specs.declared.code.Code.TheVariants.{Limit}
 use Rattle.session_model.proofs.FittingChangeLemmas.{Carries, Comes, done_carries, dying_carries, fits_writing, no_item, one_item, severed_carries}
-use Rattle.session_model.proofs.FittingChangeLemmas.{told_carries, stepped_carries}
-use Rattle.session_model.proofs.DeclaredLemmas.{each_marked, item_declared}
+use Rattle.session_model.proofs.FittingChangeLemmas.{told_carries, stepped_carries, used_up_carries}
+use Rattle.session_model.proofs.DeclaredLemmas.{item_declared}
+use Rattle.session_model.proofs.ForestLemmas.{each_marked, of_row}
 use Rattle.session_model.proofs.ItemLemmas.{item_under_way}
 use Rattle.session_model.proofs.FittingFoundLemmas.{connection_fits, operation_fits, found_past, method_there, pattern_fits, signal_there}
 use Rattle.session_model.proofs.FittingClassLemmas.{Fits, HaveClasses, class_at, fits_own, fits_whole, has_method, own_classes}
@@ -83,9 +80,7 @@ module _ (settings : Settings) (are : AreSettings settings) where
       by : (row : Option Row) → row_of rows target ≡ row → is_some row ≡ true → IsSent settings rows target DESTROYED []
       by None is e = absurd (cc)
       by (Some row) is e =
-          let it = found (has_number target) rows row is in
-          let class : is_some (slice_get settings.classes row.class) ≡ true =
-          subst (λ (row : Row). is_some (slice_get settings.classes row.class) ≡ true) (it.is row) (classes it.at row it.within) in
+          let class = of_row (λ number class dying. is_some (slice_get settings.classes class) ≡ true) rows target row is classes in
           let first : slice_get (methods_by settings.classes rows target) 0 ≡ Some destroyed =
           ap (λ row. slice_get (option_map_or (λ (row : Row). methods settings.classes row.class) row []) 0) is
           ∙ first_method settings are row.class class in
@@ -100,23 +95,20 @@ module _ (settings : Settings) (are : AreSettings settings) where
     rows = doing.state.forest.rows
 
     -- a slot that is run does what its body says
-    ran_comes : (target index sender : ℕ) (args : List Value) (depth : ℕ)
-        → (is_there rows target ≡ true → IsCall settings rows target (callee.Method index) args) → (found : Option Method)
-        → method_at settings doing.state target index ≡ found
-        → Comes settings rows (option_map_or (ran doing target sender args depth) found (puts [] doing))
-    ran_comes target index sender args depth fit None is = no_item settings rows doing on
-    ran_comes target index sender args depth fit (Some method) is = record {
+    runs_comes : (target index sender : ℕ) (args : List Value) (depth : ℕ)
+        → (is_there rows target ≡ true → IsCall settings rows target (callee.Method index) args) → (method : Method)
+        → method_at settings doing.state target index ≡ Some method → Comes settings rows (ran doing target sender args depth method)
+    runs_comes target index sender args depth fit method is = record {
       carries = told_carries settings rows doing on (call_line method target sender args);
       items = acts_fit settings (line_told doing (call_line method target sender args)).state (acts_of method.body.actions) args target sender (depth + 1)
           (body_limited rows target index method is)
           (short_arguments _ args (fit (has_method settings.classes rows target index method is)).arguments);
     }
 
-    functor_ran_comes : (target index sender connection : ℕ) (args : List Value) (depth : ℕ) → IsCall settings rows target (callee.Functor index) args
-        → (found : Option Functor) → functor_at settings index ≡ found
-        → Comes settings rows (option_map_or (functor_ran doing target sender connection args depth) found (puts [] doing))
-    functor_ran_comes target index sender connection args depth fit None is = no_item settings rows doing on
-    functor_ran_comes target index sender connection args depth fit (Some functor) is =
+    runs_functor_comes : (target index sender connection : ℕ) (args : List Value) (depth : ℕ) → IsCall settings rows target (callee.Functor index) args
+        → (functor : Functor) → functor_at settings index ≡ Some functor
+        → Comes settings rows (functor_ran doing target sender connection args depth functor)
+    runs_functor_comes target index sender connection args depth fit functor is =
         let new = line_told doing (functor_line functor target sender args) in
         let state = functor_state doing.state connection in
         let next = after functor.next state args in
@@ -126,13 +118,12 @@ module _ (settings : Settings) (are : AreSettings settings) where
               (functor_limited settings are index state functor is) (short_arguments _ args fit.arguments);
         }
 
-    chosen_comes : (truth : Found Bool) (held failed : Acts) (args : List Value) (self sender depth : ℕ) → are_limited held ≡ true → are_limited failed ≡ true
-        → All IsShort args → Comes settings rows (chosen truth held failed args self sender depth doing)
-    chosen_comes (Ok true) held failed args self sender depth one other short =
+    chooses_comes : (held failed : Acts) (args : List Value) (self sender depth : ℕ) (truth : Bool) → are_limited held ≡ true → are_limited failed ≡ true
+        → All IsShort args → Comes settings rows (puts (acts (branch truth held failed) args self sender depth) doing)
+    chooses_comes held failed args self sender depth true one other short =
         record { carries = on; items = acts_fit settings doing.state held args self sender depth one short }
-    chosen_comes (Ok false) held failed args self sender depth one other short =
+    chooses_comes held failed args self sender depth false one other short =
         record { carries = on; items = acts_fit settings doing.state failed args self sender depth other short }
-    chosen_comes (Err code) held failed args self sender depth one other short = one_item settings rows doing on (Warn code (Some self)) tt
 
     -- another state is told of
     telling_comes : IsWhole doing.state → (depth : ℕ) (after : State) (written : _) → Fits settings rows after → IsWhole after
@@ -140,49 +131,14 @@ module _ (settings : Settings) (are : AreSettings settings) where
     telling_comes before depth after written fit whole declared =
         record { carries = record { fits = fit; posts = on.posts }; items = change_fits settings are.table after whole declared doing before depth written }
 
-    module _ (whole : IsWhole doing.state) (self sender : ℕ) (args : List Value) (short : All IsShort args) (depth : ℕ) where
-      -- it comes to this, where that is a session such as an item leaves
-      abbrev May : Next → Type 0
-      May next = IsWhole next.doing.state → IsDeclared settings.classes next.doing.state → Comes settings rows next
+    made : (one other : Operation) → IsFittingOperation settings rows one → one ≡ other → IsFittingOperation settings rows other
+    made one other fits same = subst (IsFittingOperation settings rows) same fits
 
-      warns : (code : Code) → May (puts (Warn code (Some self) ∷ []) doing)
-      warns code after declared = one_item settings rows doing on (Warn code (Some self)) tt
-
-      written_comes : (of : ℕ) (absent : Option Code) (found : Found Writing)
-          → May (warns_or (option_or absent (result_err found)) self doing (with_found found (λ writing. written settings doing of depth writing) doing))
-      written_comes of (Some code) found = warns code
-      written_comes of None (Err code) = warns code
-      written_comes of None (Ok writing) = λ after declared.
-          telling_comes whole depth (with_writing doing.state of writing) (written_property of writing)
-          (fits_writing settings rows doing.state of writing on.fits) after declared
-
-      sent_comes : (of : ℕ) (absent : Option Code) (found : Found (ℕ × List Value))
-          → ((emitted : ℕ × List Value) → found ≡ Ok emitted → IsSent settings rows of emitted.0 emitted.1)
-          → May (warns_or (option_or absent (result_err found)) self doing
-          (with_found found (λ emitted. puts (Emit of emitted.0 emitted.1 depth ∷ []) doing) doing))
-      sent_comes of (Some code) found sent = warns code
-      sent_comes of None (Err code) sent = warns code
-      sent_comes of None (Ok emitted) sent = λ after declared. one_item settings rows doing on (Emit of emitted.0 emitted.1 depth) (λ there. sent emitted refl)
-
-      deleted_comes : (target : ℕ) (refusal : Option Code) → May (warns_or refusal self doing (puts (Delete target depth ∷ []) doing))
-      deleted_comes target (Some code) = warns code
-      deleted_comes target None = λ after declared. one_item settings rows doing on (Delete target depth) tt
-
-      done_comes : (operation : Operation) (refusal : Option Code) → IsFittingOperation settings rows operation
-          → May (warns_or refusal self doing (puts [] (operation_done doing operation)))
-      done_comes operation (Some code) may = warns code
-      done_comes operation None may = λ after declared. no_item settings rows (operation_done doing operation)
-          (done_carries settings rows doing on operation may)
-
-      found_comes : (found : Found Operation) → ((operation : Operation) → found ≡ Ok operation → IsFittingOperation settings rows operation)
-          → May (warns_or (found_refusal doing.state found) self doing (with_found found (λ operation. puts [] (operation_done doing operation)) doing))
-      found_comes (Ok operation) may = done_comes operation (operation_refusal doing.state operation) (may operation refl)
-      found_comes (Err code) may = warns code
-
+    module _ (whole : IsWhole doing.state) (self sender : ℕ) (args : List Value) where
       -- a signal of an object's class is sent with values of its kinds
-      emission_sent : (of : ℕ) (signal : Signature) (sent : List Term) → list_all is_within_limits sent ≡ true → (emitted : ℕ × List Value)
+      emission_sent : All IsShort args → (of : ℕ) (signal : Signature) (sent : List Term) → list_all is_within_limits sent ≡ true → (emitted : ℕ × List Value)
           → emission settings doing.state self sender args of signal sent ≡ Ok emitted → IsSent settings rows of emitted.0 emitted.1
-      emission_sent of signal sent limited emitted e = by (signal_with (methods_of settings doing.state of) signal) refl
+      emission_sent short of signal sent limited emitted e = by (signal_with (methods_of settings doing.state of) signal) refl
           (all_evaluated doing.state self sender args sent) refl e
         where
           third : (index : ℕ) (values : List Value) → is_signal_at (methods_of settings doing.state of) index ≡ true → All IsShort values
@@ -204,42 +160,33 @@ module _ (settings : Settings) (are : AreSettings settings) where
               third index values (signal_there (methods_of settings doing.state of) signal index is)
               (all_evaluated_short doing.state whole.properties whole.graph self sender args sent values short limited so) _ refl e
 
-      -- what an action comes to
-      act_comes : (plain : SingleAction) → is_effect_limited plain ≡ true
-          → May (warns_or (act_refusal settings doing.state self sender args plain) self doing (acted settings doing self sender args depth plain))
-      act_comes (e.Set of property value) limited = written_comes (object_of doing.state self sender of)
-          (absence doing.state (object_of doing.state self sender of))
-          (writing doing.state self sender args (object_of doing.state self sender of) property value)
-      act_comes (e.Emit of signal sent) limited =
-          sent_comes (object_of doing.state self sender of) (absence doing.state (object_of doing.state self sender of))
-          (emission settings doing.state self sender args (object_of doing.state self sender of) signal sent)
-          (emission_sent (object_of doing.state self sender of) signal sent limited)
-      act_comes (e.Connect of signal to method mode unique single) limited = found_comes
-          (behind (object_refusal rows sends) (behind (object_refusal rows gets)
-          (connection settings doing.state sends signal gets method mode single >>= λ new. Ok (d.Connect new unique))))
-          (λ operation e. operation_fits settings rows (connection settings doing.state sends signal gets method mode single) unique
+      -- the operation of an action fits
+      act_fits : (plain : SingleAction) (operation : Operation) → act_operation settings doing.state self sender plain ≡ Some (Ok operation)
+          → IsFittingOperation settings rows operation
+      act_fits (e.Connect of signal to method mode unique single) operation is =
+          let found : behind (object_refusal rows sends) (behind (object_refusal rows gets)
+          (connection settings doing.state sends signal gets method mode single >>= λ new. Ok (d.Connect new unique))) ≡ Ok operation = cc in
+          operation_fits settings rows (connection settings doing.state sends signal gets method mode single) unique
           (connection_fits settings doing.state sends (signal_with (methods_of settings doing.state sends) signal)
           (signal_there (methods_of settings doing.state sends) signal)
           gets (method_with (methods_of settings doing.state gets) method) (method_there (methods_of settings doing.state gets) method) mode single)
-          operation (found_past (object_refusal rows gets) _ operation (found_past (object_refusal rows sends) _ operation e)))
+          operation (found_past (object_refusal rows gets) _ operation (found_past (object_refusal rows sends) _ operation found))
         where
           sends : ℕ
           sends = object_of doing.state self sender of
 
           gets : ℕ
           gets = object_of doing.state self sender to
-      act_comes (e.Disconnect of signal to method) limited = found_comes _
-          (pattern_fits settings rows _ _ (pattern settings doing.state (object_of doing.state self sender of) signal
-          (named_object_of doing.state self sender to) method))
-      act_comes (e.Delete target) limited = deleted_comes (object_of doing.state self sender target)
-          (object_refusal rows (object_of doing.state self sender target))
-      act_comes (e.DeleteLater target) limited = done_comes (d.DeleteLater (object_of doing.state self sender target))
-          (operation_refusal doing.state (d.DeleteLater (object_of doing.state self sender target))) tt
-      act_comes (e.Block of on') limited = done_comes (d.Block (object_of doing.state self sender of) on')
-          (operation_refusal doing.state (d.Block (object_of doing.state self sender of) on')) tt
-      act_comes (e.SetParent of parent) limited =
-          let operation = d.SetParent (object_of doing.state self sender of) (named_object_of doing.state self sender parent) in
-          done_comes operation (operation_refusal doing.state operation) tt
+      act_fits (e.Disconnect of signal to method) operation is = pattern_fits settings rows
+          (absence doing.state (object_of doing.state self sender of)) (named_absence doing.state (named_object_of doing.state self sender to))
+          (pattern settings doing.state (object_of doing.state self sender of) signal (named_object_of doing.state self sender to) method) operation (cc)
+      act_fits (e.DeleteLater target) operation is = made (d.DeleteLater (object_of doing.state self sender target)) operation tt (cc)
+      act_fits (e.Block of on') operation is = made (d.Block (object_of doing.state self sender of) on') operation tt (cc)
+      act_fits (e.SetParent of parent) operation is =
+          made (d.SetParent (object_of doing.state self sender of) (named_object_of doing.state self sender parent)) operation tt (cc)
+      act_fits (e.Set of property value) operation is = absurd (cc)
+      act_fits (e.Emit of signal sent) operation is = absurd (cc)
+      act_fits (e.Delete target) operation is = absurd (cc)
 
     -- an object that begins to die sends `destroyed()`
     deleted : HaveClasses settings rows → (target depth : ℕ) →
@@ -249,10 +196,13 @@ module _ (settings : Settings) (are : AreSettings settings) where
       carries = dying_carries settings rows doing on target;
       items = All-cons Fit (Emit target DESTROYED [] depth) (Detach target depth ∷ Remove target depth ∷ [])
           (destroyed_sent (dying doing target).state.forest.rows
-          (each_marked (λ number class. is_some (slice_get settings.classes class) ≡ true) doing.state.forest target classes) target)
+          (each_marked HasClass HasClass doing.state.forest target (λ class dying has. has) (λ number class dying apart has. has) classes) target)
           (All-cons Fit (Detach target depth) (Remove target depth ∷ []) tt (All-cons Fit (Remove target depth) [] tt (All-nil Fit)));
     }
       where
+        HasClass : ℕ → ℕ → Bool → Type 0
+        HasClass number class dying = is_some (slice_get settings.classes class) ≡ true
+
         Fit : Item → Type 0
         Fit = IsFittingItem settings (dying doing target).state
 
@@ -265,39 +215,52 @@ module _ (settings : Settings) (are : AreSettings settings) where
     }
 
     -- what an item comes to
-    item_comes : IsWhole doing.state → HaveClasses settings rows → (item : Item) → IsFittingItem settings doing.state item
-        → IsWhole (step settings item doing).doing.state → IsDeclared settings.classes (step settings item doing).doing.state
-        → Comes settings rows (step settings item doing)
-    item_comes whole classes (Emit target signal args depth) fit after declared =
-        emitted_comes settings doing on whole.connections target signal args depth fit (row_of rows target) refl
-    item_comes whole classes (Call number args depth) fit after declared =
-        connection_comes settings doing on number args depth fit (connection_of doing number) refl
-    item_comes whole classes (Run target index sender args depth) fit after declared =
-        ran_comes target index sender args depth fit (method_at settings doing.state target index) refl
-    item_comes whole classes (RunFunctor target index sender connection args depth) fit after declared =
-        functor_ran_comes target index sender connection args depth fit (functor_at settings index) refl
-    item_comes whole classes (Act (single_action plain) args self sender depth) fit after declared =
-        act_comes whole self sender args fit.1 depth plain fit.0 after declared
-    item_comes whole classes (Act (when test held failed) args self sender depth) fit after declared =
-        let both = (and_parts _ _ fit.0).1 in
-        chosen_comes (truth_evaluated doing.state self sender args test) held failed args self sender depth (and_parts _ _ both).0 (and_parts _ _ both).1 fit.1
-    item_comes whole classes (Warn code object) fit after declared = no_item settings rows _ (told_carries settings rows doing on (line.Warning code object))
-    item_comes whole classes (WarnOf at error) fit after declared =
-        no_item settings rows _ (told_carries settings rows doing on (binding_line settings doing.state at error))
-    item_comes whole classes (Delete target depth) fit after declared =
-        cond_both (lives doing target) (puts (Emit target DESTROYED [] depth ∷ Detach target depth ∷ Remove target depth ∷ []) (dying doing target))
-        (puts [] doing) (Comes settings rows)
-        (λ living. deleted classes target depth) (λ absent. no_item settings rows doing on)
-    item_comes whole classes (Detach target depth) fit after declared = delete_children_come target depth
-    item_comes whole classes (DeleteChild parent child depth) fit after declared =
-        cond_both (lives_below doing parent child) (puts (Delete child depth ∷ []) doing) (puts [] doing) (Comes settings rows)
-        (λ living. one_item settings rows doing on (Delete child depth) tt) (λ other. no_item settings rows doing on)
-    item_comes whole classes (Remove target depth) fit after declared =
-        telling_comes whole depth (without_object doing.state target) None
-        (record { events = on.fits.events; connections = on.fits.connections; publications = on.fits.publications; joins = on.fits.joins }) after declared
-    item_comes whole classes Spin fit after declared = spun_comes settings doing on doing.state.queue.events refl
-    item_comes whole classes (Reply answer) fit after declared = no_item settings rows _ (told_carries settings rows doing on (line.Reply answer))
-    item_comes whole classes ReplySpun fit after declared = no_item settings rows _ (told_carries settings rows doing on (line.Reply (a.Spun (spin_of doing))))
+    abbrev FitsAfter : Item → Next → Type 0
+    FitsAfter item next = IsFittingItem settings doing.state item → IsWhole next.doing.state → IsDeclared settings.classes next.doing.state
+        → Comes settings rows next
+
+    fit_cases : IsWhole doing.state → HaveClasses settings rows → Cases settings doing FitsAfter
+    fit_cases whole classes = record {
+      rests = λ item leaves fit after declared. no_item settings rows doing on;
+      tells = λ item said leaves fit after declared. no_item settings rows (line_told doing said) (told_carries settings rows doing on said);
+      uses_up = λ item leaves fit after declared. no_item settings rows (used_up doing) (used_up_carries settings rows doing on);
+      too_deep = λ target signal args depth fit after declared. one_item settings rows doing on (Warn Limit (Some target)) tt;
+      sends = λ target signal args depth row is fit after declared.
+          sends_comes settings doing on whole.connections target signal args depth (fit (ap is_some is)).arguments;
+      callee_gone = λ number args depth connection is fit after declared. callee_gone_comes settings doing on number args depth fit connection is;
+      calls_method = λ number args depth connection is index method to found. (
+        λ fit after declared. (method_comes settings doing on number args depth fit connection is index method to found).0,
+        λ fit after declared. (method_comes settings doing on number args depth fit connection is index method to found).1,
+      );
+      calls_functor = λ number args depth connection is index functor to found. (
+        λ fit after declared. (functor_comes settings doing on number args depth fit connection is index functor to found).0,
+        λ fit after declared. (functor_comes settings doing on number args depth fit connection is index functor to found).1,
+      );
+      runs = λ target index sender args depth method is fit after declared. runs_comes target index sender args depth fit method is;
+      runs_functor = λ target index sender connection args depth functor is fit after declared.
+          runs_functor_comes target index sender connection args depth fit functor is;
+      refused = λ action args self sender depth code fit after declared. one_item settings rows doing on (Warn code (Some self)) tt;
+      emits = λ of signal sent args self sender depth emitted is fit after declared.
+          one_item settings rows doing on (Emit (object_of doing.state self sender of) emitted.0 emitted.1 depth)
+          (λ there. emission_sent whole self sender args fit.1 (object_of doing.state self sender of) signal sent fit.0 emitted is);
+      deletes = λ target args self sender depth fit after declared.
+          one_item settings rows doing on (Delete (object_of doing.state self sender target) depth) tt;
+      writes = λ of property value args self sender depth given writing is fit after declared.
+          let target = object_of doing.state self sender of in
+          telling_comes whole depth (with_writing doing.state target writing) (written_property target writing)
+          (fits_writing settings rows doing.state target writing on.fits) after declared;
+      does = λ plain args self sender depth operation is passed fit after declared.
+          no_item settings rows (operation_done doing operation)
+          (done_carries settings rows doing on operation (act_fits whole self sender args plain operation is));
+      chooses = λ test held failed args self sender depth truth fit after declared.
+          let both = (and_parts _ _ fit.0).1 in
+          chooses_comes held failed args self sender depth truth (and_parts _ _ both).0 (and_parts _ _ both).1 fit.1;
+      dies = λ target depth living fit after declared. deleted classes target depth;
+      detaches = λ target depth fit after declared. delete_children_come target depth;
+      deletes_child = λ parent child depth fit after declared. one_item settings rows doing on (Delete child depth) tt;
+      removes = λ target depth fit after declared. telling_comes whole depth (without_object doing.state target) None on.fits after declared;
+      takes = λ first later is some fit after declared. takes_comes settings doing on first later is;
+    }
 
 -- each item leaves a session that fits, and an agenda that fits it
 pub item_fits : (settings : Settings) (item : Item) (agenda : List Item) (doing : Execution) → AreSettings settings
@@ -309,7 +272,7 @@ item_fits settings item agenda doing are under =
     let under_way = item_under_way settings item agenda doing under.under_way in
     let declared = item_declared settings item doing under.declared in
     let on : Carries settings doing.state.forest.rows doing = record { fits = fits_own settings doing.state under.fitting; posts = under.posts } in
-    let comes = item_comes settings are doing on before under.fitting.objects item
+    let comes = step_cases settings doing (FitsAfter settings are doing on) (fit_cases settings are doing on before under.fitting.objects) item
     (All-head (IsFittingItem settings doing.state) item agenda under.items) under_way.whole declared in
     let kept = classes_stay (λ number class. class_at doing.state.forest.rows number ≡ Some class) settings item doing
     (own_classes doing.state.forest before.forest) in

@@ -6,7 +6,7 @@ use Rattle.std.specs.Option.{ForSome}
 use Rattle.std.proofs.lemmas.Bool.{and_parts}
 use Rattle.std.proofs.lemmas.Bool.Decides.{nat_tests}
 use Rattle.std.proofs.lemmas.List.Elements.{All-append, All-nil, All-weaker}
-use Rattle.std.proofs.lemmas.Option.{get_or_from_slice_get, slice_get-get_or, slice_get_past, slice_get_within}
+use Rattle.std.proofs.lemmas.Option.{slice_get-get_or, slice_get_past, slice_get_within}
 use Rattle.term_core.specs.declared.limits.TheConstants.{ACTIONS}
 use Rattle.term_core.specs.Act.{acts_of, are_limited, are_named, counts}
 use Rattle.term_evaluation.specs.Stating.{with_state}
@@ -22,10 +22,7 @@ use Rattle.stored_slots.specs.declared.functor.Functor.{Functor}
 use Rattle.stored_slots.specs.Functors.{IsFunctor}
 use Rattle.session_model.specs.Fitting.{AreSettings}
 use Rattle.session_model.specs.Settings.{Settings}
-
--- what holds of each holds of the one at an index
-pub of_slice : {X : Type 0} (P : X → Type 0) (xs : List X) (index : ℕ) (x : X) → slice_get xs index ≡ Some x → All P xs → P x
-of_slice P xs index x is all = subst P (get_or_from_slice_get xs index x x is) (all index x (slice_get_within xs index x is))
+use Rattle.session_model.proofs.FilterLemmas.{of_slice}
 
 -- the first of a list stays the first
 first_kept : {X : Type 0} (xs ys : List X) (x : X) → slice_get xs 0 ≡ Some x → slice_get (xs ++ ys) 0 ≡ Some x

@@ -1,9 +1,9 @@
 -- What is told of changes fits: a signal that takes the new value, or nothing.
-use Rattle.std.proofs.Common.{◌≡◌, ◌==◌, ◌&&◌, ℕ, true, false, cond, List, [], ◌∷◌, Option, Some, None, IfSome, get_or, length, slice_get, take, refl, sym, ap}
-use Rattle.std.proofs.Common.{subst, ◌∙◌, arith}
+use Rattle.std.proofs.Common.{◌≡◌, ◌==◌, ◌&&◌, ℕ, true, false, cond, List, [], ◌∷◌, Option, Some, None, IfSome, get_or, length, slice_get, take, refl}
+use Rattle.std.proofs.Common.{sym, ap, subst, ◌∙◌, arith}
 use Rattle.std.specs.List.{All, cons_option}
 use Rattle.std.specs.Option.{option_and_then, option_map, option_map_or}
-use Rattle.std.proofs.lemmas.Bool.{and_parts, cond-false, cond_both, eqb-true}
+use Rattle.std.proofs.lemmas.Bool.{and_parts, cond-false, cond_both}
 use Rattle.std.proofs.lemmas.List.{length-map}
 use Rattle.std.proofs.lemmas.List.Elements.{All-cons, All-head, All-nil, All-tail}
 use Rattle.std.proofs.lemmas.Option.{slice_get-get_or, slice_get-map, slice_get_within}
@@ -17,7 +17,7 @@ use Rattle.class_table.specs.Declaring.{tells as may_tell}
 use Rattle.class_table.specs.Lookup.{methods, properties}
 use Rattle.class_table.specs.Sound.{IsTable, is_told, is_told_by}
 use Rattle.object_tree.specs.declared.row.Row.{Row}
-use Rattle.object_tree.specs.Rows.{has_number, row_of}
+use Rattle.object_tree.specs.Rows.{row_of}
 use Rattle.property_store.specs.declared.field.Field.{Field}
 use Rattle.property_store.specs.declared.property.Property.{Property as At}
 use Rattle.property_store.specs.Store as stored
@@ -31,7 +31,7 @@ use Rattle.binding_values.specs.declared.change.ChangeKind.TheVariants as messag
 use Rattle.binding_values.specs.declared.shown.Shown.{Shown}
 use Rattle.binding_values.specs.Fitting as graph_fitting
 use Rattle.binding_values.specs.Graph as graph
-use Rattle.binding_values.specs.Graph.{Graph, AreShown, is_open}
+use Rattle.binding_values.specs.Graph.{AreShown, is_open}
 use Rattle.binding_values.proofs.ForCallers.{all_shown_sound, changes_fit}
 use Rattle.stored_slots.specs.Functors.{AreArguments}
 use Rattle.session_model.specs.Execution.{Execution}
@@ -41,8 +41,10 @@ use Rattle.session_model.specs.Methods.{is_signal_at, kinds_at, methods_by}
 use Rattle.session_model.specs.Settings.{Settings}
 use Rattle.session_model.specs.Showing.{changes, comes_to, showing, told_as, told_value}
 use Rattle.session_model.specs.State.{IsDeclared, IsWhole, State, field_of, fields_of, without_group}
-use Rattle.session_model.proofs.FittingTableLemmas.{each_property, of_slice}
+use Rattle.session_model.proofs.FittingTableLemmas.{each_property}
 use Rattle.session_model.proofs.ShowingLemmas.{ending, tells}
+use Rattle.session_model.proofs.FilterLemmas.{of_found, of_slice}
+use Rattle.session_model.proofs.ForestLemmas.{of_row}
 
 -- a signal that may tell a value is sent with it, or with nothing
 told_arguments : (kind : Kind) (kinds : List Kind) (value : Value) → may_tell kind kinds ≡ true → IsOfKind kind value
@@ -72,20 +74,15 @@ module _ (settings : Settings) (table : IsTable settings.classes) (state : State
   told_kind at value row property here is fits = by (properties_of state.store at.object) refl its
     where
       its : option_map (λ (of : Properties). of.fields) (properties_of state.store at.object) ≡ Some (fields_of settings.classes row.class)
-      its =
-          let there = found (has_number at.object) state.forest.rows row here in
-          subst (λ number. option_map (λ (of : Properties). of.fields) (properties_of state.store number) ≡ Some (fields_of settings.classes row.class))
-          (eqb-true row.number at.object there.passes)
-          (subst (λ (row : Row). option_map (λ (of : Properties). of.fields) (properties_of state.store row.number)
-          ≡ Some (fields_of settings.classes row.class)) (there.is row) (declared there.at row there.within))
+      its = of_row (λ number class dying. option_map (λ (of : Properties). of.fields) (properties_of state.store number)
+          ≡ Some (fields_of settings.classes class)) state.forest.rows at.object row here declared
 
       by : (of : Option Properties) → properties_of state.store at.object ≡ of
           → option_map (λ (of : Properties). of.fields) of ≡ Some (fields_of settings.classes row.class) → IsOfKind property.kind value
       by None e f = absurd (cc)
       by (Some of) e f =
           let fields : of.fields ≡ fields_of settings.classes row.class = cc in
-          let there = found (λ (of : Properties). of.object == at.object) state.store of e in
-          let sound : AreSound of = subst AreSound (there.is of) (properties'.each there.at of there.within) in
+          let sound : AreSound of = of_found AreSound (λ (of : Properties). of.object == at.object) state.store of e properties'.each in
           let field : slice_get of.fields at.number ≡ Some (field_of property) = ap (λ fields. slice_get fields at.number) fields
           ∙ (slice_get-map field_of (properties settings.classes row.class) at.number ∙ ap (option_map field_of) is) in
           let cell : cell_in state.store at ≡ _ = ap (λ of. option_map_or (cell_of at.number) of None) e

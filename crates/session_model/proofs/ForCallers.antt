@@ -7,7 +7,7 @@ pub use Rattle.session_model.proofs.BindLemmas.{bind_done, bind_found, performs_
 pub use Rattle.session_model.proofs.BindLemmas.{refusal_begin, refusal_bind, refusal_end}
 pub use Rattle.session_model.proofs.BindLemmas.{refusal_unbind, unbind_done}
 pub use Rattle.session_model.proofs.BindableLemmas.{may_be_bound}
-pub use Rattle.session_model.proofs.ClassLemmas.{class_there, described_at, described_by}
+pub use Rattle.session_model.proofs.ClassLemmas.{class_there, described_at}
 pub use Rattle.session_model.proofs.CommandLemmas.{keeps_declared, keeps_fitting, keeps_named, keeps_sound}
 pub use Rattle.session_model.proofs.DeletionLemmas.{detach_delete_children, delete_none, delete_some, gone_now, delete_child_none, delete_child_some}
 pub use Rattle.session_model.proofs.EmissionLemmas.{call_spent, call_taken, emit_absent, emit_calls, emit_deep}

@@ -1,6 +1,5 @@
 -- Each item keeps a session under way.
-use Rattle.std.proofs.Common.{◌≡◌, ◌+◌, ◌==◌, ◌||◌, ℕ, Bool, true, false, cond, List, [], ◌∷◌, ◌++◌, Option, Some, None, Ok, Err, filter, map, length, nat_le}
-use Rattle.std.proofs.Common.{take, refl, ap, ◌∙◌}
+use Rattle.std.proofs.Common.{◌≡◌, ◌+◌, ◌||◌, ℕ, Bool, true, false, List, [], ◌∷◌, ◌++◌, Option, Some, None, filter, map, refl, ap, ◌∙◌}
 use Rattle.std.specs.List.{list_any}
 use Rattle.std.specs.Option.{option_map_or}
 use Rattle.std.proofs.lemmas.Bool.{cond_both}
@@ -18,50 +17,44 @@ use Rattle.event_queue.specs.declared.event.Event.{Event}
 use Rattle.event_queue.specs.declared.event.Event.TheVariants as event
 use Rattle.event_queue.specs.declared.event.QueuedCall.{QueuedCall}
 use Rattle.property_store.specs.declared.property.Property.{Property}
-use Rattle.object_tree.specs.declared.row.Row.{Row}
-use Rattle.object_tree.specs.Rows.{children, row_of}
+use Rattle.object_tree.specs.Rows.{children}
 use Rattle.stored_slots.specs.declared.functor.Functor.{Functor}
 use Rattle.term_evaluation.specs.Stating.{after, with_state}
-use Rattle.session_model.specs.declared.call.TheConstants.{DESTROYED, NESTED_SIGNALS}
-use Rattle.session_model.specs.declared.line.Answer.TheVariants as a
-use Rattle.session_model.specs.declared.line.Line.TheVariants as line
-use Rattle.session_model.specs.Acts.{acts, chosen}
+use Rattle.session_model.specs.declared.call.TheConstants.{DESTROYED}
+use Rattle.session_model.specs.Acts.{acts, branch}
 use Rattle.session_model.specs.Arriving.{posts_of}
-use Rattle.session_model.specs.Agenda.{binding_line, call_items, call_line, called, callee_called, calls_of, connection_of, emitted, event_items}
-use Rattle.session_model.specs.Agenda.{functor_called, functor_line, functor_ran, is_held_back, delete_children, lives, lives_below, method_called}
-use Rattle.session_model.specs.Agenda.{method_items, queued, queued_call, ran, spun, step, with_turn}
-use Rattle.session_model.specs.Execution.{Execution, dying, first_taken, in_state, posting, single_shot_broken, line_told, turn_taken, used_up, severed}
-use Rattle.session_model.specs.Execution.{stepped}
-use Rattle.session_model.specs.Items.{Act, Call, Detach, Delete, Emit, Remove, Item, DeleteChild, Next, Reply, ReplySpun, Run, RunFunctor, Spin, Warn, WarnOf}
-use Rattle.session_model.specs.Items.{puts}
-use Rattle.session_model.specs.Functors.{functor_at}
-use Rattle.session_model.specs.Methods.{Found, method_at}
-use Rattle.session_model.specs.Posting.{is_queued, spin_of}
+use Rattle.session_model.specs.Agenda.{call_items, call_line, called, calls_of, emitted, event_items, functor_line, delete_children}
+use Rattle.session_model.specs.Agenda.{method_items, queued, step}
+use Rattle.session_model.specs.Execution.{Execution, dying, first_taken, in_state, posting, single_shot_broken, line_told, turn_taken, severed, stepped}
+use Rattle.session_model.specs.Items.{Act, Call, Detach, Delete, Emit, Remove, Item, DeleteChild, Next, Run, RunFunctor, Spin, Warn, puts}
+use Rattle.session_model.specs.Methods.{method_at}
 use Rattle.session_model.specs.Settings.{Settings}
 use Rattle.session_model.specs.Showing.{changes, comes_to}
 use Rattle.session_model.specs.State.{IsTied, State, without_connections, without_object, functor_state}
-use Rattle.session_model.specs.Targets.{truth_evaluated}
-use Rattle.session_model.specs.Writing.{Writing, with_writing, written, written_property}
+use Rattle.session_model.specs.Writing.{with_writing, written, written_property}
 use Rattle.session_model.specs.UnderWay.{IsBrokenInTime, IsUnderWay, is_gone}
-use Rattle.session_model.proofs.ActLemmas.{acted_cases}
-use Rattle.session_model.proofs.ConnectionLemmas.{of_found}
+use Rattle.session_model.proofs.FilterLemmas.{of_found}
 use Rattle.session_model.proofs.UnderWayLemmas.{behind, detach_under, operation_under, dying_under, first_taken_under, gone_under, in_front, queued_under}
 use Rattle.session_model.proofs.UnderWayLemmas.{shot_under, told_under, turn_under, used_up_under, writing_under, posting_under, stepped_under}
 use Rattle.session_model.proofs.ShowingLemmas.{tells_stay}
-use Rattle.session_model.proofs.FitLemmas.{IsFit, acted_fit}
+use Rattle.session_model.proofs.FitLemmas.{acted_fit}
+use Rattle.session_model.proofs.StepLemmas.{Cases, IsCalled, functor_call, functor_now, in_call, leaves_ties, method_call, method_now, step_cases}
+use Rattle.term_core.specs.declared.action.SingleAction.TheVariants as e
+use Rattle.session_model.specs.Targets.{object_of}
 
 -- actions, calls, children and what is called let nothing go
 acts_stay : (body : Acts) (args : List Value) (self sender depth : ℕ) → list_any is_gone (acts body args self sender depth) ≡ false
 acts_stay nothing args self sender depth = refl
 acts_stay (more action rest) args self sender depth = acts_stay rest args self sender depth
 
-calls_stay : (args : List Value) (depth : ℕ) (rows : List Connection) → list_any is_gone (map (λ row. Call row.number args depth) rows) ≡ false
-calls_stay args depth [] = refl
-calls_stay args depth (row ∷ rows) = calls_stay args depth rows
+branch_stays : (truth : Bool) (held failed : Acts) (args : List Value) (self sender depth : ℕ)
+    → list_any is_gone (acts (branch truth held failed) args self sender depth) ≡ false
+branch_stays true held failed args self sender depth = acts_stay held args self sender depth
+branch_stays false held failed args self sender depth = acts_stay failed args self sender depth
 
-delete_children_stay : (target depth : ℕ) (children : List ℕ) → list_any is_gone (map (λ child. DeleteChild target child depth) children) ≡ false
-delete_children_stay target depth [] = refl
-delete_children_stay target depth (child ∷ rest) = delete_children_stay target depth rest
+each_stays : {A : Type 0} (made : A → Item) → ((x : A) → is_gone (made x) ≡ false) → (xs : List A) → list_any is_gone (map made xs) ≡ false
+each_stays made stays [] = refl
+each_stays made stays (x ∷ xs) = ap (λ b. b || list_any is_gone (map made xs)) (stays x) ∙ each_stays made stays xs
 
 methods_stay : (target index sender : ℕ) (args : List Value) (sent_at run_at : ℕ) (method : Method)
     → list_any is_gone (method_items target index sender args sent_at run_at method) ≡ false
@@ -97,180 +90,104 @@ shot_tied doing row tied =
     (λ single. record { sender = tied.sender; receiver = tied.receiver }) (λ lasting. tied)
 
 -- what an item comes to keeps the session under way
-abbrev LeavesUnderWay : List Item → Next → Type 0
-LeavesUnderWay agenda next = IsUnderWay (next.items ++ agenda) next.doing.state
+module _ (settings : Settings) (doing : Execution) where
+  abbrev KeepsUnderWay : Item → Next → Type 0
+  KeepsUnderWay item next = (agenda : List Item) → IsUnderWay (item ∷ agenda) doing.state → IsUnderWay (next.items ++ agenda) next.doing.state
 
-module _ (settings : Settings) (agenda : List Item) (doing : Execution) (under : IsUnderWay agenda doing.state) where
-  calls_kept : (target signal : ℕ) (args : List Value) (depth : ℕ)
-      → LeavesUnderWay agenda (puts (calls_of doing target signal args depth) (posting doing (posts_of settings.classes doing.state target signal args)))
+  -- where only items are put in front that let nothing go
+  in_place_of : (item : Item) (items : List Item) → leaves_ties item ≡ true → list_any is_gone items ≡ false → KeepsUnderWay item (puts items doing)
+  in_place_of item items leaves stay agenda under = in_front items agenda doing.state stay (behind item agenda doing.state leaves under)
+
+  -- where another state is told of
+  telling_kept : (depth : ℕ) (after : State) (written : Option Property) (agenda : List Item) → IsUnderWay agenda after
+      → IsUnderWay ((comes_to settings doing depth after written).items ++ agenda) after
+  telling_kept depth after written agenda = in_front _ agenda after (tells_stay settings after depth (changes doing.state after written))
+
+  sends_kept : (target signal : ℕ) (args : List Value) (depth : ℕ) → KeepsUnderWay (Emit target signal args depth)
+      (puts (calls_of doing target signal args depth) (posting doing (posts_of settings.classes doing.state target signal args)))
   unfolding calls_of
-  calls_kept target signal args depth = in_front (calls_of doing target signal args depth) agenda
+  sends_kept target signal args depth agenda under = in_front (calls_of doing target signal args depth) agenda
       (posting doing (posts_of settings.classes doing.state target signal args)).state
-      (calls_stay args depth (filter (calls target signal) doing.state.connections.rows))
-      (posting_under agenda doing under (posts_of settings.classes doing.state target signal args))
+      (each_stays (λ (row : Connection). Call row.number args depth) (λ row. refl) (filter (calls target signal) doing.state.connections.rows))
+      (posting_under agenda doing (behind (Emit target signal args depth) agenda doing.state refl under)
+      (posts_of settings.classes doing.state target signal args))
 
-  emitted_kept : (target signal : ℕ) (args : List Value) (depth : ℕ) (found : Option Row)
-      → LeavesUnderWay agenda (option_map_or (emitted settings doing target signal args depth) found (puts [] doing))
-  emitted_kept target signal args depth None = under
-  emitted_kept target signal args depth (Some row) =
-      cond_both (is_held_back signal row) (puts [] doing)
-      (cond (nat_le NESTED_SIGNALS depth) (puts (Warn Limit (Some target) ∷ []) doing)
-      (puts (calls_of doing target signal args depth) (posting doing (posts_of settings.classes doing.state target signal args)))) (LeavesUnderWay agenda)
-      (λ held. under)
-      (λ free. cond_both (nat_le NESTED_SIGNALS depth) (puts (Warn Limit (Some target) ∷ []) doing)
-      (puts (calls_of doing target signal args depth) (posting doing (posts_of settings.classes doing.state target signal args))) (LeavesUnderWay agenda)
-      (λ deep. in_front (Warn Limit (Some target) ∷ []) agenda doing.state refl under)
-      (λ shallow. calls_kept target signal args depth))
+  detaches_kept : (target depth : ℕ) → KeepsUnderWay (Detach target depth) (puts (delete_children doing target depth) (severed doing target))
+  unfolding delete_children
+  detaches_kept target depth agenda under = in_front (delete_children doing target depth) agenda (severed doing target).state
+      (each_stays (λ child. DeleteChild target child depth) (λ child. refl) (children doing.state.forest.rows (Some target)))
+      (detach_under target depth agenda doing under)
 
-  callee_kept : (connection : Connection) (args : List Value) (depth : ℕ) → IsTied doing.state connection → IsBrokenInTime agenda connection → (to : Callee)
-      → LeavesUnderWay agenda (callee_called settings connection args depth doing to)
-  callee_kept connection args depth tied broken (callee.Functor index) = by (functor_at settings index)
-    where
-      by : (found : Option Functor) → LeavesUnderWay agenda (option_map_or (functor_called connection index args depth doing) found (puts [] doing))
-      by None = under
-      by (Some functor) =
-          let given = take (length functor.params) args in
-          let call = queued_call connection (callee.Functor index) given in
-          let items = RunFunctor connection.receiver index connection.sender connection.number given depth ∷ [] in
-          cond_both (is_queued connection.mode) (puts [] (queued doing call)) (puts items doing) (LeavesUnderWay agenda)
-          (λ later. queued_under agenda doing under connection call tied broken refl)
-          (λ now. in_front items agenda doing.state refl under)
-  callee_kept connection args depth tied broken (callee.Method index) = by (method_at settings doing.state connection.receiver index)
-    where
-      by : (found : Option Method) → LeavesUnderWay agenda (option_map_or (method_called connection index args depth doing) found (puts [] doing))
-      by None = under
-      by (Some method) =
-          let given = take (length method.signature.kinds) args in
-          let call = queued_call connection (callee.Method index) given in
-          let items = method_items connection.receiver index connection.sender given (depth + 1) depth method in
-          cond_both (is_queued connection.mode) (puts [] (queued doing call)) (puts items doing) (LeavesUnderWay agenda)
-          (λ later. queued_under agenda doing under connection call tied broken refl)
-          (λ now. in_front items agenda doing.state (methods_stay connection.receiver index connection.sender given (depth + 1) depth method) under)
+  -- a connection that is called stands, so it is tied, and broken in time
+  module _ (number : ℕ) (args : List Value) (depth : ℕ) (connection : Connection) (is : IsCalled number doing connection) (agenda : List Item)
+      (under : IsUnderWay (Call number args depth ∷ agenda) doing.state) where
+    rest : IsUnderWay agenda doing.state
+    rest = behind (Call number args depth) agenda doing.state refl under
 
-  ran_kept : (target sender : ℕ) (args : List Value) (depth : ℕ) (found : Option Method)
-      → LeavesUnderWay agenda (option_map_or (ran doing target sender args depth) found (puts [] doing))
-  ran_kept target sender args depth None = under
-  ran_kept target sender args depth (Some method) =
-      let said = call_line method target sender args in
-      in_front _ agenda (line_told doing said).state (acts_stay (acts_of method.body.actions) args target sender (depth + 1))
-      (told_under agenda doing under said)
+    in_call_under : IsUnderWay agenda (in_call doing connection).state
+    in_call_under = shot_under agenda (turn_taken doing) (turn_under agenda doing rest) connection
 
-  functor_ran_kept : (target sender connection : ℕ) (args : List Value) (depth : ℕ) (found : Option Functor)
-      → LeavesUnderWay agenda (option_map_or (functor_ran doing target sender connection args depth) found (puts [] doing))
-  functor_ran_kept target sender connection args depth None = under
-  functor_ran_kept target sender connection args depth (Some functor) =
-      let new = line_told doing (functor_line functor target sender args) in
-      let its = functor_state doing.state connection in
-      let next = after functor.next its args in
-      in_front _ agenda (stepped new connection next).state (acts_stay (acts_of (with_state its functor.body).actions) args target sender (depth + 1))
-      (stepped_under agenda new (told_under agenda doing under (functor_line functor target sender args)) connection next)
+    later_under : (call : QueuedCall) → call.object ≡ connection.receiver → IsUnderWay agenda (queued (in_call doing connection) call).state
+    later_under call same = queued_under agenda (in_call doing connection) in_call_under connection call
+        (shot_tied (turn_taken doing) connection (turn_tied doing connection
+        (of_found (IsTied doing.state) (has_number number) doing.state.connections.rows connection is.found rest.whole.ends)))
+        (of_found (IsBrokenInTime agenda) (has_number number) doing.state.connections.rows connection is.found rest.in_time) same
 
-  -- another state may be told of
-  telling_kept : (depth : ℕ) (after : State) (written : Option Property) → IsUnderWay agenda after
-      → LeavesUnderWay agenda (comes_to settings doing depth after written)
-  telling_kept depth after written rest = in_front _ agenda after (tells_stay settings after depth (changes doing.state after written)) rest
+    now_under : (items : List Item) → list_any is_gone items ≡ false → IsUnderWay (items ++ agenda) (in_call doing connection).state
+    now_under items stay = in_front items agenda (in_call doing connection).state stay in_call_under
 
-  -- what is written fits its object
-  written_kept : (target depth : ℕ) (writing : Writing) → IsFit doing.state target writing → LeavesUnderWay agenda (written settings doing target depth writing)
-  written_kept target depth writing fit = telling_kept depth (with_writing doing.state target writing) (written_property target writing)
-      (writing_under agenda doing under target writing fit)
-
-  chosen_kept : (truth : Found Bool) (held failed : Acts) (args : List Value) (self sender depth : ℕ)
-      → LeavesUnderWay agenda (chosen truth held failed args self sender depth doing)
-  chosen_kept (Ok true) held failed args self sender depth = in_front _ agenda doing.state (acts_stay held args self sender depth) under
-  chosen_kept (Ok false) held failed args self sender depth = in_front _ agenda doing.state (acts_stay failed args self sender depth) under
-  chosen_kept (Err code) held failed args self sender depth = in_front (Warn code (Some self) ∷ []) agenda doing.state refl under
-
-module _ (settings : Settings) (agenda : List Item) (doing : Execution) (under : IsUnderWay agenda doing.state) where
-  called_kept : (connection : Connection) (args : List Value) (depth : ℕ) → IsTied doing.state connection → IsBrokenInTime agenda connection
-      → LeavesUnderWay agenda (called settings connection args depth doing)
-  called_kept connection args depth tied broken =
-      callee_kept settings agenda (single_shot_broken doing connection) (shot_under agenda doing under connection) connection args depth
-      (shot_tied doing connection tied) broken connection.callee
-
-module _ (settings : Settings) (agenda : List Item) (doing : Execution) (under : IsUnderWay agenda doing.state) where
-  -- a connection that stands is tied, and broken in time
-  found_kept : (number : ℕ) (args : List Value) (depth : ℕ) (found : Option Connection) → connection_of doing number ≡ found
-      → LeavesUnderWay agenda (option_map_or (λ connection. with_turn doing (called settings connection args depth)) found (puts [] doing))
-  found_kept number args depth None is = under
-  found_kept number args depth (Some connection) is =
-      cond_both (doing.turns == 0) (puts [] (used_up doing)) (called settings connection args depth (turn_taken doing)) (LeavesUnderWay agenda)
-      (λ none. used_up_under agenda doing under)
-      (λ some. turn_called (of_found (IsTied doing.state) (has_number number) doing.state.connections.rows connection is under.whole.ends)
-      (of_found (IsBrokenInTime agenda) (has_number number) doing.state.connections.rows connection is under.in_time))
-    where
-      turn_called : IsTied doing.state connection → IsBrokenInTime agenda connection
-          → LeavesUnderWay agenda (called settings connection args depth (turn_taken doing))
-      turn_called tied broken = called_kept settings agenda (turn_taken doing) (turn_under agenda doing under) connection args depth
-          (turn_tied doing connection tied) broken
-
-  spun_kept : (events : List Event) → LeavesUnderWay agenda (spun settings doing events)
-  spun_kept [] = under
-  spun_kept (first ∷ later) =
-      let some = turn_taken doing in
-      let items = event_items settings some.state first ++ Spin ∷ [] in
-      cond_both (doing.turns == 0) (puts [] (used_up doing)) (puts items (first_taken some)) (LeavesUnderWay agenda)
-      (λ none. used_up_under agenda doing under)
-      (λ left. in_front items agenda (first_taken some).state (event_stays settings some.state first)
-      (first_taken_under agenda some (turn_under agenda doing under)))
-
-delete_children_kept : (target depth : ℕ) (agenda : List Item) (doing : Execution) → IsUnderWay agenda (severed doing target).state
-    → LeavesUnderWay agenda (puts (delete_children doing target depth) (severed doing target))
-unfolding delete_children
-delete_children_kept target depth agenda doing rest = in_front (delete_children doing target depth) agenda (severed doing target).state
-    (delete_children_stay target depth (children doing.state.forest.rows (Some target))) rest
+  kept : Cases settings doing KeepsUnderWay
+  kept = record {
+    rests = λ item leaves agenda under. behind item agenda doing.state leaves under;
+    tells = λ item said leaves agenda under. told_under agenda doing (behind item agenda doing.state leaves under) said;
+    uses_up = λ item leaves agenda under. used_up_under agenda doing (behind item agenda doing.state leaves under);
+    too_deep = λ target signal args depth. in_place_of (Emit target signal args depth) (Warn Limit (Some target) ∷ []) refl refl;
+    sends = λ target signal args depth row is. sends_kept target signal args depth;
+    callee_gone = in_call_under;
+    calls_method = λ number args depth connection is index method to found. (
+      λ agenda under. later_under number args depth connection is agenda under (method_call connection index method args) refl,
+      λ agenda under. now_under number args depth connection is agenda under (method_now connection index method args depth) (methods_stay _ _ _ _ _ _ method),
+    );
+    calls_functor = λ number args depth connection is index functor to found. (
+      λ agenda under. later_under number args depth connection is agenda under (functor_call connection index functor args) refl,
+      λ agenda under. now_under number args depth connection is agenda under (functor_now connection index functor args depth) refl,
+    );
+    runs = λ target index sender args depth method is agenda under.
+        in_front _ agenda (line_told doing (call_line method target sender args)).state
+        (acts_stay (acts_of method.body.actions) args target sender (depth + 1))
+        (told_under agenda doing (behind (Run target index sender args depth) agenda doing.state refl under) (call_line method target sender args));
+    runs_functor = λ target index sender connection args depth functor is agenda under.
+        let new = line_told doing (functor_line functor target sender args) in
+        let its = functor_state doing.state connection in
+        let next = after functor.next its args in
+        in_front _ agenda (stepped new connection next).state (acts_stay (acts_of (with_state its functor.body).actions) args target sender (depth + 1))
+        (stepped_under agenda new (told_under agenda doing (behind (RunFunctor target index sender connection args depth) agenda doing.state refl under)
+        (functor_line functor target sender args)) connection next);
+    refused = λ action args self sender depth code. in_place_of (Act action args self sender depth) (Warn code (Some self) ∷ []) refl refl;
+    emits = λ of signal sent args self sender depth emitted is. in_place_of (Act (single_action (e.Emit of signal sent)) args self sender depth)
+        (Emit (object_of doing.state self sender of) emitted.0 emitted.1 depth ∷ []) refl refl;
+    deletes = λ target args self sender depth. in_place_of (Act (single_action (e.Delete target)) args self sender depth)
+        (Delete (object_of doing.state self sender target) depth ∷ []) refl refl;
+    writes = λ of property value args self sender depth given writing is agenda under.
+        let target = object_of doing.state self sender of in
+        telling_kept depth (with_writing doing.state target writing) (written_property target writing) agenda
+        (writing_under agenda doing (behind (Act (single_action (e.Set of property value)) args self sender depth) agenda doing.state refl under) target writing
+        (acted_fit doing.state target property given writing is));
+    does = λ plain args self sender depth operation is passed agenda under.
+        operation_under agenda doing (behind (Act (single_action plain) args self sender depth) agenda doing.state refl under) operation passed;
+    chooses = λ test held failed args self sender depth truth. in_place_of (Act (when test held failed) args self sender depth) _ refl
+        (branch_stays truth held failed args self sender depth);
+    dies = λ target depth living agenda under.
+        in_front (Emit target DESTROYED [] depth ∷ []) (Detach target depth ∷ Remove target depth ∷ agenda) (dying doing target).state refl
+        (dying_under agenda doing (behind (Delete target depth) agenda doing.state refl under) target depth);
+    detaches = detaches_kept;
+    deletes_child = λ parent child depth. in_place_of (DeleteChild parent child depth) (Delete child depth ∷ []) refl refl;
+    removes = λ target depth agenda under. telling_kept depth (without_object doing.state target) None agenda (gone_under target depth agenda doing under);
+    takes = λ first later is some agenda under.
+        in_front _ agenda (first_taken (turn_taken doing)).state (event_stays settings (turn_taken doing).state first)
+        (first_taken_under agenda (turn_taken doing) (turn_under agenda doing (behind Spin agenda doing.state refl under)));
+  }
 
 pub item_under_way : (settings : Settings) (item : Item) (agenda : List Item) (doing : Execution) → IsUnderWay (item ∷ agenda) doing.state
     → IsUnderWay ((step settings item doing).items ++ agenda) (step settings item doing).doing.state
-item_under_way settings (Emit target signal args depth) agenda doing under =
-    let rest = behind (Emit target signal args depth) agenda doing.state (λ number. refl) (λ number. refl) under in
-    emitted_kept settings agenda doing rest target signal args depth (row_of doing.state.forest.rows target)
-item_under_way settings (Call number args depth) agenda doing under =
-    let rest = behind (Call number args depth) agenda doing.state (λ number. refl) (λ number. refl) under in
-    found_kept settings agenda doing rest number args depth (connection_of doing number) refl
-item_under_way settings (Run target index sender args depth) agenda doing under =
-    let rest = behind (Run target index sender args depth) agenda doing.state (λ number. refl) (λ number. refl) under in
-    ran_kept settings agenda doing rest target sender args depth (method_at settings doing.state target index)
-item_under_way settings (RunFunctor target index sender connection args depth) agenda doing under =
-    let rest = behind (RunFunctor target index sender connection args depth) agenda doing.state (λ number. refl) (λ number. refl) under in
-    functor_ran_kept settings agenda doing rest target sender connection args depth (functor_at settings index)
-item_under_way settings (Act (single_action plain) args self sender depth) agenda doing under =
-    let rest = behind (Act (single_action plain) args self sender depth) agenda doing.state (λ number. refl) (λ number. refl) under in
-    acted_cases settings doing self sender args depth (LeavesUnderWay agenda)
-    (λ code. in_front (Warn code (Some self) ∷ []) agenda doing.state refl rest)
-    (λ target signal values. in_front (Emit target signal values depth ∷ []) agenda doing.state refl rest)
-    (λ target. in_front (Delete target depth ∷ []) agenda doing.state refl rest)
-    (λ target name value writing there found. written_kept settings agenda doing rest target depth writing
-    (acted_fit doing.state target name value writing found))
-    (λ operation passed. operation_under agenda doing rest operation passed)
-    plain
-item_under_way settings (Act (when test held failed) args self sender depth) agenda doing under =
-    let rest = behind (Act (when test held failed) args self sender depth) agenda doing.state (λ number. refl) (λ number. refl) under in
-    chosen_kept settings agenda doing rest (truth_evaluated doing.state self sender args test) held failed args self sender depth
-item_under_way settings (Warn code object) agenda doing under =
-    told_under agenda doing (behind (Warn code object) agenda doing.state (λ number. refl) (λ number. refl) under) (line.Warning code object)
-item_under_way settings (WarnOf at error) agenda doing under =
-    told_under agenda doing (behind (WarnOf at error) agenda doing.state (λ number. refl) (λ number. refl) under) (binding_line settings doing.state at error)
-item_under_way settings (Delete target depth) agenda doing under =
-    let rest = behind (Delete target depth) agenda doing.state (λ number. refl) (λ number. refl) under in
-    cond_both (lives doing target) (puts (Emit target DESTROYED [] depth ∷ Detach target depth ∷ Remove target depth ∷ []) (dying doing target)) (puts [] doing)
-    (LeavesUnderWay agenda)
-    (λ living. in_front (Emit target DESTROYED [] depth ∷ []) (Detach target depth ∷ Remove target depth ∷ agenda) (dying doing target).state refl
-    (dying_under agenda doing rest target depth))
-    (λ absent. rest)
-item_under_way settings (Detach target depth) agenda doing under = delete_children_kept target depth agenda doing (detach_under target depth agenda doing under)
-item_under_way settings (DeleteChild parent child depth) agenda doing under =
-    let rest = behind (DeleteChild parent child depth) agenda doing.state (λ number. refl) (λ number. refl) under in
-    cond_both (lives_below doing parent child) (puts (Delete child depth ∷ []) doing) (puts [] doing) (LeavesUnderWay agenda)
-    (λ living. in_front (Delete child depth ∷ []) agenda doing.state refl rest)
-    (λ other. rest)
-item_under_way settings (Remove target depth) agenda doing under =
-    let after = without_object doing.state target in
-    in_front _ agenda after (tells_stay settings after depth (changes doing.state after None)) (gone_under target depth agenda doing under)
-item_under_way settings Spin agenda doing under =
-    let rest = behind Spin agenda doing.state (λ number. refl) (λ number. refl) under in
-    spun_kept settings agenda doing rest doing.state.queue.events
-item_under_way settings (Reply answer) agenda doing under =
-    told_under agenda doing (behind (Reply answer) agenda doing.state (λ number. refl) (λ number. refl) under) (line.Reply answer)
-item_under_way settings ReplySpun agenda doing under =
-    told_under agenda doing (behind ReplySpun agenda doing.state (λ number. refl) (λ number. refl) under) (line.Reply (a.Spun (spin_of doing)))
+item_under_way settings item agenda doing = step_cases settings doing (KeepsUnderWay settings doing) (kept settings doing) item agenda

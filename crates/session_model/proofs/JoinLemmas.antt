@@ -5,27 +5,23 @@ use Rattle.publish_board.specs.Desk.{join_refusal, names_session}
 use Rattle.publish_board.specs.Rows.{is_from}
 use Rattle.publish_board.specs.declared.join.Join.{Join}
 use Rattle.plain_types.specs.declared.code.Code.{Code}
-use Rattle.signature_core.specs.declared.kind.Kind.{Kind}
 use Rattle.std.proofs.Common.{⊎_elim, Bool, Err, List, None, Ok, Option, Some, [], ap, arith, bytes_eq, cond, false, inl, inr, is_none, refl, sym, true, ℕ}
 use Rattle.std.proofs.Common.{◌&&◌, ◌||◌, ◌∙◌, ◌∷◌, ◌≡◌, ◌⊎◌}
 use Rattle.std.proofs.lemmas.Bool.{or_cases, or_right}
 use Rattle.std.proofs.lemmas.List.Folds.{list_any-append}
 use Rattle.std.specs.List.{list_any}
-use Rattle.std.specs.Option.{option_map_or}
-use Rattle.std.specs.Result.{result_ok}
 use Rattle.session_model.proofs.CommandLemmas.{command_keeps}
 use Rattle.session_model.proofs.KeepingLemmas.{is_join_asked}
-use Rattle.session_model.specs.Absence.{absence}
 use Rattle.session_model.specs.Arriving.{is_matched, joined_call, kinds_of, reached, reached_by, with_call}
 use Rattle.session_model.specs.Asked.{Asked, Join as AsksJoin}
-use Rattle.session_model.specs.Operations.{behind}
 use Rattle.session_model.specs.Effects.{unless}
-use Rattle.session_model.specs.Methods.{Found, method_named, methods_of, ◌>>=◌}
+use Rattle.session_model.specs.Methods.{Found}
 use Rattle.session_model.specs.Refusing.{refusal}
-use Rattle.session_model.specs.Sharing.{asked_join, asked_kinds, joining_refusal, joins_found}
+use Rattle.session_model.specs.Sharing.{asked_join, joining_refusal, joins_found}
 use Rattle.session_model.specs.State.{State}
 use Rattle.session_model.specs.Thread.{Settings, accepts_join, arrives, does, joins_name, performs}
 use Rattle.session_model.specs.declared.post.Post.{Post}
+use Rattle.session_model.proofs.SharingLemmas.{join_found}
 
 or-false : (a : Bool) → (a || false) ≡ a
 or-false true = refl
@@ -35,15 +31,7 @@ or-false false = refl
 found_from : (settings : Settings) (state : State) (from name : List ℕ) (types : List (List ℕ)) (target : ℕ) (method : List ℕ) (join : Join)
     → asked_join settings state from name types target method ≡ Ok join → join.from ≡ from
 found_from settings state from name types target method join is =
-    by (absence state target) (asked_kinds types) (method_named (methods_of settings state target) method) is
-  where
-    by : (missing : Option Code) (kinds : Found (List Kind)) (found : Found ℕ)
-        → behind missing (kinds >>= λ kinds. found >>= λ index. Ok (record { from = from; name = name; kinds = kinds; object = target; method = index }))
-        ≡ Ok join → join.from ≡ from
-    by (Some code) kinds found e = absurd (cc)
-    by None (Err code) found e = absurd (cc)
-    by None (Ok kinds) (Err code) e = absurd (cc)
-    by None (Ok kinds) (Ok index) e = sym (ap (λ (found : Found Join). option_map_or (λ (join : Join). join.from) (result_ok found) from) e)
+    sym (ap (λ (join : Join). join.from) (join_found settings state target from name types method join is).is)
 
 module _ (settings : Settings) (self : List ℕ) (state : State) where
   -- the session after a join that is asked for, where it is refused or not

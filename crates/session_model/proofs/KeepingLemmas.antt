@@ -9,7 +9,7 @@ use Rattle.std.proofs.lemmas.List.Elements.{All-append, All-cons, All-nil}
 use Rattle.std.specs.List.{All, list_any}
 use Rattle.session_model.proofs.DeclaredLemmas.{operation_declared, run_declared}
 use Rattle.session_model.proofs.FittingChangeLemmas.{fits_operation}
-use Rattle.session_model.proofs.FittingClassLemmas.{class_at, fits_own, fits_whole, own_classes}
+use Rattle.session_model.proofs.FittingClassLemmas.{class_at, fits_own, fits_whole, own_classes, AllFit}
 use Rattle.session_model.proofs.FittingItemLemmas.{item_fits}
 use Rattle.session_model.proofs.FittingLaterLemmas.{operation_classes}
 use Rattle.session_model.proofs.FittingToldLemmas.{change_fits}
@@ -29,7 +29,7 @@ use Rattle.session_model.specs.Run.{run}
 use Rattle.session_model.specs.Settings.{Settings}
 use Rattle.session_model.specs.Showing.{changes, comes_to}
 use Rattle.session_model.specs.Signals.{does_found}
-use Rattle.session_model.specs.State.{IsDeclared, IsSound, State}
+use Rattle.session_model.specs.State.{IsDeclared, IsSound, State, IsWhole}
 use Rattle.session_model.specs.UnderWay.{is_gone}
 use Rattle.session_model.specs.declared.operation.Operation.{Operation}
 use Rattle.session_model.specs.declared.line.Answer.{Answer}
@@ -37,6 +37,11 @@ use Rattle.session_model.specs.declared.line.Line.{Line}
 use Rattle.session_model.specs.declared.post.Post.{Post}
 use Rattle.session_model.specs.declared.operation.Operation.TheVariants as d
 use Rattle.session_model.specs.Items as to_do
+use Rattle.property_store.specs.Store.{Store}
+use Rattle.binding_values.specs.Graph.{Graph}
+use Rattle.connection_list.specs.Rows.{Rows}
+use Rattle.event_queue.specs.Queue.{Queue}
+use Rattle.publish_board.specs.Desk.{Desk}
 
 -- every join that is there was there before
 abbrev pub Falls : State → State → Type 0
@@ -85,6 +90,27 @@ module _ (settings : Settings) (state : State) (asked : Asked) where
     fitting = λ fits. fits.fit;
     named = λ are is named. named;
     joins = λ plain test held. held;
+  }
+
+  -- the objects stay, with other values, bindings, connections, events, publications and joins
+  abbrev holding : Store → Graph → Rows → Queue → Desk → State
+  holding store graph connections queue desk =
+      record state { store = store; graph = graph; connections = connections; queue = queue; desk = desk }
+
+  pub leaves_with : (store : Store) (graph : Graph) (connections : Rows) (queue : Queue) (desk : Desk)
+      → (IsSound state → IsWhole (holding store graph connections queue desk))
+      → (IsDeclared settings.classes state → IsDeclared settings.classes (holding store graph connections queue desk))
+      → (FitsBefore settings state asked → AllFit settings state.forest.rows queue connections desk)
+      → (IsNamedAsked asked → AreNamed state → AreNamed (holding store graph connections queue desk))
+      → (is_join_asked asked ≡ false → Falls state (holding store graph connections queue desk))
+      → Leaves settings state asked (holding store graph connections queue desk)
+  leaves_with store graph connections queue desk whole declared fits named joins = record {
+    sound = λ sound. record { whole = whole sound; living = sound.living };
+    declared = λ sound. declared;
+    fitting = λ before. (let fit = fits before in record
+        { objects = before.fit.objects; events = fit.events; connections = fit.connections; publications = fit.publications; joins = fit.joins });
+    named = λ are. named;
+    joins = joins;
   }
 
   pub told_one : (effect : Effect State Line Post) → effect.posts ≡ [] → Leaves settings state asked effect.state → Keeps settings state asked effect
@@ -175,7 +201,7 @@ module _ (settings : Settings) (state : State) (asked : Asked) where
       → Leaves settings state asked (with_operation state operation)
   operation_leaves operation passed may = record {
     sound = λ sound. operation_sound (begun settings state) operation passed sound;
-    declared = λ sound declared. operation_declared settings.classes (begun settings state) declared operation;
+    declared = λ sound declared. operation_declared settings.classes state declared operation;
     fitting = λ fits. fits_whole settings state.forest.rows (with_operation state operation)
         (operation_sound (begun settings state) operation passed fits.sound).whole
         (operation_classes (λ number class. class_at state.forest.rows number ≡ Some class) state operation (own_classes state.forest fits.sound.whole.forest))

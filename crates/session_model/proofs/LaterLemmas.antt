@@ -1,12 +1,9 @@
 -- What becomes of connections while an agenda is done: some are broken, and those that are made have
 -- greater numbers.
-use Rattle.std.proofs.Common.{◌≡◌, ◌<◌, ◌≤◌, ◌+◌, ◌&&◌, ℕ, Bool, true, not, List, [], ◌∷◌, ◌++◌, ◌==◌, All, Option, Some, None, filter, map, refl, sym, ap, ap₂}
-use Rattle.std.proofs.Common.{subst, ◌∙◌, append_assoc, arith}
-use Rattle.std.proofs.lemmas.Bool.{cond_both}
+use Rattle.std.proofs.Common.{◌≡◌, ◌<◌, ◌≤◌, ◌+◌, ◌&&◌, ℕ, Bool, true, not, List, [], ◌∷◌, ◌++◌, ◌==◌, All, Option, Some, None, filter, map, refl}
+use Rattle.std.proofs.Common.{sym, ap, ap₂, subst, ◌∙◌, append_assoc, arith}
 use Rattle.std.proofs.lemmas.List.{append-nil, map-append}
-use Rattle.std.proofs.lemmas.List.Elements.{filter-append}
-use Rattle.std.proofs.lemmas.List.Elements.{All-append, All-cons, All-filter, All-nil, All-weaker}
-use Rattle.plain_types.specs.declared.code.Code.TheVariants.{TurnsUsedUp}
+use Rattle.std.proofs.lemmas.List.Elements.{filter-append, All-append, All-cons, All-filter, All-nil, All-weaker}
 use Rattle.connection_list.specs.declared.connection.Connection.{Connection}
 use Rattle.connection_list.specs.declared.connection.NewConnection.{NewConnection}
 use Rattle.connection_list.specs.declared.pattern.Pattern.{Pattern}
@@ -14,21 +11,19 @@ use Rattle.connection_list.specs.declared.pattern.Receiver.{Receiver}
 use Rattle.connection_list.specs.Ends.{allows, allows_receiver, matches, touches}
 use Rattle.connection_list.specs.Rows.{Rows, has_number, numbered}
 use Rattle.connection_list.proofs.ForCallers.{IsUnseen, filter-changed, stepped-same, stepped_row}
-use Rattle.session_model.specs.declared.line.Line.TheVariants.{Warning}
 use Rattle.session_model.specs.declared.operation.Operation.{Operation}
 use Rattle.session_model.specs.declared.operation.Operation.TheVariants as d
 use Rattle.session_model.specs.Agenda.{step}
-use Rattle.session_model.specs.Operations.{operation_done}
-use Rattle.session_model.specs.Execution.{Execution, dying, first_taken, in_state, lost, enqueued, posting, single_shot_broken, line_told, turn_taken, used_up}
-use Rattle.session_model.specs.Execution.{severed, stepped}
+use Rattle.session_model.specs.Operations.{with_operation}
+use Rattle.session_model.specs.Execution.{Execution}
 use Rattle.session_model.specs.Items.{Item}
 use Rattle.session_model.specs.Run.{run}
 use Rattle.session_model.specs.Settings.{Settings}
-use Rattle.session_model.specs.State.{without_connections}
-use Rattle.session_model.specs.Writing.{Declared, Dynamic, Nothing, Removed, Writing, with_writing}
+use Rattle.session_model.specs.State.{State}
+use Rattle.session_model.specs.Writing.{Nothing, Writing, with_writing}
 use Rattle.session_model.proofs.FilterLemmas.{filter-all, filter-both}
 use Rattle.session_model.proofs.RunLemmas.{run_keeps}
-use Rattle.session_model.proofs.StepLemmas.{Holds, step_holds}
+use Rattle.session_model.proofs.StepLemmas.{HoldsOfStates, of_states, step_holds}
 
 -- of the connections some are left, and those that were made since have greater numbers
 pub record IsLater (old new : Rows) : Type 0 where
@@ -120,55 +115,48 @@ bare_stepped number next [] = refl
 bare_stepped number next (row ∷ rows) = ap₂ (λ row rows. row ∷ rows) (stepped-same number next bare_row (λ row. refl) row) (bare_stepped number next rows)
 
 -- the connections after a change of a session, or after what an item comes to, whatever their functors keep
+abbrev IsAfter : State → State → Type 0
+IsAfter old new = IsLater (bare old.connections) (bare new.connections)
+
 abbrev pub Later : Execution → Execution → Type 0
-Later old new = IsLater (bare old.state.connections) (bare new.state.connections)
+Later old new = IsAfter old.state new.state
 
-unchanged : (doing : Execution) → Later doing doing
-unchanged doing = later_same (bare doing.state.connections)
+unchanged : (state : State) → IsAfter state state
+unchanged state = later_same (bare state.connections)
 
-operation_later : (doing : Execution) (operation : Operation) → Later doing (operation_done doing operation)
-unfolding operation_done
-operation_later doing (d.Connect new unique) = bare_linked doing.state.connections new
-operation_later doing (d.Disconnect pattern) = bare_without (matches pattern) (bare_matches pattern) doing.state.connections
-operation_later doing _ = unchanged doing
+operation_later : (state : State) (operation : Operation) → IsAfter state (with_operation state operation)
+operation_later state (d.Connect new unique) = bare_linked state.connections new
+operation_later state (d.Disconnect pattern) = bare_without (matches pattern) (bare_matches pattern) state.connections
+operation_later state _ = unchanged state
 
-written_later : (doing : Execution) (target : ℕ) (writing : Writing) → Later doing (in_state doing (with_writing doing.state target writing))
-written_later doing target (Declared number value) = unchanged doing
-written_later doing target (Dynamic name value) = unchanged doing
-written_later doing target (Removed name) = unchanged doing
-written_later doing target Nothing = unchanged doing
+written_later : (state : State) (target : ℕ) (writing : Writing) → IsAfter state (with_writing state target writing)
+written_later state target Nothing = unchanged state
+written_later state target _ = unchanged state
 
 -- what each change makes of the connections
-holds : Holds Later
-unfolding line_told posting turn_taken used_up single_shot_broken enqueued lost first_taken dying severed stepped
+holds : HoldsOfStates IsAfter
 holds = record {
   same = unchanged;
-  both = λ one two three first second. later_both (bare one.state.connections) (bare two.state.connections) (bare three.state.connections) first second;
-  tells = λ doing said. unchanged doing;
-  publishes = λ doing more. unchanged doing;
-  takes_turn = unchanged;
-  uses_up = λ doing. cond_both doing.spent doing (record doing { spent = true; lines = doing.lines ++ Warning TurnsUsedUp None ∷ [] }) (Later doing)
-      (λ spent. unchanged doing) (λ fresh. unchanged doing);
-  shoots = λ doing row. cond_both row.single (in_state doing (without_connections doing.state (has_number row.number))) doing (Later doing)
-      (λ single. bare_without (has_number row.number) (λ row. refl) doing.state.connections) (λ lasting. unchanged doing);
-  posts = λ doing event. unchanged doing;
+  both = λ one two three. later_both (bare one.connections) (bare two.connections) (bare three.connections);
+  breaks = λ state number. bare_without (has_number number) (λ row. refl) state.connections;
+  posts = λ state event. unchanged state;
   loses = unchanged;
   takes = unchanged;
   does = operation_later;
   writes = written_later;
-  marks = λ doing target. unchanged doing;
-  severs = λ doing target. bare_without (touches target) (λ row. refl) doing.state.connections;
-  goes = λ doing target. unchanged doing;
-  steps = λ doing number next. subst (λ rows. IsLater (bare doing.state.connections)
-      (record { rows = rows; last_number = doing.state.connections.last_number })) (sym (bare_stepped number next doing.state.connections.rows))
-      (unchanged doing);
+  marks = λ state target. unchanged state;
+  severs = λ state target. bare_without (touches target) (λ row. refl) state.connections;
+  goes = λ state target. unchanged state;
+  steps = λ state number next. subst (λ rows. IsLater (bare state.connections)
+      (record { rows = rows; last_number = state.connections.last_number })) (sym (bare_stepped number next state.connections.rows))
+      (unchanged state);
 }
 
 module _ (settings : Settings) where
   pub step_later : (item : Item) (doing : Execution) → Later doing (step settings item doing).doing
-  step_later item doing = step_holds settings Later holds item doing
+  step_later = step_holds settings Later (of_states IsAfter holds)
 
   pub run_later : (agenda : List Item) (doing : Execution) → Later doing (run settings agenda doing)
   run_later agenda doing = run_keeps settings (λ items new. Later doing new)
       (λ item rest new before. later_both (bare doing.state.connections) (bare new.state.connections)
-      (bare (step settings item new).doing.state.connections) before (step_later item new)) agenda doing (unchanged doing)
+      (bare (step settings item new).doing.state.connections) before (step_later item new)) agenda doing (unchanged doing.state)

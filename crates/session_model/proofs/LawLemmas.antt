@@ -36,7 +36,7 @@ use Rattle.session_model.specs.Items as to_do
 under_way : (agenda : List Item) (state : State) → list_any is_gone agenda ≡ false → IsSound state → IsUnderWay agenda state
 under_way agenda state none sound = record {
   whole = sound.whole;
-  going = All-weaker (λ (row : Row). row.dying ≡ false) (λ row. IsGoing agenda row.number row.dying)
+  going = All-weaker (λ (row : Row). row.dying ≡ false) (λ row. IsGoing agenda row.number row.class row.dying)
       (λ row lives. none_goes row.number agenda none ∙ sym lives) state.forest.rows sound.living;
   in_time = λ index default within. record
       { sender = untied_staying _ agenda (none_goes _ agenda none); receiver = untied_staying _ agenda (none_goes _ agenda none) };
@@ -51,7 +51,8 @@ under_way agenda state none sound = record {
 sound_at_end : (state : State) → IsUnderWay [] state → IsSound state
 sound_at_end state under = record {
   whole = under.whole;
-  living = All-weaker (λ row. IsGoing [] row.number row.dying) (λ (row : Row). row.dying ≡ false) (λ row going. sym going) state.forest.rows under.going;
+  living = All-weaker (λ row. IsGoing [] row.number row.class row.dying) (λ (row : Row). row.dying ≡ false) (λ row going. sym going) state.forest.rows
+      under.going;
 }
 
 pub keeps_under_way : KeepsUnderWay

@@ -5,14 +5,13 @@ pub mod AloneLemmas
 pub mod BoundTermLemmas
 pub mod BindableLemmas
 pub mod LivingLemmas
-pub mod DyingLemmas
+pub mod ForestLemmas
 pub mod WeightLemmas
 pub mod ConnectionLemmas
 pub mod QueueLemmas
 pub mod DeskLemmas
 pub mod WritingLemmas
 pub mod StepLemmas
-pub mod ActLemmas
 pub mod ShrinkLemmas
 pub mod FallLemmas
 pub mod RunLemmas

@@ -1,15 +1,14 @@
 -- The rule of the command that writes a property: why it is refused, what it does where it is not, and what it
 -- keeps of a session.
 use Rattle.serde_json.specs.Data.{Data}
-use Rattle.std.proofs.Common.{Err, List, Ok, ap, refl, subst, ℕ, ◌∙◌, ◌≡◌}
+use Rattle.std.proofs.Common.{Err, List, Ok, ap, refl, ℕ, ◌∙◌, ◌≡◌}
 use Rattle.std.specs.Option.{option_or}
-use Rattle.std.specs.Prelude.{IfOk}
 use Rattle.std.specs.Result.{result_err}
 use Rattle.session_model.proofs.DeclaredLemmas.{declared_with_writing}
 use Rattle.session_model.proofs.FitLemmas.{asked_fit}
 use Rattle.session_model.proofs.KeepingLemmas.{Keeps, refused, told}
 use Rattle.session_model.proofs.LawLemmas.{writing_sound}
-use Rattle.session_model.proofs.NamedLemmas.{IsNamedWriting, asked_named, named_with_writing}
+use Rattle.session_model.proofs.NamedLemmas.{asked_named, named_with_writing}
 use Rattle.session_model.proofs.ShrinkLemmas.{written_shrinks}
 use Rattle.session_model.specs.Absence.{absence}
 use Rattle.session_model.specs.Asked.{Set}
@@ -21,7 +20,7 @@ use Rattle.session_model.specs.Properties.{is_declared, sets}
 use Rattle.session_model.specs.Refusing.{refusal}
 use Rattle.session_model.specs.State.{State}
 use Rattle.session_model.specs.Thread.{Settings, performs}
-use Rattle.session_model.specs.Writing.{Declared, Dynamic, Nothing, Removed, Writing, asked_writing, with_writing, written, written_property}
+use Rattle.session_model.specs.Writing.{Nothing, Writing, asked_writing, with_writing, written, written_property}
 use Rattle.session_model.specs.declared.line.Answer.TheVariants as a
 
 module _ (settings : Settings) (self : List ℕ) (state : State) where
@@ -43,13 +42,9 @@ module _ (settings : Settings) (self : List ℕ) (state : State) where
 
 module _ (settings : Settings) (state : State) where
   writing_fits : (object : ℕ) (writing : Writing) → IsFitting settings state → IsFitting settings (with_writing state object writing)
-  writing_fits object (Declared number value) fit =
-      record { objects = fit.objects; events = fit.events; connections = fit.connections; publications = fit.publications; joins = fit.joins }
-  writing_fits object (Dynamic name value) fit =
-      record { objects = fit.objects; events = fit.events; connections = fit.connections; publications = fit.publications; joins = fit.joins }
-  writing_fits object (Removed name) fit =
-      record { objects = fit.objects; events = fit.events; connections = fit.connections; publications = fit.publications; joins = fit.joins }
   writing_fits object Nothing fit = fit
+  writing_fits object _ fit =
+      record { objects = fit.objects; events = fit.events; connections = fit.connections; publications = fit.publications; joins = fit.joins }
 
   -- what is written is told of
   pub set_keeps : (target : ℕ) (property : List ℕ) (value : Data)
@@ -64,7 +59,6 @@ module _ (settings : Settings) (state : State) where
             sound = λ sound. writing_sound (begun settings state) target writing (asked_fit state target property value writing is) sound;
             declared = λ sound declared. declared_with_writing settings.classes state declared target writing;
             fitting = λ fits. writing_fits target writing fits.fit;
-            named = λ are its named. named_with_writing state named target writing
-                (subst (λ found. IfOk found IsNamedWriting) is (asked_named state target property its value));
+            named = λ are its named. named_with_writing state named target writing (asked_named state target property its value writing is);
             joins = λ plain. (written_shrinks (begun settings state) target writing).joins;
           })

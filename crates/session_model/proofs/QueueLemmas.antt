@@ -1,8 +1,7 @@
 -- What each change leaves of the events of a session.
 use Rattle.std.proofs.Common.{◌≡◌, ◌<◌, ◌==◌, ℕ, Bool, true, false, not, cond, List, [], ◌∷◌, ◌++◌, All, filter, length, refl, arith}
-use Rattle.std.specs.List.{AllByRecursion}
 use Rattle.std.proofs.lemmas.Bool.Decides.{nat_tests}
-use Rattle.std.proofs.lemmas.List.Elements.{All-drop, All-filter, All-from_recursion, All-weaker, recursion_from_All}
+use Rattle.std.proofs.lemmas.List.Elements.{All-drop, All-filter, All-weaker}
 use Rattle.std.proofs.lemmas.List.{length-drop}
 use Rattle.std.proofs.lemmas.List.Sums.{count_by-le-length, length-filter}
 use Rattle.object_tree.specs.Rows.{numbers}
@@ -57,22 +56,6 @@ each_taken P queue all = All-drop P 1 queue.events all
 
 pub each_dropped : (P : Event → Type 0) (object : ℕ) (queue : Queue) → All P queue.events → All P (dropped object queue).events
 each_dropped P object queue all = All-filter (λ (event : Event). not (object_of event == object)) P queue.events all
-
--- what is left of the events without those of an object names others
-pub others_named : (P : Event → Type 0) (object : ℕ) (events : List Event) → All P events
-    → All (λ event. P event × ((object_of event == object) ≡ false)) (others object events)
-others_named P object events all = All-from_recursion (λ event. P event × ((object_of event == object) ≡ false)) _
-    (those events (recursion_from_All P events all))
-  where
-    those : (events : List Event) → AllByRecursion P events → AllByRecursion (λ event. P event × ((object_of event == object) ≡ false)) (others object events)
-    those [] all = tt
-    those (event ∷ rest) all = by (object_of event == object) refl (those rest all.1)
-      where
-        by : (named : Bool) → (object_of event == object) ≡ named
-            → AllByRecursion (λ event. P event × ((object_of event == object) ≡ false)) (others object rest)
-            → AllByRecursion (λ event. P event × ((object_of event == object) ≡ false)) (cond (not named) (event ∷ others object rest) (others object rest))
-        by true is later = later
-        by false is later = ((all.0, is), later)
 
 -- the objects that events name stand still where the numbers of objects stay the same
 pub meant_same : (old new : State) → numbers new.forest.rows ≡ numbers old.forest.rows → (events : List Event) → All (IsMeant old) events

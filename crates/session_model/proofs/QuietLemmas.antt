@@ -18,8 +18,7 @@ use Rattle.binding_values.specs.declared.shown.Shown.{Shown}
 use Rattle.binding_values.specs.Graph.{all_shown, before, changes, has_turn, in_turn, is_same_error, notice, shown_as, shown_now, warning}
 use Rattle.binding_values.specs.Scene.{Cell, plain}
 use Rattle.binding_values.specs.Stored.{bindable_number, cell_in, cell_of, fields_at, meant, properties_in}
-use Rattle.binding_values.proofs.ForCallers.{all_given}
-use Rattle.binding_values.proofs.ForCallers.{found_in_all, shown_of, same_value}
+use Rattle.binding_values.proofs.ForCallers.{all_given, found_in_all, shown_of, same_value}
 use Rattle.session_model.proofs.BindingLemmas.{properties_changed}
 
 -- an error is the same as itself

@@ -40,7 +40,7 @@ enough-falls settings item agenda doing = by (step settings item doing).items (s
     n : Most
     n = most settings doing
 
-    by : (items : List Item) (new : Execution) → FallsTo settings item doing (record { items = items; doing = new })
+    by : (items : List Item) (new : Execution) → FallsTo settings doing item (record { items = items; doing = new })
         → enough settings (items ++ agenda) new < enough settings (item ∷ agenda) doing
     by items new fall =
         let is_less = bounded settings doing new fall.shrinks in

@@ -15,18 +15,16 @@ use Rattle.std.proofs.Common.{sym, true, ℕ, ◌∷◌, ◌≡◌, ◌≤◌}
 use Rattle.std.proofs.lemmas.Bool.Decides.{nat_tests}
 use Rattle.std.proofs.lemmas.List.Elements.{All-filter, All-push}
 use Rattle.std.specs.List.{All}
-use Rattle.std.specs.Option.{ok_or, option_map_or}
-use Rattle.std.specs.Prelude.{IfOk}
-use Rattle.std.specs.Result.{result_err, result_ok}
+use Rattle.std.specs.Option.{ok_or}
+use Rattle.std.specs.Result.{result_err}
 use Rattle.session_model.proofs.DeskLemmas.{fewer_pass, of_joined, of_left, of_published, of_unpublished, sound_joined, sound_left, sound_published}
 use Rattle.session_model.proofs.DeskLemmas.{sound_unpublished}
-use Rattle.session_model.proofs.FittingFoundLemmas.{found_past, named_method_there, named_signal_there}
+use Rattle.session_model.proofs.FittingFoundLemmas.{named_method_there, named_signal_there}
 use Rattle.session_model.proofs.FittingPostLemmas.{first_fits}
-use Rattle.session_model.proofs.KeepingLemmas.{Falls, Keeps, Leaves, is_join_asked, refused, replied}
+use Rattle.session_model.proofs.KeepingLemmas.{Falls, Keeps, Leaves, is_join_asked, refused, replied, leaves_with}
 use Rattle.session_model.proofs.LawLemmas.{empty_sound}
-use Rattle.session_model.proofs.NamedLemmas.{empty_named, join_named, publication_named}
+use Rattle.session_model.proofs.NamedLemmas.{empty_named}
 use Rattle.session_model.proofs.StateLemmas.{whole_with_desk}
-use Rattle.session_model.specs.Absence.{absence}
 use Rattle.session_model.specs.Arriving.{kinds_of}
 use Rattle.session_model.specs.Asked.{Asked, Join as AsksJoin, Leave, Publish, Reset, Unpublish}
 use Rattle.session_model.specs.Operations.{behind}
@@ -119,35 +117,52 @@ found_behind : {A : Type 0} (there : Bool) (found : Found A) (value : A) → beh
 found_behind true found value is = (refl, is)
 found_behind false found value is = absurd (cc)
 
--- a publication that was found is of an object that stands
-publication_there : (settings : Settings) (state : State) (target : ℕ) (signal name : List ℕ) (row : Publication)
-    → asked_publication settings state target signal name ≡ Ok row → is_there state.forest.rows row.object ≡ true
-publication_there settings state target signal name row is =
-    let parts = found_behind (is_there state.forest.rows target) _ row is in
-    by (signal_named (methods_of settings state target) signal) parts.0 parts.1
-  where
-    by : (found : Found ℕ) → is_there state.forest.rows target ≡ true
-        → (found >>= λ index. Ok (record { name = name; object = target; signal = index })) ≡ Ok row → is_there state.forest.rows row.object ≡ true
-    by (Err code) there e = absurd (cc)
-    by (Ok index) there e =
-        let same : target ≡ row.object = ap (λ (found : Found Publication). option_map_or (λ (row : Publication). row.object) (result_ok found) target) e in
-        subst (λ object. is_there state.forest.rows object ≡ true) same there
+module _ (settings : Settings) (state : State) (target : ℕ) where
+  -- a publication that was found is of a signal of an object that stands
+  abbrev publication_of : List ℕ → ℕ → Publication
+  publication_of name index = record { name = name; object = target; signal = index }
 
--- and so does a join call one
-join_there : (settings : Settings) (state : State) (from name : List ℕ) (types : List (List ℕ)) (target : ℕ) (method : List ℕ) (join : Join)
-    → asked_join settings state from name types target method ≡ Ok join → is_there state.forest.rows join.object ≡ true
-join_there settings state from name types target method join is =
-    let parts = found_behind (is_there state.forest.rows target) _ join is in
-    by (asked_kinds types) (method_named (methods_of settings state target) method) parts.0 parts.1
-  where
-    by : (kinds : Found (List Kind)) (found : Found ℕ) → is_there state.forest.rows target ≡ true
-        → (kinds >>= λ kinds. found >>= λ index. Ok (record { from = from; name = name; kinds = kinds; object = target; method = index })) ≡ Ok join
-        → is_there state.forest.rows join.object ≡ true
-    by (Err code) found there e = absurd (cc)
-    by (Ok kinds) (Err code) there e = absurd (cc)
-    by (Ok kinds) (Ok index) there e =
-        let same : target ≡ join.object = ap (λ (found : Found Join). option_map_or (λ (join : Join). join.object) (result_ok found) target) e in subst
-        (λ object. is_there state.forest.rows object ≡ true) same there
+  record FoundPublication (signal name : List ℕ) (row : Publication) : Type 0 where
+    index : ℕ
+    there : is_there state.forest.rows target ≡ true
+    named : signal_named (methods_of settings state target) signal ≡ Ok index
+    is : publication_of name index ≡ row
+
+  publication_found : (signal name : List ℕ) (row : Publication) → asked_publication settings state target signal name ≡ Ok row
+      → FoundPublication signal name row
+  publication_found signal name row is =
+      let parts = found_behind (is_there state.forest.rows target) _ row is in by (signal_named (methods_of settings state target) signal) refl parts.0 parts.1
+    where
+      by : (found : Found ℕ) → signal_named (methods_of settings state target) signal ≡ found → is_there state.forest.rows target ≡ true
+          → (found >>= λ index. Ok (publication_of name index)) ≡ Ok row → FoundPublication signal name row
+      by (Err code) named there e = absurd (cc)
+      by (Ok index) named there e = record { index = index; there = there; named = named; is = cc }
+
+  -- and a join that was found calls a method of one
+  abbrev pub join_of : List ℕ → List ℕ → List Kind → ℕ → Join
+  join_of from name kinds index = record { from = from; name = name; kinds = kinds; object = target; method = index }
+
+  pub record FoundJoin (from name : List ℕ) (types : List (List ℕ)) (method : List ℕ) (join : Join) : Type 0 where
+    kinds : List Kind
+    index : ℕ
+    there : is_there state.forest.rows target ≡ true
+    kinds_named : asked_kinds types ≡ Ok kinds
+    named : method_named (methods_of settings state target) method ≡ Ok index
+    pub is : join_of from name kinds index ≡ join
+
+  pub join_found : (from name : List ℕ) (types : List (List ℕ)) (method : List ℕ) (join : Join)
+      → asked_join settings state from name types target method ≡ Ok join → FoundJoin from name types method join
+  join_found from name types method join is =
+      let parts = found_behind (is_there state.forest.rows target) _ join is in
+      by (asked_kinds types) refl (method_named (methods_of settings state target) method) refl parts.0 parts.1
+    where
+      by : (kinds : Found (List Kind)) → asked_kinds types ≡ kinds → (found : Found ℕ) → method_named (methods_of settings state target) method ≡ found
+          → is_there state.forest.rows target ≡ true → (kinds >>= λ kinds. found >>= λ index. Ok (join_of from name kinds index)) ≡ Ok join
+          → FoundJoin from name types method join
+      by (Err code) so found named there e = absurd (cc)
+      by (Ok kinds) so (Err code) named there e = absurd (cc)
+      by (Ok kinds) so (Ok index) named there e =
+          record { kinds = kinds; index = index; there = there; kinds_named = so; named = named; is = cc }
 
 module _ (settings : Settings) (state : State) where
   abbrev rows : List Row
@@ -158,14 +173,11 @@ module _ (settings : Settings) (state : State) where
       → (IsFitting settings state → All (IsPublished settings rows) desk.publications × All (IsJoined settings rows) desk.joins)
       → (IsNamedAsked asked → AreNamed state → All IsNamedPublication desk.publications × All IsNamedJoin desk.joins)
       → (is_join_asked asked ≡ false → Falls state (with_desk state desk)) → Leaves settings state asked (with_desk state desk)
-  desk_leaves asked desk sound fits named falls = record {
-    sound = λ its. record { whole = whole_with_desk state desk (sound its).0 (sound its).1 its.whole; living = its.living };
-    declared = λ sound declared. declared;
-    fitting = λ before. (let fit = before.fit in record
-        { objects = fit.objects; events = fit.events; connections = fit.connections; publications = (fits fit).0; joins = (fits fit).1 });
-    named = λ are is its. record { store = its.store; publications = (named is its).0; joins = (named is its).1 };
-    joins = falls;
-  }
+  desk_leaves asked desk sound fits named falls = leaves_with settings state asked state.store state.graph state.connections state.queue desk
+      (λ its. whole_with_desk state desk (sound its).0 (sound its).1 its.whole) (λ declared. declared)
+      (λ before. (let fit = before.fit in record
+      { events = fit.events; connections = fit.connections; publications = (fits fit).0; joins = (fits fit).1 }))
+      (λ is its. record { store = its.store; publications = (named is its).0; joins = (named is its).1 }) falls
 
   -- a signal that is found is published
   pub publish_keeps : (target : ℕ) (signal name : List ℕ) → publication_refusal state (asked_publication settings state target signal name) ≡ None
@@ -179,26 +191,22 @@ module _ (settings : Settings) (state : State) where
           (desk_leaves (Publish target signal name) (published state.desk row)
           (λ sound. (
             sound_published state.desk row passed sound.whole.desk,
-            of_published _ state.desk sound.whole.named row (publication_there settings state target signal name row is),
+            of_published _ state.desk sound.whole.named row (subst (λ (row : Publication). is_there rows row.object ≡ true) its.is its.there),
           ))
-          (λ fit. (All-push (IsPublished settings rows) state.desk.publications row fit.publications its, fit.joins))
+          (λ fit. (
+            All-push (IsPublished settings rows) state.desk.publications row fit.publications (subst (IsPublished settings rows) its.is
+                (named_signal_there (methods_of settings state target) signal its.index its.named)),
+            fit.joins,
+          ))
           (λ called named. (
             All-push IsNamedPublication state.desk.publications row named.publications
-                (subst (λ found. IfOk found IsNamedPublication) is (publication_named settings state target signal name called)),
+                (subst IsNamedPublication its.is called),
             named.joins,
           ))
           (λ plain test held. held))
         where
-          its : IsPublished settings rows row
-          its = found_so (signal_named (methods_of settings state target) signal) refl (found_past (absence state target) _ row is)
-            where
-              found_so : (found : Found ℕ) → signal_named (methods_of settings state target) signal ≡ found
-                  → (found >>= λ index. Ok (let row : Publication = record { name = name; object = target; signal = index } in row)) ≡ Ok row
-                  → IsPublished settings rows row
-              found_so (Err code) so e = absurd (cc)
-              found_so (Ok index) so e =
-                  let same : (let row : Publication = record { name = name; object = target; signal = index } in row) ≡ row = cc in
-                  subst (IsPublished settings rows) same (named_signal_there (methods_of settings state target) signal index so)
+          its : FoundPublication settings state target signal name row
+          its = publication_found settings state target signal name row is
 
   pub unpublish_keeps : (name : List ℕ) → Keeps settings state (Unpublish name) (unpublishes state name)
   unpublish_keeps name = replied settings state (Unpublish name) _ _ (desk_leaves (Unpublish name) (unpublished state.desk name)
@@ -220,33 +228,27 @@ module _ (settings : Settings) (state : State) where
           (desk_leaves (AsksJoin from name types target method) (with_join state.desk join)
           (λ sound. (
             sound_joined self state.desk join _ passed sound.whole.desk,
-            of_joined _ state.desk sound.whole.named join (join_there settings state from name types target method join is),
+            of_joined _ state.desk sound.whole.named join (subst (λ (join : Join). is_there rows join.object ≡ true) its.is its.there),
           ))
           (λ fit. (
             fit.publications,
             All-push (IsJoined settings rows) state.desk.joins join fit.joins
-                (record { callee = there; fitting = fitting; few = few }),
+                (record {
+                  callee = subst (λ (join : Join). is_some (slice_get (methods_of settings state join.object) join.method) ≡ true) its.is
+                      (named_method_there (methods_of settings state target) method its.index its.named);
+                  fitting = fitting;
+                  few = subst (λ (join : Join). length join.kinds ≤ 10) its.is (few_kinds types its.kinds its.kinds_named);
+                }),
           ))
           (λ called named. (
             named.publications,
             All-push IsNamedJoin state.desk.joins join named.joins
-                (subst (λ found. IfOk found IsNamedJoin) is (join_named settings state from name types target method called)),
+                (subst IsNamedJoin its.is called),
           ))
           (λ plain. absurd (cc)))
         where
-          there : is_some (slice_get (methods_of settings state join.object) join.method) ≡ true
-          there = of_found (asked_kinds types) (method_named (methods_of settings state target) method) refl (found_past (absence state target) _ join is)
-            where
-              of_found : (kinds : Found (List Kind)) (found : Found ℕ) → method_named (methods_of settings state target) method ≡ found
-                  → (kinds >>= λ kinds. found >>= λ index. Ok
-                  (let join : Join = record { from = from; name = name; kinds = kinds; object = target; method = index } in join)) ≡ Ok join
-                  → is_some (slice_get (methods_of settings state join.object) join.method) ≡ true
-              of_found (Err code) found so e = absurd (cc)
-              of_found (Ok kinds) (Err code) so e = absurd (cc)
-              of_found (Ok kinds) (Ok index) so e =
-                  let same : (let join : Join = record { from = from; name = name; kinds = kinds; object = target; method = index } in join) ≡ join = cc in
-                  subst (λ (join : Join). is_some (slice_get (methods_of settings state join.object) join.method) ≡ true) same
-                  (named_method_there (methods_of settings state target) method index so)
+          its : FoundJoin settings state target from name types method join
+          its = join_found settings state target from name types method join is
 
           fitting : fits join.kinds (kinds_of settings.classes rows join.object join.method) ≡ true
           fitting = of_found (fits join.kinds (kinds_of settings.classes rows join.object join.method)) _ passed
@@ -254,19 +256,6 @@ module _ (settings : Settings) (state : State) where
               of_found : (fit : Bool) (rest : Option Code) → cond (not fit) (Some DoesNotFit) rest ≡ None → fit ≡ true
               of_found true rest e = refl
               of_found false rest e = absurd (cc)
-
-          few : length join.kinds ≤ 10
-          few = of_found (asked_kinds types) (method_named (methods_of settings state target) method) refl (found_past (absence state target) _ join is)
-            where
-              of_found : (kinds : Found (List Kind)) (found : Found ℕ) → asked_kinds types ≡ kinds
-                  → (kinds >>= λ kinds. found >>= λ index. Ok
-                  (let join : Join = record { from = from; name = name; kinds = kinds; object = target; method = index } in join)) ≡ Ok join
-                  → length join.kinds ≤ 10
-              of_found (Err code) found so e = absurd (cc)
-              of_found (Ok kinds) (Err code) so e = absurd (cc)
-              of_found (Ok kinds) (Ok index) so e =
-                  let same : (let join : Join = record { from = from; name = name; kinds = kinds; object = target; method = index } in join) ≡ join = cc in
-                  subst (λ (join : Join). length join.kinds ≤ 10) same (few_kinds types kinds so)
 
   pub leave_keeps : (from name : List ℕ) (target : ℕ) (method : List ℕ)
       → Keeps settings state (Leave from name target method) (leaves state from name target (asked_listener settings state target method))

@@ -12,9 +12,8 @@ use Rattle.plain_types.specs.declared.code.Code.TheVariants.{NoSuchObject, Uniqu
 use Rattle.serde_json.specs.Data.{Data}
 use Rattle.signature_core.specs.Reading.{signature_of}
 use Rattle.signature_core.specs.declared.signature.Signature.{Signature}
-use Rattle.std.proofs.Common.{Bool, Err, List, None, Ok, Option, Some, [], ap, cond, false, is_some, not, refl, slice_get, subst, true, ℕ, ◌==◌, ◌∙◌, ◌∷◌, ◌≡◌}
+use Rattle.std.proofs.Common.{Bool, Err, List, None, Ok, Option, Some, [], ap, cond, false, is_some, refl, slice_get, subst, true, ℕ, ◌==◌, ◌∙◌, ◌∷◌, ◌≡◌}
 use Rattle.std.proofs.lemmas.Bool.{cond_both}
-use Rattle.std.proofs.lemmas.List.Elements.{All-filter}
 use Rattle.std.specs.Option.{option_and_then, option_or}
 use Rattle.std.specs.Result.{result_err, result_unwrap_or}
 use Rattle.stored_slots.specs.Functors.{AreArguments}
@@ -22,9 +21,8 @@ use Rattle.session_model.proofs.ConnectionLemmas.{or_none}
 use Rattle.session_model.proofs.FittingArgumentLemmas.{read_arguments}
 use Rattle.session_model.proofs.FittingFoundLemmas.{connection_fits, operation_fits, found_past, functor_connection_fits, functor_there, named_method_there}
 use Rattle.session_model.proofs.FittingFoundLemmas.{named_signal_there, numbered_there, pattern_fits}
-use Rattle.session_model.proofs.KeepingLemmas.{Keeps, done, found_keeps, nothing_begins, one_begins, replied, stays}
+use Rattle.session_model.proofs.KeepingLemmas.{Keeps, done, found_keeps, nothing_begins, one_begins, replied, stays, leaves_with}
 use Rattle.session_model.proofs.NamedLemmas.{named_beside}
-use Rattle.session_model.proofs.QueueLemmas.{each_posted}
 use Rattle.session_model.proofs.StateLemmas.{whole_with_event, whole_without_connections}
 use Rattle.session_model.specs.Absence.{absence}
 use Rattle.session_model.specs.Agenda.{with_turn}
@@ -33,9 +31,9 @@ use Rattle.session_model.specs.Asked.{Asked, Connect, ConnectFunctor, Disconnect
 use Rattle.session_model.specs.Operations.{found_refusal}
 use Rattle.session_model.specs.Execution.{Execution, begun, turn_taken, used_up}
 use Rattle.session_model.specs.Effects.{does_next, replies}
-use Rattle.session_model.specs.Fitting.{IsCall, IsConnected, IsFittingOperation, IsFittingEvent}
+use Rattle.session_model.specs.Fitting.{IsCall, IsFittingOperation}
 use Rattle.session_model.specs.Functors.{functor_named}
-use Rattle.session_model.specs.Items.{Next, Run, puts}
+use Rattle.session_model.specs.Items.{Run, puts}
 use Rattle.session_model.specs.Methods.{Found, is_signal_at, method_named, methods_of, signal_named, signature_in, ◌>>=◌}
 use Rattle.session_model.specs.Posting.{is_queued}
 use Rattle.session_model.specs.Refusing.{later_refusal, refusal, values_refusal}
@@ -51,6 +49,8 @@ use Rattle.plain_types.specs.declared.callee.Callee.TheVariants as callee
 use Rattle.session_model.specs.declared.operation.Operation.TheVariants as d
 use Rattle.event_queue.specs.declared.event.Event.TheVariants as event
 use Rattle.session_model.specs.Items as to_do
+use Rattle.session_model.proofs.FittingClassLemmas.{fits_own}
+use Rattle.session_model.proofs.FittingChangeLemmas.{fits_event, fits_without}
 
 module _ (settings : Settings) (self : List ℕ) (state : State) where
   module _ (sender : ℕ) (signal : List ℕ) (receiver : ℕ) (method : List ℕ) (mode : ConnectionType) (unique single : Bool) where
@@ -169,19 +169,10 @@ module _ (settings : Settings) (state : State) where
         by operation false (Ok new) fits e = let same : d.Connect new false ≡ operation = cc in subst (IsFittingOperation settings rows) same (fits new refl)
 
   pub disconnect_one_keeps : (connection : ℕ) → Keeps settings state (DisconnectOne connection) (disconnects_one state connection)
-  disconnect_one_keeps connection = replied settings state (DisconnectOne connection) (without_connections state (has_number connection)) _ (record {
-    sound = λ sound. record { whole = whole_without_connections state (has_number connection) sound.whole; living = sound.living };
-    declared = λ sound declared. declared;
-    fitting = λ fits. (let fit = fits.fit in record {
-      objects = fit.objects;
-      events = fit.events;
-      connections = All-filter (λ row. not (has_number connection row)) (IsConnected settings rows) state.connections.rows fit.connections;
-      publications = fit.publications;
-      joins = fit.joins;
-    });
-    named = λ are is named. named_beside state named (without_connections state (has_number connection)) refl refl;
-    joins = λ plain test held. held;
-  })
+  disconnect_one_keeps connection = replied settings state (DisconnectOne connection) (without_connections state (has_number connection)) _
+      (leaves_with settings state (DisconnectOne connection) _ _ _ _ _ (λ sound. whole_without_connections state (has_number connection) sound.whole)
+      (λ declared. declared) (λ before. fits_without settings rows state (has_number connection) (fits_own settings state before.fit))
+      (λ asked named. named_beside state named (without_connections state (has_number connection)) refl refl) (λ plain test held. held))
 
   pub disconnect_keeps : (sender : ℕ) (signal : Option (List ℕ)) (receiver : Option ℕ) (method : Option (List ℕ))
       → found_refusal state (asked_disconnect settings state sender signal receiver method) ≡ None
@@ -214,19 +205,10 @@ module _ (settings : Settings) (state : State) where
       later : is_there rows target ≡ true → Keeps settings state (Invoke target method args mode priority) (invoked_later state target index values priority)
       later there =
           let it = event.Call (record { object = target; callee = callee.Method index; sender = 0; connection = 0; priority = priority; args = values }) in
-          replied settings state (Invoke target method args mode priority) (with_event state it) (a.Truth true) (record {
-            sound = λ sound. record { whole = whole_with_event state it there sound.whole; living = sound.living };
-            declared = λ sound declared. declared;
-            fitting = λ fits. (let fit = fits.fit in record {
-              objects = fit.objects;
-              events = each_posted (IsFittingEvent settings rows) state.queue it call fit.events;
-              connections = fit.connections;
-              publications = fit.publications;
-              joins = fit.joins;
-            });
-            named = λ are is named. named_beside state named (with_event state it) refl refl;
-            joins = λ plain test held. held;
-          })
+          replied settings state (Invoke target method args mode priority) (with_event state it) (a.Truth true)
+          (leaves_with settings state (Invoke target method args mode priority) _ _ _ _ _ (λ sound. whole_with_event state it there sound.whole)
+          (λ declared. declared) (λ before. fits_event settings rows state it call (fits_own settings state before.fit))
+          (λ asked named. named_beside state named (with_event state it) refl refl) (λ plain test held. held))
 
     pub invoke_keeps : option_or (absence state target)
         (option_or (result_err (signature_in method))

@@ -127,9 +127,9 @@ whole_with_properties state number change same fields keeps whole = record {
   connections = whole.connections;
   ends = tied_same state (with_properties state number change) refl state.connections.rows whole.ends;
   queue = whole.queue;
-  meant = meant_same state (with_properties state number change) refl state.queue.events whole.meant;
+  meant = whole.meant;
   desk = whole.desk;
-  named = desk_same state (with_properties state number change) refl state.desk whole.named;
+  named = whole.named;
 }
 
 -- other bindings and groups: what is bound is there and may be bound, and outside of groups nothing is kept
@@ -148,9 +148,9 @@ whole_with_graph state new sound bound closed whole = record {
   connections = whole.connections;
   ends = tied_same state (with_graph state new) refl state.connections.rows whole.ends;
   queue = whole.queue;
-  meant = meant_same state (with_graph state new) refl state.queue.events whole.meant;
+  meant = whole.meant;
   desk = whole.desk;
-  named = desk_same state (with_graph state new) refl state.desk whole.named;
+  named = whole.named;
 }
 
 pub whole_without_binding : (state : State) (at : At) → IsWhole state → IsWhole (without_binding state at)
@@ -256,9 +256,9 @@ whole_with_ties state connections queue desk rising tied few meant sound named w
       connections = rising;
       ends = tied_same state new refl connections.rows tied;
       queue = few;
-      meant = meant_same state new refl queue.events meant;
+      meant = meant;
       desk = sound;
-      named = desk_same state new refl desk named;
+      named = named;
     }
 
 whole_with_rows : (state : State) (connections : list.Rows) → list.IsSound connections → All (IsTied state) connections.rows → IsWhole state

@@ -12,7 +12,7 @@ use Rattle.std.proofs.lemmas.List.Elements.{All-push}
 use Rattle.std.specs.Option.{option_or, unwrap_or}
 use Rattle.session_model.proofs.ConnectionLemmas.{or_none}
 use Rattle.session_model.proofs.DeclaredLemmas.{declared_with_object}
-use Rattle.session_model.proofs.DyingLemmas.{each_added}
+use Rattle.session_model.proofs.ForestLemmas.{each_added}
 use Rattle.session_model.proofs.FittingClassLemmas.{fits_moved, more_classes}
 use Rattle.session_model.proofs.FittingFoundLemmas.{there_within}
 use Rattle.session_model.proofs.KeepingLemmas.{FitsBefore, Keeps, done, one_begins, replied}
@@ -69,7 +69,7 @@ module _ (settings : Settings) (state : State) where
   new_keeps class parent passed = replied settings state (New class parent) after _ (record {
     sound = λ sound. record {
       whole = whole_with_object settings.classes state parent _ allowed.1 sound.whole;
-      living = each_added (λ number dying. dying ≡ false) state.forest parent _ refl sound.living;
+      living = each_added (λ number class dying. dying ≡ false) state.forest parent _ refl sound.living;
     };
     declared = λ sound declared. declared_with_object settings.classes state declared parent _ sound.whole.forest.numbers_given;
     fitting = made_fits (New class parent) parent _ its;

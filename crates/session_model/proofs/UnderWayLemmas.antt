@@ -1,9 +1,9 @@
 -- What each item leaves of a session under way.
-use Rattle.std.proofs.Common.{◌≡◌, ◌==◌, ◌||◌, ◌&&◌, ◌+◌, ℕ, Bool, true, false, not, cond, List, [], ◌∷◌, ◌++◌, None, filter, refl, sym, ap, ◌∙◌}
+use Rattle.std.proofs.Common.{◌≡◌, ◌==◌, ◌||◌, ◌&&◌, ◌+◌, ℕ, Bool, true, false, not, List, [], ◌∷◌, ◌++◌, None, refl, sym, ap, ◌∙◌}
 use Rattle.std.specs.Cmp.{nat_eq_equiv}
-use Rattle.std.specs.List.{All, AllByRecursion, list_any}
+use Rattle.std.specs.List.{All, list_any}
 use Rattle.std.proofs.lemmas.Bool.{cond_both, or_left, or_right}
-use Rattle.std.proofs.lemmas.List.Elements.{All-filter, All-from_recursion, All-push, All-weaker, recursion_from_All}
+use Rattle.std.proofs.lemmas.List.Elements.{All-filter, All-push, All-weaker}
 use Rattle.std.proofs.lemmas.List.Folds.{list_any-append}
 use Rattle.plain_types.specs.declared.code.Code.TheVariants.{TurnsUsedUp}
 use Rattle.connection_list.specs.declared.connection.Connection.{Connection}
@@ -23,24 +23,26 @@ use Rattle.session_model.specs.Agenda.{queued}
 use Rattle.session_model.specs.declared.operation.Operation.{Operation}
 use Rattle.session_model.specs.declared.operation.Operation.TheVariants as d
 use Rattle.session_model.specs.Operations.{operation_done, operation_refusal}
-use Rattle.session_model.specs.Execution.{Execution, dying, first_taken, in_state, lost, enqueued, single_shot_broken, stepped, line_told, turn_taken, used_up}
-use Rattle.session_model.specs.Execution.{posting, severed}
+use Rattle.session_model.specs.Execution.{Execution, dying, first_taken, in_state, lost, enqueued, single_shot_broken, stepped, line_told, turn_taken}
+use Rattle.session_model.specs.Execution.{used_up, posting, severed}
 use Rattle.session_model.specs.Items.{Detach, Remove, Item}
 use Rattle.session_model.specs.State.{IsTied, IsWhole, State, without_connections, without_events, without_object}
-use Rattle.session_model.specs.Writing.{Declared, Dynamic, Nothing, Removed, Writing, with_writing}
+use Rattle.session_model.specs.Writing.{Nothing, Writing, with_writing}
 use Rattle.session_model.specs.UnderWay.{IsBrokenInTime, IsForgottenInTime, IsUnderWay, is_gone, is_untied_first, lets_go, unties}
 use Rattle.session_model.proofs.ConnectionLemmas.{OfEnds, allowed, or_none}
-use Rattle.session_model.proofs.DyingLemmas.{Stands, each_blocked, each_marked, each_removed, each_reparented, of_row, stands_living}
-use Rattle.session_model.proofs.QueueLemmas.{each_posted, each_taken, others_named}
+use Rattle.session_model.proofs.ForestLemmas.{Stands, each_blocked, each_marked, each_removed, each_reparented, of_row, stands_living}
+use Rattle.session_model.proofs.QueueLemmas.{each_posted, each_taken}
 use Rattle.session_model.proofs.DeskLemmas.{each_of, of_others}
 use Rattle.session_model.proofs.FitLemmas.{IsFit}
 use Rattle.session_model.proofs.StateLemmas.{whole_with_blocking, whole_with_connection, whole_with_dying, whole_with_event, whole_with_functor_state}
 use Rattle.session_model.proofs.StateLemmas.{whole_with_lost, whole_with_parent, whole_with_writing, whole_without_connections, whole_without_events}
 use Rattle.session_model.proofs.StateLemmas.{whole_without_first, whole_without_object, whole_without_rows_of}
+use Rattle.session_model.proofs.StepLemmas.{leaves_ties}
+use Rattle.session_model.proofs.FilterLemmas.{all_left}
 
 -- an object is dying exactly where an agenda is to let it go
-abbrev pub IsGoing : List Item → ℕ → Bool → Type 0
-IsGoing agenda number dying = list_any (lets_go number) agenda ≡ dying
+abbrev pub IsGoing : List Item → ℕ → ℕ → Bool → Type 0
+IsGoing agenda number class dying = list_any (lets_go number) agenda ≡ dying
 
 -- an item that lets no object go does not let this one go
 goes_gone : (number : ℕ) (item : Item) → is_gone item ≡ false → lets_go number item ≡ false
@@ -95,7 +97,7 @@ still_forgotten one other so events = All-weaker (IsForgottenInTime one) (IsForg
 pub in_front : (items agenda : List Item) (state : State) → list_any is_gone items ≡ false → IsUnderWay agenda state → IsUnderWay (items ++ agenda) state
 in_front items agenda state none under = record {
   whole = under.whole;
-  going = All-weaker (λ row. IsGoing agenda row.number row.dying) (λ row. IsGoing (items ++ agenda) row.number row.dying)
+  going = All-weaker (λ row. IsGoing agenda row.number row.class row.dying) (λ row. IsGoing (items ++ agenda) row.number row.class row.dying)
       (λ row is. list_any-append (lets_go row.number) items agenda ∙ ap (λ b. b || list_any (lets_go row.number) agenda) (none_goes row.number items none) ∙ is)
       state.forest.rows under.going;
   in_time = in_time agenda (items ++ agenda) (λ number. untied_behind number items agenda none) state.connections.rows under.in_time;
@@ -104,20 +106,24 @@ in_front items agenda state none under = record {
 }
 
 -- an item may be done that neither lets an object go nor breaks its connections
-pub behind : (item : Item) (agenda : List Item) (state : State) → ((number : ℕ) → lets_go number item ≡ false) → ((number : ℕ) → unties number item ≡ false)
-    → IsUnderWay (item ∷ agenda) state → IsUnderWay agenda state
-behind item agenda state stays ties under = record {
+goes_and_unties : (number : ℕ) (item : Item) → leaves_ties item ≡ true → (lets_go number item ≡ false) × (unties number item ≡ false)
+goes_and_unties number (Detach target depth) e = absurd (cc)
+goes_and_unties number (Remove target depth) e = absurd (cc)
+goes_and_unties number _ e = (refl, refl)
+
+pub behind : (item : Item) (agenda : List Item) (state : State) → leaves_ties item ≡ true → IsUnderWay (item ∷ agenda) state → IsUnderWay agenda state
+behind item agenda state leaves under = record {
   whole = under.whole;
-  going = All-weaker (λ row. IsGoing (item ∷ agenda) row.number row.dying) (λ row. IsGoing agenda row.number row.dying)
-      (λ row is. ap (λ b. b || list_any (lets_go row.number) agenda) (sym (stays row.number)) ∙ is) state.forest.rows under.going;
+  going = All-weaker (λ row. IsGoing (item ∷ agenda) row.number row.class row.dying) (λ row. IsGoing agenda row.number row.class row.dying)
+      (λ row is. ap (λ b. b || list_any (lets_go row.number) agenda) (sym (goes_and_unties row.number item leaves).0) ∙ is) state.forest.rows under.going;
   in_time = in_time (item ∷ agenda) agenda rest state.connections.rows under.in_time;
   forgotten = still_forgotten (item ∷ agenda) agenda rest state.queue.events under.forgotten;
   withdrawn = each_of _ _ rest state.desk under.withdrawn;
 }
   where
     rest : (number : ℕ) → is_untied_first (item ∷ agenda) number ≡ true → is_untied_first agenda number ≡ true
-    rest number untied = ap (λ b. b || is_untied_first agenda number) (sym (ties number))
-        ∙ ap (λ b. unties number item || (not b && is_untied_first agenda number)) (sym (stays number)) ∙ untied
+    rest number untied = let its = goes_and_unties number item leaves in ap (λ b. b || is_untied_first agenda number) (sym its.1)
+        ∙ ap (λ b. unties number item || (not b && is_untied_first agenda number)) (sym its.0) ∙ untied
 
 module _ (agenda : List Item) (doing : Execution) (under : IsUnderWay agenda doing.state) where
   pub told_under : (said : Line) → IsUnderWay agenda (line_told doing said).state
@@ -210,17 +216,8 @@ module _ (agenda : List Item) (doing : Execution) (under : IsUnderWay agenda doi
   writing_under target writing fit = by writing (whole_with_writing doing.state target writing fit under.whole)
     where
       by : (writing : Writing) → IsWhole (with_writing doing.state target writing) → IsUnderWay agenda (with_writing doing.state target writing)
-      by (Declared number value) whole = record
-          { whole = whole; going = under.going; in_time = under.in_time; forgotten = under.forgotten; withdrawn = under.withdrawn }
-      by (Dynamic name value) whole = record {
-        whole = whole;
-        going = under.going;
-        in_time = under.in_time;
-        forgotten = under.forgotten;
-        withdrawn = under.withdrawn;
-      }
-      by (Removed name) whole = record { whole = whole; going = under.going; in_time = under.in_time; forgotten = under.forgotten; withdrawn = under.withdrawn }
       by Nothing whole = under
+      by _ whole = record { whole = whole; going = under.going; in_time = under.in_time; forgotten = under.forgotten; withdrawn = under.withdrawn }
 
   pub operation_under : (operation : Operation) → operation_refusal doing.state operation ≡ None → IsUnderWay agenda (operation_done doing operation).state
   unfolding operation_done enqueued
@@ -260,8 +257,8 @@ module _ (agenda : List Item) (doing : Execution) (under : IsUnderWay agenda doi
   dying_under target depth = record {
     whole = whole_with_dying doing.state target under.whole;
     going = each_marked (IsGoing agenda) (IsGoing (Detach target depth ∷ Remove target depth ∷ agenda)) doing.state.forest target
-        (or_left (target == target) _ (nat_eq_equiv.refl target))
-        (λ number dying other is. ap (λ b. b || list_any (lets_go number) agenda) (nat_eq_equiv.symm target number ∙ other) ∙ is) under.going;
+        (λ class dying is. or_left (target == target) _ (nat_eq_equiv.refl target))
+        (λ number class dying other is. ap (λ b. b || list_any (lets_go number) agenda) (nat_eq_equiv.symm target number ∙ other) ∙ is) under.going;
     in_time = in_time agenda (Detach target depth ∷ Remove target depth ∷ agenda) first doing.state.connections.rows under.in_time;
     forgotten = still_forgotten agenda (Detach target depth ∷ Remove target depth ∷ agenda) first doing.state.queue.events under.forgotten;
     withdrawn = each_of _ _ first doing.state.desk under.withdrawn;
@@ -274,23 +271,6 @@ module _ (agenda : List Item) (doing : Execution) (under : IsUnderWay agenda doi
           by true = refl
           by false = untied
 
--- the connections that do not have an object at either end
-loose_rows : (target : ℕ) (P : Connection → Type 0) (rows : List Connection) → All P rows
-    → All (λ row. P row × (touches target row ≡ false)) (filter (λ row. not (touches target row)) rows)
-loose_rows target P rows all = All-from_recursion (λ row. P row × (touches target row ≡ false)) _ (those rows (recursion_from_All P rows all))
-  where
-    those : (rows : List Connection) → AllByRecursion P rows →
-        AllByRecursion (λ row. P row × (touches target row ≡ false)) (filter (λ row. not (touches target row)) rows)
-    those [] all = tt
-    those (row ∷ rest) all = by (touches target row) refl (those rest all.1)
-      where
-        by : (touched : Bool) → touches target row ≡ touched →
-            AllByRecursion (λ row. P row × (touches target row ≡ false)) (filter (λ row. not (touches target row)) rest)
-            → AllByRecursion (λ row. P row × (touches target row ≡ false))
-            (cond (not touched) (row ∷ filter (λ row. not (touches target row)) rest) (filter (λ row. not (touches target row)) rest))
-        by true is later = later
-        by false is later = ((all.0, is), later)
-
 -- what is left when nothing ties an object to others needs its Detach no more
 pub detach_under : (target depth : ℕ) (agenda : List Item) (doing : Execution) → IsUnderWay (Detach target depth ∷ agenda) doing.state
     → IsUnderWay agenda (severed doing target).state
@@ -302,10 +282,10 @@ detach_under target depth agenda doing under =
       whole = whole_without_rows_of unnamed target (whole_without_events loose target (whole_without_connections doing.state (touches target) under.whole));
       going = under.going;
       in_time = All-weaker (λ row. IsBrokenInTime (Detach target depth ∷ agenda) row × (touches target row ≡ false)) (IsBrokenInTime agenda) one _
-          (loose_rows target (IsBrokenInTime (Detach target depth ∷ agenda)) doing.state.connections.rows under.in_time);
+          (all_left (IsBrokenInTime (Detach target depth ∷ agenda)) (touches target) doing.state.connections.rows under.in_time);
       forgotten = All-weaker (λ event. IsForgottenInTime (Detach target depth ∷ agenda) event × ((object_of event == target) ≡ false))
           (IsForgottenInTime agenda) (λ event held. other (object_of event) held.1 held.0) _
-          (others_named (IsForgottenInTime (Detach target depth ∷ agenda)) target doing.state.queue.events under.forgotten);
+          (all_left (IsForgottenInTime (Detach target depth ∷ agenda)) (λ event. object_of event == target) doing.state.queue.events under.forgotten);
       withdrawn = each_of _ _ (λ number held. other number held.1 held.0) _
           (of_others (λ number. is_untied_first (Detach target depth ∷ agenda) number ≡ true) doing.state.desk target under.withdrawn);
     }
@@ -332,7 +312,7 @@ gone_under target depth agenda doing under = record {
       (each_of _ _ (λ number untied. (parts number untied).0) doing.state.desk under.withdrawn)
       under.whole;
   going = each_removed (IsGoing (Remove target depth ∷ agenda)) (IsGoing agenda) doing.state.forest target
-      (λ number dying apart is. ap (λ b. b || list_any (lets_go number) agenda) (sym (nat_eq_equiv.symm target number ∙ apart)) ∙ is) under.going;
+      (λ number class dying apart is. ap (λ b. b || list_any (lets_go number) agenda) (sym (nat_eq_equiv.symm target number ∙ apart)) ∙ is) under.going;
   in_time = in_time (Remove target depth ∷ agenda) agenda (λ number untied. (parts number untied).1) doing.state.connections.rows under.in_time;
   forgotten = still_forgotten (Remove target depth ∷ agenda) agenda (λ number untied. (parts number untied).1) doing.state.queue.events under.forgotten;
   withdrawn = each_of _ _ (λ number untied. (parts number untied).1) doing.state.desk under.withdrawn;

@@ -1,12 +1,11 @@
 -- How many items an agenda weighs.
 use Rattle.std.proofs.Common.{◌≡◌, ◌<◌, ◌≤◌, ◌+◌, ◌*◌, ◌==◌, ℕ, Bool, true, false, cond, List, [], ◌∷◌, ◌++◌, length, map, max, reverse, Option, Some, None}
-use Rattle.std.proofs.Common.{slice_get, refl, subst, ap, arith}
+use Rattle.std.proofs.Common.{refl, ap, arith}
 use Rattle.std.specs.List.{All}
 use Rattle.std.specs.Option.{option_map_or}
 use Rattle.std.proofs.Math.Nat.{add-mul, mul-le-mul_left, mul-le-mul_right}
 use Rattle.std.proofs.lemmas.List.Elements.{All-append, All-cons, All-head, All-nil, All-tail, All-weaker}
 use Rattle.std.proofs.lemmas.List.Sorted.{All-permutation, IsPermutation-reverse}
-use Rattle.std.proofs.lemmas.Option.{get_or_from_slice_get, slice_get_within}
 use Rattle.variant_value.specs.declared.value.Value.{Value}
 use Rattle.term_core.specs.Act as term
 use Rattle.term_core.specs.Act.{Acts, acts_of, count, counts, single_action, more, nothing, when}
@@ -20,11 +19,12 @@ use Rattle.object_tree.specs.Rows.{row_of}
 use Rattle.stored_slots.specs.declared.functor.Functor.{Functor}
 use Rattle.session_model.specs.Acts.{acts}
 use Rattle.session_model.specs.Functors.{functor_at}
-use Rattle.session_model.specs.Items.{Act, Call, Detach, Delete, Emit, Remove, Item, DeleteChild, Reply, ReplySpun, Run, RunFunctor, Spin, Warn, WarnOf}
+use Rattle.session_model.specs.Items.{Act, Call, Detach, Emit, Remove, Item, DeleteChild, Run, RunFunctor}
 use Rattle.session_model.specs.Methods.{method_at, methods_of}
 use Rattle.session_model.specs.Run.{Most, action_weight, change_weight, longest_body, longest_functor, weight, weights}
 use Rattle.session_model.specs.Settings.{Settings}
 use Rattle.session_model.specs.State.{State}
+use Rattle.session_model.proofs.FilterLemmas.{of_slice}
 
 -- no more connections, objects and properties, and bodies that are as long
 pub record IsAtMost (one other : Most) : Type 0 where
@@ -53,19 +53,12 @@ body-more m n less =
 -- nor does an item
 weight-more : (m n : Most) (item : Item) → IsAtMost m n → weight m item ≤ weight n item
 weight-more m n (Emit target signal args depth) less = omega (arith, less.connections)
-weight-more m n (Call number args depth) less = omega arith
 weight-more m n (Run target method sender args depth) less = let body = body-more m n less in omega (arith, body)
 weight-more m n (RunFunctor target functor sender connection args depth) less = let body = body-more m n less in omega (arith, body)
 weight-more m n (Act action args self sender depth) less = mul-le-mul_left (count action) (action-more m n less)
-weight-more m n (Warn code object) less = omega arith
-weight-more m n (WarnOf at error) less = omega arith
-weight-more m n (Delete target depth) less = omega arith
 weight-more m n (Detach target depth) less = omega (arith, less.objects)
-weight-more m n (DeleteChild parent child depth) less = omega arith
 weight-more m n (Remove target depth) less = let change = change-more m n less in omega (arith, change)
-weight-more m n Spin less = omega arith
-weight-more m n (Reply answer) less = omega arith
-weight-more m n ReplySpun less = omega arith
+weight-more m n _ less = omega arith
 
 pub weights-more : (m n : Most) (agenda : List Item) → IsAtMost m n → weights m agenda ≤ weights n agenda
 weights-more m n [] less = omega arith
@@ -85,20 +78,8 @@ pub act-some : (n : Most) (action : term.Act) → action_weight n ≤ count acti
 act-some n action = let times = mul-le-mul_right (action_weight n) (count-some action) in omega (arith, times)
 
 pub weight-some : (n : Most) (item : Item) → 1 ≤ weight n item
-weight-some n (Emit target signal args depth) = omega arith
-weight-some n (Call number args depth) = omega arith
-weight-some n (Run target method sender args depth) = omega arith
-weight-some n (RunFunctor target functor sender connection args depth) = omega arith
 weight-some n (Act action args self sender depth) = let some = act-some n action in omega (arith, some)
-weight-some n (Warn code object) = omega arith
-weight-some n (WarnOf at error) = omega arith
-weight-some n (Delete target depth) = omega arith
-weight-some n (Detach target depth) = omega arith
-weight-some n (DeleteChild parent child depth) = omega arith
-weight-some n (Remove target depth) = omega arith
-weight-some n Spin = omega arith
-weight-some n (Reply answer) = omega arith
-weight-some n ReplySpun = omega arith
+weight-some n _ = omega arith
 
 -- the actions of a body weigh as much as their number says
 pub acts-weight : (n : Most) (body : Acts) (args : List Value) (self sender depth : ℕ)
@@ -173,14 +154,10 @@ gathered-size most (class ∷ earlier) index few = by (gathered-size most earlie
         (option_map_or (λ base. gathered (λ index class. class.methods) earlier base) class.superclass []) class.methods (base others class.superclass) own
     by other others false = other
 
--- what holds of each element of a list holds of the one at an index
-All-slice_get : {X : Type 0} (P : X → Type 0) (xs : List X) (index : ℕ) (x : X) → slice_get xs index ≡ Some x → All P xs → P x
-All-slice_get P xs index x e all = subst P (get_or_from_slice_get xs index x x e) (all index x (slice_get_within xs index x e))
-
 -- the body of a method of an object is no longer than the longest one
 pub body-size : (settings : Settings) (state : State) (object index : ℕ) (method : Method) → method_at settings state object index ≡ Some method
     → counts (acts_of method.body.actions) ≤ longest_body settings.classes
-body-size settings state object index method found = All-slice_get (λ method. size method ≤ most) (methods_of settings state object) index method found
+body-size settings state object index method found = of_slice (λ method. size method ≤ most) (methods_of settings state object) index method found
     (by (row_of state.forest.rows object))
   where
     most : ℕ
@@ -198,7 +175,7 @@ body-size settings state object index method found = All-slice_get (λ method. s
 pub functor-size : (settings : Settings) (index : ℕ) (functor : Functor) → functor_at settings index ≡ Some functor
     → counts (acts_of functor.body.actions) ≤ longest_functor settings.functors
 functor-size settings index functor found =
-    All-slice_get (λ functor. functor_size functor ≤ longest_functor settings.functors) settings.functors index functor found
+    of_slice (λ functor. functor_size functor ≤ longest_functor settings.functors) settings.functors index functor found
     (below_greatest functor_size settings.functors)
   where
     functor_size : Functor → ℕ

@@ -1,5 +1,6 @@
 use Rattle.isolation.proofs.slice_laws.Goals as goal
-use Rattle.isolation.proofs.Sliced.{slice_law, slice_from_members, slice_within_influence, notes_give_slice, notes_are_right}
+use Rattle.isolation.proofs.Between.{slice_law, slice_from_members}
+use Rattle.isolation.proofs.Sliced.{slice_within_influence, notes_give_slice, notes_are_right}
 
 pub returns : goal.returns
 returns g c = record {

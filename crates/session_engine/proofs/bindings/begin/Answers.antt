@@ -10,7 +10,7 @@ use Rattle.session_engine.proofs.bindings.begin.Goals as goal
 
 pub returns-in_err-begin : goal.returns-in_err-begin
 returns-in_err-begin c = made_fault _ _ _ _ _ _ c.in_err-begin.field-0.0 _ c.from_residual.ensures.1
-    (refusal_begin _ _ _) c.in_err-begin.ensures.refusal c.in_err-begin.ensures.refused c.begin.ensures.only
+    (refusal_begin _ _ _) c.in_err-begin.ensures.refusal c.in_err-begin.ensures.refused c.begin.ensures.keeps.only
 
 pub returns : goal.returns
 returns c =

@@ -11,7 +11,7 @@ use Rattle.session_effects.specs.Setup.{settings_of}
 use Rattle.session_effects.specs.Writing.{told_items}
 use Rattle.session_engine.proofs.BindingsLemmas.{behind_property, behind_term, bound_found, bound_to, comes_found, unbindable, with_term}
 use Rattle.session_engine.proofs.CommandsLemmas.{found_fault, made_fault, quietly, stopped}
-use Rattle.session_engine.proofs.ToldLemmas.{performs_told, starved_told}
+use Rattle.session_engine.proofs.ToldLemmas.{told_performs}
 use Rattle.session_engine.proofs.bindings.bind.Goals as goal
 
 pub returns-in_err-at : goal.returns-in_err-at
@@ -56,22 +56,7 @@ returns-in_err-changes g c =
     quietly _ _ _ _ _ _ _ c.requires.fresh (made_fault _ _ _ _ _ _ c.in_err-changes.field-0.0 _ c.from_residual-in_err-changes.ensures.1
     (bind_found _ _ _ _ _ _ _ (bound_found state c.args.object c.args.property.now (view c.args.to.now) _
     (rw c.as_str.ensures at c.in_ok-at.ensures) _ c.in_ok-expr.ensures.answers c.in_ok-check_reads.ensures))
-    c.in_err-changes.ensures.refusal c.in_err-changes.ensures.refused c.bind.ensures.only)
-
-pub returns-in_err-tell : goal.returns-in_err-tell
-returns-in_err-tell g c =
-    let caller = c.args.actor.now.caller in
-    let old = c.args.tables.now in
-    let middle = c.bind.new.self in
-    let found =
-    bound_found (state_at old caller.place) c.args.object c.args.property.now (view c.args.to.now) _
-    (rw c.as_str.ensures at c.in_ok-at.ensures) _ c.in_ok-expr.ensures.answers c.in_ok-check_reads.ensures in
-    starved_told caller (Bind c.args.object c.args.property.now (view c.args.to.now)) old middle c.tell.new.tables c.args.output.now c.tell.new.output
-    (told_items (settings_of caller.setup.now) (state_at middle caller.place) 0 c.in_ok-changes.changes) _ (a.Truth true) c.requires.placed c.requires.fresh
-    (bind_found _ _ _ _ _ _ _ found ∙ c.in_ok-changes.ensures.refusal) (bind_done _ _ _ _ _ _ _ found)
-    (comes_found caller old middle _ (Some c.in_ok-at.at) c.in_ok-changes.changes
-    (state_with _ _ _ _ c.requires.placed c.in_ok-changes.ensures.ok) c.in_ok-changes.ensures.told)
-    (record { only = c.bind.ensures.only; failed = c.bind.ensures.failed }) _ _ _ c.from_residual-in_err-tell.ensures.1 c.in_err-tell.ensures
+    c.in_err-changes.ensures.refusal c.in_err-changes.ensures.refused c.bind.ensures.keeps.only)
 
 pub returns : goal.returns
 returns g c =
@@ -81,9 +66,10 @@ returns g c =
     let found =
     bound_found (state_at old caller.place) c.args.object c.args.property.now (view c.args.to.now) _
     (rw c.as_str.ensures at c.in_ok-at.ensures) _ c.in_ok-expr.ensures.answers c.in_ok-check_reads.ensures in
-    performs_told caller (Bind c.args.object c.args.property.now (view c.args.to.now)) old middle c.tell.new.tables c.args.output.now c.tell.new.output
+    told_performs caller (Bind c.args.object c.args.property.now (view c.args.to.now)) old middle c.tell-told.new.tables
+    c.args.output.now c.tell-told.new.output
     (told_items (settings_of caller.setup.now) (state_at middle caller.place) 0 c.in_ok-changes.changes) _ (a.Truth true) c.requires.placed c.requires.fresh
     (bind_found _ _ _ _ _ _ _ found ∙ c.in_ok-changes.ensures.refusal) (bind_done _ _ _ _ _ _ _ found)
     (comes_found caller old middle _ (Some c.in_ok-at.at) c.in_ok-changes.changes
     (state_with _ _ _ _ c.requires.placed c.in_ok-changes.ensures.ok) c.in_ok-changes.ensures.told)
-    (record { only = c.bind.ensures.only; failed = c.bind.ensures.failed }) _ c.in_ok-tell.ensures
+    c.bind.ensures.keeps c.tell-told.result _ c.reply.ensures c.tell-told.ensures

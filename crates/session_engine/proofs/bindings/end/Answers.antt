@@ -10,25 +10,13 @@ use Rattle.session_effects.specs.Setup.{settings_of}
 use Rattle.session_effects.specs.Writing.{told_items}
 use Rattle.session_engine.proofs.BindingsLemmas.{comes_at_end, group_ends}
 use Rattle.session_engine.proofs.CommandsLemmas.{made_fault, quietly}
-use Rattle.session_engine.proofs.ToldLemmas.{performs_told, starved_told}
+use Rattle.session_engine.proofs.ToldLemmas.{told_performs}
 use Rattle.session_engine.proofs.bindings.end.Goals as goal
 
 pub returns-in_err-left : goal.returns-in_err-left
 returns-in_err-left g c = quietly _ _ _ _ _ _ _ c.requires.fresh
     (made_fault _ _ _ _ _ _ c.in_err-left.field-0.0 _ c.from_residual.ensures.1
-    (refusal_end _ _ _) c.in_err-left.ensures.refusal c.in_err-left.ensures.refused c.end.ensures.only)
-
-pub returns-in_err-tell : goal.returns-in_err-tell
-returns-in_err-tell g c =
-    let caller = c.args.actor.now.caller in
-    let old = c.args.tables.now in
-    let middle = c.end.new.self in
-    let is = state_with _ _ _ _ c.requires.placed c.in_ok-left.ensures.ok in
-    starved_told caller End old middle c.tell.new.tables c.args.output.now c.tell.new.output
-    (told_items (settings_of caller.setup.now) (state_at middle caller.place) 0 c.in_ok-left.changes)
-    (group_ends (settings_of caller.setup.now) (state_at old caller.place) (without_group (state_at old caller.place))) _ c.requires.placed c.requires.fresh
-    (refusal_end _ _ _ ∙ c.in_ok-left.ensures.refusal) (performs_end _ _ _) (comes_at_end caller old middle _ c.in_ok-left.changes is c.in_ok-left.ensures.told)
-    (record { only = c.end.ensures.only; failed = c.end.ensures.failed }) _ _ _ c.from_residual-in_err-tell.ensures.1 c.in_err-tell.ensures
+    (refusal_end _ _ _) c.in_err-left.ensures.refusal c.in_err-left.ensures.refused c.end.ensures.keeps.only)
 
 pub returns : goal.returns
 returns g c =
@@ -37,11 +25,11 @@ returns g c =
     let middle = c.end.new.self in
     let is = state_with _ _ _ _ c.requires.placed c.in_ok-left.ensures.ok in
     let next = group_ends (settings_of caller.setup.now) (state_at old caller.place) (without_group (state_at old caller.place)) in
-    performs_told caller End old middle c.tell.new.tables c.args.output.now c.tell.new.output
+    told_performs caller End old middle c.tell-told.new.tables c.args.output.now c.tell-told.new.output
     (told_items (settings_of caller.setup.now) (state_at middle caller.place) 0 c.in_ok-left.changes) next
     (a.Number c.in_ok-left.left) c.requires.placed c.requires.fresh
     (refusal_end _ _ _ ∙ c.in_ok-left.ensures.refusal)
     (performs_end _ _ _ ∙ ap (λ (after : State). does_next (settings_of caller.setup.now) next (a.Number after.graph.depth)) (sym is)
     ∙ ap (λ depth. does_next (settings_of caller.setup.now) next (a.Number depth)) (sym c.in_ok-left.ensures.depth))
     (comes_at_end caller old middle _ c.in_ok-left.changes is c.in_ok-left.ensures.told)
-    (record { only = c.end.ensures.only; failed = c.end.ensures.failed }) _ c.in_ok-tell.ensures
+    c.end.ensures.keeps c.tell-told.result _ c.reply.ensures c.tell-told.ensures

@@ -1,4 +1,4 @@
-use Rattle.std.proofs.Common.{◌≡◌, [], None, Some, Ok, map, refl, sym, ap, ◌∙◌}
+use Rattle.std.proofs.Common.{None, Some, Ok, map, refl, sym, ap, ◌∙◌}
 use Rattle.std.specs.Option.{option_copied, option_or}
 use Rattle.std.specs.Result.{result_err}
 use Rattle.serde_json.specs.View.{view}
@@ -8,10 +8,9 @@ use Rattle.session_model.proofs.ForCallers.{invoke_none, refusal_invoke}
 use Rattle.session_tables.specs.Tables.{state_at}
 use Rattle.session_tables.proofs.ForCallers.{changes_same}
 use Rattle.session_effects.specs.Setup.{settings_of}
-use Rattle.session_engine.proofs.CommandsLemmas.{at_first_reaches, found_fault, made_fault, quietly, starved_last, on_refused, or_first, or_second, replied}
-use Rattle.session_engine.proofs.CommandsLemmas.{replies_alone, silently, stopped}
-use Rattle.session_engine.proofs.InvocationLemmas.{invoke_runs, kinds_are, method_is, method_there, named_in, performs_invoked, posts_invoked, refusal_absent}
-use Rattle.session_engine.proofs.InvocationLemmas.{refusal_found, refusal_later, refusal_now, unread}
+use Rattle.session_engine.proofs.CommandsLemmas.{found_fault, made_fault, quietly, on_refused, or_first, or_second, replied, replies_alone, silently, stopped}
+use Rattle.session_engine.proofs.InvocationLemmas.{is_invoked, kinds_are, method_is, method_there, named_in, performs_invoked, posts_invoked, refusal_absent}
+use Rattle.session_engine.proofs.InvocationLemmas.{refusal_found, refusal_later, starved_invoked, unread}
 use Rattle.session_engine.proofs.invocation.invoke.Goals as goal
 
 pub returns-in_err-class : goal.returns-in_err-class
@@ -32,77 +31,56 @@ returns-in_err-index g c =
 
 pub returns-in_default : goal.returns-in_default
 returns-in_default g c =
-    let settings = settings_of c.args.actor.now.caller.setup.now in
-    let state = state_at c.args.tables.now c.args.actor.now.caller.place in
-    let named = named_in settings state c.args.object c.in_ok-class.class c.args.method.now None c.in_ok-class.ensures.class
-    (c.in_ok-index.ensures ∙ ap Ok c.in_default.is) in
+    let caller = c.args.actor.now.caller in
+    let named = named_in (settings_of caller.setup.now) (state_at c.args.tables.now caller.place) c.args.object c.in_ok-class.class c.args.method.now None
+    c.in_ok-class.ensures.class (c.in_ok-index.ensures ∙ ap Ok c.in_default.is) in
     replies_alone _ _ _ _ _ c.requires.fresh (
-      refusal_absent c.args.actor.now.caller c.args.object c.args.method.now
-          (map view c.args.args.now) c.args.mode c.args.priority c.args.tables.now c.args.tables.now named.signature c.in_ok-class.ensures.refusal named.spelled
-          named.asked,
+      refusal_absent caller c.args.object c.args.method.now (map view c.args.args.now) c.args.mode c.args.priority c.args.tables.now
+          c.in_ok-class.ensures.refusal named,
       invoke_none _ _ _ _ _ _ _ _ named.asked,
     )
 
 pub returns-in_err-values : goal.returns-in_err-values
 returns-in_err-values g c =
-    let settings = settings_of c.args.actor.now.caller.setup.now in
-    let state = state_at c.args.tables.now c.args.actor.now.caller.place in
-    let named = named_in settings state c.args.object c.in_ok-class.class c.args.method.now (Some c.in-Some.index) c.in_ok-class.ensures.class
-    (c.in_ok-index.ensures ∙ ap Ok c.in-Some.is) in
+    let caller = c.args.actor.now.caller in
+    let settings = settings_of caller.setup.now in
+    let state = state_at c.args.tables.now caller.place in
     let has = method_is settings state c.args.object c.in_ok-class.class c.in-Some.index c.in-Some-method_row.row.now c.in_ok-class.ensures.class
     c.in-Some-method_row.ensures.value in
-    let kinds = c.as_slice-kinds.ensures ∙ kinds_are settings state c.args.object c.in-Some.index c.in-Some-method_row.row.now has in
     quietly _ _ _ _ _ _ _ c.requires.fresh (found_fault _ _ _ _ (λ given. option_or (result_err given) (later_refusal state c.args.mode (Some c.in-Some.index)))
     (asked_values settings state c.args.object c.in-Some.index (map view c.args.args.now)) c.in_err-values.field-0.0 _
     c.from_residual-in_err-values.ensures.1
-    (refusal_found c.args.actor.now.caller c.args.object c.args.method.now
-    (map view c.args.args.now) c.args.mode c.args.priority c.args.tables.now c.args.tables.now named.signature c.in_ok-class.ensures.refusal named.spelled
-    (Some c.in-Some.index) named.asked)
-    (λ code. refl) (rw kinds at c.in_err-values.ensures))
+    (refusal_found caller c.args.object c.args.method.now (map view c.args.args.now) c.args.mode c.args.priority c.args.tables.now (Some c.in-Some.index)
+    c.in_ok-class.ensures.refusal (named_in settings state c.args.object c.in_ok-class.class c.args.method.now (Some c.in-Some.index)
+    c.in_ok-class.ensures.class (c.in_ok-index.ensures ∙ ap Ok c.in-Some.is)))
+    (λ code. refl)
+    (rw (c.as_slice-kinds.ensures ∙ kinds_are settings state c.args.object c.in-Some.index c.in-Some-method_row.row.now has) at c.in_err-values.ensures))
 
 pub returns-in_err-enqueue : goal.returns-in_err-enqueue
 returns-in_err-enqueue g c =
-    let settings = settings_of c.args.actor.now.caller.setup.now in
-    let state = state_at c.args.tables.now c.args.actor.now.caller.place in
-    let named = named_in settings state c.args.object c.in_ok-class.class c.args.method.now (Some c.in-Some.index) c.in_ok-class.ensures.class
-    (c.in_ok-index.ensures ∙ ap Ok c.in-Some.is) in
-    let has = method_is settings state c.args.object c.in_ok-class.class c.in-Some.index c.in-Some-method_row.row.now c.in_ok-class.ensures.class
-    c.in-Some-method_row.ensures.value in
-    let kinds = c.as_slice-kinds.ensures ∙ kinds_are settings state c.args.object c.in-Some.index c.in-Some-method_row.row.now has in
-    let given : asked_values settings state c.args.object c.in-Some.index (map view c.args.args.now) ≡ Ok c.in_ok-values.values =
-    rw kinds at c.in_ok-values.ensures in
+    let it = is_invoked c.args.actor.now.caller c.args.object c.args.method.now (map view c.args.args.now) c.args.tables.now c.in_ok-class.class
+    c.in-Some.index _ c.in-Some-method_row.row.now _ c.in_ok-values.values c.in_ok-class.ensures.refusal c.in_ok-class.ensures.class
+    c.in_ok-index.ensures c.in-Some.is c.in-Some-method_row.ensures.value c.as_slice-kinds.ensures c.in_ok-values.ensures in
     quietly _ _ _ _ _ _ _ c.requires.fresh (made_fault _ _ _ _ _ _ c.in_err-enqueue.field-0.0 _ c.from_residual-in_err-enqueue.ensures.1
-    (refusal_later c.args.actor.now.caller c.args.object c.args.method.now
-    (map view c.args.args.now) c.args.mode c.args.priority c.args.tables.now c.enqueue.new.tables named.signature c.in_ok-class.ensures.refusal
-    named.spelled c.in-Some.index c.in_ok-values.values named.asked given
-    (sym c.if-is_queued.ensures))
+    (refusal_later _ _ _ _ c.args.mode c.args.priority _ it (sym c.if-is_queued.ensures))
     c.in_err-enqueue.ensures.refusal (on_refused _ c.in_err-enqueue.ensures.err) (changes_same _ _ _ c.in_err-enqueue.ensures.err))
 
 pub returns-then-is_queued : goal.returns-then-is_queued
 returns-then-is_queued g c =
-    let settings = settings_of c.args.actor.now.caller.setup.now in
-    let state = state_at c.args.tables.now c.args.actor.now.caller.place in
-    let named = named_in settings state c.args.object c.in_ok-class.class c.args.method.now (Some c.in-Some.index) c.in_ok-class.ensures.class
-    (c.in_ok-index.ensures ∙ ap Ok c.in-Some.is) in
-    let has = method_is settings state c.args.object c.in_ok-class.class c.in-Some.index c.in-Some-method_row.row.now c.in_ok-class.ensures.class
-    c.in-Some-method_row.ensures.value in
-    let kinds = c.as_slice-kinds.ensures ∙ kinds_are settings state c.args.object c.in-Some.index c.in-Some-method_row.row.now has in
-    let given : asked_values settings state c.args.object c.in-Some.index (map view c.args.args.now) ≡ Ok c.in_ok-values.values =
-    rw kinds at c.in_ok-values.ensures in
+    let it = is_invoked c.args.actor.now.caller c.args.object c.args.method.now (map view c.args.args.now) c.args.tables.now c.in_ok-class.class
+    c.in-Some.index _ c.in-Some-method_row.row.now _ c.in_ok-values.values c.in_ok-class.ensures.refusal c.in_ok-class.ensures.class
+    c.in_ok-index.ensures c.in-Some.is c.in-Some-method_row.ensures.value c.as_slice-kinds.ensures c.in_ok-values.ensures in
     silently _ _ _ _ _ _ c.requires.fresh
     (replied _ _ _ _ _ _ c.requires.placed
-    (refusal_later c.args.actor.now.caller c.args.object c.args.method.now
-    (map view c.args.args.now) c.args.mode c.args.priority c.args.tables.now c.enqueue.new.tables named.signature c.in_ok-class.ensures.refusal
-    named.spelled c.in-Some.index c.in_ok-values.values named.asked given
-    (sym c.if-is_queued.ensures) ∙ c.in_ok-enqueue.ensures.refusal)
-    (posts_invoked c.args.actor.now.caller c.args.object c.args.method.now
-    (map view c.args.args.now) c.args.mode c.args.priority state c.in-Some.index c.in_ok-values.values (sym c.if-is_queued.ensures) named.asked given)
+    (refusal_later _ _ _ _ c.args.mode c.args.priority _ it (sym c.if-is_queued.ensures) ∙ c.in_ok-enqueue.ensures.refusal)
+    (posts_invoked _ _ _ _ c.args.mode c.args.priority _ it (sym c.if-is_queued.ensures))
     (rw c.as_slice-values.ensures at c.in_ok-enqueue.ensures.ok))
 
 pub unreachable-requires : goal.unreachable-requires
 unreachable-requires g c =
-    let settings = settings_of c.args.actor.now.caller.setup.now in
-    let state = state_at c.args.tables.now c.args.actor.now.caller.place in
+    let caller = c.args.actor.now.caller in
+    let settings = settings_of caller.setup.now in
+    let state = state_at c.args.tables.now caller.place in
     let named = named_in settings state c.args.object c.in_ok-class.class c.args.method.now (Some c.in-Some.index) c.in_ok-class.ensures.class
     (c.in_ok-index.ensures ∙ ap Ok c.in-Some.is) in
     method_there settings state c.args.object c.in_ok-class.class named.signature c.in-Some.index c.in_ok-class.ensures.class named.found
@@ -110,49 +88,21 @@ unreachable-requires g c =
 
 pub run-requires-clause-has : goal.run-requires-clause-has
 run-requires-clause-has g c =
-    let settings = settings_of c.args.actor.now.caller.setup.now in
-    let state = state_at c.args.tables.now c.args.actor.now.caller.place in
-    method_is settings state c.args.object c.in_ok-class.class c.in-Some.index c.in-Some-method_row.row.now c.in_ok-class.ensures.class
-    c.in-Some-method_row.ensures.value
+    method_is (settings_of c.args.actor.now.caller.setup.now) (state_at c.args.tables.now c.args.actor.now.caller.place) c.args.object c.in_ok-class.class
+    c.in-Some.index c.in-Some-method_row.row.now c.in_ok-class.ensures.class c.in-Some-method_row.ensures.value
 
 pub returns : goal.returns
 returns g c =
-    let settings = settings_of c.args.actor.now.caller.setup.now in
-    let state = state_at c.args.tables.now c.args.actor.now.caller.place in
-    let named = named_in settings state c.args.object c.in_ok-class.class c.args.method.now (Some c.in-Some.index) c.in_ok-class.ensures.class
-    (c.in_ok-index.ensures ∙ ap Ok c.in-Some.is) in
-    let has = method_is settings state c.args.object c.in_ok-class.class c.in-Some.index c.in-Some-method_row.row.now c.in_ok-class.ensures.class
-    c.in-Some-method_row.ensures.value in
-    let kinds = c.as_slice-kinds.ensures ∙ kinds_are settings state c.args.object c.in-Some.index c.in-Some-method_row.row.now has in
-    let given : asked_values settings state c.args.object c.in-Some.index (map view c.args.args.now) ≡ Ok c.in_ok-values.values =
-    rw kinds at c.in_ok-values.ensures in
-    performs_invoked c.args.actor.now.caller c.args.object c.args.method.now
-    (map view c.args.args.now) c.args.mode c.args.priority c.args.tables.now c.run.new.tables c.args.output.now c.run.new.output _ c.in-Some.index
-    c.in_ok-values.values c.in-Some-method_row.row.now c.requires.fresh has (sym c.if-is_queued.ensures)
-    (refusal_now c.args.actor.now.caller c.args.object c.args.method.now
-    (map view c.args.args.now) c.args.mode c.args.priority c.args.tables.now c.run.new.tables named.signature c.in_ok-class.ensures.refusal named.spelled
-    c.in-Some.index c.in_ok-values.values named.asked given
-    (sym c.if-is_queued.ensures))
-    named.asked given (rw c.as_slice-values.ensures at c.in_ok-run.ensures)
+    let it = is_invoked c.args.actor.now.caller c.args.object c.args.method.now (map view c.args.args.now) c.args.tables.now c.in_ok-class.class
+    c.in-Some.index _ c.in-Some-method_row.row.now _ c.in_ok-values.values c.in_ok-class.ensures.refusal c.in_ok-class.ensures.class
+    c.in_ok-index.ensures c.in-Some.is c.in-Some-method_row.ensures.value c.as_slice-kinds.ensures c.in_ok-values.ensures in
+    performs_invoked _ _ _ _ c.args.mode c.args.priority _ it c.run.new.tables c.args.output.now c.run.new.output c.requires.fresh
+    (sym c.if-is_queued.ensures) _ (rw c.as_slice-values.ensures at c.in_ok-run.ensures)
 
 pub returns-in_err-run : goal.returns-in_err-run
 returns-in_err-run g c =
-    let caller = c.args.actor.now.caller in
-    let settings = settings_of caller.setup.now in
-    let state = state_at c.args.tables.now caller.place in
-    let named = named_in settings state c.args.object c.in_ok-class.class c.args.method.now (Some c.in-Some.index) c.in_ok-class.ensures.class
-    (c.in_ok-index.ensures ∙ ap Ok c.in-Some.is) in
-    let has = method_is settings state c.args.object c.in_ok-class.class c.in-Some.index c.in-Some-method_row.row.now c.in_ok-class.ensures.class
-    c.in-Some-method_row.ensures.value in
-    let kinds = c.as_slice-kinds.ensures ∙ kinds_are settings state c.args.object c.in-Some.index c.in-Some-method_row.row.now has in
-    let given : asked_values settings state c.args.object c.in-Some.index (map view c.args.args.now) ≡ Ok c.in_ok-values.values =
-    rw kinds at c.in_ok-values.ensures in
-    let runs = rw c.as_slice-values.ensures at c.in_err-run.ensures in
-    starved_last caller _ c.args.tables.now c.run.new.tables c.run.new.output runs.posts _ _ _ _ c.from_residual-in_err-run.ensures.1
-    (refusal_now caller c.args.object c.args.method.now (map view c.args.args.now) c.args.mode c.args.priority c.args.tables.now c.run.new.tables
-    named.signature c.in_ok-class.ensures.refusal named.spelled c.in-Some.index c.in_ok-values.values named.asked given
-    (sym c.if-is_queued.ensures))
-    (invoke_runs caller c.args.object c.args.method.now (map view c.args.args.now) c.args.mode c.args.priority c.args.tables.now c.args.output.now
-    c.in-Some.index c.in_ok-values.values c.in-Some-method_row.row.now c.requires.fresh has (sym c.if-is_queued.ensures) named.asked given)
-    (runs.front [])
-    (at_first_reaches caller c.args.tables.now c.run.new.tables c.args.output.now c.run.new.output runs.posts c.requires.fresh runs.reaches)
+    let it = is_invoked c.args.actor.now.caller c.args.object c.args.method.now (map view c.args.args.now) c.args.tables.now c.in_ok-class.class
+    c.in-Some.index _ c.in-Some-method_row.row.now _ c.in_ok-values.values c.in_ok-class.ensures.refusal c.in_ok-class.ensures.class
+    c.in_ok-index.ensures c.in-Some.is c.in-Some-method_row.ensures.value c.as_slice-kinds.ensures c.in_ok-values.ensures in
+    starved_invoked _ _ _ _ c.args.mode c.args.priority _ it c.run.new.tables c.args.output.now c.run.new.output c.requires.fresh
+    (sym c.if-is_queued.ensures) _ _ _ c.from_residual-in_err-run.ensures.1 (rw c.as_slice-values.ensures at c.in_err-run.ensures)

@@ -1,4 +1,4 @@
-use Rattle.std.proofs.Common.{ℕ, List, Ok, refl, ap, sym, ◌∙◌}
+use Rattle.std.proofs.Common.{◌≡◌, ℕ, List, Ok, refl, ap, sym, ◌∙◌}
 use Rattle.signature_core.specs.declared.kind.Kind.{Kind}
 use Rattle.publish_board.specs.declared.join.Join.{Join}
 use Rattle.publish_board.specs.Desk.{join_refusal}
@@ -23,6 +23,19 @@ with_kinds settings state from name target method found =
 -- and where this is its method
 with_method : List ℕ → List ℕ → List Kind → ℕ → Found ℕ → Found Join
 with_method from name kinds target found = found >>= λ index. Ok (record { from = from; name = name; kinds = kinds; object = target; method = index })
+
+-- the join that is asked for, once its types, its method and its texts are there
+all_found : (settings : Settings) (state : State) (from name : List ℕ) (target : ℕ) (method : List ℕ) (found : Found (List Kind)) (kinds : List Kind)
+    (index : ℕ) (from_copy name_copy : List ℕ) → found ≡ Ok kinds → method_named (methods_of settings state target) method ≡ Ok index → from_copy ≡ from
+    → name_copy ≡ name
+    → with_kinds settings state from name target method found
+    ≡ Ok (record { from = from_copy; name = name_copy; kinds = kinds; object = target; method = index })
+unfolding with_kinds with_method
+all_found settings state from name target method found kinds index from_copy name_copy its_kinds its_method from_is name_is =
+    ap (with_kinds settings state from name target method) its_kinds
+    ∙ ap (with_method from name kinds target) its_method
+    ∙ ap (λ from. Ok (record { from = from; name = name; kinds = kinds; object = target; method = index })) (sym from_is)
+    ∙ ap (λ name. Ok (record { from = from_copy; name = name; kinds = kinds; object = target; method = index })) (sym name_is)
 
 pub returns-in_err-check_object : goal.returns-in_err-check_object
 returns-in_err-check_object c = stopped _ _ _ _ _ c.in_err-check_object.field-0.0 _ c.from_residual.ensures.1
@@ -62,20 +75,12 @@ unfolding with_kinds with_method
 returns-in_err-join c =
     let settings = settings_of c.args.caller.now.setup.now in
     let state = state_at c.args.tables.now c.args.caller.now.place in
-    let own = c.args.caller.now.name.now in
-    let from = c.args.from.now in
-    let name = c.args.name.now in
-    let kinds = c.in_ok-kinds.kinds in
-    let target = c.args.object in
-    let found = behind_second _ _ c.in_ok-check_object.ensures ∙ ap (with_kinds settings state from name target c.args.method.now) c.in_ok-kinds.ensures
-    ∙ ap (with_method from name kinds target) c.in_ok-method.ensures
-    ∙ ap (λ from. Ok (record { from = from; name = name; kinds = kinds; object = target; method = c.in_ok-method.method })) (sym c.in_ok-copy.ensures)
-    ∙ ap (λ name. Ok (record { from = c.in_ok-copy.field-0; name = name; kinds = kinds; object = target; method = c.in_ok-method.method }))
-    (sym c.in_ok-copy-2.ensures) in
+    let found = behind_second _ _ c.in_ok-check_object.ensures ∙ all_found settings state c.args.from.now c.args.name.now c.args.object c.args.method.now
+    _ _ _ _ _ c.in_ok-kinds.ensures c.in_ok-method.ensures c.in_ok-copy.ensures c.in_ok-copy-2.ensures in
     made_fault _ _ _ _ _ _ c.in_err-join.field-0.0 _ c.from_residual-in_err-join.ensures.1
-    (refusal_join _ _ _ _ _ _ _ _ ∙ ap (joining_refusal settings own state) found
-    ∙ ap (join_refusal own state.desk (record
-    { from = c.in_ok-copy.field-0; name = c.in_ok-copy-2.field-0; kinds = kinds; object = target; method = c.in_ok-method.method }))
+    (refusal_join _ _ _ _ _ _ _ _ ∙ ap (joining_refusal settings c.args.caller.now.name.now state) found
+    ∙ ap (join_refusal c.args.caller.now.name.now state.desk (record
+    { from = c.in_ok-copy.field-0; name = c.in_ok-copy-2.field-0; kinds = c.in_ok-kinds.kinds; object = c.args.object; method = c.in_ok-method.method }))
     (sym c.kinds_at-wanted.ensures))
     c.in_err-join.ensures.refusal (on_refused _ c.in_err-join.ensures.err) (changes_same _ _ _ c.in_err-join.ensures.err)
 
@@ -84,18 +89,10 @@ unfolding with_kinds with_method
 returns c =
     let settings = settings_of c.args.caller.now.setup.now in
     let state = state_at c.args.tables.now c.args.caller.now.place in
-    let own = c.args.caller.now.name.now in
-    let from = c.args.from.now in
-    let name = c.args.name.now in
-    let kinds = c.in_ok-kinds.kinds in
-    let target = c.args.object in
-    let found = behind_second _ _ c.in_ok-check_object.ensures ∙ ap (with_kinds settings state from name target c.args.method.now) c.in_ok-kinds.ensures
-    ∙ ap (with_method from name kinds target) c.in_ok-method.ensures
-    ∙ ap (λ from. Ok (record { from = from; name = name; kinds = kinds; object = target; method = c.in_ok-method.method })) (sym c.in_ok-copy.ensures)
-    ∙ ap (λ name. Ok (record { from = c.in_ok-copy.field-0; name = name; kinds = kinds; object = target; method = c.in_ok-method.method }))
-    (sym c.in_ok-copy-2.ensures) in
-    replied _ _ _ _ _ _ c.requires (refusal_join _ _ _ _ _ _ _ _ ∙ ap (joining_refusal settings own state) found
-    ∙ ap (join_refusal own state.desk (record
-    { from = c.in_ok-copy.field-0; name = c.in_ok-copy-2.field-0; kinds = kinds; object = target; method = c.in_ok-method.method }))
+    let found = behind_second _ _ c.in_ok-check_object.ensures ∙ all_found settings state c.args.from.now c.args.name.now c.args.object c.args.method.now
+    _ _ _ _ _ c.in_ok-kinds.ensures c.in_ok-method.ensures c.in_ok-copy.ensures c.in_ok-copy-2.ensures in
+    replied _ _ _ _ _ _ c.requires (refusal_join _ _ _ _ _ _ _ _ ∙ ap (joining_refusal settings c.args.caller.now.name.now state) found
+    ∙ ap (join_refusal c.args.caller.now.name.now state.desk (record
+    { from = c.in_ok-copy.field-0; name = c.in_ok-copy-2.field-0; kinds = c.in_ok-kinds.kinds; object = c.args.object; method = c.in_ok-method.method }))
     (sym c.kinds_at-wanted.ensures) ∙ c.in_ok-join.ensures.refusal)
     (performs_join _ _ _ _ _ _ _ _ ∙ ap (joins_found state) found) c.in_ok-join.ensures.ok

@@ -31,22 +31,18 @@ returns-clause-steps g c =
 
 pub returns-clause-world : goal.returns-clause-world
 returns-clause-world g c = λ found.
-    let old = seen_as c.args.self.now in
-    let new = seen_as c.loop-given.self in
-    let steps = steps_all old new c.args.list.now c.loop-given.given-index c.loop-given.entries.items _
-    (omega arith) c.from_vec.ensures c.loop-given.invariant.steps in
-    steps_world old new (tags c.args.list.now) _ steps (sym c.memory_refused.ensures ∙ found)
+    steps_world (seen_as c.args.self.now) (seen_as c.loop-given.self) (tags c.args.list.now) _
+    (steps_all (seen_as c.args.self.now) (seen_as c.loop-given.self) c.args.list.now c.loop-given.given-index c.loop-given.entries.items _
+    (omega arith) c.from_vec.ensures c.loop-given.invariant.steps) (sym c.memory_refused.ensures ∙ found)
 
 pub returns-clause-isolated : goal.returns-clause-isolated
 returns-clause-isolated g c = λ found. isolated (seen_as c.args.self.now) (seen_as c.loop-given.self) (tags c.args.list.now) _ (returns-clause-world g c found)
 
 pub returns-clause-spared : goal.returns-clause-spared
 returns-clause-spared g c = λ s fine.
-    let old = seen_as c.args.self.now in
-    let new = seen_as c.loop-given.self in
-    let steps = steps_all old new c.args.list.now c.loop-given.given-index c.loop-given.entries.items _
-    (omega arith) c.from_vec.ensures c.loop-given.invariant.steps in
-    spared old new (tags c.args.list.now) _ steps s fine
+    spared (seen_as c.args.self.now) (seen_as c.loop-given.self) (tags c.args.list.now) _
+    (steps_all (seen_as c.args.self.now) (seen_as c.loop-given.self) c.args.list.now c.loop-given.given-index c.loop-given.entries.items _
+    (omega arith) c.from_vec.ensures c.loop-given.invariant.steps) s fine
 
 pub returns-in_default-clause-spared : goal.returns-in_default-clause-spared
 returns-in_default-clause-spared g c = λ s fine.
@@ -55,11 +51,9 @@ returns-in_default-clause-spared g c = λ s fine.
 
 pub returns-clause-blame : goal.returns-clause-blame
 returns-clause-blame g c = λ was refused.
-    let old = seen_as c.args.self.now in
-    let new = seen_as c.loop-given.self in
-    let steps = steps_all old new c.args.list.now c.loop-given.given-index c.loop-given.entries.items _
-    (omega arith) c.from_vec.ensures c.loop-given.invariant.steps in
-    inr (steps_blame old new (tags c.args.list.now) _ steps was (sym c.memory_refused.ensures ∙ refused))
+    inr (steps_blame (seen_as c.args.self.now) (seen_as c.loop-given.self) (tags c.args.list.now) _
+    (steps_all (seen_as c.args.self.now) (seen_as c.loop-given.self) c.args.list.now c.loop-given.given-index c.loop-given.entries.items _
+    (omega arith) c.from_vec.ensures c.loop-given.invariant.steps) was (sym c.memory_refused.ensures ∙ refused))
 
 pub returns-clause-later : goal.returns-clause-later
 returns-clause-later g c =
