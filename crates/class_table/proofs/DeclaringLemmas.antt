@@ -7,7 +7,7 @@ use Rattle.std.specs.List.{All}
 use Rattle.std.specs.Option.{ok_or, option_map, option_map_or}
 use Rattle.std.proofs.lemmas.List.{length-map, map-append}
 use Rattle.std.proofs.lemmas.List.Elements.{All-nil, All-cons}
-use Rattle.std.proofs.lemmas.Bool.{leb-true}
+use Rattle.std.proofs.lemmas.Bool.{and_from, and_parts, leb-true}
 use Rattle.std.proofs.lemmas.Option.{slice_get-map}
 use Rattle.plain_types.specs.declared.code.Code.{Code}
 use Rattle.signature_core.specs.declared.kind.Kind.{Kind}
@@ -25,7 +25,7 @@ use Rattle.class_table.specs.declared.fault.ClassFaultKind.{ClassFaultKind}
 use Rattle.class_table.specs.declared.fault.ClassFaultKind.TheVariants.{BadNotify, DeclaredTwice, Limit}
 use Rattle.class_table.specs.declared.fault.Stop.{Stop}
 use Rattle.class_table.specs.declared.fault.Stop.TheVariants as stop
-use Rattle.class_table.specs.Declaring.{SignedMethod, are_signals, body_in, class_below, class_with, extending, is_declared_once}
+use Rattle.class_table.specs.Declaring.{SignedMethod, body_in, class_below, class_with, extending, is_declared_once}
 use Rattle.class_table.specs.Declaring.{may_stand, method_of, new_names, new_signatures, notify_of, number_of, property_of, signal_named, signal_of, signed_of}
 use Rattle.class_table.specs.Declaring.{is_signal_at, is_within_limits, slot_of, tells}
 use Rattle.class_table.specs.Faults.{Gives}
@@ -33,185 +33,147 @@ use Rattle.class_table.specs.Lookup.{is_same, methods, names, index_of, properti
 use Rattle.class_table.specs.Sound.{IsMethod, is_told, is_told_by, FitsBehind}
 use Rattle.class_table.specs.Steps.{Read, ◌>>=◌, each, provided}
 use Rattle.class_table.specs.Written.{WrittenClass, WrittenProperty}
-use Rattle.class_table.proofs.ListLemmas.{position_passes}
+use Rattle.class_table.proofs.ListLemmas.{position-map, position_passes}
 use Rattle.class_table.proofs.OnceLemmas.{Decides-is_same}
+
+-- what a reading that succeeds tells of its steps
+
+bind_ok : {A B : Type 0} (r : Read A) (f : A → Read B) (y : B) → (r >>= f) ≡ Ok y → (x : A) × (r ≡ Ok x) × (f x ≡ Ok y)
+bind_ok (Ok x) f y e = (x, refl, e)
+bind_ok (Err k) f y e = absurd (cc)
+
+provided_ok : {A : Type 0} (b : Bool) (k : ClassFaultKind) (next : Read A) (y : A) → provided b k next ≡ Ok y → (b ≡ true) × (next ≡ Ok y)
+provided_ok true k next y e = (refl, e)
+provided_ok false k next y e = absurd (cc)
+
+some_ok : {A : Type 0} (o : Option A) (k : ClassFaultKind) (x : A) → ok_or o k ≡ Ok x → o ≡ Some x
+some_ok (Some a) k x e = cc
+some_ok None k x e = absurd (cc)
 
 -- what each element keeps, all of them keep
 module _ {A B C : Type 0} (f : A → Read B) (of_a : A → C) (of_b : B → C) (keeps : (x : A) (y : B) → f x ≡ Ok y → of_b y ≡ of_a x) where
-  pub each-keeps : (xs : List A) (ys : List B) → each f xs ≡ Ok ys → map of_b ys ≡ map of_a xs
+  each-keeps : (xs : List A) (ys : List B) → each f xs ≡ Ok ys → map of_b ys ≡ map of_a xs
   each-keeps [] [] e = refl
   each-keeps [] (y ∷ ys) e = absurd (cc)
-  each-keeps (x ∷ xs) ys e = first (f x) refl (each f xs) refl e (each-keeps xs)
-    where
-      first : (r : Read B) → f x ≡ r → (rest : Read (List B)) → each f xs ≡ rest → (r >>= λ y. rest >>= λ zs. Ok (y ∷ zs)) ≡ Ok ys
-          → ((zs : List B) → each f xs ≡ Ok zs → map of_b zs ≡ map of_a xs) → map of_b ys ≡ map of_a (x ∷ xs)
-      first (Err k) a rest b h more = absurd (cc)
-      first (Ok y) a (Err k) b h more = absurd (cc)
-      first (Ok y) a (Ok zs) b h more =
-          let is : ys ≡ y ∷ zs = cc in
-          rw is (λ i. keeps x y a i ∷ more zs b i)
-
-method_keeps : (new : SignedMethod) (method : Method) → method_of new ≡ Ok method → method.signature ≡ new.signature
-method_keeps new method e = by new.body e
-  where
-    of : (r : Read Body) → (r >>= λ body. Ok (slot_of new.signature body)) ≡ Ok method → method.signature ≡ new.signature
-    of (Ok body) h = let is : (slot_of new.signature body) ≡ method = cc in ap (λ (m : Method). m.signature) (sym is)
-    of (Err k) h = absurd (cc)
-
-    by : (body : Option Data) → method_of (record { signature = new.signature; body = body }) ≡ Ok method → method.signature ≡ new.signature
-    by None h = let is : (signal_of new.signature) ≡ method = cc in ap (λ (m : Method). m.signature) (sym is)
-    by (Some json) h = of (body_in (body_of (length new.signature.kinds) json)) h
-
-property_keeps : (base : List Method) (new : List SignedMethod) (written : WrittenProperty) (property : Property) → property_of base new written ≡ Ok property
-    → property.name ≡ written.name
-property_keeps base new written property e = of (notify_of base new written) e
-  where
-    of : (r : Read (Option ℕ)) → (r >>= λ notify. Ok (record { name = written.name; kind = written.kind; notify = notify; bindable = written.bindable }))
-        ≡ Ok property → property.name ≡ written.name
-    of (Ok notify) h = let is : (record { name = written.name; kind = written.kind; notify = notify; bindable = written.bindable }) ≡ property = cc in ap
-        (λ (p : Property). p.name) (sym is)
-    of (Err k) h = absurd (cc)
+  each-keeps (x ∷ xs) ys e =
+      let one = bind_ok (f x) _ ys e in
+      let rest = bind_ok (each f xs) _ ys one.2 in
+      let is : ys ≡ one.0 ∷ rest.0 = cc rest.2 in
+      rw is (λ i. keeps x one.0 one.1 i ∷ each-keeps xs rest.0 rest.1 i)
 
 -- what holds of each element that is read holds of all
 module _ {A B : Type 0} (f : A → Read B) (P : B → Type 0) (holds : (x : A) (y : B) → f x ≡ Ok y → P y) where
   each-all : (xs : List A) (ys : List B) → each f xs ≡ Ok ys → All P ys
   each-all [] [] e = All-nil P
   each-all [] (y ∷ ys) e = absurd (cc)
-  each-all (x ∷ xs) ys e = first (f x) refl (each f xs) refl e (each-all xs)
-    where
-      first : (r : Read B) → f x ≡ r → (rest : Read (List B)) → each f xs ≡ rest → (r >>= λ y. rest >>= λ zs. Ok (y ∷ zs)) ≡ Ok ys
-          → ((zs : List B) → each f xs ≡ Ok zs → All P zs) → All P ys
-      first (Err k) a rest b h more = absurd (cc)
-      first (Ok y) a (Err k) b h more = absurd (cc)
-      first (Ok y) a (Ok zs) b h more =
-          let is : y ∷ zs ≡ ys = cc in
-          subst (All P) is (All-cons P y zs (holds x y a) (more zs b))
+  each-all (x ∷ xs) ys e =
+      let one = bind_ok (f x) _ ys e in
+      let rest = bind_ok (each f xs) _ ys one.2 in
+      let is : one.0 ∷ rest.0 ≡ ys = cc rest.2 in
+      subst (All P) is (All-cons P one.0 rest.0 (holds x one.0 one.1) (each-all xs rest.0 rest.1))
 
--- a method whose body was read for its parameters
-method_sound : (new : SignedMethod) (method : Method) → method_of new ≡ Ok method → IsMethod method
-method_sound new method e = by new.body e
+-- a method is a signal where no body was written, and else a slot whose body was read for its parameters
+method_cases : (P : Method → Type 0) (new : SignedMethod) → (is_none new.body ≡ true → P (signal_of new.signature))
+    → ((body : Body) → is_none new.body ≡ false → IsReadFor (length new.signature.kinds) body → P (slot_of new.signature body))
+    → (method : Method) → method_of new ≡ Ok method → P method
+method_cases P new signal slot method e = by new.body refl e
   where
-    of : (r : Result Body Code) → IfOk r (IsReadFor (length new.signature.kinds)) → (body_in r >>= λ body. Ok (slot_of new.signature body)) ≡ Ok method
-        → IsMethod method
-    of (Ok body) read h =
-        let is : (slot_of new.signature body) ≡ method = cc in
-        subst IsMethod is (record { text = refl; params = read.0; body = read.1 })
-    of (Err fault) read h = absurd (cc)
+    n : ℕ
+    n = length new.signature.kinds
 
-    by : (body : Option Data) → method_of (record { signature = new.signature; body = body }) ≡ Ok method → IsMethod method
-    by None h =
-        let is : (signal_of new.signature) ≡ method = cc in
-        subst IsMethod is (record { text = refl; params = refl; body = record { limited = refl; arguments = tt; named = refl } })
-    by (Some json) h = of (body_of (length new.signature.kinds) json) (body_read (length new.signature.kinds) json) h
+    read : (r : Result Body Code) (body : Body) → body_in r ≡ Ok body → IfOk r (IsReadFor n) → IsReadFor n body
+    read (Ok found) body h sound = let same : found ≡ body = cc in subst (IsReadFor n) same sound
+    read (Err fault) body h sound = absurd (cc)
+
+    by : (o : Option Data) → new.body ≡ o
+        → option_map_or (λ json. body_in (body_of n json) >>= λ body. Ok (slot_of new.signature body)) o (Ok (signal_of new.signature)) ≡ Ok method → P method
+    by None is h = let same : signal_of new.signature ≡ method = cc in subst P same (signal (ap is_none is))
+    by (Some json) is h =
+        let body = bind_ok (body_in (body_of n json)) _ method h in
+        let same : slot_of new.signature body.0 ≡ method = cc body.2 in
+        subst P same (slot body.0 (ap is_none is) (read (body_of n json) body.0 body.1 (body_read n json)))
+
+method_keeps : (new : SignedMethod) (method : Method) → method_of new ≡ Ok method → method.signature ≡ new.signature
+method_keeps new = method_cases (λ method. method.signature ≡ new.signature) new (λ none. refl) (λ body some read. refl)
 
 signal_keeps : (new : SignedMethod) (method : Method) → method_of new ≡ Ok method → method.is_signal ≡ is_none new.body
-signal_keeps new method e = by new.body e
-  where
-    of : (r : Read Body) (json : Data) → (r >>= λ body. Ok (slot_of new.signature body)) ≡ Ok method → method.is_signal ≡ false
-    of (Ok body) json h = let is : (slot_of new.signature body) ≡ method = cc in ap (λ (m : Method). m.is_signal) (sym is)
-    of (Err k) json h = absurd (cc)
+signal_keeps new = method_cases (λ method. method.is_signal ≡ is_none new.body) new (λ none. sym none) (λ body some read. sym some)
 
-    by : (body : Option Data) → method_of (record { signature = new.signature; body = body }) ≡ Ok method → method.is_signal ≡ is_none body
-    by None h = let is : (signal_of new.signature) ≡ method = cc in ap (λ (m : Method). m.is_signal) (sym is)
-    by (Some json) h = of (body_in (body_of (length new.signature.kinds) json)) json h
+method_sound : (new : SignedMethod) (method : Method) → method_of new ≡ Ok method → IsMethod method
+method_sound new = method_cases IsMethod new
+    (λ none. record { text = refl; params = refl; body = record { limited = refl; arguments = tt; named = refl } })
+    (λ body some read. record { text = refl; params = read.0; body = read.1 })
 
-both_true : (a b : Bool) → (a && b) ≡ true → IsTrue a × IsTrue b
-both_true true true e = (refl, refl)
-both_true true false e = absurd (cc)
-both_true false b e = absurd (cc)
+-- the property that was written, with the number of its signal
+abbrev made : WrittenProperty → Option ℕ → Property
+made written notify = record { name = written.name; kind = written.kind; notify = notify; bindable = written.bindable }
 
--- a signal whose kinds are as wanted tells what the wanted one does
-tells_same : (kind : Kind) (kinds wanted : List Kind) → kinds ≡ wanted → tells kind wanted ≡ true → tells kind kinds ≡ true
-tells_same kind kinds wanted e h = ap (tells kind) e ∙ h
+property_keeps : (base : List Method) (new : List SignedMethod) (written : WrittenProperty) (property : Property) → property_of base new written ≡ Ok property
+    → property.name ≡ written.name
+property_keeps base new written property e =
+    let notify = bind_ok (notify_of base new written) _ property e in
+    let is : made written notify.0 ≡ property = cc notify.2 in
+    ap (λ (p : Property). p.name) (sym is)
 
 module _ (base : List Method) (new : List SignedMethod) (own : List Method) (same : signatures own ≡ new_signatures new)
     (signals : map (λ method. method.is_signal) own ≡ map (λ method. is_none method.body) new) where
   -- the signal that was found tells
   told : (kind : Kind) (wanted : Signature) (number : ℕ) → number_of base new wanted ≡ Some number
       → (is_signal_at base new number && tells kind wanted.kinds) ≡ true → IsTrue (is_told_by (base ++ own) kind number)
-  told kind wanted number at is = by (slice_get (base ++ own) number) refl
+  told kind wanted number at is = by (slice_get all number) (position_passes (λ m. is_same m.signature wanted) all number found)
+      (ap (λ o. option_map_or (λ signal. signal) o false) (sym (slice_get-map (λ m. m.is_signal) all number)) ∙ marked)
     where
       all : List Method
       all = base ++ own
 
-      kinds : map (λ method. method.signature) all ≡ signatures base ++ new_signatures new
-      kinds = map-append (λ method. method.signature) base own ∙ ap (λ l. signatures base ++ l) same
-
-      marks : map (λ method. method.is_signal) all ≡ are_signals base new
-      marks = map-append (λ method. method.is_signal) base own ∙ ap (λ l. map (λ method. method.is_signal) base ++ l) signals
-
       parts : IsTrue (is_signal_at base new number) × IsTrue (tells kind wanted.kinds)
-      parts = both_true (is_signal_at base new number) (tells kind wanted.kinds) is
+      parts = and_parts (is_signal_at base new number) (tells kind wanted.kinds) is
 
-      found : position (λ there. is_same there wanted) (map (λ method. method.signature) all) ≡ Some number
-      found = ap (position (λ there. is_same there wanted)) kinds ∙ at
+      found : position (λ m. is_same m.signature wanted) all ≡ Some number
+      found = sym (position-map (λ there. is_same there wanted) (λ m. m.signature) all)
+          ∙ ap (position (λ there. is_same there wanted)) (map-append (λ m. m.signature) base own ∙ ap (λ l. signatures base ++ l) same) ∙ at
 
-      passes : option_map_or (λ there. is_same there wanted) (slice_get (map (λ method. method.signature) all) number) false ≡ true
-      passes = position_passes (λ there. is_same there wanted) (map (λ method. method.signature) all) number found
+      marked : option_map_or (λ signal. signal) (slice_get (map (λ m. m.is_signal) all) number) false ≡ true
+      marked = ap (λ l. option_map_or (λ signal. signal) (slice_get l number) false)
+          (map-append (λ m. m.is_signal) base own ∙ ap (λ l. map (λ m. m.is_signal) base ++ l) signals) ∙ parts.0
 
-      marked : option_map_or (λ signal. signal) (slice_get (map (λ method. method.is_signal) all) number) false ≡ true
-      marked = ap (λ l. option_map_or (λ signal. signal) (slice_get l number) false) marks ∙ parts.0
-
-      by : (o : Option Method) → slice_get all number ≡ o → option_map_or (λ method. method.is_signal && tells kind method.signature.kinds) o false ≡ true
-      by None e =
-          let nothing = sym passes ∙ ap (λ o. option_map_or (λ there. is_same there wanted) o false)
-          (slice_get-map (λ method. method.signature) all number ∙ ap (option_map (λ method. method.signature)) e) in
-          absurd (cc)
-      by (Some method) e =
-          let same_one : is_same method.signature wanted ≡ true =
-          sym (ap (λ o. option_map_or (λ there. is_same there wanted) o false)
-          (slice_get-map (λ method. method.signature) all number ∙ ap (option_map (λ method. method.signature)) e)) ∙ passes in
-          let signal : method.is_signal ≡ true = sym
-          (ap (λ o. option_map_or (λ signal. signal) o false)
-          (slice_get-map (λ method. method.is_signal) all number ∙ ap (option_map (λ method. method.is_signal)) e)) ∙ marked in
-          let is_wanted : method.signature ≡ wanted = (Decides-is_same method.signature wanted).0 same_one in
-          let tells_it : tells kind method.signature.kinds ≡ true =
-          tells_same kind method.signature.kinds wanted.kinds (ap (λ (s : Signature). s.kinds) is_wanted) parts.1 in
-          rw (signal, tells_it)
+      by : (o : Option Method) → option_map_or (λ m. is_same m.signature wanted) o false ≡ true
+          → option_map_or (λ signal. signal) (option_map (λ m. m.is_signal) o) false ≡ true
+          → option_map_or (λ m. m.is_signal && tells kind m.signature.kinds) o false ≡ true
+      by None passes signal = absurd (cc)
+      by (Some method) passes signal =
+          let is_wanted : method.signature ≡ wanted = (Decides-is_same method.signature wanted).0 passes in
+          and_from method.is_signal _ signal (ap (λ (s : Signature). tells kind s.kinds) is_wanted ∙ parts.1)
 
   named : (kind : Kind) (text : List ℕ) (number : ℕ) → signal_named base new kind text ≡ Ok number → IsTrue (is_told_by (base ++ own) kind number)
   unfolding signal_named
-  named kind text number e = first (signature_of text) e
-    where
-      third : (wanted : Signature) (n : ℕ) → number_of base new wanted ≡ Some n → (b : Bool) → (is_signal_at base new n && tells kind wanted.kinds) ≡ b
-          → provided b BadNotify (Ok n) ≡ Ok number → IsTrue (is_told_by (base ++ own) kind number)
-      third wanted n at true is h =
-          let this : n ≡ number = cc in
-          let P : ℕ → Type 0 = λ k. IsTrue (is_told_by (base ++ own) kind k) in
-          subst P this (told kind wanted n at is)
-      third wanted n at false is h = absurd (cc)
-
-      second : (wanted : Signature) (o : Option ℕ) → number_of base new wanted ≡ o
-          → (ok_or o BadNotify >>= λ n. provided (is_signal_at base new n && tells kind wanted.kinds) BadNotify (Ok n)) ≡ Ok number
-          → IsTrue (is_told_by (base ++ own) kind number)
-      second wanted None at h = absurd (cc)
-      second wanted (Some n) at h = third wanted n at (is_signal_at base new n && tells kind wanted.kinds) refl h
-
-      first : (o : Option Signature) → (ok_or o BadNotify >>= λ wanted. ok_or (number_of base new wanted) BadNotify >>=
-          λ n. provided (is_signal_at base new n && tells kind wanted.kinds) BadNotify (Ok n)) ≡ Ok number → IsTrue (is_told_by (base ++ own) kind number)
-      first None h = absurd (cc)
-      first (Some wanted) h = second wanted (number_of base new wanted) refl h
+  named kind text number e =
+      let wanted = bind_ok (ok_or (signature_of text) BadNotify) _ number e in
+      let at = bind_ok (ok_or (number_of base new wanted.0) BadNotify) _ number wanted.2 in
+      let tells_it = provided_ok _ BadNotify _ number at.2 in
+      let this : at.0 ≡ number = cc tells_it.1 in
+      let P : ℕ → Type 0 = λ k. IsTrue (is_told_by (base ++ own) kind k) in
+      subst P this (told kind wanted.0 at.0 (some_ok (number_of base new wanted.0) BadNotify at.0 at.1) tells_it.0)
 
   property_told : (written : WrittenProperty) (property : Property) → property_of base new written ≡ Ok property → IsTrue (is_told (base ++ own) property)
-  property_told written property e = by written.notify e
+  property_told written property e =
+      let notify = bind_ok (notify_of base new written) _ property e in
+      let is : made written notify.0 ≡ property = cc notify.2 in
+      let P : Property → Type 0 = λ p. IsTrue (is_told (base ++ own) p) in
+      subst P is (by written.notify notify.0 notify.1)
     where
-      of : (r : Read ℕ) → ((number : ℕ) → r ≡ Ok number → IsTrue (is_told_by (base ++ own) written.kind number))
-          → ((r >>= λ number. Ok (Some number)) >>= λ notify. Ok
-          (record { name = written.name; kind = written.kind; notify = notify; bindable = written.bindable })) ≡ Ok property
-          → IsTrue (is_told (base ++ own) property)
-      of (Ok number) tells h =
-          let is : (record { name = written.name; kind = written.kind; notify = Some number; bindable = written.bindable }) ≡ property = cc in
-          let P : Property → Type 0 = λ p. IsTrue (is_told (base ++ own) p) in
-          subst P is (tells number refl)
-      of (Err k) tells h = absurd (cc)
+      Q : Option ℕ → Type 0
+      Q notify = IsTrue (option_map_or (is_told_by (base ++ own) written.kind) notify true)
 
-      by : (notify : Option (List ℕ)) → property_of base new (record { name = written.name; kind = written.kind; notify = notify; bindable = written.bindable })
-          ≡ Ok property → IsTrue (is_told (base ++ own) property)
-      by None h =
-          let is : (record { name = written.name; kind = written.kind; notify = None; bindable = written.bindable }) ≡ property = cc in
-          let P : Property → Type 0 = λ p. IsTrue (is_told (base ++ own) p) in
-          subst P is refl
-      by (Some text) h = of (signal_named base new written.kind text) (named written.kind text) h
+      by : (o : Option (List ℕ)) (notify : Option ℕ)
+          → option_map_or (λ text. signal_named base new written.kind text >>= λ number. Ok (Some number)) o (Ok None) ≡ Ok notify → Q notify
+      by None notify h =
+          let is : ◌≡◌ {A = Option ℕ} None notify = cc in
+          subst Q is refl
+      by (Some text) notify h =
+          let number = bind_ok (signal_named base new written.kind text) _ notify h in
+          let is : Some number.0 ≡ notify = cc number.2 in
+          subst Q is (named written.kind text number.0 number.1)
 
 -- a class that was checked may stand behind the others
 fits_behind : (classes : List Class) (base : ℕ) (name : List ℕ) (new : List SignedMethod) (written : List WrittenProperty)
@@ -233,7 +195,7 @@ fits_behind classes base name new written own_methods own_properties there free 
     let len_m : length own_methods ≡ length new = sym (length-map own_methods (λ m. m.signature)) ∙ (ap length same_m ∙ length-map new (λ n. n.signature)) in
     let len_p : length own_properties ≡ length written = sym (length-map own_properties (λ p. p.name))
     ∙ (ap length same_p ∙ length-map written (λ w. w.name)) in
-    let two = both_true _ _ once in
+    let two = and_parts _ _ once in
     record {
       is_new = free;
       below = refl;
@@ -254,42 +216,21 @@ module _ (classes : List Class) (base : ℕ) (written : WrittenClass) (there : b
   fits_with : (new : List SignedMethod) (class : Class) → is_declared_once (methods classes base) new (properties classes base) written.properties ≡ true
       → is_within_limits (methods classes base) new (properties classes base) written.properties ≡ true → class_with classes base written new ≡ Ok class
       → FitsBehind classes class
-  fits_with new class once within e = first (each (property_of (methods classes base) new) written.properties) refl (each method_of new) refl e
-    where
-      few : IsTrue (nat_le (length (methods classes base) + length new) METHODS)
-          × IsTrue (nat_le (length (properties classes base) + length written.properties) PROPERTIES)
-      few = both_true (nat_le (length (methods classes base) + length new) METHODS)
-          (nat_le (length (properties classes base) + length written.properties) PROPERTIES) within
-
-      first : (ps : Read (List Property)) → each (property_of (methods classes base) new) written.properties ≡ ps → (ms : Read (List Method))
-          → each method_of new ≡ ms
-          → (ps >>= λ own_properties. ms >>= λ own_methods. Ok (extending classes base written.name own_methods own_properties)) ≡ Ok class
-          → FitsBehind classes class
-      first (Err k) a ms b h = absurd (cc)
-      first (Ok ps) a (Err k) b h = absurd (cc)
-      first (Ok ps) a (Ok ms) b h =
-          let is : extending classes base written.name ms ps ≡ class = cc in
-          subst (FitsBehind classes) is (fits_behind classes base written.name new written.properties ms ps there free once
-          (leb-true _ _ few.0) (leb-true _ _ few.1) b a)
+  fits_with new class once within e =
+      let few = and_parts (nat_le (length (methods classes base) + length new) METHODS) _ within in
+      let ps = bind_ok (each (property_of (methods classes base) new) written.properties) _ class e in
+      let ms = bind_ok (each method_of new) _ class ps.2 in
+      let is : extending classes base written.name ms.0 ps.0 ≡ class = cc ms.2 in
+      subst (FitsBehind classes) is (fits_behind classes base written.name new written.properties ms.0 ps.0 there free once
+      (leb-true _ _ few.0) (leb-true _ _ few.1) ms.1 ps.1)
 
   fits_below : (class : Class) → class_below classes base written ≡ Ok class → FitsBehind classes class
   unfolding class_below
-  fits_below class e = first (each signed_of written.methods) e
-    where
-      second : (new : List SignedMethod) (once : Bool) → is_declared_once (methods classes base) new (properties classes base) written.properties ≡ once
-          → (within : Bool) → is_within_limits (methods classes base) new (properties classes base) written.properties ≡ within
-          → provided once DeclaredTwice (provided within Limit (class_with classes base written new)) ≡ Ok class → FitsBehind classes class
-      second new false a within b h = absurd (cc)
-      second new true a false b h = absurd (cc)
-      second new true a true b h = fits_with new class a b h
-
-      first : (r : Read (List SignedMethod)) →
-          (r >>= λ new. provided (is_declared_once (methods classes base) new (properties classes base) written.properties) DeclaredTwice
-          (provided (is_within_limits (methods classes base) new (properties classes base) written.properties) Limit (class_with classes base written new)))
-          ≡ Ok class → FitsBehind classes class
-      first (Err k) h = absurd (cc)
-      first (Ok new) h = second new (is_declared_once (methods classes base) new (properties classes base) written.properties) refl
-          (is_within_limits (methods classes base) new (properties classes base) written.properties) refl h
+  fits_below class e =
+      let new = bind_ok (each signed_of written.methods) _ class e in
+      let once = provided_ok _ DeclaredTwice _ class new.2 in
+      let within = provided_ok _ Limit _ class once.1 in
+      fits_with new.0 class once.0 within.0 within.1
 
   pub fits_where_given : (result : Result Class Stop) → Gives (λ class. class) result (class_below classes base written)
       → IfOk result (λ class. FitsBehind classes class)

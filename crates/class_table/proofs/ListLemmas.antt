@@ -1,13 +1,13 @@
 -- Lists: the first index that passes, and lists with no element twice.
-use Rattle.std.proofs.Common.{◌≡◌, ◌≢◌, inl, inr, ℕ, suc, zero, ◌+◌, ◌-◌, ◌<◌, ◌≤◌, ◌==◌, Bool, true, false, not, cond, List, [], ◌∷◌, ◌++◌, length, map}
+use Rattle.std.proofs.Common.{◌≡◌, ◌≢◌, inl, inr, ℕ, suc, zero, ◌+◌, ◌-◌, ◌<◌, ◌≤◌, ◌==◌, ◌||◌, Bool, true, false, not, cond, List, [], ◌∷◌, ◌++◌, length, map}
 use Rattle.std.proofs.Common.{position, slice_get, Option, Some, None, get_or, refl, sym, ap, ◌∙◌, arith, add-zero, nat_lt, take}
 use Rattle.std.specs.Option.{option_or, option_map, option_map_or}
-use Rattle.std.specs.List.{position_from, prefix_len}
+use Rattle.std.specs.List.{list_any, position_from, prefix_len}
 use Rattle.std.proofs.lemmas.Bool.Decides.{eqb_tells}
 use Rattle.std.proofs.lemmas.Iterator.Adapters.{position_from-zero}
-use Rattle.std.proofs.lemmas.List.{length-map, map-append}
+use Rattle.std.proofs.lemmas.List.{length-map, map-append, take_all, take_more}
 use Rattle.std.proofs.lemmas.List.Quantifiers.{position-Some}
-use Rattle.std.proofs.lemmas.Option.{slice_get-map}
+use Rattle.std.proofs.lemmas.Option.{get_or_from_slice_get, slice_get-map, slice_get_within}
 
 pub eq_self : (n : ℕ) → (n == n) ≡ true
 eq_self n = elim (eqb_tells n n) [ inl p ↦ p.0 | inr p ↦ absurd (p.1 refl) ]
@@ -67,6 +67,10 @@ prefix_len-map p f (x ∷ xs) = λ i. cond (p (f x)) (1 + prefix_len-map p f xs 
 pub position-map : {X Y : Type 0} (p : Y → Bool) (f : X → Y) (xs : List X) → position p (map f xs) ≡ position (λ x. p (f x)) xs
 position-map p f xs = λ i. cond (nat_lt (prefix_len-map (λ y. not (p y)) f xs i) (length-map xs f i)) (Some (prefix_len-map (λ y. not (p y)) f xs i)) None
 
+pub list_any-map : {X Y : Type 0} (p : Y → Bool) (f : X → Y) (xs : List X) → list_any p (map f xs) ≡ list_any (λ x. p (f x)) xs
+list_any-map p f [] = refl
+list_any-map p f (x ∷ xs) = ap (λ rest. p (f x) || rest) (list_any-map p f xs)
+
 -- the value of an entry
 pub entry_value : {K V : Type 0} (entries : List (K × V)) (i : ℕ) (k : K) (v : V) → Some (k, v) ≡ slice_get entries i
     → slice_get (map (λ e. e.1) entries) i ≡ Some v
@@ -103,24 +107,14 @@ slice_get-own before own all offset number whole at past =
     sym (slice_get-behind before own (number - offset)) ∙ (ap (λ n. slice_get (before ++ own) n) split ∙ ap (λ l. slice_get l number) (sym whole))
 
 pub taken : {X : Type 0} (xs : List X) (i : ℕ) (x : X) → Some x ≡ slice_get xs i → take (i + 1) xs ≡ take i xs ++ x ∷ []
-taken [] i x e = absurd (cc)
-taken (z ∷ zs) zero x e = let same : z ≡ x = cc in λ j. same j ∷ []
-taken (z ∷ zs) (suc i) x e = let moved : suc i + 1 ≡ suc (i + 1) = omega arith in rw moved (λ j. z ∷ taken zs i x e j)
+taken xs i x e = take_more xs i x (slice_get_within xs i x (sym e)) ∙ ap (λ y. take i xs ++ y ∷ []) (get_or_from_slice_get xs i x x (sym e))
 
 -- one more element of a list, seen so
 pub map-taken : {X Y : Type 0} (f : X → Y) (xs : List X) (i : ℕ) (x : X) → Some x ≡ slice_get xs i → map f (take (i + 1) xs) ≡ map f (take i xs) ++ f x ∷ []
 map-taken f xs i x e = ap (map f) (taken xs i x e) ∙ map-append f (take i xs) (x ∷ [])
 
 pub taken-whole : {X : Type 0} (xs : List X) (i : ℕ) → length xs ≤ i → take i xs ≡ xs
-taken-whole [] zero h = refl
-taken-whole [] (suc i) h = refl
-taken-whole (x ∷ xs) zero h = absurd (omega arith)
-taken-whole (x ∷ xs) (suc i) h = λ j. x ∷ taken-whole xs i (omega arith) j
-
-got : {X : Type 0} (xs : List X) (i : ℕ) (x d : X) → slice_get xs i ≡ Some x → get_or xs i d ≡ x
-got [] i x d e = absurd (cc)
-got (y ∷ ys) zero x d e = cc
-got (y ∷ ys) (suc i) x d e = got ys i x d e
+taken-whole xs i h = take_all i xs h
 
 -- what stands at the first index that passes does pass
 pub position_passes : {X : Type 0} (p : X → Bool) (xs : List X) (i : ℕ) → position p xs ≡ Some i → option_map_or p (slice_get xs i) false ≡ true
@@ -132,4 +126,4 @@ position_passes {X = X} p (x ∷ xs) i e = by (slice_get (x ∷ xs) i) refl
 
     by : (o : Option X) → slice_get (x ∷ xs) i ≡ o → option_map_or p o false ≡ true
     by None h = absurd (omega (arith, past_end (x ∷ xs) i h, passed.0))
-    by (Some y) h = ap p (sym (got (x ∷ xs) i y x h)) ∙ passed.1
+    by (Some y) h = ap p (sym (get_or_from_slice_get (x ∷ xs) i y x h)) ∙ passed.1

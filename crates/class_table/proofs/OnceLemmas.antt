@@ -8,7 +8,7 @@ use Rattle.std.specs.Ordering.{nat_cmp}
 use Rattle.std.proofs.lemmas.Bool.Decides.{same_from_decides}
 use Rattle.std.proofs.lemmas.Iterator.Adapters.{position_from-zero}
 use Rattle.std.proofs.lemmas.List.Elements.{All-nil, All-cons, All-head, All-tail}
-use Rattle.std.proofs.lemmas.List.Folds.{list_any-append}
+use Rattle.std.proofs.lemmas.List.Folds.{list_all-map, list_any-append}
 use Rattle.std.proofs.lemmas.Map.Text.{is_eq-slice_cmp}
 use Rattle.std.proofs.lemmas.Slice.Eq.{bytes_eq-Decides}
 use Rattle.signature_core.specs.declared.signature.Signature.{Signature}
@@ -19,16 +19,14 @@ use Rattle.class_table.specs.declared.class.Method.{Method}
 use Rattle.class_table.specs.declared.class.Property.{Property}
 use Rattle.class_table.specs.declared.declare.Signed.{Signed}
 use Rattle.class_table.specs.declared.form.PropertyForm.{PropertyForm}
-use Rattle.class_table.specs.Declaring.{new_names, new_signatures}
+use Rattle.class_table.specs.Declaring.{SignedMethod, new_names, new_signatures}
 use Rattle.class_table.specs.Forms.{property_seen}
 use Rattle.class_table.specs.Lookup.{are_distinct_methods, are_distinct_properties, is_distinct, is_same, method_number, names, property_number, signatures}
 use Rattle.class_table.specs.Lookup.{text_of}
 use Rattle.class_table.specs.Signed.{signed_seen}
 use Rattle.class_table.specs.Steps.{Read}
-
-list_any-map : {A B : Type 0} (test : B → Bool) (seen : A → B) (xs : List A) → list_any test (map seen xs) ≡ list_any (λ x. test (seen x)) xs
-list_any-map test seen [] = refl
-list_any-map test seen (x ∷ xs) = ap (λ rest. test (seen x) || rest) (list_any-map test seen xs)
+use Rattle.class_table.specs.Written.{WrittenProperty}
+use Rattle.class_table.proofs.ListLemmas.{list_any-map}
 
 -- no index passes where no element does
 none_from : {X : Type 0} (p : X → Bool) (at : ℕ) (xs : List X) → is_none (position_from p at xs) ≡ not (list_any p xs)
@@ -80,37 +78,29 @@ module _ {X : Type 0} (same : X → X → Bool) where
       by false false e h any rest apart = absurd (cc)
       by false true e h any rest apart = rw (any, rest e, apart) (swap (list_any (same x) ys) (are_apart xs ys) (is_distinct same ys))
 
-list_all-map : {A B : Type 0} (test : B → Bool) (seen : A → B) (xs : List A) → list_all test (map seen xs) ≡ list_all (λ x. test (seen x)) xs
-list_all-map test seen [] = refl
-list_all-map test seen (x ∷ xs) = ap (λ rest. test (seen x) && rest) (list_all-map test seen xs)
-
 list_all-same : {A : Type 0} (p q : A → Bool) → ((x : A) → p x ≡ q x) → (xs : List A) → list_all p xs ≡ list_all q xs
 list_all-same p q e [] = refl
 list_all-same p q e (x ∷ xs) = λ i. e x i && list_all-same p q e xs i
 
--- methods behind those of a superclass
+-- new ones behind those of a superclass, which are different from each other
+module _ {X B M N : Type 0} (same : X → X → Bool) (of : B → X) (part : M → X) (seen : N → M) (base : List B) (new : List N) where
+  new_once : IsTrue (is_distinct same (map of base)) → is_distinct same (map of base ++ map part (map seen new))
+      ≡ (list_all (λ n. is_none (position (λ b. same (of b) (part (seen n))) base)) new && is_distinct same (map part (map seen new)))
+  new_once once =
+      let apart : are_apart same (map of base) (map part (map seen new)) ≡ list_all (λ n. is_none (position (λ b. same (of b) (part (seen n))) base)) new =
+      list_all-map _ part (map seen new) ∙ (list_all-map _ seen new ∙ list_all-same _ _
+      (λ n. ap not (list_any-map (λ x. same x (part (seen n))) of base) ∙ sym (none-position (λ b. same (of b) (part (seen n))) base)) new) in
+      distinct-append same (map of base) (map part (map seen new)) once ∙ ap (λ a. a && is_distinct same (map part (map seen new))) apart
+
 pub new_methods_once : (base : List Method) (new : List Signed) → IsTrue (are_distinct_methods (signatures base))
     → are_distinct_methods (signatures base ++ new_signatures (map signed_seen new))
     ≡ (list_all (λ n. is_none (method_number n.signature base)) new && are_distinct_methods (new_signatures (map signed_seen new)))
-new_methods_once base new once =
-    let apart : are_apart is_same (signatures base) (new_signatures (map signed_seen new)) ≡ list_all (λ n. is_none (method_number n.signature base)) new =
-    list_all-map _ (λ m. m.signature) (map signed_seen new) ∙
-    (list_all-map _ signed_seen new ∙ list_all-same _ _
-    (λ n. ap not (list_any-map (λ s. is_same s n.signature) (λ m. m.signature) base) ∙ sym (none-position (λ m. is_same m.signature n.signature) base))
-    new) in
-    distinct-append is_same (signatures base) (new_signatures (map signed_seen new)) once
-    ∙ ap (λ a. a && are_distinct_methods (new_signatures (map signed_seen new))) apart
+new_methods_once = new_once is_same (λ (m : Method). m.signature) (λ (m : SignedMethod). m.signature) signed_seen
 
 pub new_properties_once : (base : List Property) (new : List PropertyForm) → IsTrue (are_distinct_properties (names base))
     → are_distinct_properties (names base ++ new_names (map property_seen new))
     ≡ (list_all (λ n. is_none (property_number n.name.now base)) new && are_distinct_properties (new_names (map property_seen new)))
-new_properties_once base new once =
-    let apart : are_apart bytes_eq (names base) (new_names (map property_seen new)) ≡ list_all (λ n. is_none (property_number n.name.now base)) new =
-    list_all-map _ (λ p. p.name) (map property_seen new)
-    ∙ (list_all-map _ property_seen new ∙ list_all-same _ _
-    (λ n. ap not (list_any-map (λ s. bytes_eq s n.name.now) (λ p. p.name) base) ∙ sym (none-position (λ p. bytes_eq p.name n.name.now) base)) new) in
-    distinct-append bytes_eq (names base) (new_names (map property_seen new)) once
-    ∙ ap (λ a. a && are_distinct_properties (new_names (map property_seen new))) apart
+new_properties_once = new_once bytes_eq (λ (p : Property). p.name) (λ (p : WrittenProperty). p.name) property_seen
 
 -- signatures by their normal texts
 

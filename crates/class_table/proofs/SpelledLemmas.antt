@@ -1,10 +1,11 @@
 -- The number of a method that is found by its text.
-use Rattle.std.proofs.Common.{◌≡◌, ◌∙◌, ℕ, zero, suc, ◌+◌, Bool, true, false, not, ◌&&◌, ◌||◌, List, [], ◌∷◌, ◌++◌, Option, Some, None, bytes_eq, position}
+use Rattle.std.proofs.Common.{◌≡◌, ◌∙◌, ℕ, zero, suc, ◌+◌, Bool, true, false, not, List, [], ◌∷◌, ◌++◌, Option, Some, None, bytes_eq, position}
 use Rattle.std.proofs.Common.{slice_get, length, refl, sym, ap, subst, arith, IsTrue}
 use Rattle.std.specs.List.{All, list_any, position_from}
 use Rattle.std.specs.Option.{option_map, option_map_or, option_or}
+use Rattle.std.proofs.lemmas.Bool.{and_parts, not-true, or_parts}
 use Rattle.std.proofs.lemmas.Iterator.Adapters.{position_from-zero}
-use Rattle.std.proofs.lemmas.List.Elements.{All-head, All-tail}
+use Rattle.std.proofs.lemmas.Option.{get_or_from_slice_get, slice_get_within}
 use Rattle.std.proofs.lemmas.Slice.Eq.{bytes_eq-Decides}
 use Rattle.signature_core.specs.declared.signature.Signature.{Signature}
 use Rattle.signature_core.specs.Reading.{IsNormal, signature_of}
@@ -18,27 +19,14 @@ use Rattle.class_table.proofs.ListLemmas.{past_end, position-append, position_pa
 use Rattle.class_table.proofs.OnceLemmas.{Decides-is_same}
 use Rattle.class_table.proofs.TableLemmas.{of_class-none}
 
--- what holds of two truths together holds of each
-both : (a b : Bool) → (a && b) ≡ true → (a ≡ true) × (b ≡ true)
-both true b e = (refl, e)
-both false b e = absurd (cc)
-
-neither : (a b : Bool) → (a || b) ≡ false → (a ≡ false) × (b ≡ false)
-neither true b e = absurd (cc)
-neither false b e = (refl, e)
-
-turned : (a : Bool) → not a ≡ true → a ≡ false
-turned true e = absurd (cc)
-turned false e = refl
-
 -- where none of the signatures passes, that of a method among them does not
 none_at : (test : Signature → Bool) (ms : List Method) (n : ℕ) (m : Method) → list_any test (signatures ms) ≡ false → slice_get ms n ≡ Some m
     → test m.signature ≡ false
 none_at test [] n m none found = absurd (cc)
 none_at test (x ∷ xs) zero m none found =
     let same : x ≡ m = cc in
-    ap (λ y. test y.signature) (sym same) ∙ (neither (test x.signature) (list_any test (signatures xs)) none).0
-none_at test (x ∷ xs) (suc n) m none found = none_at test xs n m (neither (test x.signature) (list_any test (signatures xs)) none).1 found
+    ap (λ y. test y.signature) (sym same) ∙ (or_parts (test x.signature) (list_any test (signatures xs)) none).0
+none_at test (x ∷ xs) (suc n) m none found = none_at test xs n m (or_parts (test x.signature) (list_any test (signatures xs)) none).1 found
 
 -- among methods that are declared once, the first with the signature of one of them is that one
 only_from : (at : ℕ) (ms : List Method) (n : ℕ) (m : Method) → IsTrue (are_distinct_methods (signatures ms)) → slice_get ms n ≡ Some m
@@ -50,8 +38,8 @@ only_from at (x ∷ xs) zero m once found =
     let here : at ≡ at + 0 = omega arith in
     rw same (ap Some here)
 only_from at (x ∷ xs) (suc n) m once found =
-    let apart = both (not (list_any (is_same x.signature) (signatures xs))) (are_distinct_methods (signatures xs)) once in
-    let other : is_same x.signature m.signature ≡ false = none_at (is_same x.signature) xs n m (turned _ apart.0) found in
+    let apart = and_parts (not (list_any (is_same x.signature) (signatures xs))) (are_distinct_methods (signatures xs)) once in
+    let other : is_same x.signature m.signature ≡ false = none_at (is_same x.signature) xs n m (not-true _ apart.0) found in
     let moved : (at + 1) + n ≡ at + suc n = omega arith in
     rw other (only_from (at + 1) xs n m apart.1 found ∙ ap Some moved)
 
@@ -68,9 +56,7 @@ still (z ∷ zs) ys zero x found = found
 still (z ∷ zs) ys (suc n) x found = still zs ys n x found
 
 each_at : {X : Type 0} (P : X → Type 0) (xs : List X) (n : ℕ) (x : X) → All P xs → slice_get xs n ≡ Some x → P x
-each_at P [] n x all found = absurd (cc)
-each_at P (z ∷ zs) zero x all found = let same : z ≡ x = cc in subst P same (All-head P z zs all)
-each_at P (z ∷ zs) (suc n) x all found = each_at P zs n x (All-tail P z zs all) found
+each_at P xs n x all found = subst P (get_or_from_slice_get xs n x x found) (all n x (slice_get_within xs n x found))
 
 -- no class of a table has a method twice
 once_in : (classes : List Class) (class : ℕ) → IsTable classes → IsTrue (are_distinct_methods (signatures (methods classes class)))

@@ -1,33 +1,21 @@
 -- Links in buckets.
 use Rattle.std.proofs.Common.{◌≡◌, ◌≢◌, ◌∙◌, ◌⊎◌, ℕ, ◌+◌, ◌<◌, ◌≤◌, Bool, true, false, List, [], ◌∷◌, ◌++◌, length, filter, get_or, map, set}
-use Rattle.std.proofs.Common.{refl, sym, ap, subst, arith, ⊎_elim, inl, inr}
+use Rattle.std.proofs.Common.{sym, ap, subst, arith, ⊎_elim, inl, inr}
 use Rattle.std.specs.List.{All, Any, Contains}
 use Rattle.std.proofs.lemmas.Bool.{cases_Bool, cases_eq, cases_lt}
-use Rattle.std.proofs.lemmas.List.{get_or-set_other, get_or-set_same, get_or_append_left, get_or_default, get_or_past, get_or_push, length-set, length_push}
+use Rattle.std.proofs.lemmas.List.{get_or-set_other, get_or-set_same, get_or_default, get_or_past, length-set}
 use Rattle.std.proofs.lemmas.Nat.{mod_below}
-use Rattle.std.proofs.lemmas.List.Elements.{All-contains, Contains-append_cases, Contains-append_left, Contains-push, Contains-push_cases}
-use Rattle.std.specs.Ordering.{is_lt}
-use Rattle.shared_rows.specs.Links.{HasRoom, Linked, with_link, without_link}
+use Rattle.std.proofs.lemmas.List.Elements.{All-contains, Contains-append_left, Contains-push, Contains-push_cases}
+use Rattle.shared_rows.specs.Links.{Linked, with_link, without_link}
 use Rattle.shared_rows.specs.Rows.{Keyed}
-use Rattle.shared_rows.proofs.LinkedLemmas.{all_from, any_of, contains_cases, contains_from, contains_kept, contains_map, contains_mapped}
-use Rattle.shared_rows.proofs.LinkedLemmas.{with_itself, with_others, without_from, without_others}
+use Rattle.shared_rows.proofs.LinkedLemmas.{all_from, any_of, contains_from, contains_kept, contains_map, contains_mapped}
+use Rattle.shared_rows.proofs.LinkedLemmas.{with_cases, with_itself, with_others, without_from, without_others}
 use Rattle.connection_list.specs.declared.connection.Connection.{Connection}
 use Rattle.connection_list.specs.declared.link.Link.{Link}
-use Rattle.connection_list.specs.Buckets.{AreDivided, AreEmpty, Bucketed, Changes, HasSame, HaveSame, bucket_number, bucket_of, no_buckets}
+use Rattle.connection_list.specs.Buckets.{AreDivided, Bucketed, Changes, HasSame, HaveSame, bucket_number, bucket_of}
 use Rattle.connection_list.specs.declared.buckets.TheConstants.{BUCKETS}
 use Rattle.connection_list.specs.Routes.{IsLinkedAt, link_cmp}
 use Rattle.connection_list.proofs.LinkLemmas.{link_same, link_total}
-
--- a link that is there with one more was there, or is that one
-with_cases : (links : List Link) (link x : Link) → Contains (with_link link_cmp links link) x → Contains links x ⊎ (link ≡ x)
-with_cases links link x there = ⊎_elim
-    (λ (front : Contains (filter (λ other. is_lt (link_cmp other link)) links) x). inl (contains_from (λ other. is_lt (link_cmp other link)) links x front).0)
-    (λ (back : Contains (link ∷ filter (λ other. is_lt (link_cmp link other)) links) x). ⊎_elim
-    (λ (here : link ≡ x). inr here)
-    (λ (later : Contains (filter (λ other. is_lt (link_cmp link other)) links) x). inl
-    (contains_from (λ other. is_lt (link_cmp link other)) links x later).0)
-    (contains_cases link x _ back))
-    (Contains-append_cases _ _ x there)
 
 module _ (link_of : Keyed Connection → Link) where
   -- what the links of an object say of a row, and of a link
@@ -75,7 +63,7 @@ module _ (link_of : Keyed Connection → Link) where
       ⊎_elim
       (λ (here : new ≡ with_link link_cmp old (link_of row)). ⊎_elim from
       (λ (last : link_of row ≡ link). (row, Contains-push rows row, last))
-      (with_cases old (link_of row) link (rw here at there)))
+      (with_cases link_total link_same old (link_of row) link (rw here at there)))
       (λ (elsewhere : (object ≢ (link_of row).object) × (new ≡ old)). from (rw elsewhere.1 at there))
       change)
 
@@ -142,13 +130,6 @@ same_twice first second third one two object = record {
 -- the bucket of an object, read among many or where there are none
 module _ {old : Bucketed} {few : Linked Link} {many : List (Linked Link)} (view_is : record { few = few; many = many } ≡ old) (owner : ℕ) {number : ℕ}
     (number_is : number ≡ bucket_number owner) where
-  pub bucket_many : (here : Linked Link) → number < length many → here ≡ get_or many number here → here ≡ bucket_of owner old
-  bucket_many here within is = is ∙ (get_or_default many number here few within
-      ∙ (ap (λ n. get_or many n few) number_is ∙ ap (bucket_of owner) view_is))
-
-  pub bucket_few : length many ≤ number → few ≡ bucket_of owner old
-  bucket_few past = sym (get_or_past many number few past) ∙ (ap (λ n. get_or many n few) number_is ∙ ap (bucket_of owner) view_is)
-
   pub changes_many : (change : List Link → List Link) (here after : Linked Link) → number < length many → here ≡ get_or many number here
       → after.links ≡ change here.links → Changes change owner old (record { few = few; many = set many number after })
   changes_many change here after within is changed =
@@ -188,27 +169,6 @@ module _ {old : Bucketed} {few : Linked Link} {many : List (Linked Link)} (view_
   pub same_few : (after : Linked Link) → length many ≤ number → after.links ≡ few.links → HaveSame old (record { few = after; many = many })
   same_few after past same = same_changed owner old (record { few = after; many = many }) (changes_few (λ links. links) after past same)
 
--- its room
-module _ (few : Linked Link) (many : List (Linked Link)) (owner : ℕ) {number : ℕ} (number_is : number ≡ bucket_number owner) (after : Linked Link) where
-  pub room_many : number < length many → HasRoom after → HasRoom (bucket_of owner (record { few = few; many = set many number after }))
-  room_many within room = subst HasRoom
-      (sym (ap (λ n. get_or (set many number after) n few) (sym number_is) ∙ get_or-set_same many number after few within)) room
-
-  pub room_few : length many ≤ number → HasRoom after → HasRoom (bucket_of owner (record { few = after; many = many }))
-  room_few past room = subst HasRoom (sym (ap (λ n. get_or many n after) (sym number_is) ∙ get_or_past many number after past)) room
-
--- no links at first
-pub same_none : (few : Linked Link) (many : List (Linked Link)) → few.links ≡ [] → many ≡ [] → HaveSame no_buckets (record { few = few; many = many })
-same_none few many none empty = subst (λ m. HaveSame no_buckets (record { few = few; many = m })) (sym empty)
-    (λ object. record { kept = λ link there is. absurd (omega (arith, there.1)); from = λ link there. subst (λ list. Contains list link) none there })
-
--- the links are divided
-pub same_divided : {old : Bucketed} {few : Linked Link} {many : List (Linked Link)} → record { few = few; many = many } ≡ old → many ≡ []
-    → (left : Linked Link) (next : List (Linked Link)) → AreDivided few.links next → HaveSame old (record { few = left; many = next })
-same_divided {few = few} {many = many} view_is none left next divided =
-    subst (λ before. HaveSame before (record { few = left; many = next })) view_is
-    (subst (λ m. HaveSame (record { few = few; many = m }) (record { few = left; many = next })) (sym none) (λ object. divided object left))
-
 abbrev blank : Linked Link
 blank = record { links = []; capacity = 0 }
 
@@ -218,14 +178,6 @@ pub record AreHeld (links : List Link) (at : ℕ) (many : List (Linked Link)) : 
   pub kept : (k : ℕ) (d : Link) → k < at → k < length links
       → Contains (get_or many (bucket_number (get_or links k d).object) blank).links (get_or links k d)
   pub from : (number : ℕ) → number < BUCKETS → (link : Link) → Contains (get_or many number blank).links link → Contains links link
-
-pub held_none : (links : List Link) (many : List (Linked Link)) → AreEmpty BUCKETS many → AreHeld links 0 many
-held_none links many empty = record {
-  size = empty.size;
-  kept = λ k d low within. absurd (omega (arith, low));
-  from = λ number within link there.
-      let is : Contains [] link = subst (λ list. Contains list link) (empty.none number blank within) there in absurd (omega (arith, is.1));
-}
 
 pub held_all : (links : List Link) (at : ℕ) (many : List (Linked Link)) → length links ≤ at → AreHeld links at many → AreDivided links many
 held_all links at many all held object default =
@@ -282,22 +234,8 @@ module _ {links : List Link} {at : ℕ} {many : List (Linked Link)} (held : AreH
         (λ (same : other ≡ number). ⊎_elim
         (held.from number bound x)
         (λ (last : link ≡ x). subst (Contains links) last (at, within, sym (is link)))
-        (with_cases (get_or many number blank).links link x
+        (with_cases link_total link_same (get_or many number blank).links link x
         (subst (λ list. Contains list x) now_here (subst (λ n. Contains (get_or (set many number after) n blank).links x) same there))))
         (λ (differ : other ≢ number). held.from other low x (subst (λ list. Contains list x) (now_other other differ) there))
         (cases_eq other number);
   }
-
--- one more empty bucket
-pub empty_push : (many : List (Linked Link)) (bucket : Linked Link) → AreEmpty (length many) many → bucket.links ≡ []
-    → AreEmpty (length (many ++ bucket ∷ [])) (many ++ bucket ∷ [])
-empty_push many bucket empty none = record {
-  size = refl;
-  none = λ number default within. ⊎_elim
-      (λ (front : number < length many). ap (λ (l : Linked Link). l.links) (get_or_append_left many (bucket ∷ []) default number front)
-      ∙ empty.none number default front)
-      (λ (last : length many ≤ number).
-      let here : length many ≡ number = omega (arith, last, within, length_push many bucket) in
-      ap (λ (l : Linked Link). l.links) (get_or_push many bucket default number here) ∙ none)
-      (cases_lt number (length many));
-}

@@ -1,7 +1,7 @@
 -- What is listed and counted of the connections of a place, one after another.
 use Rattle.std.proofs.Common.{◌≡◌, ◌∙◌, ℕ, zero, suc, ◌+◌, ◌<◌, ◌≤◌, ◌^◌, Bool, true, false, cond, List, [], ◌∷◌, ◌++◌, length, map, filter, count_by, take}
-use Rattle.std.proofs.Common.{drop, get_or, refl, sym, ap, arith, append_assoc}
-use Rattle.std.proofs.lemmas.List.{at_drop_more, drop-map, length-append}
+use Rattle.std.proofs.Common.{drop, refl, sym, ap, arith, append_assoc}
+use Rattle.std.proofs.lemmas.List.{at_drop_more, drop-map, drop_all, length-append}
 use Rattle.std.proofs.lemmas.List.Elements.{filter-append}
 use Rattle.std.proofs.lemmas.List.Sums.{count_by-le-length, sum_by-cons}
 use Rattle.shared_rows.specs.Rows.{IsAtPosition, Keyed}
@@ -11,7 +11,7 @@ use Rattle.connection_list.specs.declared.connection.Connection.{Connection}
 use Rattle.connection_list.specs.declared.routes.Routes.{Routes}
 use Rattle.connection_list.specs.Rows.{Rows}
 use Rattle.connection_list.specs.Table.{rows_at}
-use Rattle.connection_list.proofs.SeenLemmas.{IsSeen}
+use Rattle.connection_list.proofs.SeenLemmas.{IsSeen, shown_count}
 
 -- so many elements in front
 pub take_first : {X : Type 0} (n : ℕ) (xs ys : List X) → length xs ≡ n → take n (xs ++ ys) ≡ xs
@@ -41,11 +41,6 @@ module _ {X : Type 0} (test : X → Bool) (found more left : List X) (row : X) (
   pub found_few : length more ≤ length found + 1
   found_few = omega (arith, ap length added, length-append found (filter test (row ∷ [])), one_at_most (test row))
 
--- so is what was counted
-pub counted_on : {X : Type 0} (test : X → Bool) (before one : ℕ) (left : List X) (row : X) → one ≡ cond (test row) 1 0
-    → (before + one) + count_by test left ≡ before + count_by test (row ∷ left)
-counted_on test before one left row is = omega (arith, is, sum_by-cons (λ x. cond (test x) 1 0) row left)
-
 module _ {rows : Table (List (Keyed Connection))} {routes : Table Routes} {table : Table Rows} {place : ℕ} {at : Routes}
     (seen : IsSeen rows routes table place at) where
   -- the connection at a position is the first of those that are left
@@ -64,3 +59,31 @@ module _ {rows : Table (List (Keyed Connection))} {routes : Table Routes} {table
   -- there are no more of them than a number of 32 bits
   pub few_rows : (test : Connection → Bool) → count_by test (rows_at table place).rows < 2 ^ 31
   few_rows test = omega (arith, count_by-le-length test (rows_at table place).rows, ap (λ (p : Rows). length p.rows) seen.shows, seen.kept.sound.few)
+
+  -- what was counted up to a position, and what is yet to be counted
+  module _ (test : Connection → Bool) where
+    abbrev pub IsCounted : ℕ → ℕ → Type 0
+    IsCounted position count = count + count_by test (drop position (rows_at table place).rows) ≡ count_by test (rows_at table place).rows
+
+    module _ (position key count one : ℕ) (row : Connection) (is : IsAtPosition (shared.rows_at rows place) position key row)
+        (within : position < length (shared.rows_at rows place)) (one_is : one ≡ cond (test row) 1 0) (counted : IsCounted position count) where
+      pub counted_more : IsCounted (position + 1) (count + one)
+      counted_more = omega (
+        arith,
+        one_is,
+        sum_by-cons (λ x. cond (test x) 1 0) row (drop (position + 1) (rows_at table place).rows),
+        ap (count_by test) (next_row position key row is within),
+        counted,
+      )
+
+      pub counted_few : count + one < 2 ^ 31
+      counted_few = omega (arith, few_rows test, counted_more)
+
+    pub counted_all : (position count : ℕ) → length (shared.rows_at rows place) ≤ position → IsCounted position count
+        → count ≡ count_by test (rows_at table place).rows
+    counted_all position count whole counted = omega (
+      arith,
+      counted,
+      ap (count_by test) (drop_all position (rows_at table place).rows
+          (omega (arith, whole, shown_count seen))),
+    )

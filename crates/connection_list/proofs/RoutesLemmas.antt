@@ -1,6 +1,6 @@
 -- What the links of a place tell of its connections.
 use Rattle.std.proofs.Common.{◌≡◌, ◌≢◌, ◌∙◌, ℕ, zero, suc, ◌+◌, ◌-◌, ◌<◌, ◌≤◌, ◌^◌, Bool, true, false, List, [], ◌∷◌, Option, Some, None, IfNone, IfSome}
-use Rattle.std.proofs.Common.{length, find, get_or, refl, sym, ap, arith, ⊎_elim}
+use Rattle.std.proofs.Common.{length, find, get_or, refl, sym, ap, subst, arith, ⊎_elim}
 use Rattle.std.specs.List.{All, AllPairs, Any, Contains}
 use Rattle.std.specs.Option.{option_map}
 use Rattle.std.specs.Ordering.{is_lt}
@@ -16,7 +16,7 @@ use Rattle.connection_list.specs.declared.link.Link.{Link}
 use Rattle.connection_list.specs.Ends.{touches}
 use Rattle.connection_list.specs.Rows.{IsSound, is_next}
 use Rattle.connection_list.specs.Buckets.{HaveSame}
-use Rattle.connection_list.specs.Routes.{AreSame, Gains, IsLinkedAt, IsPlaceKept, IsRouted, link_cmp, links_at, no_routes, place_of, received_of, sent_of}
+use Rattle.connection_list.specs.Routes.{AreSame, Gains, IsLinkedAt, IsPlaceKept, IsRouted, link_cmp, links_at, place_of, received_of, sent_of}
 use Rattle.connection_list.specs.declared.routes.Routes.{Routes}
 use Rattle.connection_list.proofs.BucketLemmas.{linked_push, linked_same}
 use Rattle.connection_list.proofs.LinkLemmas.{at_least, from, link_same, link_total, not_below}
@@ -118,15 +118,23 @@ module _ (sender signal after up_to : ℕ) (rows : List (Keyed Connection)) (rou
       ∙ (ap (λ s. is_lt (link_cmp (sent_of keyed) (from keyed.row.sender s (after + 1)))) (sym is.signal_is)
       ∙ not_below (sent_of keyed) (after + 1) (omega (arith, is.above)))
 
-  pub none_next : first_from link_cmp links (from sender signal (after + 1)) ≡ None → None ≡ key_in (find calls_next rows)
-  none_next none = none_from (λ k d within next.
-      let low = first_none link_total link_same links (from sender signal (after + 1)) none (sent_of (get_or rows k d))
+  pub none_next : {list : List Link} → list ≡ links → first_from link_cmp list (from sender signal (after + 1)) ≡ None
+      → None ≡ key_in (find calls_next rows)
+  none_next list_is none = none_from (λ k d within next.
+      let low = first_none link_total link_same links (from sender signal (after + 1))
+      (ap (λ l. first_from link_cmp l (from sender signal (after + 1))) (sym list_is) ∙ none) (sent_of (get_or rows k d))
       ((kept.routed.sent sender).each k d within (facts (get_or rows k d) next).sender_is) in
       let high = reaches (get_or rows k d) next in
       absurd (cc (low, high)))
 
-  module _ (order : IsInOrder link_cmp links) (link : Link)
-      (found : first_from link_cmp links (from sender signal (after + 1)) ≡ Some link) where
+  module _ {list : List Link} (list_is : list ≡ links) (in_order : IsInOrder link_cmp list) (link : Link)
+      (first_is : first_from link_cmp list (from sender signal (after + 1)) ≡ Some link) where
+    order : IsInOrder link_cmp links
+    order = subst (IsInOrder link_cmp) list_is in_order
+
+    found : first_from link_cmp links (from sender signal (after + 1)) ≡ Some link
+    found = ap (λ l. first_from link_cmp l (from sender signal (after + 1))) (sym list_is) ∙ first_is
+
     low : is_lt (link_cmp link (from sender signal (after + 1))) ≡ false
     low = (first_some link_total link_same links order (from sender signal (after + 1)) link found).1
 
@@ -134,33 +142,33 @@ module _ (sender signal after up_to : ℕ) (rows : List (Keyed Connection)) (rou
     upto keyed there next = (first_some link_total link_same links order (from sender signal (after + 1)) link found).2 (sent_of keyed) there
         (reaches keyed next)
 
-    pub next_key : link.object ≡ sender → link.signal ≡ signal → link.number ≤ up_to → Some link.key ≡ key_in (find calls_next rows)
+    pub next_key : link.object ≡ sender → link.source ≡ signal → link.rank ≤ up_to → Some link.key ≡ key_in (find calls_next rows)
     next_key object same_signal within =
         let stands = (first_some link_total link_same links order (from sender signal (after + 1)) link found).0 in
         let any : Any (λ keyed. sent_of keyed ≡ link) rows = All-contains
         (λ link. link.object ≡ sender → Any (λ keyed. sent_of keyed ≡ link) rows) links link (kept.routed.sent sender).all stands object in
         let keyed : Keyed Connection = any.1 in
         let is : sent_of keyed ≡ link = any.4 in
-        let bound = (at_least link (from sender signal (after + 1)) low).number (sym object) (sym same_signal) in
+        let bound = (at_least link (from sender signal (after + 1)) low).rank (sym object) (sym same_signal) in
         let sender_is : keyed.row.sender ≡ sender = ap (λ (l : Link). l.object) is ∙ object in
-        let signal_is : keyed.row.signal ≡ signal = ap (λ (l : Link). l.signal) is ∙ same_signal in
-        let number_is : keyed.row.number ≡ link.number = ap (λ (l : Link). l.number) is in
+        let signal_is : keyed.row.signal ≡ signal = ap (λ (l : Link). l.source) is ∙ same_signal in
+        let number_is : keyed.row.number ≡ link.rank = ap (λ (l : Link). l.rank) is in
         let next : calls_next keyed ≡ true = grind (arith, nat_tests, sender_is, signal_is, number_is, within, bound) in
         ap Some (sym (ap (λ (l : Link). l.key) is))
         ∙ sym (ap key_in (find_least (λ (k : Keyed Connection). k.row.number) calls_next rows (rising_keyed rows routes kept.sound) keyed
         (any.0, any.2, any.3) next (λ k d inside other_next.
         let other = facts (get_or rows k d) other_next in
         let above = at_least (sent_of (get_or rows k d)) link (upto (get_or rows k d) ((kept.routed.sent sender).each k d inside other.sender_is) other_next) in
-        omega (arith, number_is, above.number (object ∙ sym other.sender_is) (same_signal ∙ sym other.signal_is)))))
+        omega (arith, number_is, above.rank (object ∙ sym other.sender_is) (same_signal ∙ sym other.signal_is)))))
 
-    pub no_next : (link.object ≡ sender → link.signal ≡ signal → link.number ≤ up_to → ⊥) → None ≡ key_in (find calls_next rows)
+    pub no_next : (link.object ≡ sender → link.source ≡ signal → link.rank ≤ up_to → ⊥) → None ≡ key_in (find calls_next rows)
     no_next differs = none_from (λ k d inside next.
         let is = facts (get_or rows k d) next in
         let above = at_least (sent_of (get_or rows k d)) link (upto (get_or rows k d) ((kept.routed.sent sender).each k d inside is.sender_is) next) in
         let least = at_least link (from sender signal (after + 1)) low in
         let object : link.object ≡ sender = omega (arith, above.object, least.object, is.sender_is) in
-        let same_signal : link.signal ≡ signal = omega (arith, above.signal (object ∙ sym is.sender_is), least.signal (sym object), is.signal_is) in
-        differs object same_signal (omega (arith, is.within, above.number (object ∙ sym is.sender_is) (same_signal ∙ sym is.signal_is))))
+        let same_signal : link.source ≡ signal = omega (arith, above.source (object ∙ sym is.sender_is), least.source (sym object), is.signal_is) in
+        differs object same_signal (omega (arith, is.within, above.rank (object ∙ sym is.sender_is) (same_signal ∙ sym is.signal_is))))
 
 -- one more connection is found from both ends
 pub routed_push : (rows : List (Keyed Connection)) (old new : Routes) (keyed : Keyed Connection) → IsRouted rows old
@@ -180,21 +188,8 @@ routed_same old new sent received rows routed = record {
   received = λ object. linked_same received_of rows object (routed.received object) (received object);
 }
 
-pub same_routes : (routes : Routes) → AreSame routes routes
-same_routes routes = record { last_number = refl; routed = λ rows routed. routed }
-
-pub same_then : {first second third : Routes} → AreSame first second → AreSame second third → AreSame first third
-same_then one two = record { last_number = two.last_number ∙ one.last_number; routed = λ rows routed. two.routed rows (one.routed rows routed) }
-
 pub same_apart : (old new : Routes) → new.last_number ≡ old.last_number → HaveSame old.sent new.sent → HaveSame old.received new.received → AreSame old new
 same_apart old new number sent received = record { last_number = number; routed = routed_same old new sent received }
-
--- where nothing was ever connected, nothing is found
-pub none_routed : IsRouted [] no_routes
-none_routed = record {
-  sent = λ object. record { each = λ k d within. absurd (omega (arith, within)); all = λ k d within. absurd (omega (arith, within)) };
-  received = λ object. record { each = λ k d within. absurd (omega (arith, within)); all = λ k d within. absurd (omega (arith, within)) };
-}
 
 -- an object is at an end of the connections that its links lead to, and of no other
 module _ (object : ℕ) (rows : List (Keyed Connection)) (routes : Routes) (routed : IsRouted rows routes) where

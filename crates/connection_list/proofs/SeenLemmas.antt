@@ -1,15 +1,15 @@
 -- What contracts see of rows and routes.
 use Rattle.std.proofs.Common.{◌≡◌, ◌≢◌, ◌∙◌, ℕ, ◌-◌, ◌<◌, ◌≤◌, ◌^◌, ◌==◌, Bool, not, List, [], ◌∷◌, ◌++◌, Option, Some, None, length, map, filter, get_or, set}
-use Rattle.std.proofs.Common.{min, refl, sym, ap, subst, arith, ⊎_elim}
+use Rattle.std.proofs.Common.{refl, sym, ap, subst, arith, ⊎_elim}
 use Rattle.std.specs.List.{All, Contains, count_by}
 use Rattle.std.specs.Option.{option_map}
 use Rattle.std.proofs.lemmas.Bool.{cases_eq, cases_lt, eq-eqb}
 use Rattle.std.proofs.lemmas.Bool.Decides.{nat_tests}
-use Rattle.std.proofs.lemmas.List.{get_or-set_same, get_or-set_other, get_or_append_left, get_or_default, get_or_push, length-map, length-set, length_push}
+use Rattle.std.proofs.lemmas.List.{get_or_default, length-map, length-set, length_push}
 use Rattle.std.proofs.lemmas.List.Sums.{length-filter, count_by-le-length}
-use Rattle.shared_rows.specs.Paired.{paired, paired_tables}
+use Rattle.shared_rows.specs.Paired.{paired_tables}
 use Rattle.shared_rows.specs.Table.{IsPlace, Table, with_place, opened}
-use Rattle.shared_rows.proofs.ForCallers.{changes_open, paired_at, paired_push, paired_set, length-paired}
+use Rattle.shared_rows.proofs.ForCallers.{changes_open, each_opened, each_with, pairs_at, pairs_length, pairs_opened, pairs_with}
 use Rattle.shared_rows.proofs.LinkedLemmas.{all_from}
 use Rattle.shared_rows.specs.Rows.{Keyed, row_under}
 use Rattle.shared_rows.specs.Rows as shared
@@ -35,12 +35,7 @@ pub record IsSeen (rows : Table (List (Keyed Connection))) (routes : Table Route
 places_there : (rows : Table (List (Keyed Connection))) (routes : Table Routes) (table : Table Rows) (place : ℕ) → AreKept rows.places routes.places
     → paired_tables place_of rows routes ≡ table → IsPlace table place → IsPlace rows place × IsPlace routes place
 places_there rows routes table place kept view_is is_place =
-    let within : IsPlace rows place = omega (
-      arith,
-      is_place,
-      ap (λ (t : Table Rows). length t.places) view_is,
-      length-paired place_of rows.places routes.places kept.same,
-    ) in
+    let within : IsPlace rows place = omega (arith, is_place, pairs_length place_of rows routes kept.same view_is) in
     (within, omega (arith, within, kept.same))
 
 module _ {rows : Table (List (Keyed Connection))} {routes : Table Routes} {table : Table Rows} {place : ℕ} (kept : AreKept rows.places routes.places)
@@ -55,8 +50,7 @@ module _ {rows : Table (List (Keyed Connection))} {routes : Table Routes} {table
         routes_place = there.1;
         is = is;
         kept = subst (IsPlaceKept (shared.rows_at rows place)) (sym (is at)) (kept.each place at there.0);
-        shows = ap (λ (t : Table Rows). rows_at t place) (sym view_is)
-            ∙ (paired_at place_of rows.places routes.places place [] at no_rows kept.same there.0 ∙ ap (place_of (shared.rows_at rows place)) (sym (is at)));
+        shows = pairs_at place_of rows routes kept.same view_is place [] at no_rows there.0 ∙ ap (place_of (shared.rows_at rows place)) (sym (is at));
       }
 
   -- also where nothing was read there
@@ -74,23 +68,12 @@ module _ {rows : Table (List (Keyed Connection))} {routes : Table Routes} {table
     pub kept_changed : AreKept (with_place rows place list).places (with_place routes place new).places
     kept_changed = record {
       same = omega (arith, seen.tables.same, length-set rows.places place list, length-set routes.places place new);
-      each = λ other default within. ⊎_elim
-          (λ (here : other ≡ place).
-          let there : IsPlaceKept (get_or (set rows.places place list) place []) (get_or (set routes.places place new) place default) =
-          rw (get_or-set_same rows.places place list [] seen.rows_place, get_or-set_same routes.places place new default seen.routes_place) place_kept in
-          subst (λ p. IsPlaceKept (get_or (set rows.places place list) p []) (get_or (set routes.places place new) p default)) (sym here) there)
-          (λ (elsewhere : other ≢ place).
-          let inside : other < length rows.places = omega (arith, within, length-set rows.places place list) in
-          rw (get_or-set_other rows.places place other list [] elsewhere, get_or-set_other routes.places place other new default elsewhere)
-          (seen.tables.each other default inside))
-          (cases_eq other place);
+      each = λ other default within. each_with IsPlaceKept rows.places routes.places [] seen.tables.same seen.tables.each place list new seen.rows_place
+          place_kept other default (omega (arith, within, length-set rows.places place list));
     }
 
     pub view_changed : paired_tables place_of (with_place rows place list) (with_place routes place new) ≡ with_rows table place (place_of list new)
-    view_changed =
-        ap (λ places. record { places = places; room = min rows.room routes.room })
-        (paired_set place_of rows.places routes.places place list new seen.tables.same)
-        ∙ ap (λ t. with_place t place (place_of list new)) seen.view
+    view_changed = pairs_with place_of rows routes seen.tables.same seen.view place list new
 
   -- rows are gone
   module _ {new : Table (List (Keyed Connection))} {after : Routes} {gone : Keyed Connection → Bool} (out : AreGone gone place rows new at after) where
@@ -207,26 +190,12 @@ module _ (rows : Table (List (Keyed Connection))) (routes : Table Routes) {table
   pub kept_opened : AreKept (rows.places ++ [] ∷ []) (routes.places ++ at ∷ [])
   kept_opened = record {
     same = omega (arith, kept.same, length_push rows.places [], length_push routes.places at);
-    each = λ place default within. ⊎_elim
-        (λ (old : place < length rows.places). rw (
-          get_or_append_left rows.places ([] ∷ []) [] place old,
-          get_or_append_left routes.places (at ∷ []) default place (omega (arith, old, kept.same)),
-        ) (kept.each place default old))
-        (λ (last : length rows.places ≤ place).
-        let here : length rows.places ≡ place = omega (arith, last, within, length_push rows.places []) in
-        rw (get_or_push rows.places [] [] place here, get_or_push routes.places at default place (sym kept.same ∙ here)) (empty_kept at none routed))
-        (cases_lt place (length rows.places));
+    each = λ place default within. each_opened IsPlaceKept rows.places routes.places [] kept.same kept.each [] at (empty_kept at none routed) place default
+        (omega (arith, within, length_push rows.places []));
   }
 
   pub view_opened : paired_tables place_of (opened rows []) (opened routes at) ≡ opened table no_rows
-  view_opened =
-      ap (λ places. record { places = places; room = min (rows.room - 1) (routes.room - 1) })
-      (paired_push place_of rows.places routes.places [] at kept.same ∙ ap (λ p. paired place_of rows.places routes.places ++ p ∷ []) (empty_shows at none))
-      ∙ (ap (λ room. record { places = paired place_of rows.places routes.places ++ no_rows ∷ []; room = room }) rooms
-      ∙ ap (λ t. opened t no_rows) view_is)
-    where
-      rooms : min (rows.room - 1) (routes.room - 1) ≡ min rows.room routes.room - 1
-      rooms = omega arith
+  view_opened = pairs_opened place_of rows routes kept.same view_is [] at ∙ ap (opened table) (empty_shows at none)
 
   pub opened_count : length routes.places ≡ length table.places
-  opened_count = sym (ap (λ (t : Table Rows). length t.places) (sym view_is) ∙ (length-paired place_of rows.places routes.places kept.same ∙ kept.same))
+  opened_count = sym (pairs_length place_of rows routes kept.same view_is ∙ kept.same)

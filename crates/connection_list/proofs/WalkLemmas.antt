@@ -1,10 +1,9 @@
 -- Walks along the links of one end.
-use Rattle.std.proofs.Common.{◌≡◌, ◌≢◌, ◌∙◌, ℕ, ◌+◌, ◌<◌, ◌≤◌, Bool, true, false, List, Some, None, length, filter, get_or, remove, refl, sym, ap, subst, arith}
+use Rattle.std.proofs.Common.{◌≡◌, ◌≢◌, ◌∙◌, ℕ, ◌+◌, ◌<◌, ◌≤◌, Bool, true, false, List, Some, length, filter, get_or, remove, refl, sym, ap, subst, arith}
 use Rattle.std.proofs.Common.{⊎_elim}
 use Rattle.std.specs.Cmp.{tied_itself}
 use Rattle.std.specs.List.{All, AllWithin, Any, Contains}
 use Rattle.std.proofs.lemmas.Bool.{cases_eq, cases_lt}
-use Rattle.std.proofs.lemmas.Bool.Decides.{nat_tests}
 use Rattle.std.proofs.lemmas.List.{get_or_default}
 use Rattle.std.proofs.lemmas.List.Edits.{get_or-remove_above, get_or-remove_below, length-remove}
 use Rattle.std.proofs.lemmas.List.Elements.{All-contains}
@@ -13,12 +12,9 @@ use Rattle.shared_rows.specs.Rows.{Keyed, row_under}
 use Rattle.shared_rows.proofs.ForCallers.{remove_link, seat_found}
 use Rattle.shared_rows.proofs.LinkedLemmas.{all_from, contains_from}
 use Rattle.connection_list.specs.declared.connection.Connection.{Connection}
-use Rattle.connection_list.specs.declared.connection.NewConnection.{NewConnection}
 use Rattle.connection_list.specs.declared.link.Group.{Group}
 use Rattle.connection_list.specs.declared.link.Link.{Link}
-use Rattle.connection_list.specs.declared.pattern.Pattern.{Pattern}
 use Rattle.connection_list.specs.declared.routes.Routes.{Routes}
-use Rattle.connection_list.specs.Ends.{matches, same_ends}
 use Rattle.connection_list.specs.Routes.{IsGroup, IsLinkedAt, IsPlaceKept, IsRouted, Loses, buckets_of, link_cmp, link_of, links_at}
 use Rattle.connection_list.proofs.KeyedLemmas.{IsApart, only_under, under_key}
 use Rattle.connection_list.proofs.LinkLemmas.{link_total}
@@ -46,7 +42,7 @@ pub led : (received : Bool) (rows : List (Keyed Connection)) (routes : Routes) (
     → ((default : Link) → key ≡ (get_or (links_at received object routes) at default).key) → IsLed received rows (links_at received object routes) object at key
 led received rows routes object at key kept within object_there key_there =
     let linked = linked_end received rows routes object kept.routed in
-    let default : Link = record { object = 0; signal = 0; number = 0; key = 0 } in
+    let default : Link = record { object = 0; source = 0; rank = 0; key = 0 } in
     let any : Any (λ keyed. link_of received keyed ≡ get_or (links_at received object routes) at default) rows = linked.all at default within
     (object_there default) in
     let same : any.1.key ≡ key = sym (key_is received any.1) ∙ (ap (λ (l : Link). l.key) any.4 ∙ sym (key_there default)) in
@@ -118,40 +114,25 @@ module _ (received : Bool) (object : ℕ) (test : Keyed Connection → Bool) whe
     past = left.past;
   }
 
-  -- or from the back
-  pub left_back : (rows : List (Keyed Connection)) (links : List Link) (start end at key : ℕ) (row : Connection) → end ≡ at + 1 → IsApart rows
-      → row_under rows key ≡ Some row → IsLed received rows links object at key → test (record { key = key; row = row }) ≡ false → AreLeft rows links start end
-      → AreLeft rows links start at
-  left_back rows links start end at key row next apart under its fails left = record {
-    within = omega (arith, left.within, next);
-    before = left.before;
-    inside = λ k d low high. left.inside k d low (omega (arith, high, next));
-    past = λ k d low high. ⊎_elim
-        (λ (later : at < k). left.past k d (omega (arith, later, next)) high)
-        (λ (here : k ≤ at). let same : k ≡ at = omega (arith, here, low) in subst (λ i. Fails rows (get_or links i d)) (sym same)
-        (led_fails rows links at key row apart under its fails d))
-        (cases_lt at k);
-  }
-
   -- or it goes, with its row
-  pub left_gone : (rows next : List (Keyed Connection)) (links after : List Link) (start end at key : ℕ) → IsInOrder link_cmp links → end ≡ at + 1 → start < end
-      → (keep : Keyed Connection → Bool) → next ≡ filter keep rows → (its : IsLed received rows links object at key)
+  pub left_gone : (rows next : List (Keyed Connection)) (links after : List Link) (start end last key : ℕ) → IsInOrder link_cmp links → end ≡ last + 1
+      → start < end → (keep : Keyed Connection → Bool) → next ≡ filter keep rows → (its : IsLed received rows links object start key)
       → after ≡ without_link link_cmp links (link_of received (record { key = key; row = its.row })) → AreLeft rows links start end
-      → AreLeft next after start at
-  left_gone rows next links after start end at key order next_is some keep rows_are its links_are left =
+      → AreLeft next after start last
+  left_gone rows next links after start end last key order end_is some keep rows_are its links_are left =
       let link : Link = link_of received (record { key = key; row = its.row }) in
-      let within : at < length links = omega (arith, left.within, next_is) in
-      let seat = seat_found link_total links order link at within (λ d. ap (λ l. link_cmp l link) (sym (its.link d)) ∙ tied_itself link_total link) in
-      let removed : after ≡ remove links at = links_are ∙ sym (remove_link link_total links order link at link seat) in
-      let shorter : length (remove links at) + 1 ≡ length links = length-remove links at within in
+      let within : start < length links = omega (arith, left.within, some) in
+      let seat = seat_found link_total links order link start within (λ d. ap (λ l. link_cmp l link) (sym (its.link d)) ∙ tied_itself link_total link) in
+      let removed : after ≡ remove links start = links_are ∙ sym (remove_link link_total links order link start link seat) in
+      let shorter : length (remove links start) + 1 ≡ length links = length-remove links start within in
       rw (removed, rows_are) (record {
-        within = omega (arith, shorter, within);
+        within = omega (arith, shorter, left.within, end_is);
         before = λ k d low high keyed there is. left.before k d low high keyed (contains_from keep rows keyed there).0
-            (is ∙ get_or-remove_below links at d k (omega (arith, high, some, next_is)) within);
-        inside = λ k d low high. ap (λ (l : Link). l.object) (get_or-remove_below links at d k high within)
-            ∙ left.inside k d low (omega (arith, high, next_is));
-        past = λ k d low high keyed there is. left.past (k + 1) d (omega (arith, low, next_is)) (omega (arith, high, shorter)) keyed
-            (contains_from keep rows keyed there).0 (is ∙ get_or-remove_above links at d k low within);
+            (is ∙ get_or-remove_below links start d k high within);
+        inside = λ k d low high. ap (λ (l : Link). l.object) (get_or-remove_above links start d k low within)
+            ∙ left.inside (k + 1) d (omega (arith, low)) (omega (arith, high, end_is));
+        past = λ k d low high keyed there is. left.past (k + 1) d (omega (arith, low, end_is)) (omega (arith, high, shorter)) keyed
+            (contains_from keep rows keyed there).0 (is ∙ get_or-remove_above links start d k (omega (arith, low, some, end_is)) within);
       })
 
 -- a group is what is left at first

@@ -20,13 +20,13 @@ use Rattle.connection_list.specs.declared.routes.Routes.{Routes}
 
 -- The links to a connection from its sender and from its receiver.
 abbrev pub sent_of : Keyed Connection → Link
-sent_of keyed = record { object = keyed.row.sender; signal = keyed.row.signal; number = keyed.row.number; key = keyed.key }
+sent_of keyed = record { object = keyed.row.sender; source = keyed.row.signal; rank = keyed.row.number; key = keyed.key }
 
 abbrev pub received_of : Keyed Connection → Link
 received_of keyed = record {
   object = keyed.row.receiver;
-  signal = keyed.row.sender;
-  number = mark_of keyed.row.signal keyed.row.callee;
+  source = keyed.row.sender;
+  rank = mark_of keyed.row.signal keyed.row.callee;
   key = keyed.key;
 }
 
@@ -42,10 +42,10 @@ abbrev pub link_of : Bool → Keyed Connection → Link
 link_of true keyed = received_of keyed
 link_of false keyed = sent_of keyed
 
--- Links are ordered by object, then by signal, number and key.
+-- Links are ordered by object, then by source, rank and key.
 abbrev pub link_cmp : Link → Link → Ordering
 link_cmp x y = ordering_then (nat_cmp x.object y.object)
-    (ordering_then (nat_cmp x.signal y.signal) (ordering_then (nat_cmp x.number y.number) (nat_cmp x.key y.key)))
+    (ordering_then (nat_cmp x.source y.source) (ordering_then (nat_cmp x.rank y.rank) (nat_cmp x.key y.key)))
 
 -- The bucket of a link's object gains the link.
 abbrev pub Gains : Link → Bucketed → Bucketed → Type 0
@@ -54,18 +54,18 @@ Gains link = Changes (λ links. with_link link_cmp links link) link.object
 abbrev pub Loses : Link → Bucketed → Bucketed → Type 0
 Loses link = Changes (λ links. without_link link_cmp links link) link.object
 
--- Whether a link is before all links of an object, of one of its signals, or of these with certain marks.
+-- Whether a link is before all links of an object, of one source, or of these with certain marks.
 abbrev pub is_before : ℕ → Option ℕ → Option Marks → Link → Bool
 is_before object None marks link = nat_lt link.object object
-is_before object (Some signal) None link = nat_lt link.object object || link.object == object && nat_lt link.signal signal
-is_before object (Some signal) (Some marks) link = nat_lt link.object object
-    || link.object == object && (nat_lt link.signal signal || link.signal == signal && nat_lt link.number marks.least)
+is_before object (Some source) None link = nat_lt link.object object || link.object == object && nat_lt link.source source
+is_before object (Some source) (Some marks) link = nat_lt link.object object
+    || link.object == object && (nat_lt link.source source || link.source == source && nat_lt link.rank marks.least)
 
 abbrev pub is_past : ℕ → Option ℕ → Option Marks → Link → Bool
 is_past object None marks link = nat_lt object link.object
-is_past object (Some signal) None link = nat_lt object link.object || link.object == object && nat_lt signal link.signal
-is_past object (Some signal) (Some marks) link = nat_lt object link.object
-    || link.object == object && (nat_lt signal link.signal || link.signal == signal && nat_lt marks.greatest link.number)
+is_past object (Some source) None link = nat_lt object link.object || link.object == object && nat_lt source link.source
+is_past object (Some source) (Some marks) link = nat_lt object link.object
+    || link.object == object && (nat_lt source link.source || link.source == source && nat_lt marks.greatest link.rank)
 
 -- The link leads to no connection that passes a test.
 abbrev pub FailsAt : (Keyed Connection → Bool) → Bool → Link → Type 0

@@ -9,15 +9,16 @@ ghost use Rattle.connection_list.specs.Routes.{is_before, is_past, link_cmp};
 use crate::mark::Marks;
 use shared_rows::Links;
 
-/// Leads to a connection from one of its ends. Links are sorted by object, then signal, then number, so
-/// the links of an object are adjacent, and so are those of one of its signals.
+/// Leads to a connection from one of its ends. Links are sorted by object, then source, then rank, so the links of
+/// an object are adjacent, and so are those of one of its signals, or from one sender.
 #[derive(Clone, Copy, PartialEq, Eq, PartialOrd, Ord)]
 pub(crate) struct Link {
+    /// The sender, or at the receiving end the receiver.
     pub(crate) object: u32,
-    /// At the receiving end it is the sender.
-    pub(crate) signal: u32,
-    /// At the receiving end it is the connection's mark.
-    pub(crate) number: u32,
+    /// The signal, or at the receiving end the sender.
+    pub(crate) source: u32,
+    /// The connection's number, or at the receiving end its mark.
+    pub(crate) rank: u32,
     /// The key of the connection's row in the table of all places.
     pub(crate) key: u32,
 }
@@ -33,62 +34,61 @@ pub(crate) struct Group {
     pub(crate) end: usize,
 }
 
-/// The links of an object, those of one of its signals, or those of them with certain marks.
+/// The links of an object, those of one source, or those of them with certain marks.
 pub(crate) fn group_of(
     links: &Links<Link>,
     received: bool,
     object: u32,
-    signal: Option<u32>,
+    source: Option<u32>,
     marks: Option<Marks>,
 ) -> Group
     ensures received { result.received ≡ received }
     ensures object { result.object ≡ object }
     ensures within { result.end ≤ length links.now.links }
-    ensures before { AllWithin (λ link. is_before object signal marks link ≡ true) links.now.links 0 result.start }
+    ensures before { AllWithin (λ link. is_before object source marks link ≡ true) links.now.links 0 result.start }
     ensures inside { AllWithin (λ link. link.object ≡ object) links.now.links result.start result.end }
-    ensures past { AllWithin (λ link. is_past object signal marks link ≡ true) links.now.links result.end (length links.now.links) }
+    ensures past { AllWithin (λ link. is_past object source marks link ≡ true) links.now.links result.end (length links.now.links) }
 {
     let all = links.as_buffer();
     Group {
         received,
         object,
-        start: all.partition_point(|link| is_before(object, signal, marks, link)),
-        end: all.partition_point(|link| !is_past(object, signal, marks, link)),
+        start: all.partition_point(|link| is_before(object, source, marks, link)),
+        end: all.partition_point(|link| !is_past(object, source, marks, link)),
     }
 }
 
 /// Whether a link sorts before every link of a group.
-fn is_before(object: u32, signal: Option<u32>, marks: Option<Marks>, link: &Link) -> bool
-    ensures { result ≡ is_before object signal marks link.now }
+fn is_before(object: u32, source: Option<u32>, marks: Option<Marks>, link: &Link) -> bool
+    ensures { result ≡ is_before object source marks link.now }
 {
-    match (signal, marks) {
+    match (source, marks) {
         (None, _) => link.object < object,
-        (Some(signal), None) => {
-            link.object < object || (link.object == object && link.signal < signal)
+        (Some(source), None) => {
+            link.object < object || (link.object == object && link.source < source)
         }
-        (Some(signal), Some(marks)) => {
+        (Some(source), Some(marks)) => {
             link.object < object
                 || (link.object == object
-                    && (link.signal < signal
-                        || (link.signal == signal && link.number < marks.least)))
+                    && (link.source < source || (link.source == source && link.rank < marks.least)))
         }
     }
 }
 
 /// Whether a link sorts after every link of a group.
-fn is_past(object: u32, signal: Option<u32>, marks: Option<Marks>, link: &Link) -> bool
-    ensures { result ≡ is_past object signal marks link.now }
+fn is_past(object: u32, source: Option<u32>, marks: Option<Marks>, link: &Link) -> bool
+    ensures { result ≡ is_past object source marks link.now }
 {
-    match (signal, marks) {
+    match (source, marks) {
         (None, _) => object < link.object,
-        (Some(signal), None) => {
-            object < link.object || (link.object == object && signal < link.signal)
+        (Some(source), None) => {
+            object < link.object || (link.object == object && source < link.source)
         }
-        (Some(signal), Some(marks)) => {
+        (Some(source), Some(marks)) => {
             object < link.object
                 || (link.object == object
-                    && (signal < link.signal
-                        || (link.signal == signal && marks.greatest < link.number)))
+                    && (source < link.source
+                        || (link.source == source && marks.greatest < link.rank)))
         }
     }
 }
@@ -108,8 +108,9 @@ pub(crate) fn first_near(links: &Links<Link>, link: Link, near: &mut usize) -> O
     Some(all.get(at))
 }
 
-/// The link at a position, if it is one of this signal of this object with a number above `after`, and the link
-/// before it has a number of at most `after`. As links are sorted, it is then the first with a number above `after`.
+/// The link at a position of the sending end, if it is one of this signal of this object with a number above `after`,
+/// and the link before it has a number of at most `after`. As links are sorted, it is then the first with a number
+/// above `after`.
 #[inline(always)]
 pub(crate) fn follower(
     links: &Links<Link>,
@@ -119,8 +120,8 @@ pub(crate) fn follower(
     at: usize,
 ) -> Option<Link>
     ensures first { IfSome result (λ there. first_from link_cmp links.now.links
-        (record { object = object; signal = signal; number = after + 1; key = 0 }) ≡ Some there) }
-    ensures ends { IfSome result (λ there. (there.object ≡ object) × (there.signal ≡ signal)) }
+        (record { object = object; source = signal; rank = after + 1; key = 0 }) ≡ Some there) }
+    ensures ends { IfSome result (λ there. (there.object ≡ object) × (there.source ≡ signal)) }
     ensures sound { IsInOrder link_cmp links.now.links }
 {
     let all = links.as_buffer();
@@ -128,17 +129,17 @@ pub(crate) fn follower(
         return None;
     }
     let before = all.get(at - 1);
-    if before.number > after {
+    if before.rank > after {
         return None;
     }
     let there = all.get(at);
     if there.object != object {
         return None;
     }
-    if there.signal != signal {
+    if there.source != signal {
         return None;
     }
-    if there.number <= after {
+    if there.rank <= after {
         return None;
     }
     Some(there)

@@ -169,7 +169,8 @@ impl LazyRoutes {
         }
     }
 
-    /// Takes out the connections that match a pattern.
+    /// Takes out the connections that match a pattern, from the first link on: then most links are where the last
+    /// change was, and need no search.
     pub(crate) fn disconnect_matching(
         &mut self,
         rows: &mut SharedRows<Connection>,
@@ -181,12 +182,15 @@ impl LazyRoutes {
         ensures { AreGone (λ keyed. matches pattern.now keyed.row) place rows.old rows.new self.old self.new }
     {
         let group = self.group(pattern);
-        let mut left = group.end;
-        'links: while left > group.start {
-            left -= 1;
-            let key = self.key_at(group, left);
+        let mut at = group.start;
+        let mut end = group.end;
+        'links: while at < end {
+            let key = self.key_at(group, at);
             if matches(pattern, rows.get(place, key)) {
                 self.take_out(rows, place, key);
+                end -= 1;
+            } else {
+                at += 1;
             }
         }
     }
@@ -306,7 +310,7 @@ impl LazyRoutes {
             return None;
         };
         let link = follower(routes.sent.bucket(sender), sender, signal, after, *near)?;
-        if link.number > up_to {
+        if link.rank > up_to {
             return None;
         }
         *near = near.wrapping_add(1);
@@ -335,12 +339,12 @@ impl LazyRoutes {
         }
         let start = Link {
             object: sender,
-            signal,
-            number: after + 1,
+            source: signal,
+            rank: after + 1,
             key: 0,
         };
         let link = first_near(routes.sent.bucket(sender), start, near)?;
-        if link.object != sender || link.signal != signal || link.number > up_to {
+        if link.object != sender || link.source != signal || link.rank > up_to {
             return None;
         }
         Some(link.key)
@@ -380,8 +384,8 @@ fn sent_link(row: &Connection, key: u32) -> Link
 {
     Link {
         object: row.sender,
-        signal: row.signal,
-        number: row.number,
+        source: row.signal,
+        rank: row.number,
         key,
     }
 }
@@ -391,8 +395,8 @@ fn received_link(row: &Connection, key: u32) -> Link
 {
     Link {
         object: row.receiver,
-        signal: row.sender,
-        number: mark_of(row.signal, row.callee),
+        source: row.sender,
+        rank: mark_of(row.signal, row.callee),
         key,
     }
 }
@@ -404,8 +408,8 @@ fn first_of(links: &Links<Link>, object: u32) -> Option<u32>
 {
     let start = Link {
         object,
-        signal: 0,
-        number: 0,
+        source: 0,
+        rank: 0,
         key: 0,
     };
     let link = links.first_from(start)?;

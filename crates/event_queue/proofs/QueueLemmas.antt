@@ -1,14 +1,14 @@
 -- The queues in rows and logs.
-use Rattle.std.proofs.Common.{◌≡◌, ◌≢◌, ◌∙◌, ℕ, ◌+◌, ◌-◌, ◌*◌, ◌^◌, ◌<◌, ◌≤◌, ◌==◌, ◌||◌, List, [], ◌∷◌, ◌++◌, length, count_by, drop, true, false, cond, None}
-use Rattle.std.proofs.Common.{Some, min, get_or, set, refl, sym, ap, subst, arith, ⊎_elim, rules}
+use Rattle.std.proofs.Common.{◌≡◌, ◌∙◌, ℕ, ◌+◌, ◌-◌, ◌*◌, ◌^◌, ◌<◌, ◌≤◌, ◌==◌, ◌||◌, List, [], ◌∷◌, length, count_by, drop, true, false, cond, None}
+use Rattle.std.proofs.Common.{Some, get_or, set, refl, sym, ap, subst, arith, rules}
 use Rattle.std.proofs.lemmas.Grind.{common_steps}
 use Rattle.std.specs.List.{slice_get}
-use Rattle.std.proofs.lemmas.Bool.{cases_eq, cases_lt}
 use Rattle.std.proofs.lemmas.Bool.Decides.{nat_tests}
-use Rattle.std.proofs.lemmas.List.{get_or-set_same, get_or-set_other, get_or_append_left, get_or_push, length-drop, length-map, length-set, length_push}
-use Rattle.shared_rows.specs.Paired.{paired, paired_tables}
+use Rattle.std.proofs.lemmas.List.{length-drop, length-map, length-set, length_push}
+use Rattle.shared_rows.specs.Paired.{paired_tables}
 use Rattle.shared_rows.specs.Table.{ChangesAt, IsPlace, Table, opened, with_place}
-use Rattle.shared_rows.proofs.ForCallers.{paired_at, paired_push, paired_set, length-paired, changes_length, changes_same, changes_twice, with_same}
+use Rattle.shared_rows.proofs.ForCallers.{changes_length, changes_same, changes_twice, with_same}
+use Rattle.shared_rows.proofs.ForCallers.{each_opened, each_with, pairs_at, pairs_length, pairs_opened, pairs_with}
 use Rattle.shared_rows.specs.Rows.{Keyed, rows_at}
 use Rattle.event_queue.specs.declared.event.Event.{Event}
 use Rattle.event_queue.specs.declared.event.QueuedEvent.{QueuedEvent}
@@ -63,7 +63,7 @@ module _ {old middle : Table (List (Keyed QueuedEvent))} {place : ℕ} {before b
 module _ {rows : Table (List (Keyed QueuedEvent))} {logs : Table Log} (are : AreLogged rows logs) {table : Table Queue}
     (view_is : paired_tables queue_of rows logs ≡ table) {place : ℕ} (is_place : IsPlace table place) where
   pub of_rows : IsPlace rows place
-  of_rows = search (rules, length-paired)
+  of_rows = omega (arith, is_place, pairs_length queue_of rows logs are.same view_is)
 
   pub of_logs : IsPlace logs place
   of_logs = omega (arith, of_rows, are.same)
@@ -71,9 +71,7 @@ module _ {rows : Table (List (Keyed QueuedEvent))} {logs : Table Log} (are : Are
   -- what contracts see of the place
   pub seen : {log : Log} → ((d : Log) → log ≡ get_or logs.places place d) → queue_at table place ≡ queue_of (rows_at rows place) log
   seen {log} is =
-      ap (λ (t : Table Queue). queue_at t place) (sym view_is)
-      ∙ (paired_at queue_of rows.places logs.places place [] log (record { events = []; lost = 0; mismatched = 0 }) are.same of_rows
-      ∙ ap (queue_of (rows_at rows place)) (sym (is log)))
+      pairs_at queue_of rows logs are.same view_is place [] log empty_queue of_rows ∙ ap (queue_of (rows_at rows place)) (sym (is log))
 
   -- how many of its events name an object
   pub waits_for : {log : Log} → ((d : Log) → log ≡ get_or logs.places place d) → (object : ℕ)
@@ -104,58 +102,45 @@ module _ {rows : Table (List (Keyed QueuedEvent))} {logs : Table Log} (are : Are
         kept : AreLogged rows' (with_place logs place log)
         kept = record {
           same = omega (arith, changes_length [] rows rows' place has.changed, are.same, length-set logs.places place log);
-          each = λ other d within. ⊎_elim
-              (λ (here : other ≡ place). rw here (subst (IsLogged (events_at rows' place)) (sym (get_or-set_same logs.places place log d of_logs))
-              (subst (λ list. IsLogged list log) (sym has.now) holds)))
-              (λ (differ : other ≢ place).
-              let inner : other < length rows.places = omega (arith, within, changes_length [] rows rows' place has.changed) in
-              let same_rows : rows_at rows' other ≡ rows_at rows other = ap (λ t. rows_at t other) has.changed
-              ∙ get_or-set_other rows.places place other (rows_at rows' place) [] differ in
-              subst (λ list. IsLogged (events_of list) (get_or (set logs.places place log) other d)) (sym same_rows)
-              (subst (IsLogged (events_at rows other)) (sym (get_or-set_other logs.places place other log d differ)) (are.each other d inner)))
-              (cases_eq other place);
+          each = λ other d within.
+              subst (λ (t : Table (List (Keyed QueuedEvent))). IsLogged (events_at t other) (get_or (set logs.places place log) other d)) (sym has.changed)
+              (each_with (λ list log. IsLogged (events_of list) log) rows.places logs.places [] are.same are.each place (rows_at rows' place) log of_rows
+              (subst (λ list. IsLogged list log) (sym has.now) holds) other d (omega (arith, within, changes_length [] rows rows' place has.changed)));
         }
 
         view : paired_tables queue_of rows' (with_place logs place log) ≡ with_queue table place queue
         view =
             ap (λ t. paired_tables queue_of t (with_place logs place log)) has.changed
-            ∙ (ap (λ places. record { places = places; room = min rows.room logs.room })
-            (paired_set queue_of rows.places logs.places place (rows_at rows' place) log are.same)
-            ∙ (ap (λ t. with_queue t place (queue_of (rows_at rows' place) log)) view_is
+            ∙ (pairs_with queue_of rows logs are.same view_is place (rows_at rows' place) log
             ∙ ap (with_queue table place) (ap (λ list. record { events = waiting log.objects list; lost = log.lost; mismatched = log.mismatched }) has.now
-            ∙ is)))
+            ∙ is))
 
   module _ {log : Log} (stood : (d : Log) → log ≡ get_or logs.places place d) where
-    pub lost_noted : {count : ℕ} → count ≡ noted log.lost → IsAfter rows (with_place logs place (record log { lost = count }))
-        (with_lost (queue_at table place))
-    lost_noted {count} is =
+    -- only what was noted changes
+    noted_log : (lost mismatched : ℕ) → lost < 2 ^ 64 → mismatched < 2 ^ 64 → (queue : Queue)
+        → record { events = waiting log.objects (events_at rows place); lost = lost; mismatched = mismatched } ≡ queue
+        → IsAfter rows (with_place logs place (record log { lost = lost; mismatched = mismatched })) queue
+    noted_log lost mismatched short_lost short_mismatched queue is =
         let holds = logged stood in
-        after rows (events_at rows place) same_events (record log { lost = count })
+        after rows (events_at rows place) same_events (record log { lost = lost; mismatched = mismatched })
         (record {
           few = holds.few;
           queued = holds.queued;
           few_rows = holds.few_rows;
           counted = holds.counted;
-          lost = omega (arith, is);
-          mismatched = holds.mismatched;
+          lost = short_lost;
+          mismatched = short_mismatched;
         })
+        queue is
+
+    pub lost_noted : {count : ℕ} → count ≡ noted log.lost → IsAfter rows (with_place logs place (record log { lost = count }))
         (with_lost (queue_at table place))
+    lost_noted {count} is = noted_log count log.mismatched (omega (arith, is)) (logged stood).mismatched (with_lost (queue_at table place))
         (ap (λ n. record { events = waiting log.objects (events_at rows place); lost = n; mismatched = log.mismatched }) is ∙ ap with_lost (sym (seen stood)))
 
     pub mismatched_noted : {count : ℕ} → count ≡ noted log.mismatched
         → IsAfter rows (with_place logs place (record log { mismatched = count })) (with_mismatched (queue_at table place))
-    mismatched_noted {count} is =
-        let holds = logged stood in
-        after rows (events_at rows place) same_events (record log { mismatched = count })
-        (record {
-          few = holds.few;
-          queued = holds.queued;
-          few_rows = holds.few_rows;
-          counted = holds.counted;
-          lost = holds.lost;
-          mismatched = omega (arith, is);
-        })
-        (with_mismatched (queue_at table place))
+    mismatched_noted {count} is = noted_log log.lost count (logged stood).lost (omega (arith, is)) (with_mismatched (queue_at table place))
         (ap (λ n. record { events = waiting log.objects (events_at rows place); lost = log.lost; mismatched = n }) is ∙ ap with_mismatched (sym (seen stood)))
 
     pub all_cleared : {rows' : Table (List (Keyed QueuedEvent))} → HasEvents rows rows' place [] → {new : Log} → new.lost ≡ 0 → new.mismatched ≡ 0
@@ -295,26 +280,14 @@ module _ {rows : Table (List (Keyed QueuedEvent))} {logs : Table Log} (are : Are
       kept : AreLogged (opened rows []) (opened logs new)
       kept = record {
         same = omega (arith, are.same, length_push rows.places [], length_push logs.places new);
-        each = λ other d within. ⊎_elim
-            (λ (below : other < length rows.places).
-            rw (get_or_append_left rows.places ([] ∷ []) [] other below, get_or_append_left logs.places (new ∷ []) d other (omega (arith, below, are.same)))
-            (are.each other d below))
-            (λ (above : length rows.places ≤ other).
-            let last : length rows.places ≡ other = omega (arith, within, above, length_push rows.places []) in
-            rw (get_or_push rows.places [] [] other last, get_or_push logs.places new d other (omega (arith, last, are.same)))
-            holds)
-            (cases_lt other (length rows.places));
+        each = λ other d within. each_opened (λ list log. IsLogged (events_of list) log) rows.places logs.places [] are.same are.each [] new holds other d
+            (omega (arith, within, length_push rows.places []));
       }
 
       view : paired_tables queue_of (opened rows []) (opened logs new) ≡ opened table empty_queue
       view =
-          let room : min (rows.room - 1) (logs.room - 1) ≡ min rows.room logs.room - 1 = omega arith in
           let empty : queue_of [] new ≡ empty_queue = rw (lost, mismatched) refl in
-          ap (λ places. record { places = places; room = min (rows.room - 1) (logs.room - 1) }) (paired_push queue_of rows.places logs.places [] new are.same)
-          ∙ (ap {B = Table Queue} (λ both. record { places = paired queue_of rows.places logs.places ++ both ∷ []; room = min (rows.room - 1) (logs.room - 1) })
-          empty
-          ∙ (ap {B = Table Queue} (λ n. record { places = paired queue_of rows.places logs.places ++ empty_queue ∷ []; room = n }) room
-          ∙ ap (λ t. opened t empty_queue) view_is))
+          pairs_opened queue_of rows logs are.same view_is [] new ∙ ap (opened table) empty
 
       place : (result : ℕ) → result ≡ length rows.places → result ≡ length table.places
-      place result is = is ∙ (sym (length-paired queue_of rows.places logs.places are.same) ∙ ap (λ (t : Table Queue). length t.places) view_is)
+      place result is = is ∙ sym (pairs_length queue_of rows logs are.same view_is)

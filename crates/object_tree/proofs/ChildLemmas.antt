@@ -1,13 +1,13 @@
 -- The children of all parents, in one order.
 use Rattle.std.proofs.Common.{◌≡◌, ◌≢◌, ◌⊎◌, ℕ, zero, suc, ◌+◌, ◌-◌, ◌<◌, ◌≤◌, ◌==◌, ◌∙◌, Bool, true, false, not, cond, List, [], ◌∷◌, Option, Some, None}
 use Rattle.std.proofs.Common.{length, map, filter, get_or, set, take, drop, refl, sym, ap, subst, arith, ⊎_elim, inl, inr, nat_le, nat_lt}
+use Rattle.std.proofs.Math.Bool.{not-not}
 use Rattle.std.specs.Cmp.{IsTotalOrder}
 use Rattle.std.specs.Option.{is_some, option_and_then}
 use Rattle.std.specs.List.{All, AllPairs, Any, Contains, slice_range}
 use Rattle.std.specs.List.Sorted.{IsPartitionedBy, IsPermutation}
 use Rattle.std.specs.Ordering.{is_lt, nat_cmp, ordering_reverse, ordering_then}
-use Rattle.std.specs.declared.cmp.Ordering.{Ordering}
-use Rattle.std.specs.declared.cmp.Ordering.TheVariants.{Less, Equal, Greater}
+use Rattle.std.specs.declared.cmp.Ordering.TheVariants.{Less, Equal}
 use Rattle.std.proofs.lemmas.Bool.{cases_Bool, cases_eq, cases_lt, cond-true, cond-false, cond_both, eqb-true, eqb-false, eq-eqb, ne_eqb, leb-true, le-leb}
 use Rattle.std.proofs.lemmas.Bool.{ltb-true, ltb-false, false≢true}
 use Rattle.std.proofs.lemmas.Bool.Decides.{nat_tests}
@@ -23,6 +23,7 @@ use Rattle.std.proofs.lemmas.Simd.{map-map}
 use Rattle.shared_rows.specs.Links.{AreLinked, IsInOrder, with_link, without_link}
 use Rattle.shared_rows.specs.Rows as shared
 use Rattle.shared_rows.specs.Rows.{Keyed, with_row}
+use Rattle.shared_rows.proofs.ForCallers.{then_equal}
 use Rattle.shared_rows.proofs.LinkedLemmas.{all_from, any_of, contains_from, contains_kept, contains_map, contains_mapped, linked_filter, linked_map}
 use Rattle.shared_rows.proofs.LinkedLemmas.{same_links}
 use Rattle.object_tree.specs.declared.row.Row.{Row}
@@ -50,15 +51,10 @@ same-from_cmp a b e = grind (arith, nat_tests)
 equal_cmp : (a b : ℕ) → a ≡ b → nat_cmp a b ≡ Equal
 equal_cmp a b h = grind (arith, nat_tests)
 
-both_equal : (a b : Ordering) → ordering_then a b ≡ Equal → (a ≡ Equal) × (b ≡ Equal)
-both_equal Less b e = absurd (cc)
-both_equal Equal b e = (refl, e)
-both_equal Greater b e = absurd (cc)
-
 pub child_same : (x y : Child) → child_cmp x y ≡ Equal → x ≡ y
 child_same x y e =
-    let outer = both_equal (ordering_then (nat_cmp y.parent x.parent) (nat_cmp x.stamp y.stamp)) (nat_cmp x.number y.number) e in
-    let inner = both_equal (nat_cmp y.parent x.parent) (nat_cmp x.stamp y.stamp) outer.0 in
+    let outer = then_equal (ordering_then (nat_cmp y.parent x.parent) (nat_cmp x.stamp y.stamp)) (nat_cmp x.number y.number) e in
+    let inner = then_equal (nat_cmp y.parent x.parent) (nat_cmp x.stamp y.stamp) outer.0 in
     λ i. record {
       stamp = same-from_cmp x.stamp y.stamp inner.1 i;
       parent = sym (same-from_cmp y.parent x.parent inner.0) i;
@@ -103,16 +99,8 @@ module _ {key n : ℕ} {row : Row} {keyed : List (Keyed Row)} {links : List Chil
   pub links_out : AreLinked child_of (rows_of (shared.without keyed key)) (without_link child_cmp links (child_of row))
   links_out = rw stands.out
       (linked_filter child_total child_same child_of (λ r. not (has_number n r)) (rows_of keyed) links (child_of row) linked
-      (λ k d within stays. other_link (get_or (rows_of keyed) k d) (not_true _ stays))
-      (λ k d within goes. ap child_of (stands.only k d within (not_false _ goes))))
-    where
-      not_true : (b : Bool) → not b ≡ true → b ≡ false
-      not_true true e = absurd (cc)
-      not_true false e = refl
-
-      not_false : (b : Bool) → not b ≡ false → b ≡ true
-      not_false true e = refl
-      not_false false e = absurd (cc)
+      (λ k d within stays. other_link (get_or (rows_of keyed) k d) (sym (not-not _) ∙ ap not stays))
+      (λ k d within goes. ap child_of (stands.only k d within (sym (not-not _) ∙ ap not goes))))
 
 -- rows by stamp are the same rows
 inserted_same : (row : Row) (rows : List Row) → IsPermutation (inserted row rows) (row ∷ rows)

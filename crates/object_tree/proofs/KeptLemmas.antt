@@ -1,14 +1,15 @@
 -- Rows and kinships of the same places, seen as forests.
-use Rattle.std.proofs.Common.{◌≡◌, ℕ, zero, suc, ◌<◌, ◌≤◌, ◌+◌, ◌-◌, ◌==◌, ◌∙◌, false, List, [], ◌∷◌, Option, Some, None, Result, Ok, Err, OnErr, length, map}
-use Rattle.std.proofs.Common.{filter, get_or, min, refl, sym, ap, subst, arith, ⊎_elim}
+use Rattle.std.proofs.Common.{◌≡◌, ℕ, ◌<◌, ◌≤◌, ◌+◌, ◌==◌, ◌∙◌, false, List, [], Option, Some, None, length, map}
+use Rattle.std.proofs.Common.{filter, get_or, refl, sym, ap, subst, arith}
 use Rattle.std.specs.List.{All}
 use Rattle.std.specs.Option.{option_map}
-use Rattle.std.proofs.lemmas.Bool.{cases_eq, cond_both}
-use Rattle.std.proofs.lemmas.List.{length-set, length_push, map_push, get_or-set_same, get_or-set_other, get_or_append_left, get_or_push, get_or-map}
+use Rattle.std.proofs.lemmas.Bool.{cond_both}
+use Rattle.std.proofs.lemmas.List.{length-set, length_push, map_push, get_or-map}
 use Rattle.std.proofs.lemmas.List.{length-map}
 use Rattle.shared_rows.specs.Table.{ChangesAt, IsPlace, Table, opened, with_place}
 use Rattle.shared_rows.specs.Paired.{paired_tables}
-use Rattle.shared_rows.proofs.ForCallers.{paired_at, paired_push, paired_set, length-paired, changes_twice, changes_with, default_pushed, with_same, with_there}
+use Rattle.shared_rows.proofs.ForCallers.{changes_twice, changes_with, with_same, with_there}
+use Rattle.shared_rows.proofs.ForCallers.{each_opened, each_with, pairs_at, pairs_length, pairs_opened, pairs_with}
 use Rattle.shared_rows.specs.Links.{AreLinked, IsInOrder, Linked, with_link, without_link}
 use Rattle.shared_rows.proofs.LinkedLemmas.{linked_push, linked_same}
 use Rattle.shared_rows.specs.Rows as shared
@@ -36,10 +37,6 @@ nobodys = record { last_number = 0; last_stamp = 0; children = record { links = 
 abbrev pub Shared : Type 0
 Shared = Table (List (Keyed Row))
 
-pub on_err : {R E : Type 0} {P : Type 0} (r : Result R E) → P → OnErr r P
-on_err (Ok x) p = tt
-on_err (Err e) p = p
-
 -- what a search by number found
 pub stands_under : {keyed : List (Keyed Row)} {key n : ℕ} {row : Row} → shared.IsSound number_of keyed → row_under keyed key ≡ Some row
     → option_map number_of (row_under keyed key) ≡ Some n → Stands key n row keyed
@@ -65,7 +62,7 @@ empty_kept kinship none number stamp = record {
 module _ {rows : Shared} {kinships : Table Kinship} {table : Table Forest} (kept : IsKept rows kinships)
     (view : paired_tables forest_of rows kinships ≡ table) where
   pub as_many : length table.places ≡ length kinships.places
-  as_many = ap (λ (t : Table Forest). length t.places) (sym view) ∙ (length-paired forest_of rows.places kinships.places kept.same ∙ kept.same)
+  as_many = pairs_length forest_of rows kinships kept.same view ∙ kept.same
 
   module _ (place : ℕ) (is_place : IsPlace table place) where
     pub in_kinships : IsPlace kinships place
@@ -73,6 +70,9 @@ module _ {rows : Shared} {kinships : Table Kinship} {table : Table Forest} (kept
 
     pub in_rows : IsPlace rows place
     in_rows = omega (arith, in_kinships, kept.same)
+
+    each_kept : (other : ℕ) (default : Kinship) → other < length rows.places → IsPlaceKept (rows_at rows other) (get_or kinships.places other default)
+    each_kept other default within = kept.each other default (omega (arith, within, kept.same))
 
     -- other rows and another kinship at the place
     pub becomes : {new_rows : Shared} {new_kinships : Table Kinship} (keyed : List (Keyed Row)) (kinship : Kinship) (forest : Forest)
@@ -82,25 +82,17 @@ module _ {rows : Shared} {kinships : Table Kinship} {table : Table Forest} (kept
     becomes {new_rows} {new_kinships} keyed kinship forest rows_are kinships_are is linked sound = record {
       kept = rw (rows_are, kinships_are) (record {
         same = length-set rows.places place keyed ∙ (kept.same ∙ sym (length-set kinships.places place kinship));
-        each = λ other default within. ⊎_elim
-            (λ (here : other ≡ place). rw (
-              here,
-              get_or-set_same rows.places place keyed [] in_rows,
-              get_or-set_same kinships.places place kinship default in_kinships,
-            ) (record { linked = linked; sound = rw is sound }))
-            (λ differ. rw (get_or-set_other rows.places place other keyed [] differ, get_or-set_other kinships.places place other kinship default differ)
-            (kept.each other default (omega (arith, within, length-set kinships.places place kinship))))
-            (cases_eq other place);
+        each = λ other default within. each_with IsPlaceKept rows.places kinships.places [] kept.same each_kept place keyed kinship in_rows
+            (record { linked = linked; sound = rw is sound }) other default (omega (arith, within, length-set kinships.places place kinship, kept.same));
       });
       seen =
           (λ i. paired_tables forest_of (rows_are i) (kinships_are i))
-          ∙ ((λ i. record { places = paired_set forest_of rows.places kinships.places place keyed kinship kept.same i; room = min rows.room kinships.room })
-          ∙ (ap (λ t. with_forest t place (forest_of keyed kinship)) view ∙ ap (with_forest table place) is));
+          ∙ (pairs_with forest_of rows kinships kept.same view place keyed kinship ∙ ap (with_forest table place) is);
     }
 
     -- its forest, also where nothing was read there
     pub seen_anyhow : forest_at table place ≡ forest_of (rows_at rows place) (get_or kinships.places place nobodys)
-    seen_anyhow = ap (λ t. forest_at t place) (sym view) ∙ paired_at forest_of rows.places kinships.places place [] nobodys empty_forest kept.same in_rows
+    seen_anyhow = pairs_at forest_of rows kinships kept.same view place [] nobodys empty_forest in_rows
 
     pub sound_anyhow : IsSound (forest_at table place)
     sound_anyhow = subst IsSound (sym seen_anyhow) (kept.each place nobodys in_kinships).sound
@@ -262,27 +254,13 @@ module _ {rows new_rows : Shared} {kinships new_kinships : Table Kinship} {table
   pub open_kept : kinship.children.links ≡ [] → IsKept new_rows new_kinships
   open_kept none = rw (rows_are, kinships_are) (record {
     same = omega (arith, length_push rows.places [], length_push kinships.places kinship, kept.same);
-    each = λ place default within. rw (default_pushed [] rows.places place) (⊎_elim
-        (λ (here : place ≡ length kinships.places).
-        rw (here, get_or_push kinships.places kinship default, past rows.places (length kinships.places) (omega (arith, kept.same)))
-        (empty_kept kinship none number stamp))
-        (λ differ.
-        let before : place < length kinships.places = omega (arith, within, length_push kinships.places kinship, differ) in
-        rw (get_or_append_left kinships.places (kinship ∷ []) default place before) (kept.each place default before))
-        (cases_eq place (length kinships.places)));
+    each = λ place default within. each_opened IsPlaceKept rows.places kinships.places [] kept.same
+        (λ other d inside. kept.each other d (omega (arith, inside, kept.same))) [] kinship
+        (empty_kept kinship none number stamp) place default (omega (arith, within, length_push kinships.places kinship, kept.same));
   })
-    where
-      past : (places : List (List (Keyed Row))) (place : ℕ) → length places ≤ place → get_or places place [] ≡ []
-      past [] place h = refl
-      past (first ∷ rest) zero h = absurd (omega arith)
-      past (first ∷ rest) (suc place) h = past rest place (omega arith)
 
   pub open_seen : paired_tables forest_of new_rows new_kinships ≡ opened table empty_forest
   open_seen =
       (λ i. paired_tables forest_of (rows_are i) (kinships_are i))
-      ∙ ((λ i. record { places = paired_push forest_of rows.places kinships.places [] kinship kept.same i; room = rooms i })
-      ∙ ((λ i. opened (paired_tables forest_of rows kinships) (record { rows = []; last_number = number i; last_stamp = stamp i }))
-      ∙ ap (λ t. opened t empty_forest) view))
-    where
-      rooms : min (rows.room - 1) (kinships.room - 1) ≡ min rows.room kinships.room - 1
-      rooms = omega arith
+      ∙ (pairs_opened forest_of rows kinships kept.same view [] kinship
+      ∙ ap (opened table) (λ i. record { rows = []; last_number = number i; last_stamp = stamp i }))

@@ -8,13 +8,12 @@ use Rattle.std.proofs.lemmas.Bool.{cond-false, cond-true, ne_eqb}
 use Rattle.std.proofs.lemmas.Slice.Eq.{bytes_eq-Decides}
 use Rattle.indexmap.specs.IndexMap.{IndexMap, IsUnchanged, Updates, get}
 use Rattle.shared_rows.specs.Links.{Linked, with_link}
-use Rattle.publish_board.specs.declared.join.Join.{Join}
 use Rattle.publish_board.specs.declared.listed.Listed.{Listed}
 use Rattle.publish_board.specs.declared.topic.Topic.{Topic}
 use Rattle.publish_board.specs.Filled.{AreFilled}
 use Rattle.publish_board.specs.Joiners.{is_pair}
 use Rattle.publish_board.specs.Listed.{count_in, listed_cmp}
-use Rattle.publish_board.specs.Topics.{is_of, is_same, joins_to}
+use Rattle.publish_board.specs.Topics.{is_same}
 
 -- two topics that are one
 pub same_topic : (topic other : Topic) → is_same topic other ≡ true → topic ≡ other
@@ -141,14 +140,6 @@ pub filled_inserted : {S T E : Type 0} (result : Result T E) (old new : IndexMap
 filled_inserted (Ok value) old new topic list updates same filled full = filled_still old new topic 0 (Some list) updates.0 filled full
 filled_inserted (Err error) old new topic list updates same filled full = λ other. ap (λ entries. empty_in (lookup (is_same other) entries)) same ∙ filled other
 
-pub on_err : {T E : Type 0} {P Q : Type 0} (r : Result T E) → OnErr r P → (P → Q) → OnErr r Q
-on_err (Ok value) holds then = tt
-on_err (Err error) holds then = then holds
-
-pub on_ok : {T E : Type 0} {P Q : Type 0} (r : Result T E) → OnOk r P → (P → Q) → OnOk r Q
-on_ok (Ok value) holds then = then holds
-on_ok (Err error) holds then = tt
-
 -- of two changes under one topic the last counts
 pub over : {S : Type 0} (old middle new : IndexMap Topic (Linked Listed) S) (topic : Topic) (first last : Option (Linked Listed))
     → ((other : Topic) → get is_same middle other ≡ cond (is_same topic other) first (get is_same old other))
@@ -160,38 +151,3 @@ over old middle new topic first last before after other = after other
     twice : (same : Bool) (found : Option (Linked Listed)) → cond same last (cond same first found) ≡ cond same last found
     twice true found = refl
     twice false found = refl
-
--- a join is of two topics, and of no other
-pub of_both : (join : Join) (topic : Topic) (here : Bool)
-    → cond (is_same (record { from = join.from; name = None }) topic && here) 1 0
-    + cond (is_same (record { from = join.from; name = Some join.name }) topic && here) 1 0
-    ≡ cond (is_of topic join && here) 1 0
-of_both join topic here = by topic.name
-  where
-    first : (same here : Bool) → cond ((same && true) && here) 1 0 + cond ((same && false) && here) 1 0 ≡ cond (same && here) 1 0
-    first true true = refl
-    first true false = refl
-    first false here = refl
-
-    plain : (n : ℕ) → 0 + n ≡ n
-    plain n = omega arith
-
-    second : (same named here : Bool) → cond ((same && false) && here) 1 0 + cond ((same && named) && here) 1 0 ≡ cond ((same && named) && here) 1 0
-    second true named here = plain (cond (named && here) 1 0)
-    second false named here = refl
-
-    by : (name : Option (List ℕ))
-        → cond ((bytes_eq join.from topic.from && option_eq bytes_eq None name) && here) 1 0
-        + cond ((bytes_eq join.from topic.from && option_eq bytes_eq (Some join.name) name) && here) 1 0
-        ≡ cond (joins_to topic.from name join && here) 1 0
-    by None = first (bytes_eq join.from topic.from) here
-    by (Some name) = second (bytes_eq join.from topic.from) (bytes_eq join.name name) here
-
--- the two topics of a join differ
-pub two_topics : (from name : List ℕ) (place at : ℕ)
-    → ◌≡◌ {A = ℕ} (cond (is_pair (record { from = from; name = None }) place (record { from = from; name = Some name }) at) 1 0) 0
-two_topics from name place at = by (bytes_eq from from) (place == at)
-  where
-    by : (same here : Bool) → ◌≡◌ {A = ℕ} (cond ((same && false) && here) 1 0) 0
-    by true here = refl
-    by false here = refl

@@ -11,7 +11,7 @@ use Rattle.shared_rows.proofs.ForCallers.{with_same}
 use Rattle.publish_board.specs.declared.join.Join.{Join}
 use Rattle.publish_board.specs.declared.joiners.Joiners.{Joiners}
 use Rattle.publish_board.specs.declared.topic.Topic.{Topic}
-use Rattle.publish_board.specs.Desk.{Desk, left, no_desk, with_join}
+use Rattle.publish_board.specs.Desk.{Desk, left, no_desk}
 use Rattle.publish_board.specs.Rows.{is_join, listens}
 use Rattle.publish_board.specs.Table.{IsNextWith, desk_at}
 use Rattle.publish_board.specs.Inside.{without_join}
@@ -122,25 +122,6 @@ module _ (joiners : Joiners) (desks : Table Desk) (listed : AreListed joiners de
         by : (b : Bool) → ◌≡◌ {A = ℕ} (cond (b && true) 1 0) (cond b 1 0)
         by true = refl
         by false = refl
-
-    -- one join more
-    pub join_listed : (join : Join) (joiners' : Joiners) (new : Desk) → new ≡ with_join now join
-        → ((topic : Topic) (at : ℕ) → count_at joiners' topic at ≡ count_at joiners topic at + cond (is_of topic join && place == at) 1 0)
-        → AreListed joiners' (with_place desks place new)
-    join_listed join joiners' new e added = with_other joiners' new
-        (λ topic at differ. added topic at
-        ∙ (ap (λ more. count_at joiners topic at + more) (elsewhere (is_of topic join) at differ) ∙ plain (count_at joiners topic at)))
-        (λ topic. added topic place
-        ∙ ((λ i. here topic i + at_place (is_of topic join) i)
-        ∙ (ends (count_by (is_of topic) now.joins) (cond (is_of topic join) 1 0)
-        ∙ (sym (sum_by-append (λ join. cond (is_of topic join) 1 0) now.joins (join ∷ []))
-        ∙ ap (λ (desk : Desk). count_by (is_of topic) desk.joins) (sym e)))))
-      where
-        plain : (n : ℕ) → n + 0 ≡ n
-        plain n = omega arith
-
-        ends : (n m : ℕ) → n + m ≡ n + (0 + m)
-        ends n m = omega arith
 
     -- and one fewer
     pub join_unlisted : (position : ℕ) (new : Desk) (join : Join) → position < length now.joins → join ≡ get_or now.joins position join

@@ -9,3 +9,4 @@ pub mod TableLemmas
 pub mod PairedLemmas
 pub mod GapLemmas
 pub mod SearchLemmas
+pub mod NumberedLemmas

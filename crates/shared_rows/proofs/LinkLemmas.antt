@@ -5,10 +5,10 @@ use Rattle.shared_rows.specs.Gapped.{Gapped}
 use Rattle.std.specs.Cmp.{IsTotalOrder, alike_right}
 use Rattle.std.specs.List.{All, AllPairs, AllWithin, HoldsAt, insert, remove}
 use Rattle.std.specs.List.Sorted.{IsPartitionPoint, IsPartitionedBy}
-use Rattle.std.specs.Ordering.{is_eq, is_ge, is_lt, ordering_reverse}
+use Rattle.std.specs.Ordering.{is_eq, is_ge, is_lt, ordering_reverse, ordering_then}
 use Rattle.std.specs.declared.cmp.Ordering.{Ordering}
 use Rattle.std.specs.declared.cmp.Ordering.TheVariants.{Less, Equal, Greater}
-use Rattle.std.proofs.lemmas.Bool.{cases_lt}
+use Rattle.std.proofs.lemmas.Bool.{cases_Bool, cases_lt}
 use Rattle.std.proofs.lemmas.List.{get_or_default, set_split, take_all}
 use Rattle.std.proofs.lemmas.List.Edits.{length-remove}
 use Rattle.std.proofs.lemmas.List.Elements.{All-append, All-cons, filter_passes}
@@ -79,6 +79,26 @@ find_at p (x ∷ xs) (suc n) fails passes =
     let here : p x ≡ false = fails 0 x (omega arith) (omega arith) in
     rw here (find_at p xs n (λ k d low high. fails (suc k) d (omega arith) (omega arith)) (λ k d low high. passes (suc k) d (omega arith) (omega arith)))
 
+-- elements that pass a test stand before the others, if one that stands before one that passes does too
+pub parted_by : {X : Type 0} (p : X → Bool) (xs : List X)
+    → ((i j : ℕ) (d : X) → i < j → j < length xs → p (get_or xs j d) ≡ true → p (get_or xs i d) ≡ true) → IsPartitionedBy p xs
+parted_by p xs earlier i j d upto within passes = ⊎_elim
+    (λ (front : i < j). earlier i j d front within passes)
+    (λ (at : j ≤ i). let same : i ≡ j = omega arith in ap (λ n. p (get_or xs n d)) same ∙ passes)
+    (cases_lt i j)
+
+-- where the elements that pass a test end, two neighbours tell
+pub parted_at : {X : Type 0} (p : X → Bool) (xs : List X) → IsPartitionedBy p xs → (at : ℕ) → at ≤ length xs
+    → (0 < at → HoldsAt (λ x. p x ≡ true) xs (at - 1)) → (at < length xs → HoldsAt (λ x. p x ≡ false) xs at)
+    → IsPartitionPoint (λ x. p x ≡ true) (λ x. p x ≡ false) xs at
+parted_at p xs parted at within low high = (
+  λ k d first upto. parted k (at - 1) d (omega arith) (omega arith) (low (omega arith) d),
+  λ k d from inside. ⊎_elim
+      (λ (passes : p (get_or xs k d) ≡ true). let there = parted at k d from inside passes in let here = high (omega arith) d in absurd (cc))
+      (λ (fails : p (get_or xs k d) ≡ false). fails)
+      (cases_Bool (p (get_or xs k d))),
+)
+
 pub not_less : (o : Ordering) → is_ge o ≡ true → not (is_lt o) ≡ true
 not_less Less high = absurd (cc)
 not_less Equal high = refl
@@ -93,6 +113,12 @@ pub equal_from : (o : Ordering) → is_eq o ≡ true → o ≡ Equal
 equal_from Less same = absurd (cc)
 equal_from Equal same = refl
 equal_from Greater same = absurd (cc)
+
+-- two tests one after the other find two links equal if both do
+pub then_equal : (a b : Ordering) → ordering_then a b ≡ Equal → (a ≡ Equal) × (b ≡ Equal)
+then_equal Less b e = absurd (cc)
+then_equal Equal b e = (refl, e)
+then_equal Greater b e = absurd (cc)
 
 greater_from : (o : Ordering) → is_lt o ≡ false → is_eq o ≡ false → o ≡ Greater
 greater_from Less low same = absurd (cc)
@@ -120,11 +146,8 @@ module _ {K : Type 0} {cmp : K → K → Ordering} (total : IsTotalOrder cmp) wh
 
     -- those below stand before the others
     pub below_parted : IsPartitionedBy (λ other. is_lt (cmp other link)) links
-    below_parted i j d upto within low = ⊎_elim
-        (λ (front : i < j). ap is_lt (total.trans (get_or links i d) (get_or links j d) link (order i j d front within)
-        (less_from (cmp (get_or links j d) link) low)))
-        (λ (at : j ≤ i). let same : i ≡ j = omega arith in ap (λ n. is_lt (cmp (get_or links n d) link)) same ∙ low)
-        (cases_lt i j)
+    below_parted = parted_by (λ other. is_lt (cmp other link)) links (λ i j d lt within low.
+        ap is_lt (total.trans (get_or links i d) (get_or links j d) link (order i j d lt within) (less_from (cmp (get_or links j d) link) low)))
 
     -- a link would stand between one below it and one above it
     seat_between : (at : ℕ) → at ≤ length links → (0 < at → HoldsAt (λ other. cmp other link ≡ Less) links (at - 1))

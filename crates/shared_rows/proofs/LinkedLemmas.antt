@@ -151,7 +151,7 @@ module _ {K : Type 0} {cmp : K → K → Ordering} (total : IsTotalOrder cmp) (s
       by Greater e = Contains-append_right (filter (λ other. is_lt (cmp other link)) links) _ x
           (contains_later link x _ (contains_kept (λ other. is_lt (cmp link other)) links x there (ap is_lt (total.antisymm link x ∙ ap ordering_reverse e))))
 
-  with_cases : (links : List K) (link x : K) → Contains (with_link cmp links link) x → Contains links x ⊎ (link ≡ x)
+  pub with_cases : (links : List K) (link x : K) → Contains (with_link cmp links link) x → Contains links x ⊎ (link ≡ x)
   with_cases links link x there = ⊎_elim
       (λ (front : Contains (filter (λ other. is_lt (cmp other link)) links) x). inl (contains_from (λ other. is_lt (cmp other link)) links x front).0)
       (λ (back : Contains (link ∷ filter (λ other. is_lt (cmp link other)) links) x). ⊎_elim

@@ -1,11 +1,10 @@
 -- Rows with their keys.
-use Rattle.std.proofs.Common.{◌≡◌, ℕ, zero, suc, ◌+◌, ◌∙◌, ◌<◌, ◌≤◌, ◌==◌, Bool, true, false, not, cond, List, [], ◌∷◌, Option, None, Some, IsSome, find}
-use Rattle.std.proofs.Common.{filter, length, get_or, refl, ap, arith, ⊎_elim}
-use Rattle.std.specs.List.{All}
+use Rattle.std.proofs.Common.{◌≡◌, ℕ, zero, suc, ◌<◌, ◌≤◌, ◌==◌, Bool, true, false, not, cond, List, [], ◌∷◌, Option, None, Some, IsSome, find}
+use Rattle.std.proofs.Common.{filter, length, refl, ap, arith}
 use Rattle.std.specs.Option.{option_map}
-use Rattle.std.proofs.lemmas.Bool.{cases_lt, eq-eqb}
+use Rattle.std.proofs.lemmas.Bool.{eq-eqb}
 use Rattle.std.proofs.lemmas.List.Sums.{length-filter, count_by-le-length}
-use Rattle.shared_rows.specs.Rows.{IsAtPosition, IsSound, Keyed, row_under, without}
+use Rattle.shared_rows.specs.Rows.{IsAtPosition, Keyed, row_under, without}
 
 -- what a function makes a value of was there
 pub some_mapped : {R : Type 0} (number : R → ℕ) (o : Option R) (n : ℕ) → option_map number o ≡ Some n → IsSome o
@@ -39,14 +38,3 @@ module _ {R : Type 0} where
           → length (cond (not here) (first ∷ without rows key) (without rows key)) < length (first ∷ rows)
       by true some later = omega (arith, length-filter-le (λ keyed. not (keyed.key == key)) rows)
       by false some later = omega (arith, later some)
-
-  -- a number above that of the last row is above all
-  pub below_last : (number : R → ℕ) (rows : List (Keyed R)) → IsSound number rows → (at key n : ℕ) (row : R) → IsAtPosition rows at key row
-      → length rows ≤ at + 1 → at < length rows → number row < n → All (λ keyed. number keyed.row < n) rows
-  below_last number rows sound at key n row is long within above k d inside =
-      let last : number (get_or rows at d).row ≡ number row = ap (λ (keyed : Keyed R). number keyed.row) (is d) in
-      ⊎_elim
-      (λ (before : k < at). omega (arith, sound.rising k at d before within, last, above))
-      (λ (behind : at ≤ k). let same : k ≡ at = omega arith in
-      let here : number (get_or rows k d).row ≡ number row = ap (λ i. number (get_or rows i d).row) same ∙ last in omega (arith, here, above))
-      (cases_lt k at)

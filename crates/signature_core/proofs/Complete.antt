@@ -185,12 +185,13 @@ inside_void s x first behind = rw (first, behind) refl
 
 inside_params : (s : List ℕ) (kinds : List Kind) (x : List ℕ) → ReadsAll 10 s kinds x → inside_at s ≡ Some (kinds, x)
 unfolding inside_at
-inside_params s kinds x reads =
-    let some : bytes_eq (word s) [] ≡ false = ⊎_elim (λ k. rw k.1 (by_kind (λ kind. bytes_eq (kind_name kind) [] ≡ false) refl refl refl refl refl refl k.0))
-    (λ e. rw e refl) reads.first in
-    let typed : bytes_eq (word s) (codes "void") ≡ false = ⊎_elim
-    (λ k. rw k.1 (by_kind (λ kind. bytes_eq (kind_name kind) (codes "void") ≡ false) refl refl refl refl refl refl k.0)) (λ e. rw e refl) reads.first in
-    rw (some, typed) reads.params
+inside_params s kinds x reads = rw (
+  is_not [] (λ kind. by_kind (λ kind. bytes_eq (kind_name kind) [] ≡ false) refl refl refl refl refl refl kind) refl,
+  is_not (codes "void") (λ kind. by_kind (λ kind. bytes_eq (kind_name kind) (codes "void") ≡ false) refl refl refl refl refl refl kind) refl,
+) reads.params
+  where
+    is_not : (w : List ℕ) → ((kind : Kind) → bytes_eq (kind_name kind) w ≡ false) → bytes_eq (codes "const") w ≡ false → bytes_eq (word s) w ≡ false
+    is_not w kinds_differ const_differs = ⊎_elim (λ k. rw k.1 (kinds_differ k.0)) (λ e. rw e const_differs) reads.first
 
 inside_read : (s : List ℕ) (kinds : List Kind) → Inside s kinds → (before after x : List ℕ) → IsBlank before → IsBlank after
     → inside_at (skip (before ++ (s ++ (after ++ 41 ∷ x)))) ≡ Some (kinds, 41 ∷ x)

@@ -50,68 +50,47 @@ IsSpace-between (c ∷ gap) w x blank begins stops = space c gap blank
 begins-kind : (kind : Kind) (x : List ℕ) → Stops is_name_byte (kind_name kind ++ x) → ⊥
 begins-kind kind x = by_kind (λ k. Stops is_name_byte (kind_name k ++ x) → ⊥) true≢false true≢false true≢false true≢false true≢false true≢false kind
 
--- the end of a parameter with `const`: s, and the white space before it
-record EndsAs (s x : List ℕ) : Type 0 where
-  mark : List ℕ
+-- s begins with a piece for which P holds, with white space behind it, and x is the rest
+record Begins (P : List ℕ → Type 0) (s x : List ℕ) : Type 0 where
+  piece : List ℕ
   gap : List ℕ
-  is_mark : Reference mark
+  is_piece : P piece
   is_gap : IsBlank gap
-  same : s ≡ mark ++ (gap ++ x)
+  same : s ≡ piece ++ (gap ++ x)
 
-reference_split : (before s : List ℕ) → IsBlank before → EndsAs (before ++ s) (behind_reference s)
+reference_split : (before s : List ℕ) → IsBlank before → Begins Reference (before ++ s) (behind_reference s)
 unfolding behind_reference
 reference_split before s blank = step (behind_mark 38 s) refl
   where
-    step : (o : Option (List ℕ)) → behind_mark 38 s ≡ o → EndsAs (before ++ s) (option_map_or (λ (rest : List ℕ). rest) o s)
-    step None e = record { mark = []; gap = before; is_mark = no_reference; is_gap = blank; same = refl }
+    step : (o : Option (List ℕ)) → behind_mark 38 s ≡ o → Begins Reference (before ++ s) (option_map_or (λ (rest : List ℕ). rest) o s)
+    step None e = record { piece = []; gap = before; is_piece = no_reference; is_gap = blank; same = refl }
     step (Some x) e =
         let cut = mark_split 38 s x e in
         let all : before ++ s ≡ (before ++ codes "&") ++ (cut.0 ++ x) = ap (λ t. before ++ t) cut.2 ∙ sym (append_assoc before (codes "&") (cut.0 ++ x)) in
-        record { mark = before ++ codes "&"; gap = cut.0; is_mark = reference before blank; is_gap = cut.1; same = all }
+        record { piece = before ++ codes "&"; gap = cut.0; is_piece = reference before blank; is_gap = cut.1; same = all }
 
--- a parameter at the front of s, and the white space behind it
-record ParamAt (s : List ℕ) (kind : Kind) (x : List ℕ) : Type 0 where
-  param : List ℕ
-  gap : List ℕ
-  is_param : Param param kind
-  is_gap : IsBlank gap
-  same : s ≡ param ++ (gap ++ x)
+abbrev ParamAt : List ℕ → Kind → List ℕ → Type 0
+ParamAt s kind x = Begins (λ t. Param t kind) s x
 
-before_split : (s : List ℕ) (kind : Kind) → word s ≡ codes "const" → word (behind_word s) ≡ kind_name kind
+-- a parameter of two words, of which one is `const`
+two_words : (s one other : List ℕ) (kind : Kind)
+    → ((gap mark : List ℕ) → Space gap → Reference mark → Param (one ++ (gap ++ (other ++ mark))) kind)
+    → ((x : List ℕ) → Stops is_name_byte (other ++ x) → ⊥) → word s ≡ one → word (behind_word s) ≡ other
     → ParamAt s kind (behind_reference (behind_word (behind_word s)))
-before_split s kind first second =
-    let one = word_split s in
-    let two = word_split (behind_word s) in
-    let tail = reference_split two.0 (behind_word (behind_word s)) two.1 in
-    let rest : behind_word s ≡ kind_name kind ++ (two.0 ++ behind_word (behind_word s)) = two.3
-    ∙ ap (λ w. w ++ (two.0 ++ behind_word (behind_word s))) second in
-    let P : List ℕ → Type 0 = λ t. Stops is_name_byte (one.0 ++ t) in
-    let apart = IsSpace-between one.0 (kind_name kind) _ one.1 (begins-kind kind _) (subst P rest one.2) in
-    let s_is : s ≡ codes "const" ++ (one.0 ++ (kind_name kind ++ (tail.mark ++ (tail.gap ++ behind_reference (behind_word (behind_word s)))))) =
-    one.3 ∙ (ap (λ w. w ++ (one.0 ++ behind_word s)) first ∙ ap (λ t. codes "const" ++ (one.0 ++ t)) (rest ∙ ap (λ t. kind_name kind ++ t) tail.same)) in
+two_words s one other kind is_param begins first second =
+    let at_one = word_split s in
+    let at_other = word_split (behind_word s) in
+    let tail = reference_split at_other.0 (behind_word (behind_word s)) at_other.1 in
+    let rest : behind_word s ≡ other ++ (at_other.0 ++ behind_word (behind_word s)) = at_other.3
+    ∙ ap (λ w. w ++ (at_other.0 ++ behind_word (behind_word s))) second in
+    let P : List ℕ → Type 0 = λ t. Stops is_name_byte (at_one.0 ++ t) in
+    let apart = IsSpace-between at_one.0 other _ at_one.1 (begins _) (subst P rest at_one.2) in
+    let s_is : s ≡ one ++ (at_one.0 ++ (other ++ (tail.piece ++ (tail.gap ++ behind_reference (behind_word (behind_word s)))))) =
+    at_one.3 ∙ (ap (λ w. w ++ (at_one.0 ++ behind_word s)) first ∙ ap (λ t. one ++ (at_one.0 ++ t)) (rest ∙ ap (λ t. other ++ t) tail.same)) in
     record {
-      param = codes "const" ++ (one.0 ++ (kind_name kind ++ tail.mark));
+      piece = one ++ (at_one.0 ++ (other ++ tail.piece));
       gap = tail.gap;
-      is_param = const_before kind one.0 tail.mark apart tail.is_mark;
-      is_gap = tail.is_gap;
-      same = s_is ∙ simp append_assoc;
-    }
-
-behind_split : (s : List ℕ) (kind : Kind) → word s ≡ kind_name kind → word (behind_word s) ≡ codes "const"
-    → ParamAt s kind (behind_reference (behind_word (behind_word s)))
-behind_split s kind first second =
-    let one = word_split s in
-    let two = word_split (behind_word s) in
-    let tail = reference_split two.0 (behind_word (behind_word s)) two.1 in
-    let rest : behind_word s ≡ codes "const" ++ (two.0 ++ behind_word (behind_word s)) = two.3 ∙ ap (λ w. w ++ (two.0 ++ behind_word (behind_word s))) second in
-    let P : List ℕ → Type 0 = λ t. Stops is_name_byte (one.0 ++ t) in
-    let apart = IsSpace-between one.0 (codes "const") _ one.1 true≢false (subst P rest one.2) in
-    let s_is : s ≡ kind_name kind ++ (one.0 ++ (codes "const" ++ (tail.mark ++ (tail.gap ++ behind_reference (behind_word (behind_word s)))))) =
-    one.3 ∙ (ap (λ w. w ++ (one.0 ++ behind_word s)) first ∙ ap (λ t. kind_name kind ++ (one.0 ++ t)) (rest ∙ ap (λ t. codes "const" ++ t) tail.same)) in
-    record {
-      param = kind_name kind ++ (one.0 ++ (codes "const" ++ tail.mark));
-      gap = tail.gap;
-      is_param = const_behind kind one.0 tail.mark apart tail.is_mark;
+      is_piece = is_param at_one.0 tail.piece apart tail.is_piece;
       is_gap = tail.is_gap;
       same = s_is ∙ simp append_assoc;
     }
@@ -119,13 +98,8 @@ behind_split s kind first second =
 plain_split : (s : List ℕ) (kind : Kind) → word s ≡ kind_name kind → ParamAt s kind (behind_word s)
 plain_split s kind first =
     let one = word_split s in
-    record {
-      param = kind_name kind;
-      gap = one.0;
-      is_param = plain kind;
-      is_gap = one.1;
-      same = one.3 ∙ ap (λ w. w ++ (one.0 ++ behind_word s)) first;
-    }
+    let s_is : s ≡ kind_name kind ++ (one.0 ++ behind_word s) = one.3 ∙ ap (λ w. w ++ (one.0 ++ behind_word s)) first in
+    record { piece = kind_name kind; gap = one.0; is_piece = plain kind; is_gap = one.1; same = s_is }
 
 param_split : (s : List ℕ) (kind : Kind) (x : List ℕ) → param_at s ≡ Some (kind, x) → ParamAt s kind x
 unfolding param_at
@@ -139,7 +113,8 @@ param_split s kind x e = step (bytes_eq (word s) (codes "const")) refl e
 
     typed : (k : Kind) → kind_named (word s) ≡ Some k → (b : Bool) → bytes_eq (word (behind_word s)) (codes "const") ≡ b
         → ◌≡◌ {A = Kind × List ℕ} (k, cond b (behind_reference (behind_word (behind_word s))) (behind_word s)) (kind, x) → ParamAt s kind x
-    typed k named true second same = found k _ (behind_split s k (kind_named_is (word s) k named) (const_is _ second)) same
+    typed k named true second same = found k _
+        (two_words s (kind_name k) (codes "const") k (const_behind k) (λ x. true≢false) (kind_named_is (word s) k named) (const_is _ second)) same
     typed k named false second same = found k _ (plain_split s k (kind_named_is (word s) k named)) same
 
     step : (b : Bool) → bytes_eq (word s) (codes "const") ≡ b
@@ -150,7 +125,8 @@ param_split s kind x e = step (bytes_eq (word s) (codes "const")) refl e
     step true first answer =
         let k = map_some {B = Kind × List ℕ} (λ (kind : Kind). (kind, behind_reference (behind_word (behind_word s)))) (kind_named (word (behind_word s)))
         (kind, x) answer in
-        found k.0 _ (before_split s k.0 (const_is (word s) first) (kind_named_is _ k.0 k.1)) k.2
+        found k.0 _
+        (two_words s (codes "const") (kind_name k.0) k.0 (const_before k.0) (begins-kind k.0) (const_is (word s) first) (kind_named_is _ k.0 k.1)) k.2
     step false first answer =
         let k = map_some {B = Kind × List ℕ} (λ (kind : Kind).
         (kind, cond (bytes_eq (word (behind_word s)) (codes "const")) (behind_reference (behind_word (behind_word s))) (behind_word s)))
@@ -159,14 +135,13 @@ param_split s kind x e = step (bytes_eq (word s) (codes "const")) refl e
 
 -- ---- parameters
 
--- parameters at the front of s, and the white space behind them
-record ParamsAt (n : ℕ) (s : List ℕ) (kinds : List Kind) (x : List ℕ) : Type 0 where
-  params : List ℕ
-  gap : List ℕ
-  are_params : Params params kinds
+-- parameters, at most n
+record AreParams (n : ℕ) (kinds : List Kind) (s : List ℕ) : Type 0 where
+  are_params : Params s kinds
   few : length kinds ≤ n
-  is_gap : IsBlank gap
-  same : s ≡ params ++ (gap ++ x)
+
+abbrev ParamsAt : ℕ → List ℕ → List Kind → List ℕ → Type 0
+ParamsAt n s kinds x = Begins (AreParams n kinds) s x
 
 params_split : (n : ℕ) (s : List ℕ) (kinds : List Kind) (x : List ℕ) → params_at n s ≡ Some (kinds, x) → ParamsAt n s kinds x
 unfolding params_at
@@ -185,10 +160,9 @@ params_split (suc n) s kinds x e =
     step kind t at None stop answer later =
         let same : ◌≡◌ {A = List Kind × List ℕ} (kind ∷ [], t) (kinds, x) = cc in
         found (kind ∷ []) t (record {
-          params = at.param;
+          piece = at.piece;
           gap = at.gap;
-          are_params = last kind at.param at.is_param;
-          few = omega arith;
+          is_piece = record { are_params = last kind at.piece at.is_piece; few = omega arith };
           is_gap = at.is_gap;
           same = at.same;
         }) same
@@ -196,41 +170,33 @@ params_split (suc n) s kinds x e =
         let others = map_some {B = List Kind × List ℕ} (λ (read : List Kind × List ℕ). (kind ∷ read.0, read.1)) (params_at n rest) (kinds, x) answer in
         let next = later rest others.0.0 others.0.1 others.1 in
         let cut = mark_split 44 t rest comma in
-        let s_is : s ≡ at.param ++ (at.gap ++ (codes "," ++ (cut.0 ++ (next.params ++ (next.gap ++ others.0.1))))) = at.same
-        ∙ ap (λ t. at.param ++ (at.gap ++ t)) (cut.2 ∙ ap (λ t. codes "," ++ (cut.0 ++ t)) next.same) in
-        let fewer : length (kind ∷ others.0.0) ≤ suc n = let h = next.few in omega arith in
+        let s_is : s ≡ at.piece ++ (at.gap ++ (codes "," ++ (cut.0 ++ (next.piece ++ (next.gap ++ others.0.1))))) = at.same
+        ∙ ap (λ t. at.piece ++ (at.gap ++ t)) (cut.2 ∙ ap (λ t. codes "," ++ (cut.0 ++ t)) next.same) in
+        let fewer : length (kind ∷ others.0.0) ≤ suc n = let h = next.is_piece.few in omega arith in
         found (kind ∷ others.0.0) others.0.1 (record {
-          params = at.param ++ (at.gap ++ (codes "," ++ (cut.0 ++ next.params)));
+          piece = at.piece ++ (at.gap ++ (codes "," ++ (cut.0 ++ next.piece)));
           gap = next.gap;
-          are_params = more kind others.0.0 at.param at.gap cut.0 next.params at.is_param at.is_gap cut.1 next.are_params;
-          few = fewer;
+          is_piece = record {
+            are_params = more kind others.0.0 at.piece at.gap cut.0 next.piece at.is_piece at.is_gap cut.1 next.is_piece.are_params;
+            few = fewer;
+          };
           is_gap = next.is_gap;
           same = s_is ∙ simp append_assoc;
         }) others.2
 
 -- ---- what stands between the parentheses
 
-record InsideAt (s : List ℕ) (kinds : List Kind) (x : List ℕ) : Type 0 where
-  inside : List ℕ
-  gap : List ℕ
-  is_inside : Inside inside kinds
-  is_gap : IsBlank gap
-  same : s ≡ inside ++ (gap ++ x)
+abbrev InsideAt : List ℕ → List Kind → List ℕ → Type 0
+InsideAt s kinds x = Begins (λ t. Inside t kinds) s x
 
 word_inside : (s w : List ℕ) (kinds : List Kind) (x : List ℕ) → Inside w [] → bytes_eq (word s) w ≡ true
     → ◌≡◌ {A = Option (List Kind × List ℕ)} (Some ([], behind_word s)) (Some (kinds, x)) → InsideAt s kinds x
 word_inside s w kinds x inside first answer =
     let cut = word_split s in
-    let P : List Kind × List ℕ → Type 0 = λ p. InsideAt s p.0 p.1 in
+    let P : List Kind × List ℕ → Type 0 = λ p. Begins (λ t. Inside t p.0) s p.1 in
     let same : ◌≡◌ {A = List Kind × List ℕ} ([], behind_word s) (kinds, x) = cc in
-    subst P same (record {
-      inside = w;
-      gap = cut.0;
-      is_inside = inside;
-      is_gap = cut.1;
-      same = cut.3
-          ∙ ap (λ t. t ++ (cut.0 ++ behind_word s)) ((bytes_eq-Decides (word s) w).0 first);
-    })
+    let s_is : s ≡ w ++ (cut.0 ++ behind_word s) = cut.3 ∙ ap (λ t. t ++ (cut.0 ++ behind_word s)) ((bytes_eq-Decides (word s) w).0 first) in
+    subst P same (record { piece = w; gap = cut.0; is_piece = inside; is_gap = cut.1; same = s_is })
 
 inside_split : (s : List ℕ) (kinds : List Kind) (x : List ℕ) → inside_at s ≡ Some (kinds, x) → InsideAt s kinds x
 unfolding inside_at
@@ -243,7 +209,7 @@ inside_split s kinds x e = step (bytes_eq (word s) []) (bytes_eq (word s) (codes
     step false true _ typed answer = word_inside s (codes "void") kinds x void typed answer
     step false false _ _ answer =
         let at = params_split 10 s kinds x answer in
-        record { inside = at.params; gap = at.gap; is_inside = params kinds at.params at.are_params at.few; is_gap = at.is_gap; same = at.same }
+        record { piece = at.piece; gap = at.gap; is_piece = params kinds at.piece at.is_piece.are_params at.is_piece.few; is_gap = at.is_gap; same = at.same }
 
 -- ---- a signature
 
@@ -272,15 +238,15 @@ signature_spelled s signature e =
     let open_cut = mark_split 40 (behind_word (skip s)) opened.0 opened.1 in
     let between = inside_split opened.0 inside.0.0 inside.0.1 inside.1 in
     let close_cut = end_split inside.0.1 ended.0 in
-    let last_is : opened.0 ≡ between.inside ++ (between.gap ++ (codes ")" ++ close_cut.0)) = between.same
-    ∙ ap (λ t. between.inside ++ (between.gap ++ t)) close_cut.2 in
-    let rest_is : behind_word (skip s) ≡ codes "(" ++ (open_cut.0 ++ (between.inside ++ (between.gap ++ (codes ")" ++ close_cut.0)))) = open_cut.2
+    let last_is : opened.0 ≡ between.piece ++ (between.gap ++ (codes ")" ++ close_cut.0)) = between.same
+    ∙ ap (λ t. between.piece ++ (between.gap ++ t)) close_cut.2 in
+    let rest_is : behind_word (skip s) ≡ codes "(" ++ (open_cut.0 ++ (between.piece ++ (between.gap ++ (codes ")" ++ close_cut.0)))) = open_cut.2
     ∙ ap (λ t. codes "(" ++ (open_cut.0 ++ t)) last_is in
     let s_is : s ≡ before.0 ++ (word (skip s)
-    ++ (at_name.0 ++ (codes "(" ++ (open_cut.0 ++ (between.inside ++ (between.gap ++ (codes ")" ++ close_cut.0))))))) = before.2
+    ++ (at_name.0 ++ (codes "(" ++ (open_cut.0 ++ (between.piece ++ (between.gap ++ (codes ")" ++ close_cut.0))))))) = before.2
     ∙ ap (λ t. before.0 ++ t) (at_name.3 ∙ ap (λ t. word (skip s) ++ (at_name.0 ++ t)) rest_is) in
-    let spelled = spells (word (skip s)) inside.0.0 before.0 at_name.0 open_cut.0 between.inside between.gap close_cut.0 before.1 named.0 at_name.1 open_cut.1
-    between.is_inside between.is_gap close_cut.1 in
+    let spelled = spells (word (skip s)) inside.0.0 before.0 at_name.0 open_cut.0 between.piece between.gap close_cut.0 before.1 named.0 at_name.1 open_cut.1
+    between.is_piece between.is_gap close_cut.1 in
     let P : List ℕ → Type 0 = λ t. Spells t (word (skip s)) inside.0.0 in
     let Q : List ℕ → Type 0 = λ n. Spells s n inside.0.0 in
     let R : Signature → Type 0 = λ g. Spells s g.name g.kinds in

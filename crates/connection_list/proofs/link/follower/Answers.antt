@@ -3,10 +3,10 @@ use Rattle.std.proofs.lemmas.Option.{slice_get-get_or}
 use Rattle.std.specs.Ordering.{is_lt}
 use Rattle.std.specs.declared.cmp.Ordering.TheVariants.{Less}
 use Rattle.shared_rows.specs.Links.{IsInOrder}
-use Rattle.shared_rows.proofs.ForCallers.{first_at}
+use Rattle.shared_rows.proofs.ForCallers.{below_parted, first_at, parted_at}
 use Rattle.connection_list.specs.declared.link.Link.{Link}
 use Rattle.connection_list.specs.Routes.{link_cmp}
-use Rattle.connection_list.proofs.LinkLemmas.{below_next, from, link_total, not_below_other, parted_at}
+use Rattle.connection_list.proofs.LinkLemmas.{below_next, from, link_total, not_below_other}
 use Rattle.connection_list.proofs.link.follower.Goals as goal
 
 pub returns-clause-first : goal.returns-clause-first
@@ -17,7 +17,7 @@ returns-clause-first c =
     let before = c.get-before.result in
     let there = c.get-there.result in
     let within : c.args.at < length items = omega (arith, c.if-at-len.false, c.len.ensures) in
-    let parted = parted_at items order start c.args.at (omega (arith, within))
+    let parted = parted_at (λ other. is_lt (link_cmp other start)) items (below_parted link_total items order start) c.args.at (omega (arith, within))
     (λ some d.
     let less : link_cmp before there ≡ Less = ap (λ l. link_cmp l there) (c.get-before.ensures d)
     ∙ (ap (λ l. link_cmp (get_or items (c.args.at - 1) d) l) (c.get-there.ensures d)

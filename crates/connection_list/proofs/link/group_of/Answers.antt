@@ -1,4 +1,5 @@
-use Rattle.std.proofs.Common.{◌≡◌, Bool, arith, get_or, true, false, not, refl, rules}
+use Rattle.std.proofs.Common.{arith, ◌∙◌, ap, sym, get_or, not, rules}
+use Rattle.std.proofs.Math.Bool.{not-not}
 use Rattle.std.proofs.lemmas.List.Sorted.{IsPartitionPoint-from_clause}
 use Rattle.shared_rows.specs.Links.{IsInOrder}
 use Rattle.connection_list.specs.Routes.{is_before, is_past, link_cmp}
@@ -10,28 +11,24 @@ returns-clause-before c =
     let items = c.as_buffer-all.result.now.items in
     let order : IsInOrder link_cmp items = rw c.as_buffer-all.ensures.links c.as_buffer-all.ensures.sound in
     rw (← c.as_buffer-all.ensures.links) (IsPartitionPoint-from_clause
-    (is_before c.args.object c.args.signal c.args.marks) items c.partition_point.result c.partition_point.ensures.partitioned
-    (before_parted items order c.args.object c.args.signal c.args.marks) (λ a r k called. search rules)).0
-
-unless : (b : Bool) → not b ≡ false → b ≡ true
-unless true fails = refl
-unless false fails = absurd (cc)
+    (is_before c.args.object c.args.source c.args.marks) items c.partition_point.result c.partition_point.ensures.partitioned
+    (before_parted items order c.args.object c.args.source c.args.marks) (λ a r k called. search rules)).0
 
 pub returns-clause-past : goal.returns-clause-past
 returns-clause-past c =
     let items = c.as_buffer-all.result.now.items in
     let order : IsInOrder link_cmp items = rw c.as_buffer-all.ensures.links c.as_buffer-all.ensures.sound in
-    let point = IsPartitionPoint-from_clause (λ link. not (is_past c.args.object c.args.signal c.args.marks link)) items c.partition_point-2.result
-    c.partition_point-2.ensures.partitioned (past_parted items order c.args.object c.args.signal c.args.marks) (λ a r k called. search rules) in
-    rw (← c.as_buffer-all.ensures.links) (λ k d low high. unless _ (point.1 k d low high))
+    let point = IsPartitionPoint-from_clause (λ link. not (is_past c.args.object c.args.source c.args.marks link)) items c.partition_point-2.result
+    c.partition_point-2.ensures.partitioned (past_parted items order c.args.object c.args.source c.args.marks) (λ a r k called. search rules) in
+    rw (← c.as_buffer-all.ensures.links) (λ k d low high. sym (not-not _) ∙ ap not (point.1 k d low high))
 
 pub returns-clause-inside : goal.returns-clause-inside
 returns-clause-inside c =
     let items = c.as_buffer-all.result.now.items in
     let order : IsInOrder link_cmp items = rw c.as_buffer-all.ensures.links c.as_buffer-all.ensures.sound in
-    let front = IsPartitionPoint-from_clause (is_before c.args.object c.args.signal c.args.marks) items c.partition_point.result
-    c.partition_point.ensures.partitioned (before_parted items order c.args.object c.args.signal c.args.marks) (λ a r k called. search rules) in
-    let back = IsPartitionPoint-from_clause (λ link. not (is_past c.args.object c.args.signal c.args.marks link)) items c.partition_point-2.result
-    c.partition_point-2.ensures.partitioned (past_parted items order c.args.object c.args.signal c.args.marks) (λ a r k called. search rules) in
-    rw (← c.as_buffer-all.ensures.links) (λ k d low high. inside_same c.args.object c.args.signal c.args.marks (get_or items k d)
+    let front = IsPartitionPoint-from_clause (is_before c.args.object c.args.source c.args.marks) items c.partition_point.result
+    c.partition_point.ensures.partitioned (before_parted items order c.args.object c.args.source c.args.marks) (λ a r k called. search rules) in
+    let back = IsPartitionPoint-from_clause (λ link. not (is_past c.args.object c.args.source c.args.marks link)) items c.partition_point-2.result
+    c.partition_point-2.ensures.partitioned (past_parted items order c.args.object c.args.source c.args.marks) (λ a r k called. search rules) in
+    rw (← c.as_buffer-all.ensures.links) (λ k d low high. inside_same c.args.object c.args.source c.args.marks (get_or items k d)
     (front.1 k d low (omega (arith, high, c.partition_point-2.ensures.bound))) (back.0 k d (omega arith) high))

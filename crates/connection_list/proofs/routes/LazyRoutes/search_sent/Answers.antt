@@ -1,10 +1,8 @@
-use Rattle.std.proofs.Common.{◌≡◌, ◌∙◌, ◌+◌, None, Some, false, ap, subst, sym, arith}
+use Rattle.std.proofs.Common.{◌≡◌, ◌∙◌, false, ap, sym, arith}
 use Rattle.std.specs.Option.{option_map}
-use Rattle.shared_rows.specs.Links.{IsInOrder, Linked, first_from}
+use Rattle.shared_rows.specs.Links.{Linked}
 use Rattle.connection_list.specs.declared.link.Link.{Link}
-use Rattle.connection_list.specs.Routes.{link_cmp}
 use Rattle.connection_list.specs.Rows.{is_next}
-use Rattle.connection_list.proofs.LinkLemmas.{from}
 use Rattle.connection_list.proofs.LazyLemmas.{all_of_none, seen_made}
 use Rattle.connection_list.proofs.RoutesLemmas.{find_none, next_key, no_next, none_above, none_next}
 use Rattle.connection_list.proofs.routes.LazyRoutes.search_sent.Goals as goal
@@ -26,17 +24,14 @@ pub returns-in_err-link : goal.returns-in_err-link
 returns-in_err-link c = λ rows kept.
     let is = seen_made c.self.view_is c.in-Some.is c.deref.ensures in
     c.from_residual.ensures ∙ none_next c.args.sender c.args.signal c.args.after c.args.up_to rows c.deref.result.now (rw is kept)
-    (subst (λ links. first_from link_cmp links (from c.args.sender c.args.signal (c.args.after + 1)) ≡ None)
-    (ap (λ (l : Linked Link). l.links) c.bucket.ensures) (sym c.in_err-link.ensures.first))
+    (ap (λ (l : Linked Link). l.links) c.bucket.ensures) (sym c.in_err-link.ensures.first)
 
 pub returns-then-link-sender : goal.returns-then-link-sender
 returns-then-link-sender c = λ rows kept.
     let is = seen_made c.self.view_is c.in-Some.is c.deref.ensures in
-    let links = ap (λ (l : Linked Link). l.links) c.bucket.ensures in
     no_next c.args.sender c.args.signal c.args.after c.args.up_to rows c.deref.result.now (rw is kept)
-    (subst (IsInOrder link_cmp) links c.in_ok-link.ensures.sound) c.in_ok-link.link
-    (subst (λ links. first_from link_cmp links (from c.args.sender c.args.signal (c.args.after + 1)) ≡ Some c.in_ok-link.link) links
-    (sym c.in_ok-link.ensures.first)) (λ object signal within. elim c.then-link-sender.branch [
+    (ap (λ (l : Linked Link). l.links) c.bucket.ensures) c.in_ok-link.ensures.sound c.in_ok-link.link (sym c.in_ok-link.ensures.first)
+    (λ object signal within. elim c.then-link-sender.branch [
       | then-link-sender-via-then-link-sender w ↦ w.if-link-sender.true object
       | then-link-sender-via-else-link-sender+then-link-signal w ↦ w.if-link-signal.true signal
       | then-link-sender-via-else-link-sender+else-link-signal+then-link-up_to w ↦ omega (arith, w.if-link-up_to.true, within)
@@ -45,8 +40,6 @@ returns-then-link-sender c = λ rows kept.
 pub returns : goal.returns
 returns c = λ rows kept.
     let is = seen_made c.self.view_is c.in-Some.is c.deref.ensures in
-    let links = ap (λ (l : Linked Link). l.links) c.bucket.ensures in
     next_key c.args.sender c.args.signal c.args.after c.args.up_to rows c.deref.result.now (rw is kept)
-    (subst (IsInOrder link_cmp) links c.in_ok-link.ensures.sound) c.in_ok-link.link
-    (subst (λ links. first_from link_cmp links (from c.args.sender c.args.signal (c.args.after + 1)) ≡ Some c.in_ok-link.link) links
-    (sym c.in_ok-link.ensures.first)) c.if-link-sender.false c.if-link-signal.false c.if-link-up_to.false
+    (ap (λ (l : Linked Link). l.links) c.bucket.ensures) c.in_ok-link.ensures.sound c.in_ok-link.link (sym c.in_ok-link.ensures.first)
+    c.if-link-sender.false c.if-link-signal.false c.if-link-up_to.false

@@ -1,8 +1,9 @@
-use Rattle.std.proofs.Common.{◌∙◌, ap, arith, refl}
+use Rattle.std.proofs.Common.{◌∙◌, ◌+◌, ap, arith}
+use Rattle.std.proofs.lemmas.Result.{on_err_weaker, on_ok_weaker}
 use Rattle.event_queue.specs.declared.object_counts.Count.{Count}
 use Rattle.event_queue.specs.Entries.{ObjectCounts}
 use Rattle.event_queue.specs.Inside.{count_at}
-use Rattle.event_queue.proofs.EntryLemmas.{count_was, marks_now, none, none_was, on_err, on_ok, one_more, order_either, still_entries}
+use Rattle.event_queue.proofs.EntryLemmas.{count_now, count_was, marks_now, none_was, order_either, rows_now, still_entries}
 use Rattle.event_queue.proofs.object_counts.ObjectCounts.add.Goals as goal
 
 pub overflow_add-rows : goal.overflow_add-rows
@@ -17,10 +18,10 @@ invariant_of-self c = still_entries c.self.inside.entries.items c.args.object c.
 pub returns-in-Ok-clause-ok : goal.returns-in-Ok-clause-ok
 returns-in-Ok-clause-ok c =
     let was = count_was c.self.view_is c.args.object c.in-Ok.at c.get-rows.result c.in-Ok.ensures (c.get-rows.ensures c.get-rows.result) in
-    one_more c.self.view_is c.args.object _ c.get-rows.result.count was refl c.replace_count.ensures
+    rows_now (count_now c.self.view_is c.args.object _ c.replace_count.ensures) _ (ap (λ (count : Count). count.rows + 1) was)
 
 pub returns-in-Ok-clause-marks : goal.returns-in-Ok-clause-marks
-returns-in-Ok-clause-marks c = marks_now c.self.view_is c.args.object _ c.replace_count.ensures
+returns-in-Ok-clause-marks c = marks_now (count_now c.self.view_is c.args.object _ c.replace_count.ensures)
 
 pub invariant_of-self-in-Err : goal.invariant_of-self-in-Err
 invariant_of-self-in-Err c =
@@ -28,13 +29,14 @@ invariant_of-self-in-Err c =
 
 pub returns-in-Err-clause-ok : goal.returns-in-Err-clause-ok
 returns-in-Err-clause-ok c =
-    on_ok c.insert_first.result c.insert_first.ensures.ok
-    (one_more c.self.view_is c.args.object _ none (none_was c.self.view_is c.args.object c.in-Err.at c.in-Err.ensures) refl)
+    on_ok_weaker c.insert_first.result (λ put. rows_now (count_now c.self.view_is c.args.object _ put) _
+    (ap (λ (count : Count). count.rows + 1) (none_was c.self.view_is c.args.object c.in-Err.at c.in-Err.ensures)))
+    c.insert_first.ensures.ok
 
 pub returns-in-Err-clause-marks : goal.returns-in-Err-clause-marks
 returns-in-Err-clause-marks c =
-    on_ok c.insert_first.result c.insert_first.ensures.ok (marks_now c.self.view_is c.args.object _)
+    on_ok_weaker c.insert_first.result (λ put. marks_now (count_now c.self.view_is c.args.object _ put)) c.insert_first.ensures.ok
 
 pub returns-in-Err-clause-err : goal.returns-in-Err-clause-err
 returns-in-Err-clause-err c =
-    on_err c.insert_first.result c.insert_first.ensures.err (λ same other. ap (λ (list : ObjectCounts). count_at list other) (same ∙ c.self.view_is))
+    on_err_weaker c.insert_first.result (λ same other. ap (λ (list : ObjectCounts). count_at list other) (same ∙ c.self.view_is)) c.insert_first.ensures.err

@@ -7,7 +7,7 @@ pub invariant_of-self : goal.invariant_of-self
 invariant_of-self c = still_entries c.self.inside.entries.items c.args.object c.self.invariant _ _ c.replace_count.ensures
 
 pub returns-in-Ok : goal.returns-in-Ok
-returns-in-Ok c = count_now c.self.view_is c.args.object c.args.count c.replace_count.ensures
+returns-in-Ok c = (count_now c.self.view_is c.args.object c.args.count c.replace_count.ensures).counts
 
 pub returns-in_default : goal.returns-in_default
 returns-in_default c =

@@ -1,7 +1,7 @@
-use Rattle.std.proofs.Common.{◌∙◌, ap, refl}
+use Rattle.std.proofs.Common.{◌∙◌, ◌-◌, ap, arith, refl}
 use Rattle.event_queue.specs.declared.object_counts.Count.{Count}
-use Rattle.event_queue.proofs.EntryLemmas.{count_was, entry_gone, fewer_entries, last_gone, marks_after, marks_kept, none_fewer, none_was}
-use Rattle.event_queue.proofs.EntryLemmas.{one_fewer, still_entries}
+use Rattle.event_queue.proofs.EntryLemmas.{count_left, count_now, count_was, entry_gone, fewer_entries, marks_kept, marks_left, none_fewer, none_was}
+use Rattle.event_queue.proofs.EntryLemmas.{rows_now, still_entries}
 use Rattle.event_queue.proofs.object_counts.ObjectCounts.subtract.Goals as goal
 
 pub returns-in_default-clause-was : goal.returns-in_default-clause-was
@@ -19,17 +19,16 @@ returns-then-count-le1-clause-was c =
 
 pub returns-then-count-le1-clause-counted : goal.returns-then-count-le1-clause-counted
 returns-then-count-le1-clause-counted c =
-    last_gone c.self.view_is c.args.object c.get.result.count
-    (count_was c.self.view_is c.args.object c.in-Ok.at c.get.result c.in-Ok.ensures (c.get.ensures c.get.result))
-    c.if-count-le1.true
-    (ap (λ buffer. buffer.items) c.remove.ensures.others
-    ∙ entry_gone c.self.inside.entries.items c.args.object c.self.invariant c.in-Ok.at c.in-Ok.ensures)
+    let was = count_was c.self.view_is c.args.object c.in-Ok.at c.get.result c.in-Ok.ensures (c.get.ensures c.get.result) in
+    let rows = ap (λ (count : Count). count.rows) was in
+    rows_now (count_left c.self.view_is c.args.object (ap (λ buffer. buffer.items) c.remove.ensures.others
+    ∙ entry_gone c.self.inside.entries.items c.args.object c.self.invariant c.in-Ok.at c.in-Ok.ensures))
+    _ (omega (arith, rows, c.if-count-le1.true))
 
 pub returns-then-count-le1-clause-marks : goal.returns-then-count-le1-clause-marks
 returns-then-count-le1-clause-marks c =
-    marks_after c.self.view_is c.args.object
-    (ap (λ buffer. buffer.items) c.remove.ensures.others
-    ∙ entry_gone c.self.inside.entries.items c.args.object c.self.invariant c.in-Ok.at c.in-Ok.ensures)
+    marks_left (count_left c.self.view_is c.args.object (ap (λ buffer. buffer.items) c.remove.ensures.others
+    ∙ entry_gone c.self.inside.entries.items c.args.object c.self.invariant c.in-Ok.at c.in-Ok.ensures)) refl
 
 pub invariant_of-self : goal.invariant_of-self
 invariant_of-self c =
@@ -42,15 +41,13 @@ returns-clause-was c =
 
 pub returns-clause-counted : goal.returns-clause-counted
 returns-clause-counted c =
-    one_fewer c.self.view_is c.args.object _ c.get.result.count
-    (count_was c.self.view_is c.args.object c.in-Ok.at c.get.result c.in-Ok.ensures (c.get.ensures c.get.result)) refl
-    c.replace_count.ensures
+    let was = count_was c.self.view_is c.args.object c.in-Ok.at c.get.result c.in-Ok.ensures (c.get.ensures c.get.result) in
+    rows_now (count_now c.self.view_is c.args.object _ c.replace_count.ensures) _ (ap (λ (count : Count). count.rows - 1) was)
 
 pub returns-clause-marks : goal.returns-clause-marks
 returns-clause-marks c other some =
-    marks_kept c.self.view_is c.args.object _ c.get.result.count
-    (count_was c.self.view_is c.args.object c.in-Ok.at c.get.result c.in-Ok.ensures (c.get.ensures c.get.result)) refl
-    c.replace_count.ensures other
+    let was = count_was c.self.view_is c.args.object c.in-Ok.at c.get.result c.in-Ok.ensures (c.get.ensures c.get.result) in
+    marks_kept (count_now c.self.view_is c.args.object _ c.replace_count.ensures) (ap (λ (count : Count). count.is_dropped) was) other
 
 pub invariant_of-self-2 : goal.invariant_of-self-2
 invariant_of-self-2 c = still_entries c.self.inside.entries.items c.args.object c.self.invariant _ _ c.replace_count.ensures

@@ -1,11 +1,12 @@
 use Rattle.std.proofs.Common.{◌+◌, ◌∙◌, refl, sym, ap, arith}
 use Rattle.shared_rows.specs.Links.{Linked, with_link}
+use Rattle.shared_rows.proofs.ForCallers.{on_err}
 use Rattle.object_tree.specs.declared.child.Child.{Child}
 use Rattle.object_tree.specs.Forest.{Forest}
 use Rattle.object_tree.specs.Table.{forest_at}
 use Rattle.object_tree.specs.Children.{child_cmp}
 use Rattle.object_tree.proofs.RefusingLemmas.{add_allowed}
-use Rattle.object_tree.proofs.KeptLemmas.{below_next, forest_is, in_kinships, in_rows, on_err, one_more, same_forest, unchanged_seen}
+use Rattle.object_tree.proofs.KeptLemmas.{below_next, forest_is, in_kinships, in_rows, one_more, same_forest, unchanged_seen}
 use Rattle.object_tree.proofs.forests.Forests.add.Goals as goal
 
 pub get_mut-kinship-requires : goal.get_mut-kinship-requires

@@ -1,8 +1,9 @@
 use Rattle.std.proofs.Common.{◌∙◌, Some, None, ap, cond, sym, subst, rules}
+use Rattle.std.proofs.lemmas.Result.{on_err_weaker, on_ok_weaker}
 use Rattle.indexmap.specs.IndexMap.{get}
 use Rattle.publish_board.specs.Filled.{AreFilled}
 use Rattle.publish_board.specs.Topics.{is_same, topic_of}
-use Rattle.publish_board.proofs.JoinersLemmas.{alone, empty_in, filled_inserted, filled_still, full_after, listed_more, listed_same, on_err, on_ok, one_alone}
+use Rattle.publish_board.proofs.JoinersLemmas.{alone, empty_in, filled_inserted, filled_still, full_after, listed_more, listed_same, one_alone}
 use Rattle.publish_board.proofs.joiners.Joiners.list.Goals as goal
 
 pub invariant_of-self : goal.invariant_of-self
@@ -15,15 +16,17 @@ invariant_of-self c = record {
 
 pub returns-in-Some-clause-ok : goal.returns-in-Some-clause-ok
 returns-in-Some-clause-ok c =
-    on_ok c.list_one.result c.list_one.ensures.ok (λ more.
+    on_ok_weaker c.list_one.result (λ more.
     listed_more c.args.self.now.lists (c.get_mut.follows.lender c.list_one.new.list) (topic_of c.args.topic) c.args.place (Some c.list_one.new.list)
     ((c.get_mut.follows.holds c.list_one.new.list).3 (search rules)).0 (Some c.in-Some.list.now) c.in-Some.ensures.value more)
+    c.list_one.ensures.ok
 
 pub returns-in-Some-clause-err : goal.returns-in-Some-clause-err
 returns-in-Some-clause-err c =
-    on_err c.list_one.result c.list_one.ensures.err (λ same.
+    on_err_weaker c.list_one.result (λ same.
     listed_same c.args.self.now.lists (c.get_mut.follows.lender c.list_one.new.list) (topic_of c.args.topic) c.args.place (Some c.list_one.new.list)
     ((c.get_mut.follows.holds c.list_one.new.list).3 (search rules)).0 (sym c.in-Some.ensures.value ∙ ap Some (sym same)))
+    c.list_one.ensures.err
 
 pub invariant_of-self-2 : goal.invariant_of-self-2
 invariant_of-self-2 c = record {
