@@ -69,70 +69,68 @@ along kinds other is bad = (bad.0, is ∙ bad.1, bad.2)
 
 -- ---- where what is pending is a mistake
 
-ends_badly : (t : Bool) (a : Option Valued) (path : Option Text) (rows : List Row) (pending : Pending) → IsMistake (settle rows pending)
-    → Walks mistake (at t a path rows pending) []
-unfolding walk_fault
-ends_badly t a path rows pending bad = (bad.0, rw bad.1 refl, bad.2)
-
-path_refused : (t : Bool) (a : Option Valued) (path : Option Text) (rows : List Row) (pending : Pending) (word : Text) → IsMistake (settle rows pending)
-    → IsPathWord t a word → IsMistake (turn_fault shape [] (at t a path rows pending) word)
-path_refused t a None rows pending word bad is = along _ _ (is rows pending).0 bad
-path_refused t a (Some path) rows pending word bad is = unknown _ ((is rows pending).2 path)
-
-bad_paths : (a : Option Valued) (path : Option Text) (rows : List Row) (pending : Pending) (words : List Text) → IsMistake (settle rows pending)
-    → Walks mistake (at true a path rows pending) words
-bad_paths a path rows pending [] bad = ends_badly true a path rows pending bad
-bad_paths a path rows pending (word ∷ rest) bad = stops (at true a path rows pending) word rest
-    (path_refused true a path rows pending word bad (path_behind_dashes a word))
-
-bad_dashes : (awaits : Option Valued) (path : Option Text) (rows : List Row) (pending : Pending) (word : Text) (rest : List Text)
-    → IsMistake (settle rows pending) → bytes_eq word (codes "--") ≡ true → Walks mistake (at false awaits path rows pending) (word ∷ rest)
-bad_dashes awaits path rows pending word rest bad is =
-    let same : word ≡ codes "--" = (bytes_eq-Decides word (codes "--")).0 is in
-    let turn = dashes awaits path rows pending in
-    subst (λ w. Walks mistake (at false awaits path rows pending) (w ∷ rest)) (sym same)
-    (goes_on mistake (at false awaits path rows pending) (at true awaits path rows pending) (codes "--") rest turn.0 turn.1
-    (bad_paths awaits path rows pending rest bad))
-
-bad_value : (valued : Valued) (awaits : Option Valued) (path : Option Text) (rows : List Row) (pending : Pending) (word : Text) (has : Bool)
-    → IsMistake (settle rows pending) → option_in word ≡ Some valued → has_value word ≡ has
-    → IsMistake (turn_fault shape [] (at false awaits path rows pending) word)
-bad_value valued awaits path rows pending word true bad is value =
-    let attached = value_with valued word (option_named word valued is) value in
-    let wrong = use_fault false (rule_of valued) (value_in word ∷ []) (settles rows pending) in
-    along _ _ ((value_attached valued awaits path rows pending word (value_in word) attached.0 attached.1).0 ∙ ap (λ k. or_else k wrong) bad.1)
-    (bad.0, refl, bad.2)
-bad_value valued awaits path rows pending word false bad is no_value =
-    subst (λ w. IsMistake (turn_fault shape [] (at false awaits path rows pending) w)) (sym (value_without valued word (option_named word valued is) no_value))
-    (along _ _ (value_awaited valued awaits path rows pending).0 bad)
-
 refused_badly : (is_help : Bool) (kinds : Kinds) → Refuses true is_help kinds → IsMistake kinds
 refused_badly true kinds is = is
 refused_badly false kinds is = is
 
--- each option is refused
-bad_option : (awaits : Option Valued) (path : Option Text) (rows : List Row) (pending : Pending) (word : Text) (option : Option Valued)
-    → IsMistake (settle rows pending) → bytes_eq word (codes "--") ≡ false → is_option word ≡ true → option_in word ≡ option
-    → IsMistake (turn_fault shape [] (at false awaits path rows pending) word)
-bad_option awaits path rows pending word None bad no_dashes dashed is =
-    refused_badly (asks_help word) _ (option_word awaits (settle rows pending) word no_dashes is dashed true path rows pending refl bad)
-bad_option awaits path rows pending word (Some valued) bad no_dashes dashed is = bad_value valued awaits path rows pending word (has_value word) bad is refl
+module _ (path : Option Text) (rows : List Row) (pending : Pending) (bad : IsMistake (settle rows pending)) where
+  abbrev behind : Bool → Option Valued → Walk
+  behind t awaits = at t awaits path rows pending
 
-bad_dashed : (awaits : Option Valued) (path : Option Text) (rows : List Row) (pending : Pending) (word : Text) (rest : List Text)
-    → IsMistake (settle rows pending) → is_option word ≡ true → Walks mistake (at false awaits path rows pending) (word ∷ rest)
-bad_dashed awaits path rows pending word rest bad dashed = elim (cases_Bool (bytes_eq word (codes "--"))) [
-  | inl is_dashes ↦ bad_dashes awaits path rows pending word rest bad is_dashes
-  | inr no_dashes ↦ stops (at false awaits path rows pending) word rest (bad_option awaits path rows pending word (option_in word) bad no_dashes dashed refl)
-]
+  ends_badly : (t : Bool) (awaits : Option Valued) → Walks mistake (behind t awaits) []
+  unfolding walk_fault
+  ends_badly t awaits = (bad.0, rw bad.1 refl, bad.2)
 
--- and so is each path
-bad_words : (path : Option Text) (rows : List Row) (pending : Pending) (words : List Text) → IsMistake (settle rows pending)
-    → Walks mistake (at false None path rows pending) words
-bad_words path rows pending [] bad = ends_badly false None path rows pending bad
-bad_words path rows pending (word ∷ rest) bad = elim (cases_Bool (is_option word)) [
-  | inl dashed ↦ bad_dashed None path rows pending word rest bad dashed
-  | inr no_option ↦ stops (at false None path rows pending) word rest (path_refused false None path rows pending word bad (path_word word no_option).0)
-]
+  -- each path is refused,
+  path_refused : (t : Bool) (awaits : Option Valued) (word : Text) → IsPathWord t awaits word → IsMistake (turn_fault shape [] (behind t awaits) word)
+  path_refused t awaits word is = go path
+    where
+      go : (path : Option Text) → IsMistake (turn_fault shape [] (at t awaits path rows pending) word)
+      go None = along _ _ (is rows pending).0 bad
+      go (Some path) = unknown _ ((is rows pending).2 path)
+
+  bad_paths : (awaits : Option Valued) (words : List Text) → Walks mistake (behind true awaits) words
+  bad_paths awaits [] = ends_badly true awaits
+  bad_paths awaits (word ∷ rest) = stops (behind true awaits) word rest (path_refused true awaits word (path_behind_dashes awaits word))
+
+  bad_dashes : (awaits : Option Valued) (word : Text) (rest : List Text) → bytes_eq word (codes "--") ≡ true
+      → Walks mistake (behind false awaits) (word ∷ rest)
+  bad_dashes awaits word rest is =
+      let same : word ≡ codes "--" = (bytes_eq-Decides word (codes "--")).0 is in
+      let turn = dashes awaits path rows pending in
+      subst (λ w. Walks mistake (behind false awaits) (w ∷ rest)) (sym same)
+      (goes_on mistake (behind false awaits) (behind true awaits) (codes "--") rest turn.0 turn.1 (bad_paths awaits rest))
+
+  bad_value : (valued : Valued) (awaits : Option Valued) (word : Text) (has : Bool) → option_in word ≡ Some valued → has_value word ≡ has
+      → IsMistake (turn_fault shape [] (behind false awaits) word)
+  bad_value valued awaits word true is value =
+      let attached = value_with valued word (option_named word valued is) value in
+      let wrong = use_fault false (rule_of valued) (value_in word ∷ []) (settles rows pending) in
+      along _ _ ((value_attached valued awaits path rows pending word (value_in word) attached.0 attached.1).0 ∙ ap (λ k. or_else k wrong) bad.1)
+      (bad.0, refl, bad.2)
+  bad_value valued awaits word false is no_value =
+      subst (λ w. IsMistake (turn_fault shape [] (behind false awaits) w)) (sym (value_without valued word (option_named word valued is) no_value))
+      (along _ _ (value_awaited valued awaits path rows pending).0 bad)
+
+  -- and so is each option
+  bad_option : (awaits : Option Valued) (word : Text) (option : Option Valued) → bytes_eq word (codes "--") ≡ false → is_option word ≡ true
+      → option_in word ≡ option → IsMistake (turn_fault shape [] (behind false awaits) word)
+  bad_option awaits word None no_dashes dashed is =
+      refused_badly (asks_help word) _ (option_word awaits (settle rows pending) word no_dashes is dashed true path rows pending refl bad)
+  bad_option awaits word (Some valued) no_dashes dashed is = bad_value valued awaits word (has_value word) is refl
+
+  bad_dashed : (awaits : Option Valued) (word : Text) (rest : List Text) → is_option word ≡ true → Walks mistake (behind false awaits) (word ∷ rest)
+  bad_dashed awaits word rest dashed = elim (cases_Bool (bytes_eq word (codes "--"))) [
+    | inl is_dashes ↦ bad_dashes awaits word rest is_dashes
+    | inr no_dashes ↦ stops (behind false awaits) word rest (bad_option awaits word (option_in word) no_dashes dashed refl)
+  ]
+
+  bad_words : (words : List Text) → Walks mistake (behind false None) words
+  bad_words [] = ends_badly false None
+  bad_words (word ∷ rest) = elim (cases_Bool (is_option word)) [
+    | inl dashed ↦ bad_dashed None word rest dashed
+    | inr no_option ↦ stops (behind false None) word rest (path_refused false None word (path_word word no_option).0)
+  ]
 
 -- a value is missing
 missing : (valued : Valued) (rows : List Row) → IsMistake (settle rows (opened valued))
@@ -175,19 +173,6 @@ end_judged t path rows pending is =
     let none : defaults_fault (settles rows pending) rules ≡ [] = (no_defaults (settles rows pending) rules bare).0 in
     rw (is, none) refl
 
-ends_well : (t : Bool) (given : Given) (rows : List Row) (pending : Pending) → HoldsWell given rows pending
-    → Walks (run_with given) (at t None given.path rows pending) []
-unfolding walk_fault
-ends_well t given rows pending well =
-    let same = rows_at_end rows pending in (
-      end_judged t given.path rows pending well.0,
-      ap (first_of (codes "classes")) same ∙ path_found given (settles rows pending) well.1,
-      subst (λ found. Gives (one_of (codes "turns") found) (unwrap_or given.turns 10000)) (sym same) (turns_found given (settles rows pending) well.1),
-      ap (first_of (codes "slice")) same ∙ slice_found given (settles rows pending) well.1,
-    )
-
--- ---- the definition's cases
-
 -- what is said of these words where nothing, or the value of an option, is awaited
 abbrev WalksWords : Option Valued → List Text → Type 0
 WalksWords None words = (given : Given) (rows : List Row) (pending : Pending) → HoldsWell given rows pending
@@ -195,120 +180,47 @@ WalksWords None words = (given : Given) (rows : List Row) (pending : Pending) �
 WalksWords (Some valued) words = (given : Given) (rows : List Row) → AreRows given rows
     → Walks (asked_behind (Some valued) given words) (at false (Some valued) given.path rows (opened valued)) words
 
--- a word that is a path, where there is none yet or one already
-one_more : (t : Bool) (given : Given) (rows : List Row) (pending : Pending) (word : Text) (rest : List Text) (next : Given → Asked)
-    → HoldsWell given rows pending → IsPathWord t None word
-    → ((more : Given) (rows : List Row) (pending : Pending) → HoldsWell more rows pending → Walks (next more) (at t None more.path rows pending) rest)
-    → Walks (asked_with (with_path word given) next) (at t None given.path rows pending) (word ∷ rest)
-one_more t given rows pending word rest next well is walks = go given.path refl
-  where
-    go : (path : Option Text) → given.path ≡ path → Walks (asked_with (if is_some path then None else Some (record given { path = Some word })) next)
-        (at t None path rows pending) (word ∷ rest)
-    go None first =
-        let turn = is rows pending in
-        let to = settles rows pending in
-        goes_on (next (record given { path = Some word })) (at t None None rows pending)
-        (at t None (Some word) to (Some (codes "classes", word ∷ []))) word rest (turn.0 ∙ well.0) turn.1
-        (walks (record given { path = Some word }) to (Some (codes "classes", word ∷ [])) (path_held given to word first well.1))
-    go (Some path) was = stops (at t None (Some path) rows pending) word rest (unknown _ ((is rows pending).2 path))
+module _ (given : Given) (rows : List Row) (pending : Pending) (well : HoldsWell given rows pending) where
+  abbrev here : Bool → Walk
+  here t = at t None given.path rows pending
+
+  ends_well : (t : Bool) → Walks (run_with given) (here t) []
+  unfolding walk_fault
+  ends_well t =
+      let same = rows_at_end rows pending in (
+        end_judged t given.path rows pending well.0,
+        ap (first_of (codes "classes")) same ∙ path_found given (settles rows pending) well.1,
+        subst (λ found. Gives (one_of (codes "turns") found) (unwrap_or given.turns 10000)) (sym same) (turns_found given (settles rows pending) well.1),
+        ap (first_of (codes "slice")) same ∙ slice_found given (settles rows pending) well.1,
+      )
+
+  -- a word that is a path, where there is none yet or one already
+  one_more : (t : Bool) (word : Text) (rest : List Text) (next : Given → Asked) → IsPathWord t None word
+      → ((more : Given) (rows : List Row) (pending : Pending) → HoldsWell more rows pending → Walks (next more) (at t None more.path rows pending) rest)
+      → Walks (asked_with (with_path word given) next) (here t) (word ∷ rest)
+  one_more t word rest next is walks = go given.path refl
+    where
+      go : (path : Option Text) → given.path ≡ path → Walks (asked_with (if is_some path then None else Some (record given { path = Some word })) next)
+          (at t None path rows pending) (word ∷ rest)
+      go None first =
+          let turn = is rows pending in
+          let to = settles rows pending in
+          goes_on (next (record given { path = Some word })) (at t None None rows pending)
+          (at t None (Some word) to (Some (codes "classes", word ∷ []))) word rest (turn.0 ∙ well.0) turn.1
+          (walks (record given { path = Some word }) to (Some (codes "classes", word ∷ [])) (path_held given to word first well.1))
+      go (Some path) was = stops (at t None (Some path) rows pending) word rest (unknown _ ((is rows pending).2 path))
 
 walks_paths : (given : Given) (rows : List Row) (pending : Pending) (words : List Text) → HoldsWell given rows pending
     → Walks (asked_by_paths given words) (at true None given.path rows pending) words
-walks_paths given rows pending [] well = ends_well true given rows pending well
+walks_paths given rows pending [] well = ends_well given rows pending well true
 walks_paths given rows pending (word ∷ rest) well =
-    one_more true given rows pending word rest (λ more. asked_by_paths more rest) well (path_behind_dashes None word)
+    one_more given rows pending well true word rest (λ more. asked_by_paths more rest) (path_behind_dashes None word)
     (λ (more : Given) (to : List Row) (new : Pending) well. walks_paths more to new rest well)
 
-walks_dashes : (given : Given) (rows : List Row) (pending : Pending) (rest : List Text) → HoldsWell given rows pending
-    → Walks (asked_by_paths given rest) (at false None given.path rows pending) (codes "--" ∷ rest)
-walks_dashes given rows pending rest well =
-    let turn = dashes None given.path rows pending in
-    goes_on _ (at false None given.path rows pending) (at true None given.path rows pending) (codes "--") rest turn.0 turn.1
-    (walks_paths given rows pending rest well)
-
-walks_option : (path : Option Text) (rows : List Row) (pending : Pending) (word : Text) (rest : List Text) (is_help : Bool)
-    → Refuses false is_help (turn_fault shape [] (at false None path rows pending) word)
-    → Walks (if is_help then help else mistake) (at false None path rows pending) (word ∷ rest)
-walks_option path rows pending word rest true refused = shows_help (at false None path rows pending) word rest refused
-walks_option path rows pending word rest false refused = stops (at false None path rows pending) word rest refused
-
--- a value that stands in the word
-walks_attached : (valued : Valued) (given : Given) (more : Option Given) (rows : List Row) (pending : Pending) (word : Text) (rest : List Text)
-    → HoldsWell given rows pending → option_in word ≡ Some valued → has_value word ≡ true
-    → Takes valued (value_in word) given (settles rows pending) more → WalksWords None rest
-    → Walks (asked_with more (λ more. asked_behind None more rest)) (at false None given.path rows pending) (word ∷ rest)
-walks_attached valued given more rows pending word rest well is value taken walks = go more taken
-  where
-    wrong : Kinds
-    wrong = use_fault false (rule_of valued) (value_in word ∷ []) (settles rows pending)
-
-    turn : IsTurn (at false None given.path rows pending) word wrong
-        × GoesTo (at false None given.path rows pending) word
-        (at false None given.path (used (rule_of valued) (value_in word ∷ []) (settles rows pending)) None)
-    turn =
-        let attached = value_with valued word (option_named word valued is) value in
-        let taken = value_attached valued None given.path rows pending word (value_in word) attached.0 attached.1 in
-        (taken.0 ∙ ap (λ k. or_else k wrong) well.0, taken.1)
-
-    go : (more : Option Given) → Takes valued (value_in word) given (settles rows pending) more
-        → Walks (asked_with more (λ more. asked_behind None more rest)) (at false None given.path rows pending) (word ∷ rest)
-    go None taken = stops (at false None given.path rows pending) word rest (along _ wrong turn.0 taken)
-    go (Some more) taken =
-        let new = used (rule_of valued) (value_in word ∷ []) (settles rows pending) in
-        goes_on _ (at false None given.path rows pending) (at false None given.path new None) word rest (turn.0 ∙ taken.0) turn.1
-        (subst (λ path. Walks (asked_behind None more rest) (at false None path new None) rest) taken.1 (walks more new None (refl, taken.2)))
-
--- a word that names an option with a value
-walks_valued : (valued : Valued) (given : Given) (rows : List Row) (pending : Pending) (word : Text) (rest : List Text) (has : Bool)
-    → HoldsWell given rows pending → option_in word ≡ Some valued → has_value word ≡ has
-    → WalksWords None rest → WalksWords (Some valued) rest
-    → Walks (if has then asked_with (with_value valued (value_in word) given) (λ more. asked_behind None more rest) else asked_behind (Some valued) given rest)
-    (at false None given.path rows pending) (word ∷ rest)
-walks_valued valued given rows pending word rest true well is value walks awaits =
-    walks_attached valued given (with_value valued (value_in word) given) rows pending word rest well is value
-    (value_taken valued (value_in word) given (settles rows pending) well.1) walks
-walks_valued valued given rows pending word rest false well is no_value walks awaits =
-    let turn = value_awaited valued None given.path rows pending in
-    let next = asked_behind (Some valued) given rest in
-    subst (λ w. Walks next (at false None given.path rows pending) (w ∷ rest)) (sym (value_without valued word (option_named word valued is) no_value))
-    (goes_on next (at false None given.path rows pending) (at false (Some valued) given.path (settles rows pending) (opened valued)) (spelled valued) rest
-    (turn.0 ∙ well.0) turn.1
-    (awaits given (settles rows pending) well.1))
-
--- any option
-walks_dashed : (given : Given) (rows : List Row) (pending : Pending) (word : Text) (rest : List Text) (option : Option Valued) → HoldsWell given rows pending
-    → bytes_eq word (codes "--") ≡ false → is_option word ≡ true → option_in word ≡ option
-    → WalksWords None rest → ((valued : Valued) → WalksWords (Some valued) rest)
-    → Walks (asked_by_option option word given (λ awaited more. asked_behind awaited more rest)) (at false None given.path rows pending) (word ∷ rest)
-walks_dashed given rows pending word rest None well no_dashes dashed is walks awaits =
-    walks_option given.path rows pending word rest (asks_help word)
-    (option_word None (settle rows pending) word no_dashes is dashed false given.path rows pending refl well.0)
-walks_dashed given rows pending word rest (Some valued) well no_dashes dashed is walks awaits =
-    walks_valued valued given rows pending word rest (has_value word) well is refl walks (awaits valued)
-
--- any word, where nothing is awaited
-walks_word : (given : Given) (rows : List Row) (pending : Pending) (word : Text) (rest : List Text) → HoldsWell given rows pending
-    → WalksWords None rest → ((valued : Valued) → WalksWords (Some valued) rest)
-    → Walks (asked_behind None given (word ∷ rest)) (at false None given.path rows pending) (word ∷ rest)
-walks_word given rows pending word rest well walks awaits = elim (cases_Bool (bytes_eq word (codes "--"))) [
-  | inl is_dashes ↦
-      let same : word ≡ codes "--" = (bytes_eq-Decides word (codes "--")).0 is_dashes in
-      subst (λ w. Holds (asked_behind None given (w ∷ rest)) w) (sym same) (walks_dashes given rows pending rest well)
-  | inr no_dashes ↦ elim (cases_Bool (is_option word)) [
-    | inl dashed ↦
-        let means : asked_behind None given (word ∷ rest) ≡ asked_by_option (option_in word) word given (λ awaited more. asked_behind awaited more rest) =
-        rw (no_dashes, dashed) refl in
-        subst (λ a. Holds a word) (sym means) (walks_dashed given rows pending word rest (option_in word) well no_dashes dashed refl walks awaits)
-    | inr no_option ↦
-        let means : asked_behind None given (word ∷ rest) ≡ asked_with (with_path word given) (λ more. asked_behind None more rest) =
-        rw (no_dashes, no_option) refl in
-        subst (λ a. Holds a word) (sym means) (one_more false given rows pending word rest (λ more. asked_behind None more rest) well
-        (path_word word no_option).0 walks)
-  ]
-]
-  where
-    Holds : Asked → Text → Type 0
-    Holds a w = Walks a (at false None given.path rows pending) (w ∷ rest)
+walks_option : (from : Walk) (word : Text) (rest : List Text) (is_help : Bool) → Refuses false is_help (turn_fault shape [] from word)
+    → Walks (if is_help then help else mistake) from (word ∷ rest)
+walks_option from word rest true refused = shows_help from word rest refused
+walks_option from word rest false refused = stops from word rest refused
 
 -- what is pending behind a value that was awaited
 used_badly : (valued : Valued) (rows : List Row) (text : Text) → IsMistake (use_fault false (rule_of valued) (text ∷ []) rows)
@@ -321,42 +233,123 @@ used_well : (valued : Valued) (rows : List Row) (text : Text) (more : Given) →
 used_well the_turns rows text more none are = (none, are)
 used_well the_slice rows text more none are = (none, are)
 
--- a value that is awaited
-walks_value : (valued : Valued) (given : Given) (more : Option Given) (rows : List Row) (word : Text) (rest : List Text) → is_option word ≡ false
-    → Takes valued word given rows more → WalksWords None rest
-    → Walks (asked_with more (λ more. asked_behind None more rest)) (at false (Some valued) given.path rows (opened valued)) (word ∷ rest)
-walks_value valued given None rows word rest no_option taken walks =
-    let turn = (path_word word no_option).1 valued given.path rows in
-    goes_on mistake _ (at false None given.path rows (Some (name_of valued, word ∷ []))) word rest turn.0 turn.1
-    (bad_words given.path rows (Some (name_of valued, word ∷ [])) rest (used_badly valued rows word taken))
-walks_value valued given (Some more) rows word rest no_option taken walks =
-    let turn = (path_word word no_option).1 valued given.path rows in
-    let new : Pending = Some (name_of valued, word ∷ []) in
-    goes_on _ (at false (Some valued) given.path rows (opened valued)) (at false None given.path rows new) word rest turn.0 turn.1
-    (subst (λ path. Walks (asked_behind None more rest) (at false None path rows new) rest) taken.1
-    (walks more rows new (used_well valued rows word more taken.0 taken.2)))
+-- ---- the definition's cases
 
-walks_awaited : (valued : Valued) (given : Given) (rows : List Row) (word : Text) (rest : List Text) → AreRows given rows → WalksWords None rest
-    → Walks (asked_behind (Some valued) given (word ∷ rest)) (at false (Some valued) given.path rows (opened valued)) (word ∷ rest)
-walks_awaited valued given rows word rest are walks = elim (cases_Bool (is_option word)) [
-  | inl dashed ↦
-      let means : asked_behind (Some valued) given (word ∷ rest) ≡ mistake = rw dashed refl in
-      subst Holds (sym means) (bad_dashed (Some valued) given.path rows (opened valued) word rest (missing valued rows) dashed)
-  | inr no_option ↦
-      let means : asked_behind (Some valued) given (word ∷ rest) ≡ asked_with (with_value valued word given) (λ more. asked_behind None more rest) =
-      rw no_option refl in
-      subst Holds (sym means) (walks_value valued given (with_value valued word given) rows word rest no_option (value_taken valued word given rows are) walks)
-]
-  where
-    Holds : Asked → Type 0
-    Holds a = Walks a (at false (Some valued) given.path rows (opened valued)) (word ∷ rest)
+module _ (rest : List Text) (walks : WalksWords None rest) where
+  -- the words behind one that is no path
+  abbrev on : Given → Asked
+  on more = asked_behind None more rest
+
+  module _ (given : Given) (rows : List Row) (pending : Pending) (well : HoldsWell given rows pending) where
+    abbrev from : Walk
+    from = at false None given.path rows pending
+
+    walks_dashes : Walks (asked_by_paths given rest) from (codes "--" ∷ rest)
+    walks_dashes =
+        let turn = dashes None given.path rows pending in
+        goes_on _ from (at true None given.path rows pending) (codes "--") rest turn.0 turn.1 (walks_paths given rows pending rest well)
+
+    -- a value that stands in the word
+    walks_attached : (valued : Valued) (word : Text) (more : Option Given) → option_in word ≡ Some valued → has_value word ≡ true
+        → Takes valued (value_in word) given (settles rows pending) more → Walks (asked_with more on) from (word ∷ rest)
+    walks_attached valued word more is value taken = go more taken
+      where
+        wrong : Kinds
+        wrong = use_fault false (rule_of valued) (value_in word ∷ []) (settles rows pending)
+
+        to : Walk
+        to = at false None given.path (used (rule_of valued) (value_in word ∷ []) (settles rows pending)) None
+
+        turn : IsTurn from word wrong × GoesTo from word to
+        turn =
+            let attached = value_with valued word (option_named word valued is) value in
+            let taken = value_attached valued None given.path rows pending word (value_in word) attached.0 attached.1 in
+            (taken.0 ∙ ap (λ k. or_else k wrong) well.0, taken.1)
+
+        go : (more : Option Given) → Takes valued (value_in word) given (settles rows pending) more → Walks (asked_with more on) from (word ∷ rest)
+        go None taken = stops from word rest (along _ wrong turn.0 taken)
+        go (Some more) taken =
+            let new = used (rule_of valued) (value_in word ∷ []) (settles rows pending) in
+            goes_on _ from to word rest (turn.0 ∙ taken.0) turn.1
+            (subst (λ path. Walks (on more) (at false None path new None) rest) taken.1 (walks more new None (refl, taken.2)))
+
+    module _ (awaits : (valued : Valued) → WalksWords (Some valued) rest) where
+      -- a word that names an option with a value
+      walks_valued : (valued : Valued) (word : Text) (has : Bool) → option_in word ≡ Some valued → has_value word ≡ has
+          → Walks (if has then asked_with (with_value valued (value_in word) given) on else asked_behind (Some valued) given rest) from (word ∷ rest)
+      walks_valued valued word true is value =
+          walks_attached valued word (with_value valued (value_in word) given) is value (value_taken valued (value_in word) given (settles rows pending) well.1)
+      walks_valued valued word false is no_value =
+          let turn = value_awaited valued None given.path rows pending in
+          let next = asked_behind (Some valued) given rest in
+          subst (λ w. Walks next from (w ∷ rest)) (sym (value_without valued word (option_named word valued is) no_value))
+          (goes_on next from (at false (Some valued) given.path (settles rows pending) (opened valued)) (spelled valued) rest (turn.0 ∙ well.0) turn.1
+          (awaits valued given (settles rows pending) well.1))
+
+      -- any option
+      walks_dashed : (word : Text) (option : Option Valued) → bytes_eq word (codes "--") ≡ false → is_option word ≡ true → option_in word ≡ option
+          → Walks (asked_by_option option word given (λ awaited more. asked_behind awaited more rest)) from (word ∷ rest)
+      walks_dashed word None no_dashes dashed is =
+          walks_option from word rest (asks_help word)
+          (option_word None (settle rows pending) word no_dashes is dashed false given.path rows pending refl well.0)
+      walks_dashed word (Some valued) no_dashes dashed is = walks_valued valued word (has_value word) is refl
+
+      -- any word, where nothing is awaited
+      walks_word : (word : Text) → Walks (asked_behind None given (word ∷ rest)) from (word ∷ rest)
+      walks_word word = elim (cases_Bool (bytes_eq word (codes "--"))) [
+        | inl is_dashes ↦
+            let same : word ≡ codes "--" = (bytes_eq-Decides word (codes "--")).0 is_dashes in
+            subst (λ w. Holds (asked_behind None given (w ∷ rest)) w) (sym same) walks_dashes
+        | inr no_dashes ↦ elim (cases_Bool (is_option word)) [
+          | inl dashed ↦
+              let means : asked_behind None given (word ∷ rest) ≡ asked_by_option (option_in word) word given (λ awaited more. asked_behind awaited more rest) =
+              rw (no_dashes, dashed) refl in
+              subst (λ a. Holds a word) (sym means) (walks_dashed word (option_in word) no_dashes dashed refl)
+          | inr no_option ↦
+              let means : asked_behind None given (word ∷ rest) ≡ asked_with (with_path word given) on = rw (no_dashes, no_option) refl in
+              subst (λ a. Holds a word) (sym means) (one_more given rows pending well false word rest on (path_word word no_option).0 walks)
+        ]
+      ]
+        where
+          Holds : Asked → Text → Type 0
+          Holds a w = Walks a from (w ∷ rest)
+
+  -- a value that is awaited
+  module _ (valued : Valued) (given : Given) (rows : List Row) where
+    abbrev waits : Walk
+    waits = at false (Some valued) given.path rows (opened valued)
+
+    walks_value : (more : Option Given) (word : Text) → is_option word ≡ false → Takes valued word given rows more
+        → Walks (asked_with more on) waits (word ∷ rest)
+    walks_value None word no_option taken =
+        let turn = (path_word word no_option).1 valued given.path rows in
+        let new : Pending = Some (name_of valued, word ∷ []) in
+        goes_on mistake _ (at false None given.path rows new) word rest turn.0 turn.1 (bad_words given.path rows new (used_badly valued rows word taken) rest)
+    walks_value (Some more) word no_option taken =
+        let turn = (path_word word no_option).1 valued given.path rows in
+        let new : Pending = Some (name_of valued, word ∷ []) in
+        goes_on _ waits (at false None given.path rows new) word rest turn.0 turn.1
+        (subst (λ path. Walks (on more) (at false None path rows new) rest) taken.1 (walks more rows new (used_well valued rows word more taken.0 taken.2)))
+
+    walks_awaited : (word : Text) → AreRows given rows → Walks (asked_behind (Some valued) given (word ∷ rest)) waits (word ∷ rest)
+    walks_awaited word are = elim (cases_Bool (is_option word)) [
+      | inl dashed ↦
+          let means : asked_behind (Some valued) given (word ∷ rest) ≡ mistake = rw dashed refl in
+          subst Holds (sym means) (bad_dashed given.path rows (opened valued) (missing valued rows) (Some valued) word rest dashed)
+      | inr no_option ↦
+          let means : asked_behind (Some valued) given (word ∷ rest) ≡ asked_with (with_value valued word given) on = rw no_option refl in
+          subst Holds (sym means) (walks_value (with_value valued word given) word no_option (value_taken valued word given rows are))
+    ]
+      where
+        Holds : Asked → Type 0
+        Holds a = Walks a waits (word ∷ rest)
 
 walks_words : (awaits : Option Valued) (words : List Text) → WalksWords awaits words
-walks_words (Some valued) [] = λ given rows are. ends_badly false (Some valued) given.path rows (opened valued) (missing valued rows)
-walks_words (Some valued) (word ∷ rest) = λ given rows are. walks_awaited valued given rows word rest are (walks_words None rest)
-walks_words None [] = λ given rows pending well. ends_well false given rows pending well
-walks_words None (word ∷ rest) = λ given rows pending well. walks_word given rows pending word rest well (walks_words None rest)
-    (λ valued. walks_words (Some valued) rest)
+walks_words (Some valued) [] = λ given rows are. ends_badly given.path rows (opened valued) (missing valued rows) false (Some valued)
+walks_words (Some valued) (word ∷ rest) = λ given rows are. walks_awaited rest (walks_words None rest) valued given rows word are
+walks_words None [] = λ given rows pending well. ends_well given rows pending well false
+walks_words None (word ∷ rest) = λ given rows pending well. walks_word rest (walks_words None rest) given rows pending well
+    (λ valued. walks_words (Some valued) rest) word
 
 -- ---- the whole command line
 

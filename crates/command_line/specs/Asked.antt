@@ -5,11 +5,12 @@ use Rattle.std.specs.List.{after_first, before_first, list_any}
 use Rattle.std.specs.Option.{option_map_or}
 use Rattle.std.specs.Str.Parse.{digits_value, without_leading_plus}
 use Rattle.clap.specs.ValueTests.{is_numeral}
-use Rattle.clap.specs.Words.{HasKind, Kinds, kind_of}
+use Rattle.clap.specs.Words.{HasKind, Kinds, first_of, kind_of, matches_of, one_of}
 use Rattle.clap.specs.declared.error.Error.{Error}
 use Rattle.clap.specs.declared.error.kind.ErrorKind.{ErrorKind}
 use Rattle.clap.specs.declared.error.kind.ErrorKind.TheVariants.{DisplayHelp, DisplayVersion, OutOfMemory}
 use Rattle.plain_types.specs.Names.{is_name}
+use Rattle.command_line.specs.Program.{metad}
 use Rattle.command_line.specs.declared.options.Options.{Options}
 use Rattle.command_line.specs.declared.options.OptionsError.{OptionsError}
 use Rattle.command_line.specs.declared.options.OptionsError.TheVariants.{Words, SessionName}
@@ -142,6 +143,12 @@ Reads wanted (Err SessionName) = (options : Options) × AreOf wanted options × 
 abbrev pub Gives : Option (List ℕ) → ℕ → Type 0
 Gives None turns = turns ≡ 10000
 Gives (Some text) turns = number_in text ≡ Some turns
+
+-- The options are what clap finds in these words.
+pub record AreFound (words : List (List ℕ)) (options : Options) : Type 0 where
+  pub classes : options.classes ≡ first_of (codes "classes") (matches_of metad words)
+  pub turns : Gives (one_of (codes "turns") (matches_of metad words)) options.turns
+  pub slice : options.slice ≡ first_of (codes "slice") (matches_of metad words)
 
 -- If clap reports an error, it has one of these kinds.
 abbrev pub FailsByWords : Kinds → Result Options OptionsError → Type 0

@@ -32,24 +32,30 @@ property name kind notify bindable = record { name = name; kind = kind; notify =
 abbrev pub ping : Signature
 ping = signature (codes "ping") []
 
--- A class that holds values. `QObject` has three methods and one property.
-abbrev pub cell : Class
-cell = record {
-  name = codes "Cell";
+-- A class below `QObject`, which has three methods and one property.
+abbrev pub below_q_object : List ℕ → List Method → List Property → Class
+below_q_object name methods properties = record {
+  name = name;
   superclass = Some 0;
   method_offset = 3;
   property_offset = 1;
-  methods =
-      signal (codes "xChanged") (kind.Int ∷ []) ∷
-      slot (codes "seen") (kind.Int ∷ []) [] ∷
-      slot (codes "setX") (kind.Int ∷ []) (single_action (Set Itself (codes "x") (arg 0)) ∷ []) ∷ [];
-  properties =
-      property (codes "x") kind.Int (Some 3) true ∷
-      property (codes "y") kind.Int None true ∷
-      property (codes "z") kind.Int None true ∷
-      property (codes "flag") kind.Bool None true ∷
-      property (codes "big") kind.Ulonglong None false ∷ [];
+  methods = methods;
+  properties = properties;
 }
+
+-- A class that holds values.
+abbrev pub cell : Class
+cell = below_q_object (codes "Cell") (
+    signal (codes "xChanged") (kind.Int ∷ []) ∷
+    slot (codes "seen") (kind.Int ∷ []) [] ∷
+    slot (codes "setX") (kind.Int ∷ []) (single_action (Set Itself (codes "x") (arg 0)) ∷ []) ∷ []
+    ) (
+    property (codes "x") kind.Int (Some 3) true ∷
+    property (codes "y") kind.Int None true ∷
+    property (codes "z") kind.Int None true ∷
+    property (codes "flag") kind.Bool None true ∷
+    property (codes "big") kind.Ulonglong None false ∷ []
+    )
 
 -- Connects the sender's `ping()` to `late()`, and disconnects it from `note()`.
 abbrev pub swaps : List Act
@@ -67,22 +73,16 @@ rescues = single_action (SetParent (Child (codes "c")) None) ∷ single_action (
 
 -- A class whose slots act while a signal is being sent.
 abbrev pub probe : Class
-probe = record {
-  name = codes "Probe";
-  superclass = Some 0;
-  method_offset = 3;
-  property_offset = 1;
-  methods =
-      signal (codes "ping") [] ∷
-      slot (codes "note") [] [] ∷
-      slot (codes "late") [] [] ∷
-      slot (codes "swap") [] swaps ∷
-      slot (codes "again") [] (single_action (Emit Sender ping []) ∷ []) ∷
-      slot (codes "kill") [] kills ∷
-      slot (codes "rescue") [] rescues ∷
-      slot (codes "drop") [] (single_action (Delete Itself) ∷ []) ∷ [];
-  properties = [];
-}
+probe = below_q_object (codes "Probe") (
+    signal (codes "ping") [] ∷
+    slot (codes "note") [] [] ∷
+    slot (codes "late") [] [] ∷
+    slot (codes "swap") [] swaps ∷
+    slot (codes "again") [] (single_action (Emit Sender ping []) ∷ []) ∷
+    slot (codes "kill") [] kills ∷
+    slot (codes "rescue") [] rescues ∷
+    slot (codes "drop") [] (single_action (Delete Itself) ∷ []) ∷ []
+    ) []
 
 -- The classes if no class file is given.
 unfoldable pub demonstration : List Class

@@ -1,6 +1,7 @@
 pub mod Program
 pub mod Asked
 pub mod Statuses
+pub mod Answering
 pub mod Clamp
 pub mod Count
 pub mod Demonstration

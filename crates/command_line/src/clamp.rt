@@ -4,13 +4,11 @@ ghost use Rattle.variant_value.specs.declared.value.Value.TheVariants as v;
 ghost use Rattle.term_core.specs.Act.{acts_of, when};
 ghost use Rattle.term_core.specs.Term as term;
 ghost use Rattle.term_core.specs.Term.{const, binary};
-ghost use Rattle.signature_core.specs.declared.kind.Kind.TheVariants.{Int};
-ghost use Rattle.stored_slots.specs.Functors.{AreArguments};
-ghost use Rattle.term_evaluation.specs.Stating.{after, with_state};
+ghost use Rattle.term_evaluation.specs.Stating.{after};
 ghost use Rattle.term_evaluation.specs.Unfolding.{unfolded_body};
 ghost use Rattle.variant_value.specs.declared.value.Value.{Value as ValueSeen};
 ghost use Rattle.term_core.specs.declared.operator.Operator.TheVariants.{Less};
-ghost use Rattle.command_line.specs.Clamp.{at_most, clamped, clamp_body, sets_x};
+ghost use Rattle.command_line.specs.Clamp.{Clamps, IsNumber, at_most, clamped, clamp_body, sets_x};
 
 use plain_types::{Items, Text};
 use std::alloc::{AllocError, Global};
@@ -136,7 +134,7 @@ fn clamp_actions(
     most: i32,
     args: &[Value],
 ) -> Result<Vec<Action>, AllocError>
-    requires { AreArguments (Int ∷ []) args.now }
+    requires { IsNumber args.now }
     ensures { IfOk result (λ actions. actions.items ≡ unfolded_body args.now (clamp_body least most)) }
 {
     let node = Node::Const(args[0].copy(alloc)?);
@@ -151,9 +149,8 @@ pub fn clamp_answer(
     found: u64,
     args: &[Value],
 ) -> Result<(Vec<Action>, u64), AllocError>
-    requires { AreArguments (Int ∷ []) args.now }
-    ensures actions { IfOk result (λ answer. answer.0.items ≡ unfolded_body args.now (with_state found (clamp_body least most))) }
-    ensures next { IfOk result (λ answer. answer.1 ≡ after term.state found args.now) }
+    requires { IsNumber args.now }
+    ensures { Clamps least most found args.now result }
 {
     let actions = clamp_actions(alloc, least, most, args)?;
     Ok((actions, kept_state(found)))

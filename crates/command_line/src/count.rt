@@ -4,7 +4,7 @@ ghost use Rattle.term_core.specs.Term as term;
 ghost use Rattle.term_evaluation.specs.Stating.{after, with_state};
 ghost use Rattle.term_evaluation.specs.Unfolding.{unfolded_body};
 ghost use Rattle.variant_value.specs.declared.value.Value.{Value as ValueSeen};
-ghost use Rattle.command_line.specs.Count.{count_body, counted, one_more};
+ghost use Rattle.command_line.specs.Count.{Counts, count_body, counted, one_more};
 
 use plain_types::{Items, Text};
 use std::alloc::{AllocError, Global};
@@ -61,8 +61,7 @@ pub fn count_answer(
     found: u64,
     args: &[Value],
 ) -> Result<(Vec<Action>, u64), AllocError>
-    ensures actions { IfOk result (λ answer. answer.0.items ≡ unfolded_body args.now (with_state found count_body)) }
-    ensures next { IfOk result (λ answer. answer.1 ≡ after (one_more term.state) found args.now) }
+    ensures { Counts found args.now result }
 {
     let actions = count_actions(alloc, found)?;
     Ok((actions, count_state(found)))

@@ -1,9 +1,9 @@
 //! The options that a command line gives.
-ghost use Rattle.std.specs.Prelude.{◌≡◌, IfOk, false, map, codes};
+ghost use Rattle.std.specs.Prelude.{◌≡◌, IfOk, false, map};
 ghost use Rattle.std.specs.Option.{option_copied};
-ghost use Rattle.clap.specs.Words.{FailsBy, app_of, fault_of, first_of, first_value, found_of, matches_of, one_of, rule_of};
+ghost use Rattle.clap.specs.Words.{FailsBy, app_of, fault_of, first_value, found_of, rule_of};
 ghost use Rattle.command_line.specs.Program.{classes_rule, metad, slice_rule, turns_rule};
-ghost use Rattle.command_line.specs.Asked.{FailsByWords, Gives, Reads, ReadsWords, asked, is_named};
+ghost use Rattle.command_line.specs.Asked.{AreFound, FailsByWords, Reads, ReadsWords, asked, is_named};
 
 use clap::{Arg, ArgMatches, Command, Error, value_parser};
 use plain_types::{Text, is_name};
@@ -41,12 +41,7 @@ pub enum OptionsError {
 /// it says that memory ran out. The session's name is checked last.
 pub fn options_of<S: AsStr>(alloc: Global, words: &[S]) -> Result<Options, OptionsError>
     ensures asked { Reads (asked (map S.text words.now)) result }
-    ensures classes { IfOk result (λ options.
-        options.classes ≡ first_of (codes "classes") (matches_of metad (map S.text words.now))) }
-    ensures turns { IfOk result (λ options.
-        Gives (one_of (codes "turns") (matches_of metad (map S.text words.now))) options.turns) }
-    ensures slice { IfOk result (λ options.
-        options.slice ≡ first_of (codes "slice") (matches_of metad (map S.text words.now))) }
+    ensures found { IfOk result (λ options. AreFound (map S.text words.now) options) }
     ensures kinds { FailsByWords (fault_of metad (map S.text words.now)) result }
 {
     match read_words(alloc, words) {
@@ -69,12 +64,7 @@ fn is_named(slice: Option<&Text>) -> bool
 /// The options that the words give, whatever the name of the session is.
 fn read_words<S: AsStr>(alloc: Global, words: &[S]) -> Result<Options, Error>
     ensures asked { ReadsWords (asked (map S.text words.now)) result }
-    ensures classes { IfOk result (λ options.
-        options.classes ≡ first_of (codes "classes") (matches_of metad (map S.text words.now))) }
-    ensures turns { IfOk result (λ options.
-        Gives (one_of (codes "turns") (matches_of metad (map S.text words.now))) options.turns) }
-    ensures slice { IfOk result (λ options.
-        options.slice ≡ first_of (codes "slice") (matches_of metad (map S.text words.now))) }
+    ensures found { IfOk result (λ options. AreFound (map S.text words.now) options) }
     ensures kinds { FailsBy (fault_of metad (map S.text words.now)) result }
 {
     let command = metad_command(alloc)?;

@@ -1,9 +1,32 @@
 -- An agenda by nested calls.
-use Rattle.std.proofs.Common.{◌≡◌, ◌<◌, ◌≤◌, ◌+◌, ◌-◌, ◌*◌, ◌==◌, ◌&&◌, ◌||◌, map, filter, nat_lt, nat_le, ℕ, suc, Bool, true, false, cond, not, is_some, List}
-use Rattle.std.proofs.Common.{[], ◌∷◌, ◌++◌, Option, Some, None, find, drop, length, refl, sym, subst, ap, ◌∙◌, if◌then◌else◌, arith}
-use Rattle.std.proofs.Common.{Result, Ok, Err, OnErr, OnOk, get_or, ⊎_elim, ◌⊎◌}
+use Rattle.std.proofs.Common.{
+  ◌≡◌,
+  ◌<◌,
+  ◌≤◌,
+  ◌+◌,
+  ◌-◌,
+  ◌*◌,
+  ◌==◌,
+  ◌&&◌,
+  ◌||◌,
+  map,
+  filter,
+  nat_lt,
+  nat_le,
+  ℕ,
+  suc,
+  Bool,
+  true,
+  false,
+  cond,
+  not,
+  is_some,
+  List,
+}
+use Rattle.std.proofs.Common.{[], ◌∷◌, ◌++◌, Option, Some, None, find, refl, sym, subst, ap, ◌∙◌, if◌then◌else◌, arith}
+use Rattle.std.proofs.Common.{Ok, Err, ⊎_elim, ◌⊎◌}
 use Rattle.std.proofs.Math.Nat.{mul-le-mul_left, mul-suc}
-use Rattle.std.proofs.lemmas.List.{append-nil, drop_all}
+use Rattle.std.proofs.lemmas.List.{append-nil}
 use Rattle.std.specs.List.{AllByRecursion, list_any}
 use Rattle.std.proofs.lemmas.Bool.{cond-false, cond-true, ne_eqb}
 use Rattle.std.proofs.lemmas.List.Elements.{recursion_from_All}
@@ -15,14 +38,13 @@ use Rattle.plain_types.specs.declared.fault.Fault.TheVariants.{Refused, Memory}
 use Rattle.plain_types.specs.Answers.{Answers}
 use Rattle.variant_value.specs.declared.value.Value.{Value}
 use Rattle.plain_types.specs.declared.callee.Callee.{Callee}
-use Rattle.term_core.specs.declared.action.SingleAction.{SingleAction}
 use Rattle.term_core.specs.Term.{Term}
 use Rattle.connection_list.specs.declared.connection.Connection.{Connection}
 use Rattle.connection_list.specs.Rows.{IsRising, IsSound, has_number, is_next}
 use Rattle.connection_list.proofs.ForCallers.{rising_head, rising_tail}
 use Rattle.object_tree.specs.declared.row.Row.{Row}
 use Rattle.object_tree.specs.Rows.{row_of}
-use Rattle.term_core.specs.Act.{Act, Acts, acts_of, single_action, when}
+use Rattle.term_core.specs.Act.{Act, Acts, acts_of, when}
 use Rattle.session_model.specs.declared.call.TheConstants.{DESTROYED, NESTED_SIGNALS}
 use Rattle.session_model.specs.declared.line.Line.{Line}
 use Rattle.session_model.specs.declared.line.Line.TheVariants.{Warning}
@@ -40,16 +62,24 @@ use Rattle.session_model.specs.Run.{longest_functor, run}
 use Rattle.session_model.specs.Settings.{Settings}
 use Rattle.session_model.specs.State.{State, without_connections}
 use Rattle.session_model.proofs.ForCallers as rule
-use Rattle.session_model.proofs.ForCallers.{find-passes, run_later, living_rows, calls_to, emission_end, emission_first, emission_next, remaining, after_first}
+use Rattle.session_model.proofs.ForCallers.{
+  find-passes,
+  run_later,
+  living_rows,
+  calls_to,
+  emission_end,
+  emission_first,
+  emission_next,
+  remaining,
+  after_first,
+}
 use Rattle.session_model.proofs.ForCallers.{at_end, by_change, by_step, run_shrinks, falls, Shrinks}
 use Rattle.session_tables.specs.declared.tables.Tables.{Tables}
-use Rattle.session_tables.specs.Refused.{OnRefused}
 use Rattle.session_tables.specs.Tables.{IsPlaced, state_at, with_state}
 use Rattle.session_tables.proofs.ForCallers.{state_with}
 use Rattle.session_effects.specs.declared.slot.Slot.{Slot}
 use Rattle.dispatch.specs.declared.command_output.CommandOutput.{CommandOutput}
-use Rattle.session_effects.specs.Actions.{KeepsOthers, Tries, act_of}
-use Rattle.session_effects.proofs.ForCallers.{keeps_same, keeps_with, item_at}
+use Rattle.session_effects.specs.Actions.{act_of}
 use Rattle.session_effects.specs.declared.session_context.SessionContext.{SessionContext}
 use Rattle.session_effects.specs.Setup.{settings_of}
 use Rattle.dispatch.specs.CommandOutput.{Warns, doing_at, spent, with_line}
@@ -91,7 +121,8 @@ module _ (caller : SessionContext) (old new : Tables) (before after : CommandOut
 
   pub round_falls : left_at caller.place new after + 1 ≤ left_at caller.place old before → next < rank + 100 + 2 * longest_of caller
       → left_to_do caller new after next < left_to_do caller old before rank
-  round_falls one_less within = let rounds = rounds_one_less (longest_of caller) (left_at caller.place new after) (left_at caller.place old before) one_less in
+  round_falls one_less within = let rounds = rounds_one_less (longest_of caller) (left_at caller.place new after)
+      (left_at caller.place old before) one_less in
       omega (arith, rounds, within)
 
 -- no call gives turns back, or makes an object
@@ -173,16 +204,11 @@ is_let_through blocked signal either = ⊎_elim
     (λ free. ap (λ b. b && not (signal == DESTROYED)) free)
     either
 
--- a call that is posted, or for which memory was wanted, changes no other session
-pub keeps_posted : {T E : Type 0} (result : Result T E) (place : ℕ) (middle new : Tables) (state : State) → IsPlaced middle place
-    → OnOk result (new ≡ with_state middle place state) → OnErr result (new ≡ middle) → KeepsOthers place middle new
-keeps_posted (Ok value) place middle new state still ok err = keeps_with middle new place state still ok
-keeps_posted (Err error) place middle new state still ok err = keeps_same middle new place err
-
 -- a signal that is not published is not posted
 pub posts_none : (classes : List Class) (state : State) (target signal : ℕ) (args : List Value)
     → list_any (publishes target signal) state.desk.publications ≡ false → posts_of classes state target signal args ≡ []
-posts_none classes state target signal args none = ap (map (post_of (kinds_of classes state.forest.rows target signal) args)) (by state.desk.publications none)
+posts_none classes state target signal args none = ap (map (post_of (kinds_of classes state.forest.rows target signal) args))
+    (by state.desk.publications none)
   where
     by : (rows : List Publication) → list_any (publishes target signal) rows ≡ false → filter (publishes target signal) rows ≡ []
     by [] none = refl
@@ -243,7 +269,8 @@ module _ (settings : Settings) (target signal : ℕ) (args : List Value) (depth 
           sym (by_step settings (Emit target signal args depth) doing _ (rule.emit_calls settings target signal args depth doing row (sym there) sent shallow)
           ∙ ap (λ agenda. run settings agenda (posting doing (posts_of settings.classes doing.state target signal args)))
           (emission_first settings target signal args depth doing sound)
-          ∙ ap (run settings (calls_to settings args depth (remaining target signal doing.state.connections.last_number 0 doing.state.connections.rows))) posts)
+          ∙ ap (run settings (calls_to settings args depth (remaining target signal doing.state.connections.last_number 0 doing.state.connections.rows)))
+          posts)
 
   -- a signal that is not published and that nothing is connected to comes to nothing, whether its object is there or not, blocked or not
   pub emission_unheard : (doing : Execution) → depth < NESTED_SIGNALS → IsSound doing.state.connections
@@ -313,7 +340,8 @@ pub warn_done : (settings : Settings) (place : ℕ) (tables : Tables) (before af
     → after ≡ with_line before (Warning code object)
     → run settings (Warn code object ∷ []) (doing_at place tables before earlier) ≡ doing_at place tables after earlier
 warn_done settings place tables before after earlier code object e =
-    by_change settings (Warn code object) (doing_at place tables before earlier) _ (rule.warn_told settings (doing_at place tables before earlier) code object)
+    by_change settings (Warn code object) (doing_at place tables before earlier) _ (rule.warn_told settings
+    (doing_at place tables before earlier) code object)
     ∙ told_is place tables before after earlier (Warning code object) e
 
 module _ (settings : Settings) (slot : Slot) (place : ℕ) (tables : Tables) (before after : CommandOutput) (earlier : List Post) where
@@ -333,70 +361,29 @@ module _ (settings : Settings) (slot : Slot) (place : ℕ) (tables : Tables) (be
       (rule.when_faulty settings slot.object slot.sender slot.args.now slot.depth (doing_at place tables before earlier) test held failed code why) e
   test_warned test held failed Memory why e = absurd e
 
--- so a single action that is refused
-pub effect_warned : {T : Type 0} (caller : SessionContext) (slot : Slot) (plain : SingleAction) (tables : Tables) (items : T → List Item) (new : Tables)
-    (before after : CommandOutput) (earlier : List Post) (fault : Fault) → Tries caller slot plain tables items new (Err fault)
-    → Warns fault slot.object before after
-    → run (settings_of caller.setup.now) (act_of slot (single_action plain) ∷ []) (doing_at caller.place tables before earlier)
-    ≡ doing_at caller.place tables after earlier
-effect_warned caller slot plain tables items new before after earlier (Refused code) tried e =
-    warned (settings_of caller.setup.now) slot caller.place tables before after earlier (act_of slot (single_action plain)) code
-    (tried (doing_at caller.place tables before earlier)) e
-effect_warned caller slot plain tables items new before after earlier Memory tried e = absurd e
-
--- the same of one that may have changed the session before memory was wanted
-pub effect_refused : {T : Type 0} (caller : SessionContext) (slot : Slot) (plain : SingleAction) (old : Tables) (items : T → List Item) (new : Tables)
-    (before after : CommandOutput) (earlier : List Post) (fault : Fault) → Tries caller slot plain old items new (Err fault)
-    → OnRefused {T = T} (Err fault) (new ≡ old)
-    → Warns fault slot.object before after → run (settings_of caller.setup.now) (act_of slot (single_action plain) ∷ [])
-    (doing_at caller.place old before earlier) ≡ doing_at caller.place new after earlier
-effect_refused caller slot plain old items new before after earlier (Refused code) tried same e =
-    warned (settings_of caller.setup.now) slot caller.place old before after earlier (act_of slot (single_action plain)) code
-    (tried (doing_at caller.place old before earlier)) e ∙ ap (λ tables. doing_at caller.place tables after earlier) (sym same)
-effect_refused caller slot plain old items new before after earlier Memory tried same e = absurd e
-
+-- the branch that a choice takes is done
 module _ (settings : Settings) (slot : Slot) (doing : Execution) (test : Term) (held failed : Acts) where
-  abbrev its_acts : Acts → List Item
-  its_acts branch = model.acts branch slot.args.now slot.object slot.sender slot.depth
-
-  -- the branch that is chosen is done
-  pub held_done : (new : Execution) → truth_evaluated doing.state slot.object slot.sender slot.args.now test ≡ Ok true
-      → run settings (its_acts held) doing ≡ new → run settings (act_of slot (when test held failed) ∷ []) doing ≡ new
-  held_done new is does = by_step settings (act_of slot (when test held failed)) doing _
+  pub branch_done : (truth : Bool) (new : Execution) → truth_evaluated doing.state slot.object slot.sender slot.args.now test ≡ Ok truth
+      → run settings (model.acts (if truth then held else failed) slot.args.now slot.object slot.sender slot.depth) doing ≡ new
+      → run settings (act_of slot (when test held failed) ∷ []) doing ≡ new
+  branch_done true new is does = by_step settings (act_of slot (when test held failed)) doing _
       (rule.when_held settings slot.object slot.sender slot.args.now slot.depth doing test held failed is) ∙ does
-
-  pub failed_done : (new : Execution) → truth_evaluated doing.state slot.object slot.sender slot.args.now test ≡ Ok false
-      → run settings (its_acts failed) doing ≡ new → run settings (act_of slot (when test held failed) ∷ []) doing ≡ new
-  failed_done new is does = by_step settings (act_of slot (when test held failed)) doing _
+  branch_done false new is does = by_step settings (act_of slot (when test held failed)) doing _
       (rule.when_failed settings slot.object slot.sender slot.args.now slot.depth doing test held failed is) ∙ does
 
--- an action is done, and then those behind it
-pub acts_go_on : (settings : Settings) (slot : Slot) (old middle new : Execution) (i : ℕ) (actions : List Act) (act : Act) → i < length actions
-    → act ≡ get_or actions i act
-    → run settings (act_of slot act ∷ []) middle ≡ new
-    → run settings (model.acts (acts_of (drop i actions)) slot.args.now slot.object slot.sender slot.depth) middle ≡ old
-    → run settings (model.acts (acts_of (drop (i + 1) actions)) slot.args.now slot.object slot.sender slot.depth) new ≡ old
-acts_go_on settings slot old middle new i actions act within is does before =
-    ap (run settings (model.acts (acts_of (drop (i + 1) actions)) slot.args.now slot.object slot.sender slot.depth)) (sym does)
-    ∙ sym (after_first settings (act_of slot act) (model.acts (acts_of (drop (i + 1) actions)) slot.args.now slot.object slot.sender slot.depth) middle)
-    ∙ ap (λ (acts : List Act). run settings (model.acts (acts_of acts) slot.args.now slot.object slot.sender slot.depth) middle)
-    (sym (item_at actions i act within is))
-    ∙ before
+-- the actions of a slot are an item each
+pub acts_are : (slot : Slot) (actions : List Act) → model.acts (acts_of actions) slot.args.now slot.object slot.sender slot.depth ≡ map (act_of slot) actions
+acts_are slot [] = refl
+acts_are slot (action ∷ rest) = ap (λ items. act_of slot action ∷ items) (acts_are slot rest)
 
--- with no action left all is done
-pub acts_end : (settings : Settings) (slot : Slot) (old new : Execution) (i : ℕ) (actions : List Act) → length actions ≤ i
-    → run settings (model.acts (acts_of (drop i actions)) slot.args.now slot.object slot.sender slot.depth) new ≡ old → old ≡ new
-acts_end settings slot old new i actions past before =
-    sym before ∙ ap (λ (acts : List Act). run settings (model.acts (acts_of acts) slot.args.now slot.object slot.sender slot.depth) new)
-    (drop_all i actions past) ∙ at_end settings new
+-- the output when a call has taken its turn
+abbrev pub taken : CommandOutput → CommandOutput
+taken before = record before { turns = before.turns - 1 }
 
 -- a call takes a turn, and a single-shot connection goes
 module _ (caller : SessionContext) (connection : Connection) (args : List Value) (depth : ℕ) (old new : Tables) (before : CommandOutput) where
   abbrev its_settings : Settings
   its_settings = settings_of caller.setup.now
-
-  abbrev pub taken : CommandOutput
-  taken = record { lines = before.lines; turns = before.turns - 1; spent = before.spent; taken = before.taken; failing = before.failing }
 
   abbrev pub shot_state : State
   shot_state = if connection.single then without_connections (state_at old caller.place) (has_number connection.number) else state_at old caller.place
@@ -411,21 +398,22 @@ module _ (caller : SessionContext) (connection : Connection) (args : List Value)
         ∙ spent_is caller.place old before after earlier e
 
     module _ (e : new ≡ with_state old caller.place shot_state) (some : 0 < before.turns) where
-      is_shot : single_shot_broken (turn_taken (doing_at caller.place old before earlier)) connection ≡ doing_at caller.place new taken earlier
+      is_shot : single_shot_broken (turn_taken (doing_at caller.place old before earlier)) connection ≡ doing_at caller.place new (taken before) earlier
       unfolding single_shot_broken turn_taken
-      is_shot = by connection.single ∙ ap (λ (state : State). in_state (doing_at caller.place old taken earlier) state)
+      is_shot = by connection.single ∙ ap (λ (state : State). in_state (doing_at caller.place old (taken before) earlier) state)
           (sym (state_with old new caller.place shot_state placed e))
         where
-          by : (b : Bool) → (if b then in_state (doing_at caller.place old taken earlier)
-              (without_connections (state_at old caller.place) (has_number connection.number)) else doing_at caller.place old taken earlier)
-              ≡ in_state (doing_at caller.place old taken earlier)
+          by : (b : Bool) → (if b then in_state (doing_at caller.place old (taken before) earlier)
+              (without_connections (state_at old caller.place) (has_number connection.number)) else doing_at caller.place old (taken before) earlier)
+              ≡ in_state (doing_at caller.place old (taken before) earlier)
               (if b then without_connections (state_at old caller.place) (has_number connection.number) else state_at old caller.place)
           by true = refl
           by false = refl
 
       -- what it calls is called then
       pub call_taken : (called : Callee) → connection.callee ≡ called → (done : Execution)
-          → (let next = callee_called its_settings connection args depth (doing_at caller.place new taken earlier) called in run its_settings next.items
+          → (let next = callee_called its_settings connection args depth (doing_at caller.place new
+          (taken before) earlier) called in run its_settings next.items
           next.doing) ≡ done
           → run its_settings (Call connection.number args depth ∷ []) (doing_at caller.place old before earlier) ≡ done
       call_taken called is done does =
@@ -461,13 +449,3 @@ pub next_smaller : (target signal after up_to : ℕ) (rows : List Connection) (r
 next_smaller target signal after up_to rows row found =
     let within = next_within target signal after up_to row (find-passes (is_next target signal after up_to) rows row found) in
     omega (arith, within.0, within.1)
-
--- a single action that is not refused is done by what it comes to
-pub effect_done : (caller : SessionContext) (slot : Slot) (plain : SingleAction) (old : Tables) (agenda : List Item) (between : Tables) (before : CommandOutput)
-    (earlier : List Post) (done : Execution)
-    → step (settings_of caller.setup.now) (act_of slot (single_action plain)) (doing_at caller.place old before earlier)
-    ≡ puts agenda (doing_at caller.place between before earlier)
-    → run (settings_of caller.setup.now) agenda (doing_at caller.place between before earlier) ≡ done
-    → run (settings_of caller.setup.now) (act_of slot (single_action plain) ∷ []) (doing_at caller.place old before earlier) ≡ done
-effect_done caller slot plain old agenda between before earlier done is does =
-    by_step (settings_of caller.setup.now) (act_of slot (single_action plain)) (doing_at caller.place old before earlier) _ is ∙ does

@@ -12,11 +12,10 @@ use Rattle.plain_types.specs.declared.callee.Callee.TheVariants.{Functor, Method
 use Rattle.connection_list.specs.declared.connection.Connection.{Connection}
 use Rattle.event_queue.specs.declared.event.Event.TheVariants as event
 use Rattle.event_queue.specs.declared.event.QueuedCall.{QueuedCall}
-use Rattle.event_queue.specs.declared.event.Priority.TheVariants.{Normal}
 use Rattle.event_queue.specs.Queue.{has_room}
 use Rattle.stored_slots.specs.declared.functor.Functor as stored
 use Rattle.session_model.specs.Acts as model
-use Rattle.session_model.specs.Agenda.{callee_called, functor_called, functor_line, queued, call_line, method_called, method_items}
+use Rattle.session_model.specs.Agenda.{callee_called, functor_called, functor_line, queued, queued_call, call_line, method_called, method_items}
 use Rattle.session_model.specs.declared.post.Post.{Post}
 use Rattle.session_model.specs.Execution.{Execution, in_state, lost, enqueued, stepped, line_told}
 use Rattle.session_model.specs.Functors.{functor_at}
@@ -59,19 +58,9 @@ module _ (settings : Settings) (connection : Connection) (args : List Value) (de
   abbrev calls : Callee → Execution
   calls called = ran (callee_called settings connection args depth doing called)
 
-  abbrev later_call : Callee → List Value → QueuedCall
-  later_call called values = record {
-    object = connection.receiver;
-    callee = called;
-    sender = connection.sender;
-    connection = connection.number;
-    priority = Normal;
-    args = values;
-  }
-
   -- with these values it is called later; or at once, and this is to be done
-  abbrev by_mode : Callee → List Value → List Item → Execution
-  by_mode called values items = ran (cond (is_queued connection.mode) (puts [] (queued doing (later_call called values))) (puts items doing))
+  abbrev pub by_mode : Callee → List Value → List Item → Execution
+  by_mode called values items = ran (cond (is_queued connection.mode) (puts [] (queued doing (queued_call connection called values))) (puts items doing))
 
   module _ (index : ℕ) where
     by_method : (found : Option class.Method) → found ≡ method_at settings doing.state connection.receiver index
@@ -104,13 +93,13 @@ module _ (settings : Settings) (connection : Connection) (args : List Value) (de
         ∙ ap (λ given. by_mode (Functor index) given (RunFunctor connection.receiver index connection.sender connection.number given depth ∷ [])) (sym detach)
 
   module _ (called : Callee) (given : List Value) (items : List Item) (there : calls called ≡ by_mode called given items) (done : Execution) where
-    pub called_later : connection.callee ≡ called → is_queued connection.mode ≡ true → queued doing (later_call connection.callee given) ≡ done
+    pub called_later : connection.callee ≡ called → is_queued connection.mode ≡ true → queued doing (queued_call connection connection.callee given) ≡ done
         → calls called ≡ done
     called_later is later does =
         there
         ∙ ap ran (cond-true (is_queued connection.mode) _ _ later)
-        ∙ at_end settings (queued doing (later_call called given))
-        ∙ ap (λ (called : Callee). queued doing (later_call called given)) (sym is)
+        ∙ at_end settings (queued doing (queued_call connection called given))
+        ∙ ap (λ (called : Callee). queued doing (queued_call connection called given)) (sym is)
         ∙ does
 
     pub called_at_once : is_queued connection.mode ≡ false → run settings items doing ≡ done → calls called ≡ done
@@ -154,7 +143,7 @@ module _ (settings : Settings) (target index sender connection : ℕ) (args : Li
       ∙ does
 
 -- it posts nothing to other sessions before that is run
-module _ (settings : Settings) (connection : Connection) (index : ℕ) (args : List Value) (depth : ℕ) (doing : Execution) where
+module _ (settings : Settings) (connection : Connection) (args : List Value) (depth : ℕ) (doing : Execution) where
   queued_front : (call : QueuedCall) → PostsBehind doing (queued doing call)
   unfolding enqueued lost
   queued_front call = cond_both (has_room doing.state.queue) (enqueued doing (event.Call call)) (lost doing) (PostsBehind doing)
@@ -164,12 +153,17 @@ module _ (settings : Settings) (connection : Connection) (index : ℕ) (args : L
   called_front true call items = queued_front call
   called_front false call items = front_same doing.posts
 
-  pub callee_front : PostsBehind doing (callee_called settings connection args depth doing (Functor index)).doing
-  callee_front = by (functor_at settings index)
+  pub callee_front : (called : Callee) → PostsBehind doing (callee_called settings connection args depth doing called).doing
+  callee_front (Functor index) = by (functor_at settings index)
     where
       by : (found : Option stored.Functor) → PostsBehind doing (option_map_or (functor_called connection index args depth doing) found (puts [] doing)).doing
       by None = front_same doing.posts
       by (Some functor) = called_front (is_queued connection.mode) _ _
+  callee_front (Method index) = by (method_at settings doing.state connection.receiver index)
+    where
+      by : (found : Option class.Method) → PostsBehind doing (option_map_or (method_called connection index args depth doing) found (puts [] doing)).doing
+      by None = front_same doing.posts
+      by (Some method) = called_front (is_queued connection.mode) _ _
 
 module _ (settings : Settings) (index : ℕ) (functor : stored.Functor) (has : Some functor ≡ functor_at settings index) where
   -- no body is longer than the longest one

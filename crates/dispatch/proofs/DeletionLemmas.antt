@@ -1,6 +1,5 @@
 -- Deleting by nested calls: a rule for each way that an item goes.
-use Rattle.std.proofs.Common.{◌≡◌, ◌<◌, ◌≤◌, ◌+◌, ℕ, true, false, List, [], ◌∷◌, length, map, drop, get_or, Some, None, Ok, refl, sym, ap, ◌∙◌, arith}
-use Rattle.std.proofs.lemmas.List.{drop_all, drop_more}
+use Rattle.std.proofs.Common.{◌≡◌, ◌<◌, ◌≤◌, ℕ, true, false, List, [], ◌∷◌, map, Some, None, Ok, sym, ap, ◌∙◌, arith}
 use Rattle.binding_values.specs.declared.change.Change.{Change}
 use Rattle.object_tree.specs.Changes.{marked}
 use Rattle.object_tree.specs.Rows.{children}
@@ -8,7 +7,7 @@ use Rattle.session_model.specs.declared.call.TheConstants.{DESTROYED}
 use Rattle.session_model.specs.Agenda.{delete_children, lives, lives_below, step}
 use Rattle.session_model.specs.declared.post.Post.{Post}
 use Rattle.session_model.specs.Execution.{Execution, dying, in_state, severed}
-use Rattle.session_model.specs.Items.{Detach, Delete, Emit, Remove, Item, DeleteChild, puts}
+use Rattle.session_model.specs.Items.{Detach, Delete, Emit, Remove, Item, DeleteChild, Next, puts}
 use Rattle.session_model.specs.Run.{run}
 use Rattle.session_model.specs.Settings.{Settings}
 use Rattle.session_model.specs.Showing.{changes}
@@ -22,11 +21,13 @@ use Rattle.dispatch.specs.declared.command_output.CommandOutput.{CommandOutput}
 use Rattle.dispatch.specs.Agenda.{RunsNext}
 use Rattle.dispatch.specs.CommandOutput.{doing_at}
 use Rattle.session_effects.specs.declared.session_context.SessionContext.{SessionContext}
+use Rattle.session_effects.specs.Actions.{KeepsOthers}
 use Rattle.session_effects.specs.Setup.{settings_of}
 use Rattle.session_effects.specs.Writing.{told_items}
 use Rattle.session_effects.proofs.ForCallers.{keeps_with}
 use Rattle.dispatch.proofs.AgendaLemmas.{left_at}
-use Rattle.dispatch.proofs.RunsLemmas.{SoFar, far_item, far_none, here}
+use Rattle.dispatch.proofs.RunsLemmas.{here}
+use Rattle.dispatch.proofs.ProgressLemmas.{Progress, changes_to, first_done, starts}
 
 -- the state with an object that is dying
 abbrev pub dying_in : State → ℕ → State
@@ -97,21 +98,6 @@ module _ (settings : Settings) (target depth : ℕ) where
       ∙ sym (by_step settings (Detach target depth) (doing_at place old output earlier) _
       (rule.detach_delete_children settings target depth (doing_at place old output earlier)))
 
-  -- one child is deleted, and then those behind it
-  pub detach_next : (i : ℕ) (found : List ℕ) (old middle new : Execution) → i < length found
-      → run settings (DeleteChild target (get_or found i 0) depth ∷ []) middle ≡ new
-      → run settings (delete_children_from (drop i found)) middle ≡ old → run settings (delete_children_from (drop (i + 1) found)) new ≡ old
-  detach_next i found old middle new within does before =
-      ap (run settings (delete_children_from (drop (i + 1) found))) (sym does)
-      ∙ sym (after_first settings (DeleteChild target (get_or found i 0) depth) (delete_children_from (drop (i + 1) found)) middle)
-      ∙ ap (λ numbers. run settings (delete_children_from numbers) middle) (sym (drop_more found i 0 within))
-      ∙ before
-
-  -- with no child left all is done
-  pub detach_last : (i : ℕ) (found : List ℕ) (old new : Execution) → length found ≤ i → run settings (delete_children_from (drop i found)) new ≡ old → old ≡ new
-  detach_last i found old new past before = sym before ∙ ap (λ numbers. run settings (delete_children_from numbers) new) (drop_all i found past)
-      ∙ at_end settings new
-
   pub delete_child_none : (child : ℕ) (doing : Execution) → lives_below doing target child ≡ false
       → run settings (DeleteChild target child depth ∷ []) doing ≡ doing
   delete_child_none child doing other = by_change settings (DeleteChild target child depth) doing doing
@@ -123,31 +109,49 @@ module _ (settings : Settings) (target depth : ℕ) where
       (rule.delete_child_some settings target child depth doing living) ∙ does
 
 -- a living object is marked, and then it says that it goes, what ties it is cut, and it goes
-pub delete_begins : (caller : SessionContext) (target depth : ℕ) (old dead : Tables) (before : CommandOutput) → IsPlaced old caller.place
+pub marks : (caller : SessionContext) (target depth : ℕ) (old dead : Tables) (before : CommandOutput) → IsPlaced old caller.place
     → lives (doing_at caller.place old before []) target ≡ true → dead ≡ with_state old caller.place (dying_in (state_at old caller.place) target)
-    → SoFar caller (here caller (Delete target depth ∷ []) old before)
+    → Progress 1 caller (here caller (Delete target depth ∷ []) old before)
     (here caller (Emit target DESTROYED [] depth ∷ Detach target depth ∷ Remove target depth ∷ []) dead before) old dead before before
-delete_begins caller target depth old dead before placed living marked =
+marks caller target depth old dead before placed living marked =
     let settings = settings_of caller.setup.now in
-    far_none caller (here caller (Delete target depth ∷ []) old before) old before placed
-    (here caller (Emit target DESTROYED [] depth ∷ Detach target depth ∷ Remove target depth ∷ []) dead before) dead before
-    (keeps_with old dead caller.place _ placed marked) refl
+    let less = left_marked caller.place target old dead before [] placed living marked in
+    starts placed (keeps_with old dead caller.place _ placed marked) (omega (arith, less))
     (λ earlier.
     ap (run settings (Emit target DESTROYED [] depth ∷ Detach target depth ∷ Remove target depth ∷ []))
     (marked_is caller.place target old dead before earlier placed marked)
     ∙ sym (by_step settings (Delete target depth) (doing_at caller.place old before earlier) _
     (rule.delete_some settings target depth (doing_at caller.place old before earlier) living)))
 
--- so far it has said so, and what ties it was cut
-pub delete_loose : (caller : SessionContext) (target depth : ℕ) (old dead sent loose : Tables) (before between after : CommandOutput) {T E T' E' : Type 0}
-    (said : T) (detach : T') → IsPlaced old caller.place → lives (doing_at caller.place old before []) target ≡ true
+-- so far it is marked, and has said that it goes
+pub says : {caller : SessionContext} {target depth : ℕ} {dead sent : Tables} {before between : CommandOutput} {T E : Type 0} {said : T} (old : Tables)
+    → IsPlaced old caller.place → lives (doing_at caller.place old before []) target ≡ true
     → dead ≡ with_state old caller.place (dying_in (state_at old caller.place) target)
     → RunsNext {E = E} caller (here caller (Emit target DESTROYED [] depth ∷ []) dead before) dead sent before between (Ok said)
-    → RunsNext {E = E'} caller (here caller (Detach target depth ∷ []) sent between) sent loose between after (Ok detach)
-    → SoFar caller (here caller (Delete target depth ∷ []) old before) (here caller (Remove target depth ∷ []) loose after) old loose before after
-delete_loose caller target depth old dead sent loose before between after said detach placed living marked says cuts =
-    far_item caller (here caller (Delete target depth ∷ []) old before) old before placed (Detach target depth)
-    (Remove target depth ∷ []) sent loose between after detach
-    (far_item caller (here caller (Delete target depth ∷ []) old before) old before placed (Emit target DESTROYED [] depth)
-    (Detach target depth ∷ Remove target depth ∷ []) dead sent before between said
-    (delete_begins caller target depth old dead before placed living marked) says) cuts
+    → Progress 1 caller (here caller (Delete target depth ∷ []) old before) (here caller (Detach target depth ∷ Remove target depth ∷ []) sent between)
+    old sent before between
+says {caller} {target} {depth} {dead} {before = before} old placed living marked does =
+    first_done (marks caller target depth old dead before placed living marked) placed does
+
+-- it goes, and what has changed is told
+pub goes : {fewer : ℕ} {caller : SessionContext} {whole : List Post → Next} {target depth : ℕ} {old now gone : Tables} {before between : CommandOutput}
+    {told : List Change}
+    → Progress fewer caller whole (here caller (Remove target depth ∷ []) now between) old now before between → IsPlaced old caller.place
+    → KeepsOthers caller.place now gone → told ≡ changes (state_at now caller.place) (state_at gone caller.place) None
+    → gone ≡ with_state now caller.place (without_object (state_at now caller.place) target)
+    → Progress fewer caller whole (here caller (told_items (settings_of caller.setup.now) (state_at gone caller.place) depth told) gone between)
+    old gone before between
+goes {caller = caller} {target = target} {depth = depth} {now = now} {gone = gone} {between = between} {told = told} progress placed keeps is removed =
+    changes_to progress placed keeps (λ earlier.
+    gone_told caller.place target now gone between earlier progress.placed (settings_of caller.setup.now) depth told is removed)
+
+-- what ties a dying object to others is cut, and then its children are deleted
+pub cuts : (caller : SessionContext) (target depth : ℕ) (old loose : Tables) (before : CommandOutput) → IsPlaced old caller.place → (found : List ℕ)
+    → found ≡ children (state_at old caller.place).forest.rows (Some target)
+    → loose ≡ with_state old caller.place (without_ties (state_at old caller.place) target)
+    → Progress 0 caller (here caller (Detach target depth ∷ []) old before) (here caller (map (λ child. DeleteChild target child depth) found) loose before)
+    old loose before before
+cuts caller target depth old loose before placed found is severed =
+    let less = left_severed caller.place target old loose before [] placed severed in
+    starts placed (keeps_with old loose caller.place _ placed severed) (omega (arith, less))
+    (λ earlier. detach_first (settings_of caller.setup.now) target depth caller.place old loose before earlier placed found is severed)

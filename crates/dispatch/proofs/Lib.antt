@@ -4,4 +4,7 @@ pub mod DeletionLemmas
 pub mod NotifyingLemmas
 pub mod AgendaLemmas
 pub mod CalleeLemmas
+pub mod ProgressLemmas
+pub mod ActionLemmas
+pub mod CallLemmas
 pub mod ForCallers

@@ -1,24 +1,25 @@
 -- What nested calls do, one after another.
-use Rattle.std.proofs.Common.{◌≡◌, Bool, List, [], ◌∷◌, ◌++◌, Result, Ok, Err, OnErr, OnOk, refl, sym, ap, subst, ◌∙◌, append_assoc}
+use Rattle.std.proofs.Common.{◌≡◌, ℕ, Bool, List, [], ◌++◌, Result, Ok, Err, OnErr, OnOk, refl, sym, ap, subst, ◌∙◌, append_assoc}
 use Rattle.std.specs.Result.{IsErr}
 use Rattle.std.proofs.lemmas.List.{append-nil}
 use Rattle.session_model.specs.declared.post.Post.{Post}
 use Rattle.session_model.specs.Execution.{Execution}
 use Rattle.session_model.specs.Items.{Item, Next, puts}
 use Rattle.session_model.specs.Run.{run}
-use Rattle.session_model.proofs.ForCallers.{after_first}
 use Rattle.session_tables.specs.declared.tables.Tables.{Tables}
 use Rattle.session_tables.specs.Reaching.{Reaches}
-use Rattle.session_tables.specs.Tables.{IsPlaced}
+use Rattle.session_model.specs.State.{State}
+use Rattle.session_tables.specs.Tables.{IsPlaced, with_state}
 use Rattle.session_tables.proofs.ForCallers.{placed_shaped, reaches_changed, reaches_twice}
 use Rattle.session_effects.specs.Actions.{KeepsOthers}
 use Rattle.session_effects.specs.declared.session_context.SessionContext.{SessionContext}
 use Rattle.session_effects.specs.Setup.{settings_of}
+use Rattle.session_effects.proofs.ForCallers.{keeps_same, keeps_with, placed_kept}
 use Rattle.dispatch.specs.declared.command_output.CommandOutput.{CommandOutput}
 use Rattle.dispatch.specs.Agenda.{RunsNext}
 use Rattle.dispatch.specs.Prefix.{IsPrefix}
 use Rattle.dispatch.specs.CommandOutput.{doing_at}
-use Rattle.dispatch.proofs.PrefixLemmas.{front_both, front_nothing, front_same, part_front, run_front}
+use Rattle.dispatch.proofs.PrefixLemmas.{front_both, front_nothing, front_same, run_front}
 
 -- what follows from what a call has done, where it has
 pub OnOk-map : {T E P Q : Type 0} (answer : Result T E) → (P → Q) → OnOk answer P → OnOk answer Q
@@ -69,11 +70,6 @@ module _ (caller : SessionContext) (next : List Post → Next) (old : Tables) (b
       reaches = reaches_none caller old new before.failing after.failing keeps same;
     }
 
-    -- memory is wanted before anything is posted
-    pub next_wanting : {T E : Type 0} (new : Tables) (after : CommandOutput) (result : Result T E) → IsErr result → KeepsOthers caller.place old new
-        → after.failing ≡ before.failing → RunsNext caller next old new before after result
-    next_wanting new after result wanted keeps same = next_none new after result keeps same (on_wanting _ result wanted)
-
   -- what comes to something else when the session has changed, and is done by that
   pub does_after : {T E : Type 0} (other : List Post → Next) (middle new : Tables) (between after : CommandOutput) (result : Result T E)
       → IsPlaced old caller.place → KeepsOthers caller.place old middle → between.failing ≡ before.failing
@@ -105,7 +101,7 @@ module _ (caller : SessionContext) (next : List Post → Next) (old : Tables) (b
 abbrev pub here : SessionContext → List Item → Tables → CommandOutput → List Post → Next
 here caller items tables output posts = puts items (doing_at caller.place tables output posts)
 
--- items that are done without a post, or where memory is wanted before one
+-- items that are done without a post
 module _ (caller : SessionContext) (items : List Item) (old : Tables) (before : CommandOutput) where
   pub does_none : {T E : Type 0} (new : Tables) (after : CommandOutput) (result : Result T E) → KeepsOthers caller.place old new
       → after.failing ≡ before.failing
@@ -113,9 +109,28 @@ module _ (caller : SessionContext) (items : List Item) (old : Tables) (before : 
       → RunsNext caller (here caller items old before) old new before after result
   does_none new after result keeps same does = next_none caller (here caller items old before) old before front_same new after result keeps same does
 
-  pub does_wanting : {T E : Type 0} (new : Tables) (after : CommandOutput) (result : Result T E) → IsErr result → KeepsOthers caller.place old new
-      → after.failing ≡ before.failing → RunsNext caller (here caller items old before) old new before after result
-  does_wanting new after result wanted keeps same = next_wanting caller (here caller items old before) old before front_same new after result wanted keeps same
+-- items that only add to the output, or for which memory runs out at once
+module _ {T E : Type 0} {caller : SessionContext} {items : List Item} {old : Tables} {before after : CommandOutput} {result : Result T E} where
+  pub does_still : after.failing ≡ before.failing
+      → OnOk result ((earlier : List Post) → done_by caller (here caller items old before earlier) ≡ doing_at caller.place old after earlier)
+      → RunsNext caller (here caller items old before) old old before after result
+  does_still same does = does_none caller items old before old after result (keeps_same old old caller.place refl) same does
+
+  pub does_starved : IsErr result → after.failing ≡ before.failing → RunsNext caller (here caller items old before) old old before after result
+  does_starved wanted same = does_still same (on_wanting _ result wanted)
+
+-- what changes only the session itself afterwards posts nothing more
+pub reaches_kept : (caller : SessionContext) (posts : List Post) (old now new : Tables) (before between : Bool) → IsPlaced old caller.place
+    → Reaches caller.setup.now.classes caller.name.now caller.place posts old now before between → KeepsOthers caller.place now new
+    → Reaches caller.setup.now.classes caller.name.now caller.place posts old new before between
+reaches_kept caller posts old now new before between placed reaches keeps =
+    subst (λ posts. Reaches caller.setup.now.classes caller.name.now caller.place posts old new before between) (append-nil posts)
+    (reaches_twice caller.setup.now.classes caller.name.now caller.place posts [] old now new before between between placed reaches
+    (reaches_none caller now new between between keeps refl))
+
+-- a place stays one where another state is put at it
+pub placed_with : (old new : Tables) (place : ℕ) (state : State) → IsPlaced old place → new ≡ with_state old place state → IsPlaced new place
+placed_with old new place state placed e = placed_kept old new place (keeps_with old new place state placed e) placed
 
 -- a place stays one
 pub placed_reached : (caller : SessionContext) (old new : Tables) (posts : List Post) (before after : Bool)
@@ -193,27 +208,6 @@ module _ (caller : SessionContext) (whole : List Post → Next) (old : Tables) (
       reaches = joined result does;
     }
 
-  -- the first item of the rest is done
-  pub far_item : {T E : Type 0} (item : Item) (items : List Item) (now new : Tables) (between after : CommandOutput) (value : T)
-      → SoFar caller whole (here caller (item ∷ items) now between) old now before between
-      → RunsNext {E = E} caller (here caller (item ∷ []) now between) now new between after (Ok value)
-      → SoFar caller whole (here caller items new after) old new before after
-  far_item item items now new between after value so does =
-      far_next (here caller (item ∷ items) now between) now between so (here caller (item ∷ []) now between) new after value (here caller items new after) does
-      (λ posts more done e rest.
-      ap (run (settings_of caller.setup.now) items) (sym e) ∙ sym
-      (after_first (settings_of caller.setup.now) item items (doing_at caller.place now between posts)) ∙ rest)
-
-  -- memory is wanted in it
-  pub item_wanting : {T E T' E' : Type 0} (item : Item) (items : List Item) (now new : Tables) (between after : CommandOutput) (error : E) (end : Result T' E')
-      → IsErr end → SoFar caller whole (here caller (item ∷ items) now between) old now before between
-      → RunsNext {T = T} caller (here caller (item ∷ []) now between) now new between after (Err error) → RunsNext caller whole old new before after end
-  item_wanting item items now new between after error end wanted so does =
-      far_wanting (here caller (item ∷ items) now between) now between so (here caller (item ∷ []) now between) new after error end wanted does
-      (λ posts. part_front (settings_of caller.setup.now) items (done_by caller (here caller (item ∷ []) now between posts))
-      (done_by caller (here caller (item ∷ items) now between posts))
-      (sym (after_first (settings_of caller.setup.now) item items (doing_at caller.place now between posts))))
-
   -- nothing is left
   pub far_end : {T E : Type 0} (rest : List Post → Next) (now : Tables) (between : CommandOutput) (value : T) → SoFar caller whole rest old now before between
       → ((posts : List Post) (done : Execution) → done_by caller (rest posts) ≡ done → done ≡ doing_at caller.place now between posts)
@@ -234,8 +228,5 @@ module _ (caller : SessionContext) (whole : List Post → Next) (old : Tables) (
     runs = on_wanting _ end wanted;
     front = on_error end (λ earlier. subst (λ (done : Execution). IsPrefix (earlier ++ so.posts) done.posts) (so.runs earlier)
         (run_front (settings_of caller.setup.now) (earlier ++ so.posts) (rest (earlier ++ so.posts)) (begins (earlier ++ so.posts))));
-    reaches = subst (λ posts. Reaches caller.setup.now.classes caller.name.now caller.place posts old new before.failing between.failing) (append-nil so.posts)
-        (reaches_twice caller.setup.now.classes caller.name.now caller.place so.posts
-        [] old now new before.failing between.failing between.failing placed so.reaches
-        (reaches_none caller now new between.failing between.failing keeps refl));
+    reaches = reaches_kept caller so.posts old now new before.failing between.failing placed so.reaches keeps;
   }

@@ -1,10 +1,12 @@
 -- The effects of an agenda's items.
-use Rattle.std.specs.Prelude.{◌≡◌, ◌++◌, List, Result, OnErr, OnOk}
+use Rattle.std.specs.Prelude.{◌≡◌, ◌≤◌, ◌++◌, ℕ, List, Result, OnErr, OnOk}
+use Rattle.session_model.specs.declared.call.TheConstants.{NESTED_SIGNALS}
 use Rattle.session_model.specs.declared.post.Post.{Post}
 use Rattle.session_model.specs.Items.{Item, Next, puts}
 use Rattle.session_model.specs.Run.{run}
 use Rattle.session_tables.specs.declared.tables.Tables.{Tables}
 use Rattle.session_tables.specs.Reaching.{Reaches}
+use Rattle.session_tables.specs.Tables.{IsPlaced}
 use Rattle.session_effects.specs.declared.session_context.SessionContext.{SessionContext}
 use Rattle.session_effects.specs.Setup.{settings_of}
 use Rattle.dispatch.specs.declared.command_output.CommandOutput.{CommandOutput}
@@ -26,3 +28,9 @@ pub record RunsNext {T E : Type 0} (caller : SessionContext) (next : List Post �
 -- These items are done.
 abbrev pub RunsItems : {T E : Type 0} → SessionContext → List Item → Tables → Tables → CommandOutput → CommandOutput → Result T E → Type 0
 RunsItems caller items old new before after = RunsNext caller (λ earlier. puts items (doing_at caller.place old before earlier)) old new before after
+
+-- A nested call may be made: the session has its place in the tables, and a signal that is sent at this depth is at most so
+-- deep that it is warned of.
+pub record MayNest (caller : SessionContext) (tables : Tables) (depth : ℕ) : Type 0 where
+  pub placed : IsPlaced tables caller.place
+  pub within : depth ≤ NESTED_SIGNALS

@@ -1,13 +1,12 @@
 //! An agenda by nested calls. Each function does what the item of its name does, and calls the others
 //! where that puts items in front. The calls come to an end, since each way round takes a turn, or marks
 //! an object that lives as dying; no action gives a turn back, or makes an object.
-ghost use Rattle.std.specs.Prelude.{◌≡◌, ◌∷◌, ◌-◌, [], ◌≤◌, ◌<◌, OnOk, OnErr, Some, take};
+ghost use Rattle.std.specs.Prelude.{◌≡◌, ◌∷◌, ◌+◌, ◌-◌, [], ◌≤◌, OnOk, OnErr, Some, take};
 ghost use Rattle.plain_types.specs.declared.callee.Callee.TheVariants as callee;
 ghost use Rattle.term_core.specs.Act.{acts_of, single_action};
-ghost use Rattle.event_queue.specs.declared.event.Priority.TheVariants.{Normal};
 ghost use Rattle.session_model.specs.declared.call.TheConstants.{NESTED_SIGNALS};
 ghost use Rattle.session_model.specs.Acts as model;
-ghost use Rattle.session_model.specs.Agenda.{callee_called, connection_of, method_items};
+ghost use Rattle.session_model.specs.Agenda.{callee_called, connection_of, method_items, queued_call};
 ghost use Rattle.session_model.specs.Items.{Call, Emit, RunFunctor};
 ghost use Rattle.session_model.specs.Methods.{method_at};
 ghost use Rattle.session_model.specs.Posting.{is_queued};
@@ -17,7 +16,7 @@ ghost use Rattle.session_tables.specs.Tables as session;
 ghost use Rattle.session_tables.specs.Tables.{IsPlaced, state_at};
 ghost use Rattle.session_effects.specs.Actions.{act_of};
 ghost use Rattle.session_effects.specs.Setup.{settings_of};
-ghost use Rattle.dispatch.specs.Agenda.{RunsItems, RunsNext};
+ghost use Rattle.dispatch.specs.Agenda.{MayNest, RunsItems, RunsNext};
 ghost use Rattle.dispatch.specs.CommandOutput.{doing_at};
 
 use crate::call_context::{CallContext, answered};
@@ -53,8 +52,7 @@ pub(crate) fn emit<F: FunctorTable>(
     args: &[Value],
     depth: u32,
 ) -> Result<(), AllocError>
-    requires placed { IsPlaced tables.old actor.now.caller.place }
-    requires depth { depth ≤ NESTED_SIGNALS }
+    requires { MayNest actor.now.caller tables.old depth }
     ensures { RunsItems actor.now.caller (Emit target signal args.now depth ∷ []) tables.old tables.new output.old output.new result }
 {
     let Some(row) = tables.forests.row(actor.caller.place, target) else {
@@ -95,8 +93,7 @@ fn call<F: FunctorTable>(
     args: &[Value],
     depth: u32,
 ) -> Result<(), AllocError>
-    requires placed { IsPlaced tables.old actor.now.caller.place }
-    requires depth { depth < NESTED_SIGNALS }
+    requires nests { MayNest actor.now.caller tables.old (depth + 1) }
     requires stands { connection_of (doing_at actor.now.caller.place tables.old output.old []) connection.now.number ≡ Some connection.now }
     ensures { RunsItems actor.now.caller (Call connection.now.number args.now depth ∷ []) tables.old tables.new output.old output.new result }
 {
@@ -138,8 +135,7 @@ fn call_functor<F: FunctorTable>(
     args: &[Value],
     depth: u32,
 ) -> Result<(), AllocError>
-    requires placed { IsPlaced tables.old actor.now.caller.place }
-    requires depth { depth < NESTED_SIGNALS }
+    requires nests { MayNest actor.now.caller tables.old (depth + 1) }
     requires callee { connection.now.callee ≡ callee.Functor index }
     ensures { RunsNext actor.now.caller (λ earlier. callee_called (settings_of actor.now.caller.setup.now) connection.now args.now depth
         (doing_at actor.now.caller.place tables.old output.old earlier) (callee.Functor index)) tables.old tables.new output.old output.new result }
@@ -168,15 +164,8 @@ fn call_later(
     args: &[Value],
 ) -> Result<(), AllocError>
     requires { IsPlaced tables.old caller.now.place }
-    ensures ok { OnOk result (tables.new ≡ session.with_state tables.old caller.now.place (with_call (state_at tables.old caller.now.place)
-        (record {
-          object = connection.now.receiver;
-          callee = connection.now.callee;
-          sender = connection.now.sender;
-          connection = connection.now.number;
-          priority = Normal;
-          args = args.now;
-        }))) }
+    ensures ok { OnOk result (tables.new ≡ session.with_state tables.old caller.now.place
+        (with_call (state_at tables.old caller.now.place) (queued_call connection.now connection.now.callee args.now))) }
     ensures err { OnErr result (tables.new ≡ tables.old) }
 {
     let call = QueuedCall {
@@ -271,8 +260,7 @@ fn acts<F: FunctorTable>(
     slot: &Slot,
     actions: &[Action],
 ) -> Result<(), AllocError>
-    requires placed { IsPlaced tables.old actor.now.caller.place }
-    requires depth { slot.now.depth ≤ NESTED_SIGNALS }
+    requires { MayNest actor.now.caller tables.old slot.now.depth }
     ensures { RunsItems actor.now.caller (model.acts (acts_of actions.now) slot.now.args.now slot.now.object slot.now.sender slot.now.depth)
         tables.old tables.new output.old output.new result }
 {
@@ -291,8 +279,7 @@ fn act<F: FunctorTable>(
     slot: &Slot,
     action: &Action,
 ) -> Result<(), AllocError>
-    requires placed { IsPlaced tables.old actor.now.caller.place }
-    requires depth { slot.now.depth ≤ NESTED_SIGNALS }
+    requires { MayNest actor.now.caller tables.old slot.now.depth }
     ensures { RunsItems actor.now.caller (act_of slot.now action.now ∷ []) tables.old tables.new output.old output.new result }
 {
     match &action.step {
@@ -316,8 +303,7 @@ fn single_action<F: FunctorTable>(
     slot: &Slot,
     plain: &SingleAction,
 ) -> Result<(), AllocError>
-    requires placed { IsPlaced tables.old actor.now.caller.place }
-    requires depth { slot.now.depth ≤ NESTED_SIGNALS }
+    requires { MayNest actor.now.caller tables.old slot.now.depth }
     ensures { RunsItems actor.now.caller (act_of slot.now (single_action plain.now) ∷ []) tables.old tables.new output.old output.new result }
 {
     match plain {

@@ -1,13 +1,11 @@
 //! Deleting an object with all below it, by nested calls as those of the agenda: with the same contract,
 //! and the same measure. An object is marked as dying before anything else, so that none is deleted twice;
 //! then it says so by `destroyed()`, whose slots may do anything.
-ghost use Rattle.std.specs.Prelude.{◌∷◌, [], ◌≤◌, OnOk};
+ghost use Rattle.std.specs.Prelude.{◌∷◌, [], ◌≤◌};
 ghost use Rattle.session_model.specs.declared.call.TheConstants.{NESTED_SIGNALS};
 ghost use Rattle.session_model.specs.Items.{Detach, Delete, DeleteChild};
 ghost use Rattle.session_tables.specs.Tables.{IsPlaced};
-ghost use Rattle.session_effects.specs.Actions.{KeepsOthers};
-ghost use Rattle.dispatch.specs.Agenda.{RunsItems};
-ghost use Rattle.dispatch.specs.CommandOutput.{doing_at};
+ghost use Rattle.dispatch.specs.Agenda.{MayNest, RunsItems};
 
 use crate::agenda::emit;
 use crate::call_context::CallContext;
@@ -50,8 +48,7 @@ fn detach<F: FunctorTable>(
     target: u32,
     depth: u32,
 ) -> Result<(), AllocError>
-    requires placed { IsPlaced tables.old actor.now.caller.place }
-    requires depth { depth ≤ NESTED_SIGNALS }
+    requires { MayNest actor.now.caller tables.old depth }
     ensures { RunsItems actor.now.caller (Detach target depth ∷ []) tables.old tables.new output.old output.new result }
 {
     let children = tables.forests.children(actor.caller.place, Some(target))?;
@@ -72,8 +69,7 @@ fn delete_child<F: FunctorTable>(
     child: u32,
     depth: u32,
 ) -> Result<(), AllocError>
-    requires placed { IsPlaced tables.old actor.now.caller.place }
-    requires depth { depth ≤ NESTED_SIGNALS }
+    requires { MayNest actor.now.caller tables.old depth }
     ensures { RunsItems actor.now.caller (DeleteChild parent child depth ∷ []) tables.old tables.new output.old output.new result }
 {
     let place = actor.caller.place;

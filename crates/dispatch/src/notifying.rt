@@ -1,13 +1,12 @@
 //! Announcements of changes are made by nested calls as those of the agenda: with the same contract, and the
 //! same measure.
-ghost use Rattle.std.specs.Prelude.{◌≡◌, ◌∷◌, [], ◌≤◌, OnOk};
+ghost use Rattle.std.specs.Prelude.{◌∷◌, [], ◌≤◌};
 ghost use Rattle.session_model.specs.declared.call.TheConstants.{NESTED_SIGNALS};
 ghost use Rattle.session_tables.specs.Tables.{IsPlaced, state_at};
 ghost use Rattle.session_effects.specs.declared.announcing.PendingAnnouncements.TheVariants.{One};
-ghost use Rattle.session_effects.specs.Actions.{KeepsOthers};
 ghost use Rattle.session_effects.specs.Setup.{settings_of};
 ghost use Rattle.session_effects.specs.Writing.{announced, items_of, told_items};
-ghost use Rattle.dispatch.specs.Agenda.{RunsItems};
+ghost use Rattle.dispatch.specs.Agenda.{MayNest, RunsItems};
 
 use crate::agenda::emit;
 use crate::call_context::CallContext;
@@ -55,8 +54,7 @@ fn notify_of<F: FunctorTable>(
     notice: NotifySignal,
     depth: u32,
 ) -> Result<(), AllocError>
-    requires placed { IsPlaced tables.old actor.now.caller.place }
-    requires depth { depth ≤ NESTED_SIGNALS }
+    requires { MayNest actor.now.caller tables.old depth }
     ensures { RunsItems actor.now.caller (items_of (settings_of actor.now.caller.setup.now) (state_at tables.old actor.now.caller.place) depth (One notice))
         tables.old tables.new output.old output.new result }
 {
@@ -114,8 +112,7 @@ fn announce<F: FunctorTable>(
     announcement: &Announcement,
     depth: u32,
 ) -> Result<(), AllocError>
-    requires placed { IsPlaced tables.old actor.now.caller.place }
-    requires depth { depth ≤ NESTED_SIGNALS }
+    requires { MayNest actor.now.caller tables.old depth }
     ensures { RunsItems actor.now.caller (announced depth announcement.now ∷ []) tables.old tables.new output.old output.new result }
 {
     match announcement {

@@ -3,14 +3,8 @@
 //! the input lines that can affect the session's answers instead.
 #![tactic(auto)]
 
-ghost use Rattle.std.specs.Prelude.{◌≡◌, ◌∷◌, [], IfOk};
-ghost use Rattle.signature_core.specs.declared.kind.Kind.TheVariants.{Int};
-ghost use Rattle.stored_slots.specs.Functors.{AreArguments};
-ghost use Rattle.term_core.specs.Term.{state};
-ghost use Rattle.term_evaluation.specs.Stating.{after, with_state};
-ghost use Rattle.term_evaluation.specs.Unfolding.{unfolded_body};
-ghost use Rattle.command_line.specs.Clamp.{clamp_body};
-ghost use Rattle.command_line.specs.Count.{count_body, one_more};
+ghost use Rattle.command_line.specs.Clamp.{Clamps, IsNumber};
+ghost use Rattle.command_line.specs.Count.{Counts};
 
 use command_line::{
     Beginning, add_count, clamp_answer, count_answer, reserve_stack, start, with_clamp,
@@ -38,16 +32,15 @@ fn main(rt: HostRuntime) -> ExitCode {
     }
 }
 
-/// Runs over standard input with the functors `clamp`, whose closure captures the bounds that it keeps a
+/// Makes the functors of the program and runs with them: `clamp`, whose closure captures the bounds that it keeps a
 /// number between, and `count`.
 fn serve(rt: &HostRuntime, beginning: Beginning) -> Result<Summary, RunFault> {
     let (least, most) = (0, 100);
     let Ok(clamp) = Box::new(
         rt.alloc(),
         move |alloc: Global, found: u64, args: &[Value]| -> Result<(Vec<Action>, u64), AllocError>
-            requires { AreArguments (Int ∷ []) args.now }
-            ensures actions { IfOk result (λ answer. answer.0.items ≡ unfolded_body args.now (with_state found (clamp_body least most))) }
-            ensures next { IfOk result (λ answer. answer.1 ≡ after state found args.now) }
+            requires { IsNumber args.now }
+            ensures { Clamps least most found args.now result }
         { clamp_answer(alloc, least, most, found, args) },
     ) else {
         return Err(RunFault::Memory);
@@ -58,8 +51,7 @@ fn serve(rt: &HostRuntime, beginning: Beginning) -> Result<Summary, RunFault> {
     let Ok(count) = Box::new(
         rt.alloc(),
         |alloc: Global, found: u64, args: &[Value]| -> Result<(Vec<Action>, u64), AllocError>
-            ensures actions { IfOk result (λ answer. answer.0.items ≡ unfolded_body args.now (with_state found count_body)) }
-            ensures next { IfOk result (λ answer. answer.1 ≡ after (one_more state) found args.now) }
+            ensures { Counts found args.now result }
         { count_answer(alloc, found, args) },
     ) else {
         return Err(RunFault::Memory);

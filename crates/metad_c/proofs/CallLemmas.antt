@@ -1,5 +1,5 @@
 -- What calls on one handle do to its server and its output.
-use Rattle.std.proofs.Common.{◌≡◌, ◌⊎◌, inl, inr, ℕ, true, List, [], ◌∷◌, ◌++◌, Option, Some, None, IfNone, OnSome, IsTrue, IsFalse}
+use Rattle.std.proofs.Common.{◌≡◌, ◌⊎◌, ◌==◌, inl, inr, ℕ, true, false, List, [], ◌∷◌, ◌++◌, Option, Some, None, IfNone, OnSome, IsTrue, IsFalse}
 use Rattle.std.proofs.Common.{flat_map, length, take, drop, refl, sym, ap, ap₂, subst, ◌∙◌, ⊎_elim, append_assoc, append-nil, arith}
 use Rattle.std.proofs.lemmas.List.{length-take-le, take-append-drop, take_at}
 use Rattle.isolation.specs.Machine.{Tagged}
@@ -140,6 +140,21 @@ told_by old new (Some (Faulty fault)) text (inl said) =
 told_by old new (Some (Faulty fault)) text (inr unread) =
     record { effect = Unread; answers = inr refl; moves = alike_refused old new unread.only unread.settings; says = unread.says }
 
+-- A call with another status than 0 and 6 does nothing.
+none_done : (old new : Seen) (line : Option Piece) (status : ℕ) → (status == 0) ≡ false → (status == 6) ≡ false → AreAlike old.server new.server
+    → new.said ≡ old.said → HasCome old new line status
+unfolding Moves
+none_done old new line status not_zero not_six alike silent = record {
+  effect = Nothing;
+  each = record {
+    said = λ zero. let bad = rw zero at not_zero in absurd (cc bad);
+    unsaid = λ six. let bad = rw six at not_six in absurd (cc bad);
+    undone = λ zero six. refl;
+  };
+  moves = alike;
+  said = silent ∙ rw not_zero (sym (append-nil old.said));
+}
+
 comes_out : (old new : Seen) (line : Option Piece) (outcome : Outcome) → Comes old new line outcome → HasCome old new line (status_of outcome)
 unfolding Moves
 comes_out old new line Said comes =
@@ -150,12 +165,9 @@ comes_out old new line Said comes =
       moves = told.moves;
       said = comes.said ∙ ap (λ text. old.said ++ text) told.says;
     }
-comes_out old new line Undone comes = record {
-  effect = Nothing;
-  each = record { said = λ zero. absurd (cc zero); unsaid = λ six. absurd (cc six); undone = λ zero six. refl };
-  moves = ⊎_elim (λ same. alike_itself old.server new.server same) (λ only. alike_refused old.server new.server only comes.settings) comes.server;
-  said = comes.said ∙ sym (append-nil old.said);
-}
+comes_out old new line Undone comes =
+    none_done old new line 5 refl refl
+    (⊎_elim (λ same. alike_itself old.server new.server same) (λ only. alike_refused old.server new.server only comes.settings) comes.server) comes.said
 comes_out old new line Unsaid comes = record {
   effect = Done comes.given comes.done.entry;
   each = record {
@@ -169,19 +181,9 @@ comes_out old new line Unsaid comes = record {
 
 -- A call for which nothing is done.
 nothing_done : (kept : Seen) (line : Option Piece) (status : ℕ) → (status ≡ 3) ⊎ (status ≡ 5) → HasCome kept kept line status
-unfolding Moves
-nothing_done kept line status (inl is) = subst (HasCome kept kept line) (sym is) (record {
-  effect = Nothing;
-  each = record { said = λ zero. absurd (cc zero); unsaid = λ six. absurd (cc six); undone = λ zero six. refl };
-  moves = alike_itself kept.server kept.server refl;
-  said = sym (append-nil kept.said);
-})
-nothing_done kept line status (inr is) = subst (HasCome kept kept line) (sym is) (record {
-  effect = Nothing;
-  each = record { said = λ zero. absurd (cc zero); unsaid = λ six. absurd (cc six); undone = λ zero six. refl };
-  moves = alike_itself kept.server kept.server refl;
-  said = sym (append-nil kept.said);
-})
+nothing_done kept line status none =
+    none_done kept kept line status (⊎_elim (λ three. rw three) (λ five. rw five) none) (⊎_elim (λ three. rw three) (λ five. rw five) none)
+    (alike_itself kept.server kept.server refl) refl
 
 -- A call on a handle that has a server.
 record IsMade (old : Kept) (call : Call) (new : Option Kept) : Type 0 where
@@ -245,44 +247,37 @@ output_more fetched more said last told texts between here rest =
 
 module _ (front : Server) (old kept : Kept) (call : Call) (calls : List Call) (new : Option Kept) (alike : AreAlike front (seen old).server)
     (rest : (next : Server) → AreAlike next (seen kept).server → AreMade next kept calls new) where
-  quiet_more : (effect : CallEffect) → HasEffect call effect → AreAlike (seen old).server (seen kept).server
+  -- a call before the others, by the steps of its command and of theirs
+  one_more : (next : Server) (effect : CallEffect) (later : AreMade next kept calls new) → HasEffect call effect
       → fetched_by call ++ (seen kept).said ≡ (seen old).said ++ said_by call effect
-      → ((effects : List CallEffect) → commands_of (effect ∷ effects) ≡ commands_of effects)
-      → ((effects : List CallEffect) → entries_of (effect ∷ effects) ≡ entries_of effects) → AreMade front old (call ∷ calls) new
-  quiet_more effect each moves output no_command no_entry =
-      let later = rest front (alike_on front (seen old).server (seen kept).server alike moves) in
-      record {
-        last = later.last;
-        is = later.is;
-        effects = effect ∷ later.effects;
-        each = (each, later.each);
-        output = output_more (fetched_by call) (flat_map fetched_by calls) (seen old).said (seen later.last).said (said_by call effect)
-            (said_by_all calls later.effects) (seen kept).said output later.output;
-        behind = later.behind;
-        steps = subst (λ ts. AreSteps (noted front) ts (entries_of (effect ∷ later.effects)) (noted later.behind)) (sym (no_command later.effects))
-            (subst (λ entries. AreSteps (noted front) (commands_of later.effects) entries (noted later.behind)) (sym (no_entry later.effects)) later.steps);
-        ends = later.ends;
-      }
+      → AreSteps (noted front) (commands_of (effect ∷ later.effects)) (entries_of (effect ∷ later.effects)) (noted later.behind)
+      → AreMade front old (call ∷ calls) new
+  one_more next effect later each output steps = record {
+    last = later.last;
+    is = later.is;
+    effects = effect ∷ later.effects;
+    each = (each, later.each);
+    output = output_more (fetched_by call) (flat_map fetched_by calls) (seen old).said (seen later.last).said (said_by call effect)
+        (said_by_all calls later.effects) (seen kept).said output later.output;
+    behind = later.behind;
+    steps = steps;
+    ends = later.ends;
+  }
+
+  -- the calls behind one that leaves sessions and settings unchanged
+  behind_it : AreAlike (seen old).server (seen kept).server → AreMade front kept calls new
+  behind_it moves = rest front (alike_on front (seen old).server (seen kept).server alike moves)
 
   made_more : (effect : CallEffect) → HasEffect call effect → Moves (seen old).server effect (seen kept).server
       → fetched_by call ++ (seen kept).said ≡ (seen old).said ++ said_by call effect → AreMade front old (call ∷ calls) new
   unfolding Moves
   made_more (Done given entry) each moves output =
-      let later = rest (seen kept).server (alike_itself (seen kept).server (seen kept).server refl) in
-      record {
-        last = later.last;
-        is = later.is;
-        effects = Done given entry ∷ later.effects;
-        each = (each, later.each);
-        output = output_more (fetched_by call) (flat_map fetched_by calls) (seen old).said (seen later.last).said (said_by call (Done given entry))
-            (said_by_all calls later.effects) (seen kept).said output later.output;
-        behind = later.behind;
-        steps = (noted (seen kept).server, noted_entry front (seen old).server (seen kept).server given alike entry moves, later.steps);
-        ends = later.ends;
-      }
-  made_more (Refused fault) each moves output = quiet_more (Refused fault) each moves output (λ effects. refl) (λ effects. refl)
-  made_more Unread each moves output = quiet_more Unread each moves output (λ effects. refl) (λ effects. refl)
-  made_more Nothing each moves output = quiet_more Nothing each moves output (λ effects. refl) (λ effects. refl)
+      let now = (seen kept).server in
+      let later = rest now (alike_itself now now refl) in
+      one_more now (Done given entry) later each output (noted now, noted_entry front (seen old).server now given alike entry moves, later.steps)
+  made_more (Refused fault) each moves output = one_more front (Refused fault) (behind_it moves) each output (behind_it moves).steps
+  made_more Unread each moves output = one_more front Unread (behind_it moves) each output (behind_it moves).steps
+  made_more Nothing each moves output = one_more front Nothing (behind_it moves) each output (behind_it moves).steps
 
 all_made : (front : Server) (old : Kept) (calls : List Call) (new : Option Kept) → AreAlike front (seen old).server → AreCalls (Some old) calls new
     → AreMade front old calls new

@@ -19,35 +19,29 @@ use Rattle.metad_c.specs.Answers.{Comes, Seen}
 use Rattle.metad_c.specs.Reading.{command_for, piece_for}
 use Rattle.metad_c.specs.Saying.{Adds, IsSilent, Obeys, SaysFault, SaysUnread, said_or}
 
+-- what follows from an output line, and what follows if it is lost, gives the outcome
+by_said : {A B : Type 0} (Holds : Outcome → Type 0) (lost outcome : Outcome) (said : Result (Unit {0}) AllocError) → outcome ≡ said_or lost said
+    → OnOk said A → OnErr said B → (A → Holds Said) → (B → Holds lost) → Holds outcome
+by_said Holds lost outcome (Ok v) is ok err adds silent = subst Holds (sym is) (adds ok)
+by_said Holds lost outcome (Err e) is ok err adds silent = subst Holds (sym is) (silent err)
+
 module _ (old new : Seen) (said : Result (Unit {0}) AllocError) (outcome : Outcome) where
   -- a command that is done
   pub obeyed : (t : Tagged (List ℕ) Asked) (text : List ℕ) → outcome ≡ said_or Unsaid said → IsDone old.server t text new.server
       → OnOk said (Adds old new text) → OnErr said (IsSilent old new) → Obeys old new t outcome
-  obeyed t text is done ok err = subst (Obeys old new t) (sym is) (by said ok err)
-    where
-      by : (said : Result (Unit {0}) AllocError) → OnOk said (Adds old new text) → OnErr said (IsSilent old new) → Obeys old new t (said_or Unsaid said)
-      by (Ok v) ok err = (text, done, ok)
-      by (Err e) ok err = (text, done, err)
+  obeyed t text is done ok err = by_said (Obeys old new t) Unsaid outcome said is ok err (λ adds. (text, done, adds)) (λ silent. (text, done, silent))
 
   -- a line that is no command
   pub faulted : (fault : LineFault) → outcome ≡ said_or Undone said → new.server ≡ old.server
       → OnOk said (Adds old new (text_of_line (blamed fault) (Error fault.code))) → OnErr said (IsSilent old new) → SaysFault old new fault outcome
-  faulted fault is same ok err = subst (SaysFault old new fault) (sym is) (by said ok err)
-    where
-      by : (said : Result (Unit {0}) AllocError) → OnOk said (Adds old new (text_of_line (blamed fault) (Error fault.code))) → OnErr said (IsSilent old new)
-          → SaysFault old new fault (said_or Undone said)
-      by (Ok v) ok err = (same, ok)
-      by (Err e) ok err = (same, err)
+  faulted fault is same ok err = by_said (SaysFault old new fault) Undone outcome said is ok err (λ adds. (same, adds)) (λ silent. (same, silent))
 
   -- a line for which there was no memory
   pub refused : outcome ≡ said_or Undone said → OnlyRefused old.server new.server → settings new.server ≡ settings old.server
       → OnOk said (Adds old new (text_of_line (codes "-") (Error OutOfMemory))) → OnErr said (IsSilent old new) → SaysUnread old new outcome
-  refused is only kept ok err = subst (SaysUnread old new) (sym is) (by said ok err)
-    where
-      by : (said : Result (Unit {0}) AllocError) → OnOk said (Adds old new (text_of_line (codes "-") (Error OutOfMemory))) → OnErr said (IsSilent old new)
-          → SaysUnread old new (said_or Undone said)
-      by (Ok v) ok err = (record { only = only; settings = kept; says = refl }, ok)
-      by (Err e) ok err = (only, kept, err)
+  refused is only kept ok err =
+      by_said (SaysUnread old new) Undone outcome said is ok err (λ adds. (record { only = only; settings = kept; says = refl }, adds))
+      (λ silent. (only, kept, silent))
 
 module _ (old new : Seen) (wanted : Result (Tagged (List ℕ) Asked) LineFault) where
   pub obeys_comes : (t : Tagged (List ℕ) Asked) (outcome : Outcome) → wanted ≡ Ok t → Obeys old new t outcome → Comes old new (Some (piece_from wanted)) outcome

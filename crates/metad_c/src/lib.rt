@@ -1,5 +1,5 @@
-//! `metad` inside a program in C. Each export is what one function of `include/metad.h` calls after it has looked at
-//! the pointers that it was given.
+//! `metad` inside a program in C. Each function of `include/metad.h` checks the pointers that it was given, and then
+//! calls one of these exports.
 #![tactic(auto)]
 
 mod fixed_functors;
@@ -69,7 +69,7 @@ pub extern "C" fn metad_inner_open(
     }
 }
 
-/// A handle of a server with these classes and turns, whose sessions' names are hashed with the keys.
+/// A handle that owns a new server with these classes and turns. The keys hash the names of its sessions.
 fn handle_of(alloc: Global, classes: &[u8], turns: u32, keys: &[u8]) -> Result<Handle, Stop>
     ensures open { IfOk result (λ handle. IsOpen classes.now turns handle.loose.value) }
     ensures stopped { IfErr result (λ stop. Stops classes.now keys.now stop) }
@@ -136,8 +136,8 @@ pub extern "C" fn metad_inner_line(alloc: Global, handle: &mut Handle, line: &[u
     outcome.status()
 }
 
-/// Answers a line for this session, whatever session the line names, if any. Returns what `metad_inner_line` does,
-/// or 3 if `session` is not a name of a session.
+/// Answers a line for this session, even if the line names another one. Returns what `metad_inner_line` does, or 3 if
+/// `session` is not a name of a session.
 #[unsafe(no_mangle)]
 pub extern "C" fn metad_inner_line_for(
     alloc: Global,
@@ -164,7 +164,7 @@ pub extern "C" fn metad_inner_line_for(
     outcome.status()
 }
 
-/// How many bytes of output can be fetched.
+/// Returns how many bytes of output can be fetched.
 #[unsafe(no_mangle)]
 pub extern "C" fn metad_inner_output_len(alloc: Global, handle: &mut Handle) -> usize
     ensures unchanged { handle.new.loose.value ≡ handle.old.loose.value }

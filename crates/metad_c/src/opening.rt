@@ -1,15 +1,10 @@
-//! Servers that host programs open.
-ghost use Rattle.std.specs.Prelude.{◌≡◌, ◌∷◌, [], IfErr, IfOk, Ok, pos};
-ghost use Rattle.signature_core.specs.declared.kind.Kind.TheVariants.{Int};
-ghost use Rattle.stored_slots.specs.Functors.{AreArguments};
+//! Opens servers for host programs.
+ghost use Rattle.std.specs.Prelude.{◌≡◌, IfErr, IfOk, Ok};
 ghost use Rattle.stored_slots.specs.Table.{functors_of};
-ghost use Rattle.term_core.specs.Term.{state};
-ghost use Rattle.term_evaluation.specs.Stating.{after, with_state};
-ghost use Rattle.term_evaluation.specs.Unfolding.{unfolded_body};
-ghost use Rattle.command_line.specs.Clamp.{clamp_body};
-ghost use Rattle.command_line.specs.Count.{count_body, one_more};
-ghost use Rattle.metad_c.specs.Functors.{program_functors};
+ghost use Rattle.command_line.specs.Clamp.{Clamps, IsNumber};
+ghost use Rattle.command_line.specs.Count.{Counts};
 ghost use Rattle.command_line.specs.Demonstration.{demonstration};
+ghost use Rattle.metad_c.specs.Functors.{program_functors};
 ghost use Rattle.metad_c.specs.Opening.{IsOpened, StopsAfterClasses, StopsAtClasses, classes_of};
 
 use crate::fixed_functors::FixedFunctors;
@@ -74,8 +69,8 @@ fn demonstration_classes(alloc: Global) -> Result<ClassTable, Stop>
     }
 }
 
-/// A server with these classes and turns, and with the functors of the program. The closures are made to be
-/// proved to be those functors, and are not kept.
+/// A server with these classes and turns, and with the functors of the program. The closures are made so that they
+/// are proved to be those functors. The server does not keep them: `FixedFunctors` answers for them.
 pub(crate) fn opened(
     alloc: Global,
     classes: ClassTable,
@@ -89,9 +84,8 @@ pub(crate) fn opened(
     let Ok(clamp) = Box::new(
         alloc,
         move |alloc: Global, found: u64, args: &[Value]| -> Result<(Vec<Action>, u64), AllocError>
-            requires { AreArguments (Int ∷ []) args.now }
-            ensures actions { IfOk result (λ answer. answer.0.items ≡ unfolded_body args.now (with_state found (clamp_body least most))) }
-            ensures next { IfOk result (λ answer. answer.1 ≡ after state found args.now) }
+            requires { IsNumber args.now }
+            ensures { Clamps least most found args.now result }
         { clamp_answer(alloc, least, most, found, args) },
     ) else {
         return Err(Stop::Memory);
@@ -102,8 +96,7 @@ pub(crate) fn opened(
     let Ok(count) = Box::new(
         alloc,
         |alloc: Global, found: u64, args: &[Value]| -> Result<(Vec<Action>, u64), AllocError>
-            ensures actions { IfOk result (λ answer. answer.0.items ≡ unfolded_body args.now (with_state found count_body)) }
-            ensures next { IfOk result (λ answer. answer.1 ≡ after (one_more state) found args.now) }
+            ensures { Counts found args.now result }
         { count_answer(alloc, found, args) },
     ) else {
         return Err(Stop::Memory);

@@ -6,8 +6,7 @@ use Rattle.session_model.specs.Items.{puts}
 use Rattle.session_model.specs.State.{State}
 use Rattle.session_tables.specs.declared.tables.Tables.{Tables}
 use Rattle.session_tables.specs.Tables.{IsPlaced, state_at, with_state}
-use Rattle.session_tables.proofs.ForCallers.{changes_same, changes_twice, changes_with, placed_after, state_with}
-use Rattle.session_effects.specs.Actions.{KeepsOthers}
+use Rattle.session_tables.proofs.ForCallers.{state_with}
 
 -- where another state was put, the session is in it
 pub put_at : (old new : Tables) (place : ℕ) (state : State) (doing : Execution) → IsPlaced old place → new ≡ with_state old place state
@@ -18,19 +17,6 @@ put_at old new place state doing placed e = ap (λ (state : State). puts [] (in_
 pub is_there_by : (there : Bool) → None ≡ (if there then None else Some NoSuchObject) → there ≡ true
 is_there_by true passed = refl
 is_there_by false passed = absurd (cc)
-
-pub keeps_same : (old new : Tables) (place : ℕ) → new ≡ old → KeepsOthers place old new
-keeps_same old new place e = record { only = changes_same old new place e; failed = ap (λ tables. tables.failed) e }
-
-pub keeps_with : (old new : Tables) (place : ℕ) (state : State) → IsPlaced old place → new ≡ with_state old place state → KeepsOthers place old new
-keeps_with old new place state placed e = record { only = changes_with old new place state placed e; failed = ap (λ tables. tables.failed) e }
-
-pub keeps_twice : (old middle new : Tables) (place : ℕ) → KeepsOthers place old middle → KeepsOthers place middle new → KeepsOthers place old new
-keeps_twice old middle new place first second =
-    record { only = changes_twice old middle new place first.only second.only; failed = second.failed ∙ first.failed }
-
-pub placed_kept : (old new : Tables) (place : ℕ) → KeepsOthers place old new → IsPlaced old place → IsPlaced new place
-placed_kept old new place keeps placed = placed_after old new place keeps.only placed
 
 -- what is evaluated where a reader stands
 pub read_as : {A : Type 0} (f : State → ℕ → ℕ → A) {t t' : Tables} {p p' o o' s s' : ℕ} → t ≡ t' → p ≡ p' → o ≡ o' → s ≡ s'

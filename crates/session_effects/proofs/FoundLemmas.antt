@@ -1,11 +1,11 @@
 -- Lists of what is found, one after another.
-use Rattle.std.proofs.Common.{◌≡◌, ◌+◌, ◌<◌, ◌≤◌, ℕ, Bor, Option, Some, None, get_or, Bool, true, false, List, [], ◌∷◌, ◌++◌, Result, Ok, Err, IsErrAnd, subst}
-use Rattle.std.proofs.Common.{if◌then◌else◌, drop, length, refl, sym, ap, ◌∙◌, append_assoc, arith}
+use Rattle.std.proofs.Common.{◌≡◌, ◌+◌, ◌<◌, ◌≤◌, ℕ, Bor, Option, Some, None, get_or, Bool, List, [], ◌∷◌, ◌++◌, Result, Ok, Err, IsErrAnd, subst}
+use Rattle.std.proofs.Common.{drop, length, refl, sym, ap, ◌∙◌, append_assoc, arith}
 use Rattle.std.proofs.lemmas.List.{append-nil, drop_all, drop_more}
 use Rattle.std.specs.List.{HoldsAt}
 use Rattle.std.specs.Option.{MatchOption, ok_or, option_copied, option_map_or}
 use Rattle.plain_types.specs.declared.code.Code.{Code}
-use Rattle.plain_types.specs.declared.code.Code.TheVariants.{BadValue, DoesNotFit}
+use Rattle.plain_types.specs.declared.code.Code.TheVariants.{BadValue}
 use Rattle.plain_types.specs.Answers.{Answers}
 use Rattle.plain_types.specs.declared.fault.Fault.{Fault}
 use Rattle.plain_types.specs.declared.fault.Fault.TheVariants.{Refused}
@@ -13,9 +13,8 @@ use Rattle.signature_core.specs.declared.kind.Kind.{Kind}
 use Rattle.variant_value.specs.declared.value.Value.{Value}
 use Rattle.variant_value.specs.Values.{converted}
 use Rattle.connection_list.specs.declared.connection.NewConnection.{NewConnection}
-use Rattle.plain_types.specs.declared.callee.Callee.TheVariants.{Method}
 use Rattle.plain_types.specs.declared.connection_type.ConnectionType.{ConnectionType}
-use Rattle.session_model.specs.Connecting.{fits_at, new_connection}
+use Rattle.session_model.specs.Connecting.{new_connection}
 use Rattle.session_model.specs.Methods.{Found, ◌>>=◌}
 use Rattle.session_model.specs.Settings.{Settings}
 use Rattle.session_model.specs.State.{State}
@@ -87,17 +86,12 @@ pub answers_refused : {T : Type 0} (wanted : Found T) (code : Code) (result : Re
 answers_refused wanted code (Ok value) h is = absurd h
 answers_refused wanted code (Err fault) h is = subst (λ fault. Answers (Err fault) wanted) (sym h) is
 
--- a signal that does not fit
-pub unfitting : (settings : Settings) (state : State) (sender : ℕ) (signal : Found ℕ) (receiver : ℕ) (method : Found ℕ) (mode : ConnectionType) (single : Bool)
-    (s m : ℕ) (code : Code) → signal ≡ Ok s → method ≡ Ok m
-    → Some code ≡ (if fits_at settings state sender s receiver m then None else Some DoesNotFit)
-    → new_connection settings state sender signal receiver method mode single ≡ Err code
-unfitting settings state sender signal receiver method mode single s m code found found' refused =
+-- a signal and a method that are found are connected, or do not fit
+pub connected : (settings : Settings) (state : State) (sender : ℕ) (signal : Found ℕ) (receiver : ℕ) (method : Found ℕ) (mode : ConnectionType) (single : Bool)
+    (s m : ℕ) (result : Found NewConnection) → signal ≡ Ok s → method ≡ Ok m
+    → result ≡ new_connection settings state sender (Ok s) receiver (Ok m) mode single
+    → new_connection settings state sender signal receiver method mode single ≡ result
+connected settings state sender signal receiver method mode single s m result found found' is =
     ap (λ signal. new_connection settings state sender signal receiver method mode single) found
     ∙ ap (λ method. new_connection settings state sender (Ok s) receiver method mode single) found'
-    ∙ by (record { sender = sender; signal = s; receiver = receiver; callee = Method m; mode = mode; single = single })
-    (fits_at settings state sender s receiver m) refused
-  where
-    by : (new : NewConnection) (fit : Bool) → Some code ≡ (if fit then None else Some DoesNotFit) → (if fit then Ok new else Err DoesNotFit) ≡ Err code
-    by new true refused = absurd (cc)
-    by new false refused = cc
+    ∙ sym is

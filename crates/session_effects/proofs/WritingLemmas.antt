@@ -49,7 +49,8 @@ use Rattle.session_effects.specs.Actions.{KeepsOthers, Tries}
 use Rattle.session_effects.specs.declared.slot.Slot.{Slot}
 use Rattle.session_effects.specs.Setup.{settings_of}
 use Rattle.session_effects.specs.Writing.{TriesToWrite, Writes, items_of, told_items}
-use Rattle.session_effects.proofs.ActionLemmas.{keeps_same, keeps_with, put_at}
+use Rattle.session_tables.proofs.ForCallers.{keeps_same, keeps_with}
+use Rattle.session_effects.proofs.ActionLemmas.{put_at}
 
 -- the signal that tells of changes of a property
 abbrev pub signal_of : Settings → State → ℕ → ℕ → Option ℕ
@@ -197,12 +198,6 @@ module _ (state : State) (object : ℕ) (name : List ℕ) (given : Value) (is_sh
       acted_at (Some place) there
       ∙ ap (λ (found : Option Value). ok_or found BadValue >>= short >>= λ value. Ok (Declared place.number value)) fits
       ∙ ap (λ (found : Found Value). found >>= λ value. Ok (Declared place.number value)) (short_kept fit (converted_fits place.kind given fit is_short fits).1)
-
-  -- a value that does not fit is refused
-  pub acted_unfit : (place : DeclaredField) → declared state object name ≡ Some place → converted place.kind given ≡ None
-      → acted_writing state object name given ≡ Err BadValue
-  acted_unfit place there misfit = acted_at (Some place) there
-      ∙ ap (λ (found : Option Value). ok_or found BadValue >>= short >>= λ value. Ok (Declared place.number value)) misfit
 
   -- and one of a name that is not declared is a dynamic property's
   pub acted_dynamic : declared state object name ≡ None → acted_writing state object name given ≡ dynamic_writing state object name given

@@ -15,16 +15,12 @@ use Rattle.session_model.specs.Execution.{Execution, in_state}
 use Rattle.session_model.specs.Items.{Act, Item, Warn, puts}
 use Rattle.session_model.specs.Methods.{Found}
 use Rattle.session_tables.specs.declared.tables.Tables.{Tables}
-use Rattle.session_tables.specs.Tables.{ChangesOnly, state_at}
+use Rattle.session_tables.specs.Tables.{state_at}
+pub use Rattle.session_tables.specs.Tables.{KeepsOthers}
 use Rattle.session_effects.specs.declared.session_context.SessionContext.{SessionContext}
 use Rattle.session_effects.specs.declared.effects.Emission.{Emission}
 use Rattle.session_effects.specs.declared.slot.Slot.{Slot}
 use Rattle.session_effects.specs.Setup.{settings_of}
-
--- No other session has changed, and none has failed or was restored.
-pub record KeepsOthers (place : ℕ) (old new : Tables) : Type 0 where
-  pub only : ChangesOnly place old new
-  pub failed : new.failed ≡ old.failed
 
 -- An action in the body of a slot, as an item.
 abbrev pub act_of : Slot → term.Act → Item

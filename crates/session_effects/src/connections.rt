@@ -1,11 +1,8 @@
 //! The connections that commands and actions ask for, and those that they ask to be broken.
-ghost use Rattle.std.specs.Prelude.{◌≡◌, Some, None, if◌then◌else◌};
+ghost use Rattle.std.specs.Prelude.{◌≡◌, Ok};
 ghost use Rattle.std.specs.Option.{option_map};
-ghost use Rattle.std.specs.Result.{result_err};
 ghost use Rattle.plain_types.specs.Answers.{Answers};
-ghost use Rattle.plain_types.specs.declared.code.Code.TheVariants.{DoesNotFit};
-ghost use Rattle.plain_types.specs.declared.callee.Callee.TheVariants.{Method};
-ghost use Rattle.session_model.specs.Connecting.{fits_at, receiver_with};
+ghost use Rattle.session_model.specs.Connecting.{new_connection, receiver_with};
 ghost use Rattle.session_model.specs.Methods.{method_named, method_with};
 ghost use Rattle.session_model.specs.Acts as acts;
 ghost use Rattle.session_model.specs.Signals.{asked_connection, asked_functor_connection, asked_pattern};
@@ -45,8 +42,7 @@ pub fn asked_connection(
 {
     let signal = signal_named(caller, tables, sender, signal)?;
     let method = method_named(caller, tables, receiver, method)?;
-    check_fits(caller, tables, sender, signal, receiver, method)?;
-    Ok(to_method(sender, signal, receiver, method, options))
+    Ok(to_method(caller, tables, sender, signal, receiver, method, options)?)
 }
 
 /// The connection to a functor that a command asks for.
@@ -97,48 +93,36 @@ pub fn connection(
 {
     let signal = signal_with(caller, tables, sender, signal)?;
     let method = method_with(caller, tables, receiver, method)?;
-    check_fits(caller, tables, sender, signal, receiver, method)?;
-    Ok(to_method(sender, signal, receiver, method, options))
+    to_method(caller, tables, sender, signal, receiver, method, options)
 }
 
-/// Refuses a signal whose parameters do not fit those of the method.
-fn check_fits(
+/// The connection of a signal to a method, where what is sent fits what the method takes.
+fn to_method(
     caller: &SessionContext,
     tables: &Tables,
     sender: u32,
     signal: u32,
     receiver: u32,
     method: u32,
-) -> Result<(), Code>
+    options: Options,
+) -> Result<NewConnection, Code>
     requires { IsPlaced tables.now caller.now.place }
-    ensures { result_err result ≡ (if fits_at (settings_of caller.now.setup.now) (state_at tables.now caller.now.place) sender signal receiver method
-        then None else Some DoesNotFit) }
+    ensures { result ≡ new_connection (settings_of caller.now.setup.now) (state_at tables.now caller.now.place)
+        sender (Ok signal) receiver (Ok method) options.mode options.single }
 {
     let sent = kinds_at(caller, tables, sender, signal);
     let taken = kinds_at(caller, tables, receiver, method);
     if fits(sent, taken) {
-        Ok(())
+        Ok(NewConnection {
+            sender,
+            signal,
+            receiver,
+            callee: Callee::Method(method),
+            mode: options.mode,
+            single: options.single,
+        })
     } else {
         Err(Code::DoesNotFit)
-    }
-}
-
-fn to_method(
-    sender: u32,
-    signal: u32,
-    receiver: u32,
-    method: u32,
-    options: Options,
-) -> NewConnection
-    ensures { result ≡ record { sender = sender; signal = signal; receiver = receiver; callee = Method method; mode = options.mode; single = options.single } }
-{
-    NewConnection {
-        sender,
-        signal,
-        receiver,
-        callee: Callee::Method(method),
-        mode: options.mode,
-        single: options.single,
     }
 }
 

@@ -1,11 +1,10 @@
 -- What is told of a class that is there.
-use Rattle.std.proofs.Common.{◌≡◌, ◌∷◌, [], ℕ, zero, suc, List, drop, length, map, Option, Some, None, slice_get, is_some, if◌then◌else◌, refl, sym, ap, ◌∙◌}
+use Rattle.std.proofs.Common.{◌≡◌, ◌∷◌, [], ℕ, zero, suc, List, drop, length, map, Option, Some, None, slice_get, is_some, if◌then◌else◌, refl, sym, ap}
 use Rattle.std.specs.Option.{option_and_then, unwrap_or}
 use Rattle.plain_types.specs.declared.code.Code.{Code}
 use Rattle.plain_types.specs.declared.code.Code.TheVariants.{NoSuchClass}
 use Rattle.class_table.specs.declared.class.Class.{Class}
 use Rattle.class_table.specs.Lookup.{inherited, method_text, methods, names, index_of, properties}
-use Rattle.session_model.specs.declared.meta.MetaObject.{MetaObject}
 use Rattle.session_model.specs.Classes.{class_index, class_name, class_refusal}
 use Rattle.session_model.proofs.ClassLemmas.{described_by}
 use Rattle.session_model.proofs.ForCallers.{class_there}
@@ -26,35 +25,22 @@ pub class_index_there : (classes : List Class) (name : List ℕ) → None ≡ cl
     → (class : Class) × (slice_get classes (class_index classes name) ≡ Some class)
 class_index_there classes name passed = class_there classes name (class_index classes name) (class_found classes name passed)
 
--- made of these
-abbrev told : List ℕ → ℕ → List (List ℕ) → List (List ℕ) → ℕ → Option (List ℕ) → MetaObject
-told class method_offset methods properties property_offset superclass =
-    record {
-      class = class;
-      method_offset = method_offset;
-      methods = methods;
-      properties = properties;
-      property_offset = property_offset;
-      superclass = superclass;
-    }
-
+-- what is told of a class, by its parts
 pub described_is : (classes : List Class) (index : ℕ) (class : Class) (name : List ℕ) (method_offset : ℕ) (method_texts property_names : List (List ℕ))
     (property_offset : ℕ) (superclass : Option (List ℕ))
     → name ≡ class.name → method_offset ≡ length (inherited (methods classes) class.superclass) → method_texts ≡ map method_text (methods classes index)
     → property_names ≡ names (properties classes index) → property_offset ≡ length (inherited (properties classes) class.superclass)
     → superclass ≡ option_and_then (class_name classes) class.superclass
-    → told name method_offset method_texts property_names property_offset superclass ≡ described_by classes index class
+    → described_by classes index class ≡ record {
+      class = name;
+      method_offset = method_offset;
+      methods = method_texts;
+      properties = property_names;
+      property_offset = property_offset;
+      superclass = superclass;
+    }
 unfolding described_by
-described_is classes index class name method_offset method_texts property_names property_offset superclass a b c d e f =
-    ap (λ name. told name method_offset method_texts property_names property_offset superclass) a
-    ∙ ap (λ method_offset. told class.name method_offset method_texts property_names property_offset superclass) b
-    ∙ ap (λ texts. told class.name (length (inherited (methods classes) class.superclass)) texts property_names property_offset superclass) c
-    ∙ ap (λ found. told class.name (length (inherited (methods classes) class.superclass))
-    (map method_text (methods classes index)) found property_offset superclass) d
-    ∙ ap (λ property_offset. told class.name (length (inherited (methods classes) class.superclass)) (map method_text (methods classes index))
-    (names (properties classes index)) property_offset superclass) e
-    ∙ ap (told class.name (length (inherited (methods classes) class.superclass)) (map method_text (methods classes index)) (names (properties classes index))
-    (length (inherited (properties classes) class.superclass))) f
+described_is classes index class name method_offset method_texts property_names property_offset superclass a b c d e f = cc
 
 -- what is left of a list from an index on begins with what stands there
 pub drop_at : {X : Type 0} (xs : List X) (n : ℕ) (x : X) → Some x ≡ slice_get xs n → drop n xs ≡ x ∷ drop (suc n) xs

@@ -1,4 +1,6 @@
 //! The commands that list what there is in a session, of its classes and of its functors.
+#![tactic(auto, using(crate::proofs::ReadingLemmas::starved_reading))]
+
 ghost use Rattle.session_model.specs.declared.query.Query.TheVariants.{Classes, Connections, FindAll, Functors, Joins, Parent, Publications};
 ghost use Rattle.session_tables.specs.Tables.{IsPlaced};
 ghost use Rattle.session_queries.specs.Reads.{Reads};
@@ -7,13 +9,14 @@ use crate::descriptions::{
     class_names, connection_descriptions, functor_descriptions, join_descriptions,
     publication_descriptions,
 };
+use crate::queries::Reply;
 use plain_types::{Code, Fault, Text};
 use session_effects::SessionContext;
 use session_model::Answer;
 use session_tables::Tables;
 
-/// The parent of an object, where it has one.
-pub(crate) fn parent(caller: &SessionContext, tables: &Tables, object: u32) -> Result<Answer, Fault>
+/// Returns the parent of an object, if it has one.
+pub(crate) fn parent(caller: &SessionContext, tables: &Tables, object: u32) -> Reply
     requires { IsPlaced tables.now caller.now.place }
     ensures { Reads caller.now (Parent object) tables.now result }
 {
@@ -23,15 +26,14 @@ pub(crate) fn parent(caller: &SessionContext, tables: &Tables, object: u32) -> R
     }
 }
 
-/// All objects below another one, of a title and of a class where they are given.
-#[tactic(auto, using(crate::proofs::ReadingLemmas::starved_reading))]
+/// Finds all objects below another one that have the given title and class, if these are given.
 pub(crate) fn find_all(
     caller: &SessionContext,
     tables: &Tables,
     object: u32,
     title: &Option<Text>,
     class: &Option<Text>,
-) -> Result<Answer, Fault>
+) -> Reply
     requires { IsPlaced tables.now caller.now.place }
     ensures { Reads caller.now (FindAll object title.now class.now) tables.now result }
 {
@@ -49,48 +51,43 @@ pub(crate) fn find_all(
     Ok(Answer::Numbers(found))
 }
 
-/// The names of the classes, in the order in which they are declared.
-#[tactic(auto, using(crate::proofs::ReadingLemmas::starved_reading))]
-pub(crate) fn classes(caller: &SessionContext, tables: &Tables) -> Result<Answer, Fault>
+/// Lists the names of the classes, in the order in which they are declared.
+pub(crate) fn classes(caller: &SessionContext, tables: &Tables) -> Reply
     ensures { Reads caller.now Classes tables.now result }
 {
     Ok(Answer::Names(class_names(caller.setup)?))
 }
 
-/// The functors, in the order of the server's list.
-#[tactic(auto, using(crate::proofs::ReadingLemmas::starved_reading))]
-pub(crate) fn functors(caller: &SessionContext, tables: &Tables) -> Result<Answer, Fault>
+/// Describes the functors, in the order of the server's list.
+pub(crate) fn functors(caller: &SessionContext, tables: &Tables) -> Reply
     ensures { Reads caller.now Functors tables.now result }
 {
     Ok(Answer::Functors(functor_descriptions(caller.setup)?))
 }
 
-/// What the session publishes, in the order of making.
-#[tactic(auto, using(crate::proofs::ReadingLemmas::starved_reading))]
-pub(crate) fn publications(caller: &SessionContext, tables: &Tables) -> Result<Answer, Fault>
+/// Lists what the session publishes, the oldest first.
+pub(crate) fn publications(caller: &SessionContext, tables: &Tables) -> Reply
     requires { IsPlaced tables.now caller.now.place }
     ensures { Reads caller.now Publications tables.now result }
 {
     Ok(Answer::Publications(publication_descriptions(caller, tables)?))
 }
 
-/// What the session joins, in the order of making.
-#[tactic(auto, using(crate::proofs::ReadingLemmas::starved_reading))]
-pub(crate) fn joins(caller: &SessionContext, tables: &Tables) -> Result<Answer, Fault>
+/// Lists what the session joins, the oldest first.
+pub(crate) fn joins(caller: &SessionContext, tables: &Tables) -> Reply
     requires { IsPlaced tables.now caller.now.place }
     ensures { Reads caller.now Joins tables.now result }
 {
     Ok(Answer::Joins(join_descriptions(caller, tables)?))
 }
 
-/// The connections of a greater number, where an object is named those that have it at either end.
-#[tactic(auto, using(crate::proofs::ReadingLemmas::starved_reading))]
+/// Lists the connections with numbers above `after`: all, or those that have an object at either end.
 pub(crate) fn connections(
     caller: &SessionContext,
     tables: &Tables,
     object: Option<u32>,
     after: Option<u32>,
-) -> Result<Answer, Fault>
+) -> Reply
     requires { IsPlaced tables.now caller.now.place }
     ensures { Reads caller.now (Connections object after) tables.now result }
 {

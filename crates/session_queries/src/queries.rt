@@ -1,17 +1,19 @@
 //! The commands that read of a session, and change nothing.
-ghost use Rattle.std.specs.Prelude.{◌≡◌, IfOk, option_and_then};
+#![tactic(auto, using(crate::proofs::ReadingLemmas::starved_reading))]
+
 ghost use Rattle.session_model.specs.declared.query.Query.TheVariants.{BindingError, Children, DynamicNames, Find, Get, Meta, Status};
-ghost use Rattle.session_model.specs.Classes.{class_name};
 ghost use Rattle.session_tables.specs.Tables.{IsPlaced};
 ghost use Rattle.session_queries.specs.Reads.{Reads};
 
+use crate::descriptions::superclass_name;
 use crate::{bindings, describing, listing};
-use class_table::Class;
 use plain_types::{Fault, Items, Text};
-use session_effects::{SessionContext, Setup};
+use session_effects::SessionContext;
 use session_model::{Answer, Boxed, MetaObject, Query};
 use session_tables::Tables;
-use std::alloc::AllocError;
+
+/// The answer to a query, or why there is none.
+pub(crate) type Reply = Result<Answer, Fault>;
 
 /// Answers a query.
 pub fn answer(caller: &SessionContext, tables: &Tables, query: &Query) -> Result<Answer, Fault>
@@ -53,9 +55,8 @@ pub fn answer(caller: &SessionContext, tables: &Tables, query: &Query) -> Result
     }
 }
 
-/// The children of an object, or the roots.
-#[tactic(auto, using(crate::proofs::ReadingLemmas::starved_reading))]
-fn children(caller: &SessionContext, tables: &Tables, object: Option<u32>) -> Result<Answer, Fault>
+/// Lists the children of an object, or the roots.
+fn children(caller: &SessionContext, tables: &Tables, object: Option<u32>) -> Reply
     requires { IsPlaced tables.now caller.now.place }
     ensures { Reads caller.now (Children object) tables.now result }
 {
@@ -64,15 +65,14 @@ fn children(caller: &SessionContext, tables: &Tables, object: Option<u32>) -> Re
     Ok(Answer::Numbers(Items::from_vec(found)))
 }
 
-/// The nearest object below another one, of a title and of a class where they are given.
-#[tactic(auto, using(crate::proofs::ReadingLemmas::starved_reading))]
+/// Finds the nearest object below another one that has the given title and class, if these are given.
 fn find(
     caller: &SessionContext,
     tables: &Tables,
     object: u32,
     title: &Option<Text>,
     class: &Option<Text>,
-) -> Result<Answer, Fault>
+) -> Reply
     requires { IsPlaced tables.now caller.now.place }
     ensures { Reads caller.now (Find object title.now class.now) tables.now result }
 {
@@ -82,14 +82,8 @@ fn find(
     Ok(Answer::Found(found))
 }
 
-/// Reads a property of an object; the value is invalid where there is no property of this name.
-#[tactic(auto, using(crate::proofs::ReadingLemmas::starved_reading))]
-fn get(
-    caller: &SessionContext,
-    tables: &Tables,
-    object: u32,
-    property: &Text,
-) -> Result<Answer, Fault>
+/// Reads a property of an object. The value is invalid if there is no property of this name.
+fn get(caller: &SessionContext, tables: &Tables, object: u32, property: &Text) -> Reply
     requires { IsPlaced tables.now caller.now.place }
     ensures { Reads caller.now (Get object property.now) tables.now result }
 {
@@ -98,9 +92,8 @@ fn get(
     Ok(Answer::Value(value))
 }
 
-/// The names of an object's dynamic properties, that first set first.
-#[tactic(auto, using(crate::proofs::ReadingLemmas::starved_reading))]
-fn dynamic_names(caller: &SessionContext, tables: &Tables, object: u32) -> Result<Answer, Fault>
+/// Lists the names of an object's dynamic properties, the one that was set first at the front.
+fn dynamic_names(caller: &SessionContext, tables: &Tables, object: u32) -> Reply
     requires { IsPlaced tables.now caller.now.place }
     ensures { Reads caller.now (DynamicNames object) tables.now result }
 {
@@ -109,9 +102,8 @@ fn dynamic_names(caller: &SessionContext, tables: &Tables, object: u32) -> Resul
     Ok(Answer::Names(names))
 }
 
-/// What there is in the class of this name.
-#[tactic(auto, using(crate::proofs::ReadingLemmas::starved_reading))]
-fn describe(caller: &SessionContext, tables: &Tables, class: &Text) -> Result<Answer, Fault>
+/// Returns the meta-object of a class.
+fn describe(caller: &SessionContext, tables: &Tables, class: &Text) -> Reply
     requires { IsPlaced tables.now caller.now.place }
     ensures { Reads caller.now (Meta class.now) tables.now result }
 {
@@ -131,14 +123,8 @@ fn describe(caller: &SessionContext, tables: &Tables, class: &Text) -> Result<An
     Ok(Answer::Meta(Boxed::new(alloc, meta)?))
 }
 
-/// The error that a bound property stands for, where it does.
-#[tactic(auto, using(crate::proofs::ReadingLemmas::starved_reading))]
-fn binding_error(
-    caller: &SessionContext,
-    tables: &Tables,
-    object: u32,
-    property: &Text,
-) -> Result<Answer, Fault>
+/// Returns the error of a bound property, if it has one.
+fn binding_error(caller: &SessionContext, tables: &Tables, object: u32, property: &Text) -> Reply
     requires { IsPlaced tables.now caller.now.place }
     ensures { Reads caller.now (BindingError object property.now) tables.now result }
 {
@@ -147,23 +133,10 @@ fn binding_error(
     Ok(Answer::BindingError(error))
 }
 
-/// How much there is in the session.
-fn status(caller: &SessionContext, tables: &Tables) -> Result<Answer, Fault>
+/// Counts what the session holds.
+fn status(caller: &SessionContext, tables: &Tables) -> Reply
     requires { IsPlaced tables.now caller.now.place }
     ensures { Reads caller.now Status tables.now result }
 {
     Ok(Answer::Status(tables.status(caller.place)))
-}
-
-/// The name of the superclass, where there is one.
-fn superclass_name(setup: &Setup, class: &Class) -> Result<Option<Text>, AllocError>
-    ensures { IfOk result (λ name. name ≡ option_and_then (class_name setup.now.classes) class.now.superclass) }
-{
-    let Some(index) = class.superclass else {
-        return Ok(None);
-    };
-    match setup.classes.class_row(index) {
-        Some(base) => Ok(Some(base.name.copy(setup.alloc)?)),
-        None => Ok(None),
-    }
 }

@@ -1,11 +1,5 @@
 //! Example sessions, from bytes to bytes on a fresh server with enough memory.
-ghost use Rattle.std.specs.Prelude.{◌≡◌, ◌∷◌, [], IfOk};
-ghost use Rattle.signature_core.specs.declared.kind.Kind.TheVariants.{Int};
-ghost use Rattle.stored_slots.specs.Functors.{AreArguments};
-ghost use Rattle.term_core.specs.Term.{state};
-ghost use Rattle.term_evaluation.specs.Stating.{after, with_state};
-ghost use Rattle.term_evaluation.specs.Unfolding.{unfolded_body};
-ghost use Rattle.command_line.specs.Clamp.{clamp_body};
+ghost use Rattle.command_line.specs.Clamp.{Clamps, IsNumber};
 
 use crate::fakes::hashing;
 use crate::lines::classes_of;
@@ -300,9 +294,8 @@ fn clamps(alloc: Global) -> Result<Functors, AllocError> {
     let clamp = Box::new(
         alloc,
         move |alloc: Global, found: u64, args: &[Value]| -> Result<(Vec<Action>, u64), AllocError>
-            requires { AreArguments (Int ∷ []) args.now }
-            ensures actions { IfOk result (λ answer. answer.0.items ≡ unfolded_body args.now (with_state found (clamp_body least most))) }
-            ensures next { IfOk result (λ answer. answer.1 ≡ after state found args.now) }
+            requires { IsNumber args.now }
+            ensures { Clamps least most found args.now result }
         { clamp_answer(alloc, least, most, found, args) },
     )?;
     match with_clamp(alloc, least, most, clamp) {

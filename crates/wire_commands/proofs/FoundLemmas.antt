@@ -2,7 +2,7 @@
 use Rattle.std.proofs.Common.{◌≡◌, ◌≢◌, ℕ, zero, suc, ◌+◌, ◌<◌, drop, ◌≤◌, ◌&&◌, ◌||◌, Bool, true, false, List, [], ◌∷◌, ◌++◌, Option, Some, None, get_or, set}
 use Rattle.std.proofs.Common.{length, codes, bytes_eq, option_map, true≢false, take, subst, refl, sym, ap, ◌∙◌, arith, ⊎_elim}
 use Rattle.std.specs.List.{list_all, list_any}
-use Rattle.std.proofs.lemmas.Bool.{and_parts, cases_eq, false_from_ne_true, not-true}
+use Rattle.std.proofs.lemmas.Bool.{and_parts, cases_eq, false_from_ne_true, not-true, or_cases}
 use Rattle.std.proofs.lemmas.Grind.{common_steps, get_or-set_at}
 use Rattle.std.proofs.lemmas.List.{drop_all, drop_more, get_or-set_other, take_all, take_more}
 use Rattle.std.proofs.lemmas.List.Folds.{list_any_at}
@@ -14,7 +14,7 @@ use Rattle.json_reading.specs.Members.{data_of, members_in}
 use Rattle.json_reading.proofs.ForCallers.{found_at_last, found_before_last}
 use Rattle.wire_commands.specs.declared.keys.Key.{Key as KeyInCode}
 use Rattle.wire_commands.specs.Found.{AreFound, are_distinct, held_as, with_common, words_of}
-use Rattle.wire_commands.specs.Held.{has_only, held_at, is_known}
+use Rattle.wire_commands.specs.Held.{has_only, held_at, is_common, is_known}
 use Rattle.wire_commands.proofs.HeldLemmas.{only_known}
 use Rattle.wire_commands.specs.Keys.{Key, needed, optional, key_seen, key_word}
 
@@ -39,17 +39,16 @@ differs : (ws : List (List ℕ)) (i j : ℕ) (w : List ℕ) → are_distinct ws 
 differs ws i j w distinct here there other is = false_from_ne_true _
     (λ e. other (same_place ws i j distinct here there (is ∙ (bytes_eq-Decides w (get_or ws j [])).0 e)))
 
-common_by : (words : List (List ℕ)) (at : ℕ) (w : List ℕ) → are_distinct (with_common words) ≡ true → at < length words → (b : Bool)
-    → b ≡ bytes_eq w (codes "do") → (b || bytes_eq w (codes "session")) ≡ true → bytes_eq w (get_or words at []) ≡ false
-common_by words at w distinct within true is common = differs (with_common words) 0 (suc (suc at)) w distinct (omega arith) (omega (arith, within))
-    (λ e. absurd (omega (arith, e))) (sym ((bytes_eq-Decides w (codes "do")).0 (sym is)))
-common_by words at w distinct within false is common = differs (with_common words) 1 (suc (suc at)) w distinct (omega arith) (omega (arith, within))
-    (λ e. absurd (omega (arith, e))) (sym ((bytes_eq-Decides w (codes "session")).0 common))
-
 -- a word that every command has is none of the words
-common_differs : (words : List (List ℕ)) (at : ℕ) (w : List ℕ) → are_distinct (with_common words) ≡ true → at < length words
-    → (bytes_eq w (codes "do") || bytes_eq w (codes "session")) ≡ true → bytes_eq w (get_or words at []) ≡ false
-common_differs words at w distinct within common = common_by words at w distinct within (bytes_eq w (codes "do")) refl common
+common_differs : (words : List (List ℕ)) (at : ℕ) (w : List ℕ) → are_distinct (with_common words) ≡ true → at < length words → is_common w ≡ true
+    → bytes_eq w (get_or words at []) ≡ false
+common_differs words at w distinct within common = ⊎_elim (at_place 0 (omega arith) (omega arith)) (at_place 1 (omega arith) (omega arith))
+    (or_cases (bytes_eq w (codes "do")) (bytes_eq w (codes "session")) common)
+  where
+    at_place : (place : ℕ) → place < 2 → place < length (with_common words) → bytes_eq w (get_or (with_common words) place []) ≡ true
+        → bytes_eq w (get_or words at []) ≡ false
+    at_place place low there is = differs (with_common words) place (suc (suc at)) w distinct there (omega (arith, within))
+        (λ e. absurd (omega (arith, e, low))) (sym ((bytes_eq-Decides w (get_or (with_common words) place [])).0 is))
 
 -- ---- a member more
 
@@ -57,7 +56,7 @@ taken : (ms : List Member) (at : ℕ) (none m : Member) → m ≡ get_or ms at n
 taken ms at none m is within = take_more ms at none within ∙ ap (λ last. take at ms ++ last ∷ []) (sym is)
 
 -- its key is one of the words
-pub found_more : {A : Type 0} (seen : A → Data) (words : List (List ℕ)) (ms : List Member) (m : Member) (found : List (Option A)) (at : ℕ) (a : A)
+found_more : {A : Type 0} (seen : A → Data) (words : List (List ℕ)) (ms : List Member) (m : Member) (found : List (Option A)) (at : ℕ) (a : A)
     → are_distinct (with_common words) ≡ true → at < length words → length words ≤ length found → get_or words at [] ≡ m.key.now → seen a ≡ data_of m.value
     → AreFound seen words ms found → AreFound seen words (ms ++ m ∷ []) (set found at (Some a))
 found_more seen words ms m found at a distinct within room key value so_far = λ place inside. ⊎_elim
@@ -74,9 +73,8 @@ found_more seen words ms m found at a distinct within room key value so_far = λ
     (cases_eq place at)
 
 -- or one that every command has
-pub found_common : {A : Type 0} (seen : A → Data) (words : List (List ℕ)) (ms : List Member) (m : Member) (found : List (Option A))
-    → are_distinct (with_common words) ≡ true → (bytes_eq m.key.now (codes "do") || bytes_eq m.key.now (codes "session")) ≡ true
-    → AreFound seen words ms found → AreFound seen words (ms ++ m ∷ []) found
+found_common : {A : Type 0} (seen : A → Data) (words : List (List ℕ)) (ms : List Member) (m : Member) (found : List (Option A))
+    → are_distinct (with_common words) ≡ true → is_common m.key.now ≡ true → AreFound seen words ms found → AreFound seen words (ms ++ m ∷ []) found
 found_common seen words ms m found distinct common so_far = λ place inside.
     so_far place inside ∙ sym (found_before_last (get_or words place []) ms m (common_differs words place m.key.now distinct inside common))
 
@@ -109,65 +107,62 @@ is_further keys at none text w is within other =
 abbrev pub knows : List (List ℕ) → Member → Bool
 knows words member = is_known words member.key.now
 
-common_known : (words : List (List ℕ)) (w : List ℕ) → (bytes_eq w (codes "do") || bytes_eq w (codes "session")) ≡ true → is_known words w ≡ true
+common_known : (words : List (List ℕ)) (w : List ℕ) → is_common w ≡ true → is_known words w ≡ true
 common_known words w common = grind (arith, common_steps)
 
-neither_known : (words : List (List ℕ)) (w : List ℕ) → (bytes_eq w (codes "do") || bytes_eq w (codes "session")) ≡ false → list_any (bytes_eq w) words ≡ false
-    → is_known words w ≡ false
+neither_known : (words : List (List ℕ)) (w : List ℕ) → is_common w ≡ false → list_any (bytes_eq w) words ≡ false → is_known words w ≡ false
 neither_known words w common other = grind (arith, common_steps)
 
-word_known : (words : List (List ℕ)) (at : ℕ) (w : List ℕ) → (bytes_eq w (codes "do") || bytes_eq w (codes "session")) ≡ false → at < length words
-    → get_or words at [] ≡ w → is_known words w ≡ true
+word_known : (words : List (List ℕ)) (at : ℕ) (w : List ℕ) → is_common w ≡ false → at < length words → get_or words at [] ≡ w → is_known words w ≡ true
 word_known words at w common within is =
     let among : list_any (bytes_eq w) words ≡ true = list_any_at (bytes_eq w) words at [] within ((bytes_eq-Decides w (get_or words at [])).1 (sym is)) in
     grind (arith, common_steps)
-
-from_here : (words : List (List ℕ)) (ms : List Member) (at : ℕ) (none m : Member) → m ≡ get_or ms at none → at < length ms
-    → list_all (knows words) (drop at ms) ≡ (knows words m && list_all (knows words) (drop (at + 1) ms))
-from_here words ms at none m is within = ap (list_all (knows words)) (drop_more ms at none within ∙ ap (λ first. first ∷ drop (at + 1) ms) (sym is))
 
 -- the keys of the members so far are known, and each is found
 pub record SoFar {A : Type 0} (seen : A → Data) (words : List (List ℕ)) (ms : List Member) (at : ℕ) (found : List (Option A)) : Type 0 where
   pub known : list_all (knows words) ms ≡ list_all (knows words) (drop at ms)
   pub there : AreFound seen words (take at ms) found
 
-pub passes_common : {A : Type 0} (seen : A → Data) (words : List (List ℕ)) (ms : List Member) (at : ℕ) (none m : Member) (found : List (Option A))
-    → are_distinct (with_common words) ≡ true → m ≡ get_or ms at none → at < length ms
-    → (bytes_eq m.key.now (codes "do") || bytes_eq m.key.now (codes "session")) ≡ true → SoFar seen words ms at found → SoFar seen words ms (at + 1) found
-passes_common seen words ms at none m found distinct is within common so_far = record {
-  known = so_far.known ∙ from_here words ms at none m is within
-      ∙ ap (λ b. b && list_all (knows words) (drop (at + 1) ms)) (common_known words m.key.now common);
+-- whether the next member's key is known decides with the members behind it
+known_next : {A : Type 0} {seen : A → Data} {words : List (List ℕ)} {ms : List Member} {at : ℕ} {m : Member} {found : List (Option A)}
+    {is : Bool} (none : Member) → m ≡ get_or ms at none → at < length ms → knows words m ≡ is → SoFar seen words ms at found
+    → list_all (knows words) ms ≡ (is && list_all (knows words) (drop (at + 1) ms))
+known_next {A} {seen} {words} {ms} {at} {m} none same within is so_far =
+    so_far.known ∙ ap (list_all (knows words)) (drop_more ms at none within ∙ ap (λ first. first ∷ drop (at + 1) ms) (sym same))
+    ∙ ap (λ b. b && list_all (knows words) (drop (at + 1) ms)) is
+
+pub passes_common : {A : Type 0} {seen : A → Data} {words : List (List ℕ)} {ms : List Member} {at : ℕ} {m : Member} {found : List (Option A)} (none : Member)
+    → are_distinct (with_common words) ≡ true → m ≡ get_or ms at none → at < length ms → is_common m.key.now ≡ true
+    → SoFar seen words ms at found → SoFar seen words ms (at + 1) found
+passes_common {A} {seen} {words} {ms} {at} {m} {found} none distinct is within common so_far = record {
+  known = known_next none is within (common_known words m.key.now common) so_far;
   there = subst (λ those. AreFound seen words those found) (sym (taken ms at none m is within))
       (found_common seen words (take at ms) m found distinct common so_far.there);
 }
 
-pub passes_word : {A : Type 0} (seen : A → Data) (words : List (List ℕ)) (ms : List Member) (at : ℕ) (none m : Member) (found : List (Option A)) (place : ℕ)
-    (a : A) → are_distinct (with_common words) ≡ true → m ≡ get_or ms at none → at < length ms
-    → (bytes_eq m.key.now (codes "do") || bytes_eq m.key.now (codes "session")) ≡ false → place < length words → length words ≤ length found
-    → get_or words place [] ≡ m.key.now → seen a ≡ data_of m.value
+pub passes_word : {A : Type 0} {seen : A → Data} {words : List (List ℕ)} {ms : List Member} {at : ℕ} {m : Member} {found : List (Option A)} (none : Member)
+    (place : ℕ) (a : A) → are_distinct (with_common words) ≡ true → m ≡ get_or ms at none → at < length ms → is_common m.key.now ≡ false
+    → place < length words → length words ≤ length found → get_or words place [] ≡ m.key.now → seen a ≡ data_of m.value
     → SoFar seen words ms at found → SoFar seen words ms (at + 1) (set found place (Some a))
-passes_word seen words ms at none m found place a distinct is within common inside room key value so_far = record {
-  known = so_far.known ∙ from_here words ms at none m is within
-      ∙ ap (λ b. b && list_all (knows words) (drop (at + 1) ms)) (word_known words place m.key.now common inside key);
+passes_word {A} {seen} {words} {ms} {at} {m} {found} none place a distinct is within common inside room key value so_far = record {
+  known = known_next none is within (word_known words place m.key.now common inside key) so_far;
   there = subst (λ those. AreFound seen words those (set found place (Some a))) (sym (taken ms at none m is within))
       (found_more seen words (take at ms) m found place a distinct inside room key value so_far.there);
 }
 
-pub knows_not : {A : Type 0} (seen : A → Data) (words : List (List ℕ)) (ms : List Member) (at : ℕ) (none m : Member) (found : List (Option A))
-    → m ≡ get_or ms at none → at < length ms
-    → (bytes_eq m.key.now (codes "do") || bytes_eq m.key.now (codes "session")) ≡ false → list_any (bytes_eq m.key.now) words ≡ false
+pub knows_not : {A : Type 0} {seen : A → Data} {words : List (List ℕ)} {ms : List Member} {at : ℕ} {m : Member} {found : List (Option A)} (none : Member)
+    → m ≡ get_or ms at none → at < length ms → is_common m.key.now ≡ false → list_any (bytes_eq m.key.now) words ≡ false
     → SoFar seen words ms at found → false ≡ has_only words (object (members_in ms))
-knows_not seen words ms at none m found is within common other so_far =
-    sym (only_known words ms ∙ so_far.known ∙ from_here words ms at none m is within
-    ∙ ap (λ b. b && list_all (knows words) (drop (at + 1) ms)) (neither_known words m.key.now common other))
+knows_not {A} {seen} {words} {ms} {at} {m} none is within common other so_far =
+    sym (only_known words ms ∙ known_next none is within (neither_known words m.key.now common other) so_far)
 
-pub knows_all : {A : Type 0} (seen : A → Data) (words : List (List ℕ)) (ms : List Member) (at : ℕ) (found : List (Option A)) → length ms ≤ at
+pub knows_all : {A : Type 0} {seen : A → Data} {words : List (List ℕ)} {ms : List Member} {at : ℕ} {found : List (Option A)} → length ms ≤ at
     → SoFar seen words ms at found → true ≡ has_only words (object (members_in ms))
-knows_all seen words ms at found end so_far = sym (only_known words ms ∙ so_far.known ∙ ap (list_all (knows words)) (drop_all at ms end))
+knows_all {A} {seen} {words} {ms} {at} end so_far = sym (only_known words ms ∙ so_far.known ∙ ap (list_all (knows words)) (drop_all at ms end))
 
-pub finds_all : {A : Type 0} (seen : A → Data) (words : List (List ℕ)) (ms : List Member) (at : ℕ) (found : List (Option A)) → length ms ≤ at
+pub finds_all : {A : Type 0} {seen : A → Data} {words : List (List ℕ)} {ms : List Member} {at : ℕ} {found : List (Option A)} → length ms ≤ at
     → SoFar seen words ms at found → AreFound seen words ms found
-finds_all seen words ms at found end so_far = subst (λ those. AreFound seen words those found) (take_all at ms end) so_far.there
+finds_all {A} {seen} {words} {ms} {at} {found} end so_far = subst (λ those. AreFound seen words those found) (take_all at ms end) so_far.there
 
 pub length_words : (keys : List KeyInCode) → length (words_of keys) ≡ length keys
 length_words [] = refl

@@ -17,7 +17,7 @@ use Rattle.wire_commands.specs.declared.keys.Holds.{Holds}
 use Rattle.wire_commands.specs.declared.keys.Holds.TheVariants as h
 use Rattle.wire_commands.specs.Bindings as bindings
 use Rattle.wire_commands.specs.Classes as classes
-use Rattle.wire_commands.specs.Commands.{asked_of, all_forms, frequent}
+use Rattle.wire_commands.specs.Commands.{asked_of, all_forms}
 use Rattle.wire_commands.specs.Events as events
 use Rattle.wire_commands.specs.Form.{Form, asked_by, asked_in, form_named}
 use Rattle.wire_commands.specs.Held.{Held, absent, any, list, mode, none, number, priority, text, truth, all_held, has_only, held_at, held_by, number_in}
@@ -74,37 +74,13 @@ abbrev AskNamed : List Form → Type 0
 AskNamed [] = Unit {0}
 AskNamed (form ∷ forms) = AsksNamed form.keys form.asks × AskNamed forms
 
-trees_named : AskNamed trees.forms
-unfolding trees.forms of_object of_search
-trees_named = search
-
-properties_named : AskNamed properties.forms
-unfolding properties.forms of_object of_property
-properties_named = search
-
-bindings_named : AskNamed bindings.forms
-unfolding bindings.forms alone of_property
-bindings_named = search
-
-classes_named : AskNamed classes.forms
-unfolding classes.forms alone of_class
-classes_named = search
-
-signals_named : AskNamed signals.forms
-unfolding signals.forms
-signals_named = search
-
-events_named : AskNamed events.forms
-unfolding events.forms alone of_object
-events_named = search
-
 -- the texts of an array are there, or nothing is asked
 joins_named : AsksNamed sharing.join.keys sharing.join.asks
 joins_named = λ from session name named elements target method. asks (texts_of elements) _ (λ kinds. (session, named))
 
-sharing_named : AskNamed sharing.forms
-unfolding sharing.forms alone
-sharing_named = search (joins_named)
+all_forms_named : AskNamed all_forms
+unfolding trees.forms properties.forms bindings.forms classes.forms signals.forms events.forms sharing.forms alone of_class of_object of_property of_search
+all_forms_named = search (joins_named)
 
 -- a key that is read holds one of these
 read_at : (holds : Holds) (P : Held → Type 0) → OfEach holds P → (json : Data) → IfSome (reads holds json) P
@@ -180,20 +156,6 @@ word_asks json word (form ∷ forms) each = by (bytes_eq word form.word) (form_a
         → IsNamed ((if same then Some form else form_named forms word) >>= λ form. asked_in form json)
     by true here later = here
     by false here later = later
-
-both_named : (forms others : List Form) → AskNamed forms → AskNamed others → AskNamed (forms ++ others)
-both_named [] others each rest = rest
-both_named (form ∷ forms) others each rest = (each.0, both_named forms others each.1 rest)
-
-frequent_named : AskNamed frequent
-unfolding of_property
-frequent_named = search
-
-all_forms_named : AskNamed all_forms
-all_forms_named =
-    both_named frequent _ frequent_named (both_named trees.forms _ trees_named (both_named properties.forms _ properties_named
-    (both_named bindings.forms _ bindings_named (both_named classes.forms _ classes_named
-    (both_named signals.forms _ signals_named (both_named events.forms sharing.forms events_named sharing_named))))))
 
 pub asked_named : (json : Data) → IfSome (asked_of json) IsNamedAsked
 unfolding asked_of

@@ -1,25 +1,20 @@
 -- The commands of bindings and groups.
 use Rattle.std.specs.Prelude.{List, [], ◌∷◌, Option, Some, None, codes}
-use Rattle.json_reading.specs.Fields.{◌>>=◌}
 use Rattle.session_model.specs.Asked.{Ask, Asked, Begin, Bind, End, Unbind}
 use Rattle.session_model.specs.declared.query.Query.TheVariants.{Binding, BindingError, Bindings}
 use Rattle.wire_commands.specs.declared.keys.Holds.TheVariants.{Name, Number, Property, Any}
 use Rattle.wire_commands.specs.Form.{Form}
-use Rattle.wire_commands.specs.Held.{Held, json_of, number_of, property_of, text_of}
+use Rattle.wire_commands.specs.Held.{Held, property_of}
 use Rattle.wire_commands.specs.Keys.{needed, optional}
-use Rattle.wire_commands.specs.Shared.{alone, of_property}
+use Rattle.wire_commands.specs.Shared.{alone, of_property, with_property_and_json}
 
 -- `bind` binds a property to an expression, which may be any JSON.
-abbrev pub bind_of : List Held → Option Asked
-bind_of (target ∷ property ∷ to ∷ []) = do
-  number ← number_of target
-  name ← text_of property
-  json ← json_of to
-  Some (Bind number name json)
-bind_of held = None
-
 abbrev pub bind : Form
-bind = record { word = codes "bind"; keys = needed (codes "object") Number ∷ needed (codes "property") Name ∷ needed (codes "to") Any ∷ []; asks = bind_of }
+bind = record {
+  word = codes "bind";
+  keys = needed (codes "object") Number ∷ needed (codes "property") Name ∷ needed (codes "to") Any ∷ [];
+  asks = with_property_and_json Bind;
+}
 
 -- `unbind` removes the binding of a property.
 abbrev pub unbind : Form

@@ -1,6 +1,6 @@
 -- What members have at keys, before it is read. Except for `are_distinct`, only private clauses cite this.
-use Rattle.std.specs.Prelude.{◌≡◌, ◌&&◌, ◌<◌, ℕ, Bool, true, not, List, [], ◌∷◌, bytes_eq, codes, get_or}
-use Rattle.std.specs.Prelude.{length, map, Option, Some, None, option_and_then, option_map}
+use Rattle.std.specs.Prelude.{◌≡◌, ◌&&◌, ◌<◌, ℕ, Bool, true, false, not, List, [], ◌∷◌, bytes_eq, codes, get_or}
+use Rattle.std.specs.Prelude.{length, map, MatchOption, Option, Some, None, option_and_then, option_map}
 use Rattle.std.specs.List.{list_any}
 use Rattle.std.specs.Option.{option_map_or}
 use Rattle.serde_json.specs.Data.{Data}
@@ -23,6 +23,11 @@ with_common words = codes "do" ∷ codes "session" ∷ words
 abbrev pub are_distinct : List (List ℕ) → Bool
 are_distinct [] = true
 are_distinct (word ∷ words) = not (list_any (bytes_eq word) words) && are_distinct words
+
+-- The place of a word among those of keys, if it is one of them.
+abbrev pub IsPlaceOf : List ℕ → List KeyInCode → Option ℕ → Type 0
+IsPlaceOf word keys found =
+    MatchOption found (list_any (bytes_eq word) (words_of keys) ≡ false) (λ place. (place < length keys) × (get_or (words_of keys) place [] ≡ word))
 
 -- The value at a key, read from what was found there.
 abbrev pub held_as : Option Data → Key → Option Held

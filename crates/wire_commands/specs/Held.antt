@@ -152,9 +152,13 @@ all_held json (key ∷ keys) = do
   rest ← all_held json keys
   Some (first ∷ rest)
 
+-- Whether every command has this key.
+abbrev pub is_common : List ℕ → Bool
+is_common key = bytes_eq key (codes "do") || bytes_eq key (codes "session")
+
 -- Whether a key is one of these, or one that every command has.
 abbrev pub is_known : List (List ℕ) → List ℕ → Bool
-is_known keys key = bytes_eq key (codes "do") || bytes_eq key (codes "session") || list_any (bytes_eq key) keys
+is_known keys key = is_common key || list_any (bytes_eq key) keys
 
 -- Whether JSON is an object with no other keys than these and those that every command has.
 unfoldable pub has_only : List (List ℕ) → Data → Bool

@@ -1,25 +1,19 @@
 -- The commands of properties.
-use Rattle.std.specs.Prelude.{List, [], ◌∷◌, Option, Some, None, codes}
-use Rattle.json_reading.specs.Fields.{◌>>=◌}
-use Rattle.session_model.specs.Asked.{Asked, Ask, Set}
+use Rattle.std.specs.Prelude.{List, [], ◌∷◌, codes}
+use Rattle.session_model.specs.Asked.{Ask, Set}
 use Rattle.session_model.specs.declared.query.Query.TheVariants.{Get, DynamicNames, Properties}
 use Rattle.wire_commands.specs.declared.keys.Holds.TheVariants.{Name, Number, Any}
 use Rattle.wire_commands.specs.Form.{Form}
-use Rattle.wire_commands.specs.Held.{Held, json_of, number_of, text_of}
 use Rattle.wire_commands.specs.Keys.{needed}
-use Rattle.wire_commands.specs.Shared.{of_object, of_property}
+use Rattle.wire_commands.specs.Shared.{of_object, of_property, with_property_and_json}
 
 -- `set` writes a property; the value may be any JSON.
-abbrev pub set_of : List Held → Option Asked
-set_of (target ∷ property ∷ value ∷ []) = do
-  number ← number_of target
-  name ← text_of property
-  json ← json_of value
-  Some (Set number name json)
-set_of held = None
-
 abbrev pub set : Form
-set = record { word = codes "set"; keys = needed (codes "object") Number ∷ needed (codes "property") Name ∷ needed (codes "value") Any ∷ []; asks = set_of }
+set = record {
+  word = codes "set";
+  keys = needed (codes "object") Number ∷ needed (codes "property") Name ∷ needed (codes "value") Any ∷ [];
+  asks = with_property_and_json Set;
+}
 
 -- `get` reads a property.
 abbrev pub get : Form

@@ -1,10 +1,11 @@
 -- Forms that several commands have.
 use Rattle.std.specs.Prelude.{ℕ, List, [], ◌∷◌, Option, Some, None, codes, option_map}
+use Rattle.serde_json.specs.Data.{Data}
 use Rattle.json_reading.specs.Fields.{◌>>=◌}
 use Rattle.session_model.specs.Asked.{Asked}
 use Rattle.wire_commands.specs.declared.keys.Holds.TheVariants.{Name, Number, Text}
 use Rattle.wire_commands.specs.Form.{Form}
-use Rattle.wire_commands.specs.Held.{Held, number_of, text_of}
+use Rattle.wire_commands.specs.Held.{Held, json_of, number_of, text_of}
 use Rattle.wire_commands.specs.Keys.{needed, optional}
 
 -- A command without further keys.
@@ -33,6 +34,15 @@ with_property asks held = None
 
 unfoldable pub of_property : List ℕ → (ℕ → List ℕ → Asked) → Form
 of_property word asks = record { word = word; keys = needed (codes "object") Number ∷ needed (codes "property") Name ∷ []; asks = with_property asks }
+
+-- A command with a property of an object, and any JSON at a further key.
+abbrev pub with_property_and_json : (ℕ → List ℕ → Data → Asked) → List Held → Option Asked
+with_property_and_json asks (target ∷ property ∷ value ∷ []) = do
+  number ← number_of target
+  name ← text_of property
+  json ← json_of value
+  Some (asks number name json)
+with_property_and_json asks held = None
 
 -- A command with a class.
 abbrev pub with_class : (List ℕ → Asked) → List Held → Option Asked

@@ -1,47 +1,42 @@
 -- The commands of signals and slots.
-use Rattle.std.specs.Prelude.{List, [], ◌∷◌, Option, Some, None, codes}
+use Rattle.std.specs.Prelude.{ℕ, Bool, List, [], ◌∷◌, Option, Some, None, codes}
+use Rattle.plain_types.specs.declared.connection_type.ConnectionType.{ConnectionType}
 use Rattle.json_reading.specs.Fields.{◌>>=◌}
 use Rattle.session_model.specs.Asked.{Asked, Ask, Connect, ConnectFunctor, DisconnectOne, Disconnect, Invoke}
 use Rattle.session_model.specs.declared.query.Query.TheVariants.{Connections}
 use Rattle.wire_commands.specs.declared.keys.Holds.TheVariants.{Name, Number, Text, Truth, Mode, Priority, List as AList}
 use Rattle.wire_commands.specs.Form.{Form}
 use Rattle.wire_commands.specs.Held.{Held, absent, number, number_of, text_of, truth_of, mode_of, priority_for, list_of}
-use Rattle.wire_commands.specs.Keys.{needed, optional}
+use Rattle.wire_commands.specs.Keys.{Key, needed, optional}
 
--- `connect` connects a signal of the sender to a method of the receiver.
-abbrev pub connect_of : List Held → Option Asked
-connect_of (sender ∷ signal ∷ receiver ∷ method ∷ calls ∷ unique ∷ single ∷ []) = do
+-- A signal of a sender, a method or a functor of another object, and how its calls are made.
+abbrev pub connection_of : (ℕ → List ℕ → ℕ → List ℕ → ConnectionType → Bool → Bool → Asked) → List Held → Option Asked
+connection_of asks (sender ∷ signal ∷ other ∷ callee ∷ calls ∷ unique ∷ single ∷ []) = do
   from ← number_of sender
   sent ← text_of signal
-  to ← number_of receiver
-  called ← text_of method
-  Some (Connect from sent to called (mode_of calls) (truth_of unique) (truth_of single))
-connect_of held = None
+  to ← number_of other
+  called ← text_of callee
+  Some (asks from sent to called (mode_of calls) (truth_of unique) (truth_of single))
+connection_of asks held = None
 
+-- How the calls of a connection are made.
+abbrev pub calling : List Key
+calling = optional (codes "type") Mode ∷ optional (codes "unique") Truth ∷ optional (codes "single") Truth ∷ []
+
+-- `connect` connects a signal of the sender to a method of the receiver.
 abbrev pub connect : Form
 connect = record {
   word = codes "connect";
-  keys = needed (codes "sender") Number ∷ needed (codes "signal") Text ∷ needed (codes "receiver") Number ∷ needed (codes "method") Text ∷
-      optional (codes "type") Mode ∷ optional (codes "unique") Truth ∷ optional (codes "single") Truth ∷ [];
-  asks = connect_of;
+  keys = needed (codes "sender") Number ∷ needed (codes "signal") Text ∷ needed (codes "receiver") Number ∷ needed (codes "method") Text ∷ calling;
+  asks = connection_of Connect;
 }
 
 -- `connectFunctor` connects a signal of the sender to a functor, for a context object.
-abbrev pub connect_functor_of : List Held → Option Asked
-connect_functor_of (sender ∷ signal ∷ context ∷ functor ∷ calls ∷ unique ∷ single ∷ []) = do
-  from ← number_of sender
-  sent ← text_of signal
-  to ← number_of context
-  called ← text_of functor
-  Some (ConnectFunctor from sent to called (mode_of calls) (truth_of unique) (truth_of single))
-connect_functor_of held = None
-
 abbrev pub connect_functor : Form
 connect_functor = record {
   word = codes "connectFunctor";
-  keys = needed (codes "sender") Number ∷ needed (codes "signal") Text ∷ needed (codes "context") Number ∷ needed (codes "functor") Name ∷
-      optional (codes "type") Mode ∷ optional (codes "unique") Truth ∷ optional (codes "single") Truth ∷ [];
-  asks = connect_functor_of;
+  keys = needed (codes "sender") Number ∷ needed (codes "signal") Text ∷ needed (codes "context") Number ∷ needed (codes "functor") Name ∷ calling;
+  asks = connection_of ConnectFunctor;
 }
 
 -- `disconnect` breaks the connection with a number, or those of a sender that match. A method is named only together

@@ -1,10 +1,9 @@
-//! A line has fields at the keys of its command.
-ghost use Rattle.std.specs.Prelude.{◌≡◌, ◌≤◌, ◌<◌, ◌||◌, [], IsTrue, MatchOption, bytes_eq, codes, false, get_or, length, true};
-ghost use Rattle.std.specs.List.{list_any};
+//! The values that a line has at the keys of its command.
+ghost use Rattle.std.specs.Prelude.{◌≡◌, ◌≤◌, [], IsTrue, length, true};
 ghost use Rattle.serde_json.specs.Data.{object};
 ghost use Rattle.json_reading.specs.Members.{data_of, members_in};
-ghost use Rattle.wire_commands.specs.Found.{AreFound, are_distinct, with_common, words_of};
-ghost use Rattle.wire_commands.specs.Held.{has_only};
+ghost use Rattle.wire_commands.specs.Found.{AreFound, IsPlaceOf, are_distinct, with_common, words_of};
+ghost use Rattle.wire_commands.specs.Held.{has_only, is_common};
 
 use crate::keys::Key;
 use json_reading::{Field, Member, is_word};
@@ -39,7 +38,7 @@ pub(crate) fn find_values<'m, 'a>(
 /// Whether every command has the key.
 #[inline(always)]
 fn is_common(word: &str) -> bool
-    ensures { result ≡ (bytes_eq word.now (codes "do") || bytes_eq word.now (codes "session")) }
+    ensures { result ≡ is_common word.now }
 {
     is_word(word, "do") || is_word(word, "session")
 }
@@ -47,8 +46,7 @@ fn is_common(word: &str) -> bool
 /// The place of a key, which is looked for at the expected place first.
 #[inline(always)]
 fn place_of(word: &str, keys: &[Key], expected: usize) -> Option<usize>
-    ensures { MatchOption result (list_any (bytes_eq word.now) (words_of keys.now) ≡ false)
-        (λ place. (place < length keys.now) × (get_or (words_of keys.now) place [] ≡ word.now)) }
+    ensures { IsPlaceOf word.now keys.now result }
 {
     if expected < keys.len() && is_word(word, keys[expected].word()) {
         return Some(expected);
@@ -58,8 +56,7 @@ fn place_of(word: &str, keys: &[Key], expected: usize) -> Option<usize>
 
 /// The first place of a key.
 fn any_place_of(word: &str, keys: &[Key]) -> Option<usize>
-    ensures { MatchOption result (list_any (bytes_eq word.now) (words_of keys.now) ≡ false)
-        (λ place. (place < length keys.now) × (get_or (words_of keys.now) place [] ≡ word.now)) }
+    ensures { IsPlaceOf word.now keys.now result }
 {
     'keys: for (place, key) in keys.iter().enumerate() {
         if is_word(word, key.word()) {

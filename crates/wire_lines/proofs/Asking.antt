@@ -1,5 +1,5 @@
 -- How a run asks its source.
-use Rattle.std.proofs.Common.{◌≡◌, ◌+◌, ◌≤◌, ℕ, Result, Ok, Err, IsOk, sym, subst, refl}
+use Rattle.std.proofs.Common.{◌≡◌, ◌+◌, ◌≤◌, ℕ, Result, Ok, Err, IsOk, sym, subst, refl, arith}
 use Rattle.std.specs.Prelude.{◌≢◌}
 use Rattle.wire_format.specs.Counts.{FailsOnce}
 use Rattle.wire_lines.specs.declared.fault.RunFault.{RunFault}
@@ -19,6 +19,18 @@ AsksSource-stopped most old new gave others within counted once fault r is = rec
   counted = counted;
   once = once;
   ended = λ ok. absurd (cc (subst IsOk is ok));
+}
+
+-- where a run ends, the last call found the end of the input
+pub AsksSource-ended : {T : Type 0} (most : ℕ) (old new : Reads) (gave : ℕ) (r : Result T RunFault) → new.calls ≤ old.calls + most
+    → HasAsked (gave + 1) gave old new → AsksSource most old new r
+AsksSource-ended most old new gave r within counted = record {
+  within = within;
+  gave = gave;
+  others = 1;
+  counted = counted;
+  once = omega arith;
+  ended = λ ok. refl;
 }
 
 -- another answer tells of the same calls, which is `Ok` only where the first one is
@@ -56,6 +68,12 @@ UsesDevices-spared most calls calls_after source source_after sink bytes fault r
   read = ReadFails-other source source_after fault r is unread same;
   write = WriteFails-other sink sink fault r is unwritten refl;
 }
+
+pub UsesDevices-wanting : {T : Type 0} (most : ℕ) (calls calls_after : Reads) (source source_after sink : ℕ) (bytes : T) (r : Result Summary RunFault)
+    → r ≡ Err Memory → AsksSource {T = T} most calls calls_after (Ok bytes) → source_after ≡ source
+    → UsesDevices most calls calls_after source source_after sink sink r
+UsesDevices-wanting most calls calls_after source source_after sink bytes r is =
+    UsesDevices-spared most calls calls_after source source_after sink bytes Memory r is (λ other. absurd (cc other)) (λ other. absurd (cc other))
 
 -- or the sink did
 pub UsesDevices-unwritten : {T : Type 0} (most : ℕ) (calls calls_after : Reads) (source source_after sink sink_after : ℕ) (bytes : T)

@@ -7,7 +7,7 @@ use Rattle.server_world.specs.Server.{Server}
 use Rattle.wire_format.specs.Input.{Piece}
 use Rattle.wire_lines.specs.Sending.{Out, Sent, SentFront}
 use Rattle.wire_lines.specs.Steps.{AreAnswered, read_lines}
-use Rattle.wire_lines.specs.Stream.{Later, Point, Fed, Done, SentUntil, Cut, IsOver, IsStuck, Stops, StuckIn, Feeds, Finishes, SinkFails}
+use Rattle.wire_lines.specs.Stream.{Later, Point, Fed, Done, SentUntil, Cut, IsOver, IsStuck, IsStuckBy, Stops, StuckIn, Feeds, Finishes, SinkFails}
 use Rattle.wire_lines.proofs.Answering.{AreAnswered-append, AreAnswered-later}
 use Rattle.wire_lines.proofs.Sent.{Sent-nothing, Sent-trans, SentFront-after, SentFront-whole}
 
@@ -68,6 +68,12 @@ SentUntil-after Endless a b c text behind first second = Sent-trans a b c text b
 SentUntil-after Write a b c text behind first second = SentFront-after a b c text behind first second
 SentUntil-after Memory a b c text behind first second = SentFront-after a b c text behind first second
 
+-- the same text found no memory, where something else is sent before it
+pub IsStuckBy-sent : (says : List ℕ → Type 0) (said more : List ℕ) (before after old new : Out) (it : IsStuckBy said says before after)
+    → Sent old new (more ++ it.told) → IsStuckBy more says old new
+IsStuckBy-sent says said more before after old new it sent =
+    record { told = it.told; session = it.session; line = it.line; rest = it.rest; text = it.text; long = it.long; sent = sent }
+
 -- a line that found no memory for its text, after others
 pub IsStuck-after : (a b c : Server) (before between after : Out) (lines more : List (Option Piece)) (text : List ℕ) → AreAnswered a lines text b
     → Sent before between text
@@ -79,16 +85,9 @@ IsStuck-after a b c before between after lines more text answered sent it = reco
   said = text ++ it.said;
   lines_are = ap (λ l. lines ++ l) it.lines_are ∙ sym (append_assoc lines it.first (it.last ∷ []));
   answered = AreAnswered-append a b it.between lines it.first text it.said answered it.answered;
-  stuck = record {
-    told = it.stuck.told;
-    session = it.stuck.session;
-    line = it.stuck.line;
-    rest = it.stuck.rest;
-    text = it.stuck.text;
-    long = it.stuck.long;
-    sent = subst (Sent before after) (sym (append_assoc text it.said it.stuck.told))
-        (Sent-trans before between after text (it.said ++ it.stuck.told) sent it.stuck.sent);
-  };
+  stuck = IsStuckBy-sent _ it.said (text ++ it.said) between after before after it.stuck
+      (subst (Sent before after) (sym (append_assoc text it.said it.stuck.told))
+      (Sent-trans before between after text (it.said ++ it.stuck.told) sent it.stuck.sent));
 }
 
 pub StuckIn-after : (fault : RunFault) (a b c : Server) (before between after : Out) (lines more : List (Option Piece)) (text : List ℕ)

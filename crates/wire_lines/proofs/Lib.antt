@@ -18,4 +18,5 @@ pub mod Marked
 pub mod Sliced
 pub mod Taken
 pub mod SliceEnds
+pub mod SliceSent
 pub mod Asking

@@ -11,7 +11,7 @@ use Rattle.wire_lines.specs.Steps.{read_lines}
 use Rattle.wire_lines.specs.Stream.{Point, Fed, Cut, Stops, StuckIn, Finishes, SinkFails}
 use Rattle.wire_lines.specs.Run.{Ends, HasCountedRead, Reads}
 use Rattle.wire_lines.proofs.Sent.{Sent-flushed, SentFront-emptied, Sent-nothing}
-use Rattle.wire_lines.proofs.Feeding.{and_then, SentUntil-whole, Cut-alike, Cut-silent, Fed-trans, Fed-more, Done-after, Stops-after, Stops-along}
+use Rattle.wire_lines.proofs.Feeding.{and_then, SentUntil-whole, Cut-after, Cut-alike, Cut-silent, Fed-trans, Fed-more, Done-after, Stops-after, Stops-along}
 use Rattle.wire_lines.proofs.Feeding.{SinkFails-unread}
 use Rattle.wire_lines.proofs.Ended.{Fed-ends}
 use Rattle.wire_format.specs.Input.{NoEnd}
@@ -29,25 +29,26 @@ known_end None rest end is = absurd (cc is)
 known_end (Some all) rest end is = let same : all ≡ rest = cc in sym same ∙ end
 
 -- what is gathered is written
-pub Fed-flushed : (server : Server) (old new : Option (List ℕ)) (gathered left begun : List ℕ) (lines count : ℕ) → left ≡ [] → Appends old new gathered
-    → count ≡ lines →
-    Fed (point server (out old gathered) lines begun) (point server (out new left) count begun)
-Fed-flushed server old new gathered left begun lines count none bytes same = record {
-  lines = [];
-  text = [];
-  reads = λ rest. refl;
-  answered = (refl, refl);
-  sent = subst (λ l. Sent (out old gathered) (out new l) []) (sym none) (Sent-flushed old new gathered [] bytes);
-  counted = omega (arith, same);
-}
+pub Fed-flushed : (start : Point) (server : Server) (old new : Option (List ℕ)) (gathered left begun : List ℕ) (lines : ℕ)
+    → Fed start (point server (out old gathered) lines begun) → left ≡ [] → Appends old new gathered → Fed start (point server (out new left) lines begun)
+Fed-flushed start server old new gathered left begun lines so_far none bytes =
+    Fed-trans start (point server (out old gathered) lines begun) (point server (out new left) lines begun) so_far (record {
+      lines = [];
+      text = [];
+      reads = λ rest. refl;
+      answered = (refl, refl);
+      sent = subst (λ l. Sent (out old gathered) (out new l) []) (sym none) (Sent-flushed old new gathered [] bytes);
+      counted = omega arith;
+    })
 
 -- a front of what is gathered is written
-pub Cut-flushed : (server : Server) (old new : Option (List ℕ)) (gathered left begun later_begun rest : List ℕ) (lines count : ℕ) → left ≡ []
-    → AppendsFront old new gathered → count ≡ lines →
-    Cut Write (point server (out old gathered) lines begun) (point server (out new left) count later_begun) rest
-Cut-flushed server old new gathered left begun later_begun rest lines count none bytes same =
-    Cut-silent Write (point server (out old gathered) lines begun) (point server (out new left) count later_begun) rest refl same
-    (SentFront-emptied old new gathered left [] none bytes) tt
+pub Cut-flushed : (start : Point) (server : Server) (old new : Option (List ℕ)) (gathered left begun later_begun rest : List ℕ) (lines : ℕ)
+    → Fed start (point server (out old gathered) lines begun) → left ≡ [] → AppendsFront old new gathered
+    → Cut Write start (point server (out new left) lines later_begun) rest
+Cut-flushed start server old new gathered left begun later_begun rest lines so_far none bytes =
+    Cut-after Write start (point server (out old gathered) lines begun) (point server (out new left) lines later_begun) rest so_far
+    (Cut-silent Write (point server (out old gathered) lines begun) (point server (out new left) lines later_begun) rest refl refl
+    (SentFront-emptied old new gathered left [] none bytes) tt)
 
 -- nothing more is said
 pub Cut-here : (fault : RunFault) (a : Point) (begun rest : List ℕ) → StuckIn fault a.server [] a.server a.out a.out
@@ -69,20 +70,17 @@ module _ (start end : Point) (bytes rest input : List ℕ) (is : input ≡ bytes
       (λ over. (over.0, subst (λ l. most < start.lines + length (read_lines l)) all_bytes over.1)) stops
 
 -- more bytes behind those of a start
-pub Fed-read : (start a b c : Point) (bytes more : List ℕ) → Fed (and_then start bytes) a → Fed a b → Fed (and_then b more) c
-    → Fed (and_then start (bytes ++ more)) c
-Fed-read start a b c bytes more so_far flushed fed =
-    subst (λ l. Fed (record { server = start.server; out = start.out; lines = start.lines; begun = l }) c) (append_assoc start.begun bytes more)
-    (Fed-trans (and_then (and_then start bytes) more) (and_then b more) c
-    (Fed-more (and_then start bytes) b more (Fed-trans (and_then start bytes) a b so_far flushed)) fed)
+pub Fed-read : (start a b : Point) (bytes more : List ℕ) → Fed (and_then start bytes) a → Fed (and_then a more) b → Fed (and_then start (bytes ++ more)) b
+Fed-read start a b bytes more so_far fed =
+    subst (λ l. Fed (record { server = start.server; out = start.out; lines = start.lines; begun = l }) b) (append_assoc start.begun bytes more)
+    (Fed-trans (and_then (and_then start bytes) more) (and_then a more) b (Fed-more (and_then start bytes) a more so_far) fed)
 
-pub Stops-read : (most : ℕ) (fault : RunFault) (start a b c : Point) (bytes more rest : List ℕ) → Fed (and_then start bytes) a → Fed a b
-    → Stops most fault (and_then b more) c rest → Stops most fault (and_then start (bytes ++ more)) c rest
-Stops-read most fault start a b c bytes more rest so_far flushed stops =
-    subst (λ l. Stops most fault (record { server = start.server; out = start.out; lines = start.lines; begun = l }) c rest)
+pub Stops-read : (most : ℕ) (fault : RunFault) (start a b : Point) (bytes more rest : List ℕ) → Fed (and_then start bytes) a
+    → Stops most fault (and_then a more) b rest → Stops most fault (and_then start (bytes ++ more)) b rest
+Stops-read most fault start a b bytes more rest so_far stops =
+    subst (λ l. Stops most fault (record { server = start.server; out = start.out; lines = start.lines; begun = l }) b rest)
     (append_assoc start.begun bytes more)
-    (Stops-after most fault (and_then (and_then start bytes) more) (and_then b more) c rest
-    (Fed-more (and_then start bytes) b more (Fed-trans (and_then start bytes) a b so_far flushed)) stops)
+    (Stops-after most fault (and_then (and_then start bytes) more) (and_then a more) b rest (Fed-more (and_then start bytes) a more so_far) stops)
 
 -- how a run ends by a fault that is not the source's
 pub Ends-fault : (T : Type 0) (most reads : ℕ) (calls calls_after : Reads) (left_after : Option (List ℕ)) (fault : RunFault) (a b : Point) → (fault ≡ Read → ⊥)

@@ -130,10 +130,6 @@ module _ {X : Type 0} (f : X → List ℕ) (xs : List X) (i : ℕ) where
       ap (flat_map f) (sym (take-append-drop (i + 1) xs)) ∙ flat_map-append f (take (i + 1) xs) (drop (i + 1) xs) in
       subst (SentFront a c) (sym whole) (SentFront-more a c _ _ so_far)
 
--- the text of a list of one element
-pub SentAll-one : {X T E : Type 0} (f : X → List ℕ) (x : X) (a b : Out) (r : Result T E) → SentAll a b r (f x) → SentAll a b r (flat_map f (x ∷ []))
-SentAll-one f x a b r sent = subst (SentAll a b r) (sym (append-nil (f x))) sent
-
 -- what is gathered behind a front is written, or a front of it
 pub SentFront-then : (a : Out) (old new : Option (List ℕ)) (gathered left text : List ℕ) → left ≡ [] → SentFront a (out old gathered) text
     → Appends old new gathered → SentFront a (out new left) text

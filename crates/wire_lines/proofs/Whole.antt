@@ -11,132 +11,91 @@ use Rattle.wire_format.specs.Output.{output, world_of}
 use Rattle.wire_lines.specs.declared.fault.RunFault.{RunFault}
 use Rattle.wire_lines.specs.declared.fault.RunFault.TheVariants.{Read, Write, Endless, Memory}
 use Rattle.wire_lines.specs.declared.stream.Summary.{Summary}
-use Rattle.wire_lines.specs.Sending.{Out, out, Sent, SentFront}
+use Rattle.wire_lines.specs.Sending.{out, Sent, SentFront}
 use Rattle.wire_lines.specs.Steps.{AreAnswered, read_lines}
 use Rattle.wire_lines.specs.Stream.{Point, Done, SentUntil, Cut, IsStuck, StuckIn}
 use Rattle.wire_lines.specs.Run.{AppendsSome, AppendsUntil, WritesAll, WritesUntil, WritesFirst, HasAnsweredRead, HasCountedRead, HasStuck, IsUnbegun}
 use Rattle.wire_lines.specs.Run.{IsPastLines, IsPastReads, Reads, line_ends, IsWrittenOut, device_failed, ReadFails, WriteFails, Ends, Runs}
 use Rattle.wire_lines.proofs.Answering.{front_found, output_found, world_found}
-use Rattle.wire_lines.proofs.Feeding.{SentUntil-front, SentUntil-whole, Cut-sent}
+use Rattle.wire_lines.proofs.Feeding.{IsStuckBy-sent, SentUntil-front, SentUntil-whole, Cut-sent}
 use Rattle.wire_lines.proofs.Sent.{Sent-then, SentFront-then, SentFront-then_front}
 use Rattle.wire_lines.proofs.Kept.{point}
 use Rattle.wire_lines.proofs.Reading.{Cut-here}
 
--- what is gathered at the end is written
-pub Done-flushed : (a : Point) (server : Server) (old new : Option (List ℕ)) (gathered left : List ℕ) (lines count : ℕ) → left ≡ [] → count ≡ lines
-    → Appends old new gathered →
-    Done a (point server (out old gathered) lines []) → Done a (point server (out new left) count [])
-Done-flushed a server old new gathered left lines count none same bytes done = record {
-  text = done.text;
-  answered = done.answered;
-  sent = Sent-then a.out old new gathered left done.text none done.sent bytes;
-  counted = same ∙ done.counted;
-}
+-- a run that has come to its end, before what is gathered is written and after
+module _ (a : Point) (server : Server) (old new : Option (List ℕ)) (gathered left : List ℕ) (lines : ℕ) (none : left ≡ []) where
+  abbrev before : Point
+  before = point server (out old gathered) lines []
 
-SentUntil-then : (fault : RunFault) (a : Out) (old new : Option (List ℕ)) (gathered left text : List ℕ) → left ≡ [] → Appends old new gathered
-    → SentUntil fault a (out old gathered) text → SentUntil fault a (out new left) text
-SentUntil-then Read a old new gathered left text none bytes sent = Sent-then a old new gathered left text none sent bytes
-SentUntil-then Endless a old new gathered left text none bytes sent = Sent-then a old new gathered left text none sent bytes
-SentUntil-then Write a old new gathered left text none bytes sent = SentFront-then a old new gathered left text none sent bytes
-SentUntil-then Memory a old new gathered left text none bytes sent = SentFront-then a old new gathered left text none sent bytes
+  abbrev after : Point
+  after = point server (out new left) lines []
 
--- what is gathered is written behind what was said before a text that found no memory
-IsStuck-then : (old_server new_server : Server) (a : Out) (lines : List (Option Piece)) (old new : Option (List ℕ)) (gathered left : List ℕ) → left ≡ []
-    → Appends old new gathered
-    → IsStuck old_server lines new_server a (out old gathered) → IsStuck old_server lines new_server a (out new left)
-IsStuck-then old_server new_server a lines old new gathered left none bytes it = record {
-  first = it.first;
-  last = it.last;
-  between = it.between;
-  said = it.said;
-  lines_are = it.lines_are;
-  answered = it.answered;
-  stuck = record {
-    told = it.stuck.told;
-    session = it.stuck.session;
-    line = it.stuck.line;
-    rest = it.stuck.rest;
-    text = it.stuck.text;
-    long = it.stuck.long;
-    sent = Sent-then a old new gathered left (it.said ++ it.stuck.told) none it.stuck.sent bytes;
-  };
-}
+  module _ (bytes : Appends old new gathered) where
+    SentUntil-then : (fault : RunFault) (text : List ℕ) → SentUntil fault a.out before.out text → SentUntil fault a.out after.out text
+    SentUntil-then Read text sent = Sent-then a.out old new gathered left text none sent bytes
+    SentUntil-then Endless text sent = Sent-then a.out old new gathered left text none sent bytes
+    SentUntil-then Write text sent = SentFront-then a.out old new gathered left text none sent bytes
+    SentUntil-then Memory text sent = SentFront-then a.out old new gathered left text none sent bytes
 
-StuckIn-then : (fault : RunFault) (old_server new_server : Server) (a : Out) (lines : List (Option Piece)) (old new : Option (List ℕ)) (gathered left : List ℕ)
-    → left ≡ [] → Appends old new gathered
-    → StuckIn fault old_server lines new_server a (out old gathered) → StuckIn fault old_server lines new_server a (out new left)
-StuckIn-then Read old_server new_server a lines old new gathered left none bytes it = tt
-StuckIn-then Endless old_server new_server a lines old new gathered left none bytes it = tt
-StuckIn-then Write old_server new_server a lines old new gathered left none bytes it = tt
-StuckIn-then Memory old_server new_server a lines old new gathered left none bytes it =
-    IsStuck-then old_server new_server a lines old new gathered left none bytes it
+    -- it is written behind what was said before a text that found no memory
+    StuckIn-then : (fault : RunFault) (answered : List (Option Piece)) (end : Server) → StuckIn fault a.server answered end a.out before.out
+        → StuckIn fault a.server answered end a.out after.out
+    StuckIn-then Read answered end it = tt
+    StuckIn-then Endless answered end it = tt
+    StuckIn-then Write answered end it = tt
+    StuckIn-then Memory answered end it = record {
+      first = it.first;
+      last = it.last;
+      between = it.between;
+      said = it.said;
+      lines_are = it.lines_are;
+      answered = it.answered;
+      stuck = IsStuckBy-sent _ it.said it.said a.out before.out a.out after.out it.stuck
+          (Sent-then a.out old new gathered left (it.said ++ it.stuck.told) none it.stuck.sent bytes);
+    }
 
-Cut-then : (fault : RunFault) (a : Point) (server : Server) (old new : Option (List ℕ)) (gathered left rest : List ℕ) (lines count : ℕ) → left ≡ []
-    → count ≡ lines → Appends old new gathered →
-    Cut fault a (point server (out old gathered) lines []) rest → Cut fault a (point server (out new left) count []) rest
-Cut-then fault a server old new gathered left rest lines count none same bytes cut =
-    Cut-sent fault fault a (point server (out old gathered) lines []) (point server (out new left) count []) rest refl same
-    (λ text sent. SentUntil-then fault a.out old new gathered left text none bytes sent)
-    (λ lines end stuck. StuckIn-then fault a.server end a.out lines old new gathered left none bytes stuck) cut
+    Cut-then : (fault : RunFault) → Cut fault a before [] → Cut fault a after []
+    Cut-then fault cut = Cut-sent fault fault a before after [] refl refl (SentUntil-then fault) (StuckIn-then fault) cut
 
-Cut-then_front : (fault : RunFault) (a : Point) (server : Server) (old new : Option (List ℕ)) (gathered left rest : List ℕ) (lines count : ℕ) → left ≡ []
-    → count ≡ lines → AppendsFront old new gathered →
-    Cut fault a (point server (out old gathered) lines []) rest → Cut Write a (point server (out new left) count []) rest
-Cut-then_front fault a server old new gathered left rest lines count none same bytes cut =
-    Cut-sent fault Write a (point server (out old gathered) lines []) (point server (out new left) count []) rest refl same
-    (λ text sent. SentFront-then_front a.out old new gathered left text none (SentUntil-front fault a.out (out old gathered) text sent) bytes)
-    (λ lines end stuck. tt) cut
+    pub Ends-flushed : {T : Type 0} (most reads : ℕ) (calls calls_after : Reads) (left_after : Option (List ℕ)) (r : Result T RunFault)
+        → Ends most reads calls calls_after left_after a before r → Ends most reads calls calls_after left_after a after r
+    Ends-flushed most reads calls calls_after left_after (Ok done) ends = record {
+      text = ends.text;
+      answered = ends.answered;
+      sent = Sent-then a.out old new gathered left ends.text none ends.sent bytes;
+      counted = ends.counted;
+    }
+    Ends-flushed most reads calls calls_after left_after (Err Read) ends = (Cut-then Read ends.0, ends.1)
+    Ends-flushed most reads calls calls_after left_after (Err Write) ends = Cut-then Write ends
+    Ends-flushed most reads calls calls_after left_after (Err Memory) ends = Cut-then Memory ends
+    Ends-flushed most reads calls calls_after left_after (Err Endless) ends = (Cut-then Endless ends.0, ends.1)
 
-Cut-done : (a b : Point) → Done a b → Cut Write a b []
-Cut-done a b done = record {
-  lines = read_lines a.begun;
-  behind = [];
-  text = done.text;
-  reads = ap read_lines (append-nil a.begun) ∙ sym (append-nil (read_lines a.begun));
-  answered = done.answered;
-  sent = SentUntil-whole Write a.out b.out done.text done.sent;
-  counted = done.counted;
-  stuck = tt;
-}
+  -- or only a front of it is written
+  module _ (bytes : AppendsFront old new gathered) where
+    Cut-then_front : (fault : RunFault) → Cut fault a before [] → Cut Write a after []
+    Cut-then_front fault cut = Cut-sent fault Write a before after [] refl refl
+        (λ text sent. SentFront-then_front a.out old new gathered left text none (SentUntil-front fault a.out before.out text sent) bytes)
+        (λ answered end stuck. tt) cut
 
-counted_alike : (left_after : Option (List ℕ)) (a : Point) (server : Server) (old new : Option (List ℕ)) (gathered left : List ℕ) (lines count : ℕ)
-    → count ≡ lines → HasCountedRead left_after a (point server (out old gathered) lines [])
-    → HasCountedRead left_after a (point server (out new left) count [])
-counted_alike left_after a server old new gathered left lines count same counts = (counts.0, counts.1, counts.2, counts.3, same ∙ counts.4)
+    Cut-done : Done a before → Cut Write a before []
+    Cut-done done = record {
+      lines = read_lines a.begun;
+      behind = [];
+      text = done.text;
+      reads = ap read_lines (append-nil a.begun) ∙ sym (append-nil (read_lines a.begun));
+      answered = done.answered;
+      sent = SentUntil-whole Write a.out before.out done.text done.sent;
+      counted = done.counted;
+      stuck = tt;
+    }
 
-pub Ends-flushed : {T : Type 0} (most reads : ℕ) (calls calls_after : Reads) (left_after : Option (List ℕ)) (a : Point) (server : Server)
-    (old new : Option (List ℕ)) (gathered left : List ℕ) (lines count : ℕ) (r : Result T RunFault) → left ≡ [] → count ≡ lines → Appends old new gathered →
-    Ends most reads calls calls_after left_after a (point server (out old gathered) lines []) r
-    → Ends most reads calls calls_after left_after a (point server (out new left) count []) r
-Ends-flushed most reads calls calls_after left_after a server old new gathered left lines count (Ok done) none same bytes ends =
-    Done-flushed a server old new gathered left lines count none same bytes ends
-Ends-flushed most reads calls calls_after left_after a server old new gathered left lines count (Err Read) none same bytes ends = (
-  Cut-then Read a server old new gathered left [] lines count none same bytes ends.0,
-  counted_alike left_after a server old new gathered left lines count same ends.1,
-)
-Ends-flushed most reads calls calls_after left_after a server old new gathered left lines count (Err Write) none same bytes ends =
-    Cut-then Write a server old new gathered left [] lines count none same bytes ends
-Ends-flushed most reads calls calls_after left_after a server old new gathered left lines count (Err Memory) none same bytes ends =
-    Cut-then Memory a server old new gathered left [] lines count none same bytes ends
-Ends-flushed most reads calls calls_after left_after a server old new gathered left lines count (Err Endless) none same bytes ends = (
-  Cut-then Endless a server old new gathered left [] lines count none same bytes ends.0,
-  ⊎_elim (λ over. inl (same ∙ over.0, over.1)) (λ past. inr (past.0, counted_alike left_after a server old new gathered left lines count same past.1)) ends.1,
-)
-
--- or a front of it
-pub Ends-flush_failed : {T : Type 0} (most reads : ℕ) (calls calls_after : Reads) (left_after : Option (List ℕ)) (a : Point) (server : Server)
-    (old new : Option (List ℕ)) (gathered left : List ℕ) (lines count : ℕ) (r : Result T RunFault) → left ≡ [] → count ≡ lines → AppendsFront old new gathered →
-    Ends most reads calls calls_after left_after a (point server (out old gathered) lines []) r → Cut Write a (point server (out new left) count []) []
-Ends-flush_failed most reads calls calls_after left_after a server old new gathered left lines count (Ok done) none same bytes ends =
-    Cut-then_front Write a server old new gathered left [] lines count none same bytes (Cut-done a _ ends)
-Ends-flush_failed most reads calls calls_after left_after a server old new gathered left lines count (Err Read) none same bytes ends =
-    Cut-then_front Read a server old new gathered left [] lines count none same bytes ends.0
-Ends-flush_failed most reads calls calls_after left_after a server old new gathered left lines count (Err Write) none same bytes ends =
-    Cut-then_front Write a server old new gathered left [] lines count none same bytes ends
-Ends-flush_failed most reads calls calls_after left_after a server old new gathered left lines count (Err Memory) none same bytes ends =
-    Cut-then_front Memory a server old new gathered left [] lines count none same bytes ends
-Ends-flush_failed most reads calls calls_after left_after a server old new gathered left lines count (Err Endless) none same bytes ends =
-    Cut-then_front Endless a server old new gathered left [] lines count none same bytes ends.0
+    pub Ends-flush_failed : {T : Type 0} (most reads : ℕ) (calls calls_after : Reads) (left_after : Option (List ℕ)) (r : Result T RunFault)
+        → Ends most reads calls calls_after left_after a before r → Cut Write a after []
+    Ends-flush_failed most reads calls calls_after left_after (Ok done) ends = Cut-then_front Write (Cut-done ends)
+    Ends-flush_failed most reads calls calls_after left_after (Err Read) ends = Cut-then_front Read ends.0
+    Ends-flush_failed most reads calls calls_after left_after (Err Write) ends = Cut-then_front Write ends
+    Ends-flush_failed most reads calls calls_after left_after (Err Memory) ends = Cut-then_front Memory ends
+    Ends-flush_failed most reads calls calls_after left_after (Err Endless) ends = Cut-then_front Endless ends.0
 
 -- what a run has written out where a device has failed, and where nothing is gathered
 pub IsWrittenOut-failed : {T : Type 0} (r : Result T RunFault) (gathered : List ℕ) → device_failed r ≡ true → (r ≡ Err Read → gathered ≡ [])
@@ -235,37 +194,6 @@ module _ (T : Type 0) (fault : RunFault) (input : List ℕ) (held held_after : O
       → WritesFirst fault most input held old held_after new
   WritesFirst-cut most within cut = (count, within, WritesUntil-cut cut)
 
-pub Runs-stopped : (max_lines max_reads : ℕ) (calls calls_after : Reads) (input : List ℕ) (left_after : Option (List ℕ)) (held held_after : Option (List ℕ))
-    (old new : Server) (left : List ℕ) (count : ℕ) (T : Type 0) (fault : RunFault) → IsWrittenOut {T = T} (Err fault) left → count ≤ max_lines →
-    Ends {T = T} max_lines max_reads calls calls_after left_after (beginning old held input) (point new (out held_after left) count []) (Err fault)
-    → Runs max_lines max_reads calls calls_after input left_after held old held_after new (Err fault)
-Runs-stopped max_lines max_reads calls calls_after input left_after held held_after old new left count T Read none within ends = (
-  WritesFirst-cut T Read input held held_after old new left count none max_lines within ends.0,
-  HasAnsweredRead-cut T Read input held held_after old new left count none left_after ends.1 ends.0,
-)
-Runs-stopped max_lines max_reads calls calls_after input left_after held held_after old new left count T Write none within ends =
-    WritesFirst-cut T Write input held held_after old new left count none max_lines within ends
-Runs-stopped max_lines max_reads calls calls_after input left_after held held_after old new left count T Memory none within ends = (
-  WritesFirst-cut T Memory input held held_after old new left count none max_lines within ends,
-  inr (HasStuck-cut T Memory input held held_after old new left count none none ends ends.stuck),
-)
-Runs-stopped max_lines max_reads calls calls_after input left_after held held_after old new left count T Endless none within ends = (
-  WritesFirst-cut T Endless input held held_after old new left count none max_lines within ends.0,
-  ⊎_elim
-      (λ (over : (count ≡ max_lines) × (max_lines < 0 + length (read_lines (input ++ [])))).
-      let same = ap (λ l. length (read_lines l)) (append-nil input) in
-      let counts = counted_lines input in
-      inl (
-        omega (arith, same, counts, over.1),
-        subst (λ n. WritesUntil Endless n input held old held_after new) over.0
-            (WritesUntil-cut T Endless input held held_after old new left count none ends.0),
-      ))
-      (λ (past : IsPastReads max_reads input calls calls_after
-      × HasCountedRead left_after (beginning old held input) (point new (out held_after left) count [])).
-      inr (past.0, HasAnsweredRead-cut T Endless input held held_after old new left count none left_after past.1 ends.0))
-      ends.1,
-)
-
 -- where a run has not begun, it has answered and written nothing
 pub Runs-unbegun : (max_lines max_reads : ℕ) (calls : Reads) (input : List ℕ) (held : Option (List ℕ)) (server : Server)
     → Runs max_lines max_reads calls calls input (Some input) held server held server (Err Memory)
@@ -274,18 +202,56 @@ Runs-unbegun max_lines max_reads calls input held server = (
   inl (record { server = refl; written = refl; asked = refl; left = refl }),
 )
 
-pub Runs-done : (max_lines max_reads : ℕ) (calls calls_after : Reads) (input : List ℕ) (left_after : Option (List ℕ)) (held held_after : Option (List ℕ))
-    (old new : Server) (left : List ℕ) (summary : Summary) → left ≡ [] → summary.lines ≤ max_lines →
-    Done (beginning old held input) (point new (out held_after left) summary.lines [])
-    → Runs max_lines max_reads calls calls_after input left_after held old held_after new (Ok summary)
-Runs-done max_lines max_reads calls calls_after input left_after held held_after old new left summary none within done =
-    let counts = counted_lines input in
-    ((done.text, done.answered, all_written held held_after left done.text none done.sent), omega (arith, counts, done.counted), within)
-
--- what follows of a run
+-- a run, and what follows of it
 module _ (max_lines max_reads : ℕ) (calls calls_after : Reads) (input : List ℕ) (left_after : Option (List ℕ)) (held held_after : Option (List ℕ))
     (old new : Server) where
-  pub Runs-answered : (r : Result Summary RunFault) → Runs max_lines max_reads calls calls_after input left_after held old held_after new r
+  abbrev Ran : Result Summary RunFault → Type 0
+  Ran = Runs max_lines max_reads calls calls_after input left_after held old held_after new
+
+  -- it stopped
+  module _ (left : List ℕ) (count : ℕ) (T : Type 0) where
+    abbrev end : Point
+    end = point new (out held_after left) count []
+
+    stopped : (fault : RunFault) → IsWrittenOut {T = T} (Err fault) left → count ≤ max_lines
+        → Ends {T = T} max_lines max_reads calls calls_after left_after (beginning old held input) end (Err fault) → Ran (Err fault)
+    stopped Read none within ends = (
+      WritesFirst-cut T Read input held held_after old new left count none max_lines within ends.0,
+      HasAnsweredRead-cut T Read input held held_after old new left count none left_after ends.1 ends.0,
+    )
+    stopped Write none within ends = WritesFirst-cut T Write input held held_after old new left count none max_lines within ends
+    stopped Memory none within ends = (
+      WritesFirst-cut T Memory input held held_after old new left count none max_lines within ends,
+      inr (HasStuck-cut T Memory input held held_after old new left count none none ends ends.stuck),
+    )
+    stopped Endless none within ends = (
+      WritesFirst-cut T Endless input held held_after old new left count none max_lines within ends.0,
+      ⊎_elim
+          (λ (over : (count ≡ max_lines) × (max_lines < 0 + length (read_lines (input ++ [])))).
+          let same = ap (λ l. length (read_lines l)) (append-nil input) in
+          let counts = counted_lines input in
+          inl (
+            omega (arith, same, counts, over.1),
+            subst (λ n. WritesUntil Endless n input held old held_after new) over.0
+                (WritesUntil-cut T Endless input held held_after old new left count none ends.0),
+          ))
+          (λ (past : IsPastReads max_reads input calls calls_after × HasCountedRead left_after (beginning old held input) end).
+          inr (past.0, HasAnsweredRead-cut T Endless input held held_after old new left count none left_after past.1 ends.0))
+          ends.1,
+    )
+
+    pub Runs-stopped : (fault : RunFault) (r : Result Summary RunFault) → r ≡ Err fault → IsWrittenOut {T = T} (Err fault) left → count ≤ max_lines
+        → Ends {T = T} max_lines max_reads calls calls_after left_after (beginning old held input) end (Err fault) → Ran r
+    Runs-stopped fault r is none within ends = subst Ran (sym is) (stopped fault none within ends)
+
+  -- it went well
+  pub Runs-done : (left : List ℕ) (summary : Summary) → left ≡ [] → summary.lines ≤ max_lines
+      → Done (beginning old held input) (point new (out held_after left) summary.lines []) → Ran (Ok summary)
+  Runs-done left summary none within done =
+      let counts = counted_lines input in
+      ((done.text, done.answered, all_written held held_after left done.text none done.sent), omega (arith, counts, done.counted), within)
+
+  pub Runs-answered : (r : Result Summary RunFault) → Ran r
       → MatchResult r (λ _. WritesAll input held old held_after new) (λ fault. WritesFirst fault max_lines input held old held_after new)
   Runs-answered (Ok summary) runs = runs.0
   Runs-answered (Err Read) runs = runs.0
@@ -293,16 +259,14 @@ module _ (max_lines max_reads : ℕ) (calls calls_after : Reads) (input : List �
   Runs-answered (Err Memory) runs = runs.0
   Runs-answered (Err Endless) runs = runs.0
 
-  pub Runs-well : (r : Result Summary RunFault) → Runs max_lines max_reads calls calls_after input left_after held old held_after new r → IsOk r
-      → IsFalse (was_refused new) →
-      Appends held held_after (output (settings old) (states old) input) × (states new ≡ world_of (settings old) (states old) input)
+  pub Runs-well : (r : Result Summary RunFault) → Ran r → IsOk r → IsFalse (was_refused new)
+      → Appends held held_after (output (settings old) (states old) input) × (states new ≡ world_of (settings old) (states old) input)
   Runs-well (Ok summary) runs ok found =
       let (text, answered, written) = runs.0 in
       (subst (Appends held held_after) (output_found old new input text answered found) written, world_found old new input text answered found)
   Runs-well (Err fault) runs ok found = absurd (cc ok)
 
-  pub Runs-lines : (r : Result Summary RunFault) → Runs max_lines max_reads calls calls_after input left_after held old held_after new r
-      → IfOk r (λ summary. (summary.lines ≡ length (lines_of input)) × (summary.lines ≤ max_lines))
+  pub Runs-lines : (r : Result Summary RunFault) → Ran r → IfOk r (λ summary. (summary.lines ≡ length (lines_of input)) × (summary.lines ≤ max_lines))
   Runs-lines (Ok summary) runs = (runs.1, runs.2)
   Runs-lines (Err fault) runs = tt
 
@@ -316,32 +280,25 @@ module _ (max_lines max_reads : ℕ) (calls calls_after : Reads) (input : List �
       (sym (take-append-drop count (read_lines input))) answered found in
       (front, (more ++ rest, all ∙ ap (λ l. l ++ rest) is ∙ append_assoc front more rest), written)
 
-  pub Runs-prefix : (r : Result Summary RunFault) → Runs max_lines max_reads calls calls_after input left_after held old held_after new r → IsErr r
-      → IsFalse (was_refused new) → AppendsSome held held_after (output (settings old) (states old) input)
+  pub Runs-prefix : (r : Result Summary RunFault) → Ran r → IsErr r → IsFalse (was_refused new)
+      → AppendsSome held held_after (output (settings old) (states old) input)
   Runs-prefix (Ok summary) runs failed found = absurd (cc failed)
   Runs-prefix (Err Read) runs failed found = first_written Read runs.0 found
   Runs-prefix (Err Write) runs failed found = first_written Write runs found
   Runs-prefix (Err Memory) runs failed found = first_written Memory runs.0 found
   Runs-prefix (Err Endless) runs failed found = first_written Endless runs.0 found
 
-  pub Runs-endless : (r : Result Summary RunFault) → Runs max_lines max_reads calls calls_after input left_after held old held_after new r → r ≡ Err Endless
+  pub Runs-endless : (r : Result Summary RunFault) → Ran r → r ≡ Err Endless
       → IsPastLines max_lines input held old held_after new ⊎ IsPastReads max_reads input calls calls_after
       × HasAnsweredRead Endless input left_after held old held_after new
-  Runs-endless r runs is =
-      let ended : Runs max_lines max_reads calls calls_after input left_after held old held_after new (Err Endless) =
-      subst (Runs max_lines max_reads calls calls_after input left_after held old held_after new) is runs in ended.1
+  Runs-endless r runs is = let ended : Ran (Err Endless) = subst Ran is runs in ended.1
 
-  pub Runs-unread : (r : Result Summary RunFault) → Runs max_lines max_reads calls calls_after input left_after held old held_after new r → r ≡ Err Read
-      → HasAnsweredRead Read input left_after held old held_after new
-  Runs-unread r runs is =
-      let ended : Runs max_lines max_reads calls calls_after input left_after held old held_after new (Err Read) =
-      subst (Runs max_lines max_reads calls calls_after input left_after held old held_after new) is runs in ended.1
+  pub Runs-unread : (r : Result Summary RunFault) → Ran r → r ≡ Err Read → HasAnsweredRead Read input left_after held old held_after new
+  Runs-unread r runs is = let ended : Ran (Err Read) = subst Ran is runs in ended.1
 
-  pub Runs-memory : (r : Result Summary RunFault) → Runs max_lines max_reads calls calls_after input left_after held old held_after new r → r ≡ Err Memory
+  pub Runs-memory : (r : Result Summary RunFault) → Ran r → r ≡ Err Memory
       → IsUnbegun calls calls_after input left_after held old held_after new ⊎ HasStuck input held old held_after new
-  Runs-memory r runs is =
-      let ended : Runs max_lines max_reads calls calls_after input left_after held old held_after new (Err Memory) =
-      subst (Runs max_lines max_reads calls calls_after input left_after held old held_after new) is runs in ended.1
+  Runs-memory r runs is = let ended : Ran (Err Memory) = subst Ran is runs in ended.1
 
 -- a run with nothing gathered and nothing begun stands at the beginning
 pub Ends-beginning : {T : Type 0} (max_lines max_reads : ℕ) (calls calls_after : Reads) (left_after : Option (List ℕ)) (most lines : ℕ)

@@ -1,7 +1,5 @@
 //! Lines, one after another.
 ghost use Rattle.std.specs.Prelude.{◌≡◌, ◌≤◌, ◌∷◌, ◌++◌, [], IfOk};
-ghost use Rattle.wire_format.specs.Bytes.{AppendsAll};
-ghost use Rattle.wire_format.specs.Counts.{CountsErrors};
 ghost use Rattle.wire_format.specs.Input.{NoEnd};
 ghost use Rattle.wire_lines.specs.Stream.{Feeds, SinkFails};
 ghost use Rattle.server_world.specs.Server.{seen_as};
@@ -10,12 +8,12 @@ use crate::fault::RunFault;
 use crate::output::Output;
 use server_world::Server;
 use std::alloc::{AllocError, Global};
-use wire_format::{Failed, Sink, is_blank};
+use wire_format::{Sink, is_blank};
 
 /// The lines of a run, and what is said to them.
 #[derive(Drop)]
 pub struct Lines {
-    output: Output,
+    pub output: Output,
     /// How many lines there were.
     pub count: u64,
     /// How many there may be.
@@ -36,17 +34,6 @@ impl Lines {
             count: 0,
             most,
         })
-    }
-
-    /// Writes all that is said so far. Where the sink fails, what it did not take is lost.
-    pub fn flush<W: Sink>(&mut self, writer: &mut W) -> Result<(), Failed>
-        ensures emptied { self.new.output.gathered ≡ [] }
-        ensures bytes { AppendsAll (W.held writer.old) (W.held writer.new) result self.old.output.gathered }
-        ensures counted { CountsErrors (W.failures writer.old) (W.failures writer.new) result }
-        ensures count { self.new.count ≡ self.old.count }
-        ensures most { self.new.most ≡ self.old.most }
-    {
-        self.output.flush(writer)
     }
 
     /// Answers one more line, which is given without its end. A blank one is only counted.

@@ -5,7 +5,6 @@ ghost use Rattle.server_world.specs.Server.{OnlyRefused, seen_as, settings};
 ghost use Rattle.session_model.specs.Asked.{tag};
 ghost use Rattle.session_model.specs.declared.line.Line.TheVariants.{Error};
 ghost use Rattle.plain_types.specs.declared.code.Code.TheVariants.{OutOfMemory};
-ghost use Rattle.wire_format.specs.Bytes.{AppendsAll};
 ghost use Rattle.wire_format.specs.Counts.{CountsErrors};
 ghost use Rattle.wire_format.specs.Command.{command_of};
 ghost use Rattle.wire_format.specs.Input.{piece_from};
@@ -31,7 +30,8 @@ use wire_format::{
 #[derive(Drop)]
 pub struct Output {
     alloc: Global,
-    gathered: Buffer,
+    /// What is written next: all of it before each read.
+    pub gathered: Buffer,
     /// The text of a line that is not said in parts, in memory that serves for all of them. A line
     /// of more than [`BUFFER_BYTES`] makes it grow.
     text: String,
@@ -49,16 +49,6 @@ impl Output {
             text: String::with_capacity(alloc, BUFFER_BYTES)?,
             scratch: Scratch::new(alloc),
         })
-    }
-
-    /// Writes what is gathered. Afterwards nothing is: where the sink fails, what it did not take is
-    /// lost.
-    pub fn flush<W: Sink>(&mut self, writer: &mut W) -> Result<(), Failed>
-        ensures emptied { self.new.gathered ≡ [] }
-        ensures bytes { AppendsAll (W.held writer.old) (W.held writer.new) result self.old.gathered }
-        ensures counted { CountsErrors (W.failures writer.old) (W.failures writer.new) result }
-    {
-        self.gathered.flush(writer)
     }
 
     /// Says what is answered to a line that is not blank.

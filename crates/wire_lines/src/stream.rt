@@ -135,7 +135,7 @@ impl Stream {
         ensures failed { DevicesFail (R.failures reader.old) (R.failures reader.new) (W.failures writer.old) (W.failures writer.new) result }
     {
         'reads: for _reads in 0..max_reads {
-            self.lines.flush(writer)?;
+            self.lines.output.gathered.flush(writer)?;
             let Ok(count) = reader.read(chunk) else {
                 return Err(RunFault::Read);
             };
@@ -173,7 +173,7 @@ impl Stream {
         if device_failed(&ended) {
             return ended;
         }
-        self.lines.flush(writer)?;
+        self.lines.output.gathered.flush(writer)?;
         ended
     }
 

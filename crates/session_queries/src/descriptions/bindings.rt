@@ -18,7 +18,7 @@ use term_core::Expr;
 /// How many bound properties are listed at most.
 const LISTED: usize = 1000;
 
-/// The bound properties, those that follow one where it is named.
+/// Lists the bound properties: all, or those after a given one.
 pub(crate) fn binding_descriptions(
     caller: &SessionContext,
     tables: &Tables,
@@ -91,7 +91,7 @@ fn add_following(
     Ok(())
 }
 
-/// A copy of the expression that a property is bound to, where it is bound.
+/// A copy of the expression that a property is bound to, if it is bound.
 pub(crate) fn bound_expression(
     caller: &SessionContext,
     tables: &Tables,

@@ -8,7 +8,7 @@ ghost use Rattle.session_model.specs.ClassDescriptions.{class_description, decla
 ghost use Rattle.session_model.specs.ClassDescriptions.{own_methods, own_properties};
 
 use crate::descriptions::functors::copied_kinds;
-use class_table::{Method, Property};
+use class_table::{Class, Method, Property};
 use plain_types::{Items, Text};
 use session_effects::Setup;
 use session_model::{ClassDescription, DeclaredMethod, DeclaredProperty};
@@ -38,23 +38,30 @@ pub(crate) fn named_class(setup: &Setup, index: u32) -> Result<Text, AllocError>
     }
 }
 
-/// The name of the superclass of the class at an index, where it has one.
+/// The name of the superclass of the class at an index, if it has one.
 fn superclass(setup: &Setup, index: u32) -> Result<Option<Text>, AllocError>
     ensures { IfOk result (λ name. name ≡ option_and_then (class_name setup.now.classes) (superclass_of setup.now.classes index)) }
 {
-    let Some(row) = setup.classes.class_row(index) else {
-        return Ok(None);
-    };
-    let Some(base) = row.superclass else {
-        return Ok(None);
-    };
-    match setup.classes.class_row(base) {
-        Some(row) => Ok(Some(row.name.copy(setup.alloc)?)),
+    match setup.classes.class_row(index) {
+        Some(class) => superclass_name(setup, class),
         None => Ok(None),
     }
 }
 
-/// The class at an index, with what declares each of its parts.
+/// The name of the superclass of a class, if it has one.
+pub(crate) fn superclass_name(setup: &Setup, class: &Class) -> Result<Option<Text>, AllocError>
+    ensures { IfOk result (λ name. name ≡ option_and_then (class_name setup.now.classes) class.now.superclass) }
+{
+    let Some(index) = class.superclass else {
+        return Ok(None);
+    };
+    match setup.classes.class_row(index) {
+        Some(base) => Ok(Some(base.name.copy(setup.alloc)?)),
+        None => Ok(None),
+    }
+}
+
+/// Describes the class at an index, with the class that declares each property and method.
 pub(crate) fn class_description(setup: &Setup, index: u32) -> Result<ClassDescription, AllocError>
     ensures { IfOk result (λ described. described ≡ class_description setup.now.classes index) }
 {

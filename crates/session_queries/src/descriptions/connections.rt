@@ -14,7 +14,7 @@ use session_model::{CalleeDescription, ConnectionDescription};
 use session_tables::Tables;
 use std::alloc::AllocError;
 
-/// The connections of a greater number, where an object is named those that have it at either end.
+/// Describes the connections with numbers above `after`: all, or those that have an object at either end.
 pub(crate) fn connection_descriptions(
     caller: &SessionContext,
     tables: &Tables,

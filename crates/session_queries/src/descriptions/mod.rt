@@ -8,7 +8,7 @@ mod properties;
 mod sharing;
 
 pub(crate) use bindings::{binding_descriptions, bound_expression};
-pub(crate) use classes::{class_description, class_names};
+pub(crate) use classes::{class_description, class_names, superclass_name};
 pub(crate) use connections::connection_descriptions;
 pub(crate) use functors::functor_descriptions;
 pub(crate) use objects::object_description;

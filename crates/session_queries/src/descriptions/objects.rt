@@ -11,7 +11,7 @@ use session_model::ObjectDescription;
 use session_tables::Tables;
 use std::alloc::AllocError;
 
-/// An object of this row, with what there is of it in the session.
+/// Describes the object of this row.
 pub(crate) fn object_description(
     caller: &SessionContext,
     tables: &Tables,

@@ -79,7 +79,7 @@ fn declared_description(
     })
 }
 
-/// Adds the properties that the object was given besides.
+/// Adds the dynamic properties of an object.
 fn add_dynamic(
     caller: &SessionContext,
     tables: &Tables,

@@ -28,7 +28,7 @@ pub(crate) fn text_at(
     }
 }
 
-/// All publications of the session, in the order of making.
+/// Describes all publications of the session, the oldest first.
 pub(crate) fn publication_descriptions(
     caller: &SessionContext,
     tables: &Tables,
@@ -59,7 +59,7 @@ fn publication_description(
     })
 }
 
-/// All joins of the session, in the order of making.
+/// Describes all joins of the session, the oldest first.
 pub(crate) fn join_descriptions(
     caller: &SessionContext,
     tables: &Tables,

@@ -26,38 +26,27 @@ returns-clause-kinds g c =
     sym (ap (λ (a : App). fault_of a (map g.S.AsStr.text c.args.words.now)) is_metad)
     ∙ c.in_ok-matches.ensures.kinds (ap is_simple_and_free is_metad ∙ simple_and_free)
 
-pub returns-clause-classes : goal.returns-clause-classes
-returns-clause-classes g c =
-    let is_metad : app_of c.in_ok-command.command ≡ metad = c.in_ok-command.ensures in
-    let exact = (c.in_ok-matches.ensures.matches (ap is_simple is_metad ∙ simple)).0
-    ∙ ap (λ (a : App). matches_of a (map g.S.AsStr.text c.args.words.now)) is_metad in
-    c.in_ok-classes.ensures ∙ (first_value-rows (found_of c.in_ok-matches.matches) (codes "classes") ∙ ap (first_of (codes "classes")) exact)
-
-pub returns-clause-slice : goal.returns-clause-slice
-returns-clause-slice g c =
-    let is_metad : app_of c.in_ok-command.command ≡ metad = c.in_ok-command.ensures in
-    let exact = (c.in_ok-matches.ensures.matches (ap is_simple is_metad ∙ simple)).0
-    ∙ ap (λ (a : App). matches_of a (map g.S.AsStr.text c.args.words.now)) is_metad in
-    c.in_ok-slice.ensures ∙ (first_value-rows (found_of c.in_ok-matches.matches) (codes "slice") ∙ ap (first_of (codes "slice")) exact)
-
-pub returns-clause-turns : goal.returns-clause-turns
-returns-clause-turns g c =
+pub returns-clause-found : goal.returns-clause-found
+returns-clause-found g c =
     let words = map g.S.AsStr.text c.args.words.now in
     let is_metad : app_of c.in_ok-command.command ≡ metad = c.in_ok-command.ensures in
+    let found = found_of c.in_ok-matches.matches in
     let exact = (c.in_ok-matches.ensures.matches (ap is_simple is_metad ∙ simple)).0 ∙ ap (λ (a : App). matches_of a words) is_metad in
-    let same = one_text-rows (found_of c.in_ok-matches.matches) (codes "turns") ∙ ap (one_of (codes "turns")) exact in
+    let same = one_text-rows found (codes "turns") ∙ ap (one_of (codes "turns")) exact in
     let asks = run_asked words (returns-clause-kinds g c) in
-    let found : Gives (one_text (found_of c.in_ok-matches.matches) (codes "turns")) asks.0 =
-    subst (λ (o : Option (List ℕ)). Gives o asks.0) (sym same) asks.2 in
+    let given : Gives (one_text found (codes "turns")) asks.0 = subst (λ (o : Option (List ℕ)). Gives o asks.0) (sym same) asks.2 in
     let is : c.unwrap_or-turns.result ≡ asks.0 = c.unwrap_or-turns.ensures ∙ turns_read
-    (λ bs r. ParsesUnsigned 32 10 bs r × ExplainsUnsignedError 10 bs r × HasUnsignedDigitsIfOk bs r)
-    (one_text (found_of c.in_ok-matches.matches) (codes "turns")) c.get_one.result asks.0 found c.get_one.ensures.none c.get_one.ensures.value
-    (λ text result reads. reads.0) in
-    subst (Gives (one_of (codes "turns") (matches_of metad words))) (sym is) asks.2
+    (λ bs r. ParsesUnsigned 32 10 bs r × ExplainsUnsignedError 10 bs r × HasUnsignedDigitsIfOk bs r) (one_text found (codes "turns")) c.get_one.result
+    asks.0 given c.get_one.ensures.none c.get_one.ensures.value (λ text result reads. reads.0) in
+    record {
+      classes = c.in_ok-classes.ensures ∙ (first_value-rows found (codes "classes") ∙ ap (first_of (codes "classes")) exact);
+      turns = subst (Gives (one_of (codes "turns") (matches_of metad words))) (sym is) asks.2;
+      slice = c.in_ok-slice.ensures ∙ (first_value-rows found (codes "slice") ∙ ap (first_of (codes "slice")) exact);
+    }
 
 pub returns-clause-asked : goal.returns-clause-asked
 returns-clause-asked g c =
-    let words = map g.S.AsStr.text c.args.words.now in
-    let asks = run_asked words (returns-clause-kinds g c) in
-    let turns = gives_once _ asks.0 c.unwrap_or-turns.result asks.2 (returns-clause-turns g c) in
-    asks.1 ∙ same_run _ _ asks.0 c.unwrap_or-turns.result _ _ (returns-clause-classes g c) turns (returns-clause-slice g c)
+    let found = returns-clause-found g c in
+    let asks = run_asked (map g.S.AsStr.text c.args.words.now) (returns-clause-kinds g c) in
+    let turns = gives_once _ asks.0 c.unwrap_or-turns.result asks.2 found.turns in
+    asks.1 ∙ same_run _ _ asks.0 c.unwrap_or-turns.result _ _ found.classes turns found.slice

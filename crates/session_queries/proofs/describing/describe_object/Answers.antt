@@ -1,28 +1,13 @@
-use Rattle.std.proofs.Common.{Ok, Option, sym, ap, ◌∙◌}
-use Rattle.std.specs.Option.{ok_or}
-use Rattle.object_tree.specs.declared.row.Row.{Row}
-use Rattle.plain_types.specs.declared.code.Code.TheVariants.{NoSuchObject}
+use Rattle.std.proofs.Common.{Ok, sym, ap, ◌∙◌}
 use Rattle.session_model.specs.declared.line.Answer.TheVariants as a
-use Rattle.session_model.specs.ObjectDescriptions.{object_description}
-use Rattle.session_model.specs.Methods.{◌>>=◌}
-use Rattle.session_effects.specs.Setup.{settings_of}
-use Rattle.session_tables.specs.Tables.{state_at}
+use Rattle.session_queries.proofs.ReadingLemmas.{object_missing, object_there}
 use Rattle.session_queries.proofs.describing.describe_object.Goals as goal
 
 pub returns-in_default : goal.returns-in_default
-returns-in_default c = record {
-  returns =
-      ap (λ (found : Option Row). ok_or found NoSuchObject >>= λ row. Ok
-      (a.Object (object_description (settings_of c.args.caller.now.setup.now) (state_at c.args.tables.now c.args.caller.now.place) row)))
-      (sym c.row.ensures ∙ c.in_default.is);
-}
+returns-in_default c = record { returns = object_missing _ _ (sym c.row.ensures ∙ c.in_default.is) }
 
 pub returns : goal.returns
-returns c =
-    record {
-      returns =
-          ap (λ (found : Option Row). ok_or found NoSuchObject >>=
-          λ row. Ok (a.Object (object_description (settings_of c.args.caller.now.setup.now) (state_at c.args.tables.now c.args.caller.now.place) row)))
-          (sym c.row.ensures ∙ c.in-Some.is)
-          ∙ ap (λ described. Ok (a.Object described)) (sym c.in_ok-described.ensures ∙ sym c.in_ok-new.ensures);
-    }
+returns c = record {
+  returns = object_there _ _ _ (sym c.row.ensures ∙ c.in-Some.is)
+      ∙ ap (λ described. Ok (a.Object described)) (sym c.in_ok-described.ensures ∙ sym c.in_ok-new.ensures);
+}

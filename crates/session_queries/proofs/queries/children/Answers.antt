@@ -1,11 +1,10 @@
-use Rattle.std.proofs.Common.{Ok, sym, ap, ◌∙◌}
+use Rattle.std.proofs.Common.{Ok, refl, sym, ap, ◌∙◌}
 use Rattle.session_model.specs.declared.line.Answer.TheVariants as a
-use Rattle.session_queries.proofs.ReadingLemmas.{behind_first, behind_second, refused_reading}
+use Rattle.session_queries.proofs.ReadingLemmas.{behind_second, refused_first}
 use Rattle.session_queries.proofs.queries.children.Goals as goal
 
 pub returns-in_err-check_named : goal.returns-in_err-check_named
-returns-in_err-check_named c = refused_reading _ _ _ c.in_err-check_named.field-0.0 _ c.from_residual.ensures.1
-    (behind_first _ _ _ c.in_err-check_named.ensures)
+returns-in_err-check_named c = refused_first _ _ _ c.in_err-check_named.field-0.0 _ _ _ c.from_residual.ensures.1 refl c.in_err-check_named.ensures
 
 pub returns : goal.returns
 returns c = record {

@@ -25,7 +25,7 @@ returns c =
           behind_second _ _ c.in_ok-index.ensures.refusal
           ∙ ap (λ index. Ok (a.Meta (described classes index))) (sym c.in_ok-index.ensures.index)
           ∙ ap (λ meta. Ok (a.Meta meta)) (described_at classes c.in_ok-index.index c.in-Some.row.now (sym c.in-Some.ensures.value)
-          ∙ sym (described_is classes c.in_ok-index.index c.in-Some.row.now _ _ _ _ _ _ c.in_ok-copy.ensures c.in-Some.ensures.has.method_offset
+          ∙ described_is classes c.in_ok-index.index c.in-Some.row.now _ _ _ _ _ _ c.in_ok-copy.ensures c.in-Some.ensures.has.method_offset
           c.in_ok-method_texts.ensures
-          c.in_ok-property_names.ensures c.in-Some.ensures.has.property_offset c.in_ok-superclass_name.ensures) ∙ sym c.in_ok-new.ensures);
+          c.in_ok-property_names.ensures c.in-Some.ensures.has.property_offset c.in_ok-superclass_name.ensures ∙ sym c.in_ok-new.ensures);
     }

@@ -1,9 +1,8 @@
 use Rattle.std.proofs.Common.{◌≡◌, ◌<◌, ◌+◌, ◌^◌, ℕ, List, [], ◌++◌, Err, length, length-append, take, Some, refl, sym, ap, ◌∙◌, subst, arith, append-nil}
 use Rattle.std.specs.Io.KnownBytes.{Consumes}
 use Rattle.std.proofs.KnownBytes.{Consumes-nil, Consumes-trans}
-use Rattle.wire_lines.specs.Run.{reads}
 use Rattle.wire_lines.specs.declared.fault.RunFault.TheVariants.{Read, Endless, Memory}
-use Rattle.wire_lines.proofs.Asking.{AsksSource-stopped}
+use Rattle.wire_lines.proofs.Asking.{AsksSource-ended, AsksSource-stopped}
 use Rattle.wire_lines.proofs.Kept.{err_is}
 use Rattle.wire_lines.proofs.Reading.{known_rest, known_end}
 use Rattle.wire_lines.proofs.slice.read_by.Goals as goal
@@ -64,8 +63,7 @@ pub returns-in_default-clause-asked : goal.returns-in_default-clause-asked
 returns-in_default-clause-asked g c =
     let so_far = c.reads.invariant in
     let read = c.in_default.ensures in
-    AsksSource-stopped (2 ^ 40) (reads g.R.Source.calls g.R.Source.gave c.args.reader.now)
-    (reads g.R.Source.calls g.R.Source.gave c.read.new.self) c.reads._reads 1
+    AsksSource-stopped (2 ^ 40) _ _ c.reads._reads 1
     (omega (arith, so_far.asked, read.asked)) (omega (arith, so_far.counted, read.asked), omega (arith, so_far.gave, read.gave)) (omega arith) Read
     (Err Read) refl
 
@@ -74,28 +72,21 @@ pub returns-then-count-eq0-clause-asked : goal.returns-then-count-eq0-clause-ask
 returns-then-count-eq0-clause-asked g c =
     let so_far = c.reads.invariant in
     let read = c.in-Ok.ensures in
-    record {
-      within = omega (arith, so_far.asked, read.asked);
-      gave = c.reads._reads;
-      others = 1;
-      counted = (omega (arith, so_far.counted, read.asked), omega (arith, so_far.gave, read.gave.1 c.if-count-eq0.true));
-      once = omega arith;
-      ended = λ ok. refl;
-    }
+    AsksSource-ended (2 ^ 40) _ _ c.reads._reads _ (omega (arith, so_far.asked, read.asked))
+    (omega (arith, so_far.counted, read.asked), omega (arith, so_far.gave, read.gave.1 c.if-count-eq0.true))
 
 pub returns-in_err-extend_from_slice-clause-asked : goal.returns-in_err-extend_from_slice-clause-asked
 returns-in_err-extend_from_slice-clause-asked g c =
     let so_far = c.reads.invariant in
     let read = c.in-Ok.ensures in
     let some : 0 < c.in-Ok.count = omega (arith, c.if-count-eq0.false) in
-    AsksSource-stopped (2 ^ 40) (reads g.R.Source.calls g.R.Source.gave c.args.reader.now) (reads g.R.Source.calls g.R.Source.gave c.read.new.self)
+    AsksSource-stopped (2 ^ 40) _ _
     (c.reads._reads + 1) 0
     (omega (arith, so_far.asked, read.asked)) (omega (arith, so_far.counted, read.asked), omega (arith, so_far.gave, read.gave.0 some))
-    (omega arith) Memory c.from_residual.result (err_is _ _ c.from_residual.ensures.1)
+    (omega arith) Memory _ (err_is _ _ c.from_residual.ensures.1)
 
 pub returns-clause-asked : goal.returns-clause-asked
 returns-clause-asked g c =
     let so_far = c.reads.invariant in
-    AsksSource-stopped (2 ^ 40) (reads g.R.Source.calls g.R.Source.gave c.args.reader.now)
-    (reads g.R.Source.calls g.R.Source.gave c.reads.reader) c.reads._reads 0
+    AsksSource-stopped (2 ^ 40) _ _ c.reads._reads 0
     (omega (arith, so_far.asked)) (omega (arith, so_far.counted), omega (arith, so_far.gave)) (omega arith) Endless (Err Endless) refl

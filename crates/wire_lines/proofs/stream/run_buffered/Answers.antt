@@ -1,6 +1,5 @@
-use Rattle.std.proofs.Common.{◌≤◌, ℕ, List, [], Option, Ok, Err, refl, sym, subst, arith}
+use Rattle.std.proofs.Common.{ℕ, List, [], Option, Ok, Err, refl, sym, subst, arith}
 use Rattle.server_world.specs.Server.{seen_as, was_refused}
-use Rattle.wire_lines.specs.declared.stream.Summary.{Summary}
 use Rattle.wire_lines.specs.declared.fault.RunFault.TheVariants.{Memory}
 use Rattle.wire_lines.specs.Feeding.{at}
 use Rattle.wire_lines.specs.Run.{Runs, reads}
@@ -26,20 +25,16 @@ returns-in_err-serve_to_end-clause-runs g c = λ input known.
     let served = c.serve_to_end in
     let end = at (g.W.Sink.held served.new.writer) served.new.self.lines (seen_as served.new.server) [] in
     let fault = c.in_err-serve_to_end.field-0.0 in
-    let within : served.new.self.lines.count ≤ c.args.max_lines = omega (arith, c.in_err-serve_to_end.ensures.within, made.most) in
     let ends = Ends-beginning {T = Unit {0}} c.args.max_lines c.args.max_reads (reads g.R.Source.calls g.R.Source.gave c.args.reader.now)
     (reads g.R.Source.calls g.R.Source.gave served.new.reader) (g.R.Source.left served.new.reader) _ _ _ _ input (g.W.Sink.held c.args.writer.now)
     (seen_as c.args.server.now) end (Err fault) made.most made.output made.count made.begun
     (c.in_err-serve_to_end.ensures.ends input known) in
-    let runs = Runs-stopped c.args.max_lines c.args.max_reads (reads g.R.Source.calls g.R.Source.gave c.args.reader.now)
+    Runs-stopped c.args.max_lines c.args.max_reads (reads g.R.Source.calls g.R.Source.gave c.args.reader.now)
     (reads g.R.Source.calls g.R.Source.gave served.new.reader) input (g.R.Source.left served.new.reader) (g.W.Sink.held c.args.writer.now)
     (g.W.Sink.held served.new.writer) (seen_as c.args.server.now)
     (seen_as served.new.server) served.new.self.lines.output.gathered served.new.self.lines.count
-    (Unit {0}) fault c.in_err-serve_to_end.ensures.written within ends in
-    subst (Runs c.args.max_lines c.args.max_reads (reads g.R.Source.calls g.R.Source.gave c.args.reader.now)
-    (reads g.R.Source.calls g.R.Source.gave served.new.reader) input (g.R.Source.left served.new.reader) (g.W.Sink.held c.args.writer.now)
-    (seen_as c.args.server.now) (g.W.Sink.held served.new.writer) (seen_as served.new.server))
-    (sym (err_is _ _ c.from_residual-in_err-serve_to_end.ensures.1)) runs
+    (Unit {0}) fault _ (err_is _ _ c.from_residual-in_err-serve_to_end.ensures.1) c.in_err-serve_to_end.ensures.written
+    (omega (arith, c.in_err-serve_to_end.ensures.within, made.most)) ends
 
 pub returns-in_err-serve_to_end-clause-failed : goal.returns-in_err-serve_to_end-clause-failed
 returns-in_err-serve_to_end-clause-failed g c =
@@ -57,33 +52,22 @@ returns-clause-runs g c = λ input known.
     (reads g.R.Source.calls g.R.Source.gave served.new.reader) (g.R.Source.left served.new.reader) _ _ _ _ input (g.W.Sink.held c.args.writer.now)
     (seen_as c.args.server.now) end (Ok c.in_ok-serve_to_end.field-0) made.most made.output made.count made.begun
     (c.in_ok-serve_to_end.ensures.ends input known) in
-    let count = served.new.self.lines.count in
-    let within : count ≤ c.args.max_lines = omega (arith, c.in_ok-serve_to_end.ensures.within, made.most) in
-    let runs = Runs-done c.args.max_lines c.args.max_reads (reads g.R.Source.calls g.R.Source.gave c.args.reader.now)
+    rw c.summary.ensures (Runs-done c.args.max_lines c.args.max_reads (reads g.R.Source.calls g.R.Source.gave c.args.reader.now)
     (reads g.R.Source.calls g.R.Source.gave served.new.reader) input (g.R.Source.left served.new.reader) (g.W.Sink.held c.args.writer.now)
     (g.W.Sink.held served.new.writer) (seen_as c.args.server.now) (seen_as served.new.server) served.new.self.lines.output.gathered
-    (record { lines = count; memory_refused = was_refused (seen_as served.new.server) }) c.in_ok-serve_to_end.ensures.written within done in
-    subst (λ (summary : Summary). Runs c.args.max_lines c.args.max_reads (reads g.R.Source.calls g.R.Source.gave c.args.reader.now)
-    (reads g.R.Source.calls g.R.Source.gave served.new.reader) input (g.R.Source.left served.new.reader) (g.W.Sink.held c.args.writer.now)
-    (seen_as c.args.server.now) (g.W.Sink.held served.new.writer) (seen_as served.new.server) (Ok summary)) (sym c.summary.ensures) runs
+    (record { lines = served.new.self.lines.count; memory_refused = was_refused (seen_as served.new.server) }) c.in_ok-serve_to_end.ensures.written
+    (omega (arith, c.in_ok-serve_to_end.ensures.within, made.most)) done)
 
 -- there is no memory for buffers: the source is not asked
 pub returns-in_err-stream-clause-asked : goal.returns-in_err-stream-clause-asked
-returns-in_err-stream-clause-asked g c =
-    let calls = reads g.R.Source.calls g.R.Source.gave c.args.reader.now in
-    AsksSource-stopped c.args.max_reads calls calls 0 0 (omega arith) (omega arith, omega arith) (omega arith) Memory c.from_residual.result
+returns-in_err-stream-clause-asked g c = AsksSource-stopped c.args.max_reads _ _ 0 0 (omega arith) (omega arith, omega arith) (omega arith) Memory _
     (err_is _ _ c.from_residual.ensures.1)
 
 pub returns-in_err-serve_to_end-clause-asked : goal.returns-in_err-serve_to_end-clause-asked
 returns-in_err-serve_to_end-clause-asked g c =
-    let served = c.serve_to_end in
-    AsksSource-failed {T = Unit {0}} c.args.max_reads (reads g.R.Source.calls g.R.Source.gave c.args.reader.now)
-    (reads g.R.Source.calls g.R.Source.gave served.new.reader)
-    (Err c.in_err-serve_to_end.field-0.0) c.in_err-serve_to_end.field-0.0 c.from_residual-in_err-serve_to_end.result
+    AsksSource-failed {T = Unit {0}} c.args.max_reads _ _ (Err c.in_err-serve_to_end.field-0.0) c.in_err-serve_to_end.field-0.0 _
     (err_is _ _ c.from_residual-in_err-serve_to_end.ensures.1) c.in_err-serve_to_end.ensures.asked
 
 pub returns-clause-asked : goal.returns-clause-asked
 returns-clause-asked g c =
-    let served = c.serve_to_end in
-    AsksSource-means c.args.max_reads (reads g.R.Source.calls g.R.Source.gave c.args.reader.now) (reads g.R.Source.calls g.R.Source.gave served.new.reader)
-    (Ok c.in_ok-serve_to_end.field-0) _ (λ ok. refl) c.in_ok-serve_to_end.ensures.asked
+    AsksSource-means c.args.max_reads _ _ (Ok c.in_ok-serve_to_end.field-0) _ (λ ok. refl) c.in_ok-serve_to_end.ensures.asked

@@ -1,6 +1,6 @@
-use Rattle.std.proofs.Common.{◌∙◌, ◌++◌, ◌∷◌, ◌≤◌, [], sym, ap, arith, length, map}
+use Rattle.std.proofs.Common.{◌∙◌, ◌++◌, ◌∷◌, [], sym}
 use Rattle.class_table.specs.declared.class.Class.{Class}
-use Rattle.class_table.proofs.ForCallers.{map-taken, taken-whole}
+use Rattle.class_table.proofs.ForCallers.{map-taken}
 use Rattle.session_queries.proofs.descriptions.classes.class_names.Goals as goal
 
 pub classes-preserved : goal.classes-preserved

@@ -1,4 +1,4 @@
-use Rattle.std.proofs.Common.{◌≡◌, ◌∙◌, ℕ, List, arith, get_or, subst}
+use Rattle.std.proofs.Common.{◌∙◌, ℕ, List, arith, subst}
 use Rattle.std.proofs.lemmas.List.{take_all}
 use Rattle.std.specs.List.{flat_map}
 use Rattle.wire_lines.specs.Sending.{Sent, out}
@@ -13,26 +13,24 @@ returns-in_err-send_line-clause-sent g c =
     let old = out (g.W.Sink.held c.args.writer.now) c.args.buffer.now in
     let mid = out (g.W.Sink.held c.loop-number.writer) c.loop-number.buffer in
     let new = out (g.W.Sink.held c.send_line.new.writer) c.send_line.new.buffer in
-    let line : ended c.first_line.result.0.now ≡ numbered c.args.input.now c.args.self.now.starts.items
-    (get_or c.args.numbers.now c.loop-number.number-index 0) =
-    line-numbered c.args.input.now c.args.self.now.starts.items c.index.result.now _ c.first_line.result.0.now c.first_line.ensures.line c.index.ensures
-    (c.requires.numbers c.loop-number.number-index 0 (omega arith)) in
     SentAll-failed old new _ _ c.from_residual.ensures.0
     (SentFront-next (numbered c.args.input.now c.args.self.now.starts.items) c.args.numbers.now c.loop-number.number-index old mid new 0
-    (ended c.first_line.result.0.now) (omega arith) line c.loop-number.invariant.sent c.in_err-send_line.ensures.sent)
+    (ended c.first_line.result.0.now) (omega arith)
+    (line-numbered c.args.input.now c.args.self.now.starts.items c.index.result.now _ c.first_line.result.0.now
+    c.first_line.ensures.line c.index.ensures (c.requires.numbers c.loop-number.number-index 0 (omega arith)))
+    c.loop-number.invariant.sent c.in_err-send_line.ensures.sent)
 
 pub loop-number-preserved : goal.loop-number-preserved
 loop-number-preserved g c =
     let old = out (g.W.Sink.held c.args.writer.now) c.args.buffer.now in
     let mid = out (g.W.Sink.held c.loop-number.writer) c.loop-number.buffer in
     let new = out (g.W.Sink.held c.send_line.new.writer) c.send_line.new.buffer in
-    let line : ended c.first_line.result.0.now ≡ numbered c.args.input.now c.args.self.now.starts.items
-    (get_or c.args.numbers.now c.loop-number.number-index 0) =
-    line-numbered c.args.input.now c.args.self.now.starts.items c.index.result.now _ c.first_line.result.0.now c.first_line.ensures.line c.index.ensures
-    (c.requires.numbers c.loop-number.number-index 0 (omega arith)) in
     record {
       sent = Sent-next (numbered c.args.input.now c.args.self.now.starts.items) c.args.numbers.now c.loop-number.number-index old mid new 0
-          (ended c.first_line.result.0.now) (omega arith) line c.loop-number.invariant.sent c.in_ok-send_line.ensures.sent;
+          (ended c.first_line.result.0.now) (omega arith)
+          (line-numbered c.args.input.now c.args.self.now.starts.items c.index.result.now _ c.first_line.result.0.now
+          c.first_line.ensures.line c.index.ensures (c.requires.numbers c.loop-number.number-index 0 (omega arith)))
+          c.loop-number.invariant.sent c.in_ok-send_line.ensures.sent;
       counted = c.in_ok-send_line.ensures.counted ∙ c.loop-number.invariant.counted;
     }
 

@@ -3,14 +3,15 @@ use Rattle.std.specs.Io.KnownBytes.{Consumes}
 use Rattle.std.proofs.KnownBytes.{Consumes-nil, Consumes-kept, Consumes-trans}
 use Rattle.wire_lines.specs.declared.fault.RunFault.{RunFault}
 use Rattle.wire_lines.specs.declared.fault.RunFault.TheVariants.{Read, Write, Endless}
-use Rattle.wire_lines.specs.Stream.{Fed, SinkFails}
+use Rattle.wire_lines.specs.Sending.{out}
+use Rattle.wire_lines.specs.Stream.{Fed, Finishes, SinkFails, Stops}
 use Rattle.wire_lines.specs.Feeding.{at}
-use Rattle.wire_lines.specs.Run.{Ends, reads}
+use Rattle.wire_lines.specs.Run.{reads}
 use Rattle.wire_lines.proofs.Answering.{Later-trans}
-use Rattle.wire_lines.proofs.Asking.{AsksSource-stopped}
-use Rattle.wire_lines.proofs.Feeding.{and_then, Fed-later, Fed-refl, Fed-trans, Cut-after, Cut-later, Finishes-later, Stops-cut, Stops-anywhere}
+use Rattle.wire_lines.proofs.Asking.{AsksSource-ended, AsksSource-stopped}
+use Rattle.wire_lines.proofs.Feeding.{and_then, Fed-later, Fed-refl, Cut-after, Cut-later, Finishes-later, Stops-cut, Stops-anywhere}
 use Rattle.wire_lines.proofs.Feeding.{SinkFails-unread}
-use Rattle.wire_lines.proofs.Kept.{err_is}
+use Rattle.wire_lines.proofs.Kept.{err_is, point}
 use Rattle.wire_lines.proofs.Reading.{known_rest, known_end, Fed-flushed, Cut-flushed, Cut-here, Cut-known, Stops-known, Fed-read, Stops-read, Ends-stopped}
 use Rattle.wire_lines.proofs.Reading.{Ends-finished, not_read, counted_read}
 use Rattle.server_world.specs.Server.{seen_as}
@@ -18,56 +19,39 @@ use Rattle.wire_lines.proofs.stream.Stream.serve_all.Goals as goal
 
 pub returns-in_err-flush-clause-ends : goal.returns-in_err-flush-clause-ends
 returns-in_err-flush-clause-ends g c = λ input known.
-    let old = c.args.self.now in
-    let start = at (g.W.Sink.held c.args.writer.now) old.lines (seen_as c.args.server.now) old.begun in
-    let so_far = c.reads.invariant.1 in
-    let bytes = c.reads.invariant.0 in
+    let start = at (g.W.Sink.held c.args.writer.now) c.args.self.now.lines (seen_as c.args.server.now) c.args.self.now.begun in
+    let (bytes, so_far) = c.reads.invariant in
     let (rest, left, is) = known_rest _ _ bytes input so_far.consumed known in
-    let here = at (g.W.Sink.held c.reads.writer) c.reads.self.lines (seen_as c.reads.server) c.reads.self.begun in
-    let end = at (g.W.Sink.held c.flush.new.writer) c.flush.new.self (seen_as c.reads.server) [] in
-    let flushed = c.in_err-flush.ensures in
-    let cut = Cut-flushed (seen_as c.reads.server) (g.W.Sink.held c.reads.writer)
-    (g.W.Sink.held c.flush.new.writer) c.reads.self.lines.output.gathered c.flush.new.self.output.gathered c.reads.self.begun
-    [] rest c.reads.self.lines.count c.flush.new.self.count flushed.emptied flushed.bytes flushed.count in
-    Ends-stopped old.lines.most c.args.max_reads (reads g.R.Source.calls g.R.Source.gave c.args.reader.now)
+    let end = point (seen_as c.reads.server) (out (g.W.Sink.held c.flush.new.writer) c.flush.new.self) c.reads.self.lines.count [] in
+    Ends-stopped c.args.self.now.lines.most c.args.max_reads (reads g.R.Source.calls g.R.Source.gave c.args.reader.now)
     (reads g.R.Source.calls g.R.Source.gave c.reads.reader) (g.R.Source.left c.reads.reader) Write
     (and_then start input) end c.from_residual.result not_read
-    (Cut-known start end bytes rest input is Write (Cut-after Write (and_then start bytes) here end rest so_far.fed cut))
+    (Cut-known start end bytes rest input is Write
+    (Cut-flushed (and_then start bytes) (seen_as c.reads.server) (g.W.Sink.held c.reads.writer) (g.W.Sink.held c.flush.new.writer)
+    c.reads.self.lines.output.gathered c.flush.new.self c.reads.self.begun [] rest _ so_far.fed c.in_err-flush.ensures.emptied c.in_err-flush.ensures.bytes))
     (err_is _ _ c.from_residual.ensures.1)
 
 pub returns-in_default-clause-ends : goal.returns-in_default-clause-ends
 returns-in_default-clause-ends g c = λ input known.
-    let old = c.args.self.now in
-    let start = at (g.W.Sink.held c.args.writer.now) old.lines (seen_as c.args.server.now) old.begun in
-    let so_far = c.reads.invariant.1 in
-    let bytes = c.reads.invariant.0 in
-    let here = at (g.W.Sink.held c.reads.writer) c.reads.self.lines (seen_as c.reads.server) c.reads.self.begun in
-    let next = at (g.W.Sink.held c.flush.new.writer) c.flush.new.self (seen_as c.reads.server) c.reads.self.begun in
-    let flushed = c.in_ok-flush.ensures in
-    let fed : Fed here next = Fed-flushed (seen_as c.reads.server) (g.W.Sink.held c.reads.writer)
-    (g.W.Sink.held c.flush.new.writer) c.reads.self.lines.output.gathered c.flush.new.self.output.gathered c.reads.self.begun c.reads.self.lines.count
-    c.flush.new.self.count flushed.emptied flushed.bytes flushed.count in
-    let fed_all : Fed (and_then start bytes) next = Fed-trans (and_then start bytes) here next so_far.fed fed in
-    let end = at (g.W.Sink.held c.flush.new.writer) c.flush.new.self (seen_as c.reads.server) [] in
+    let start = at (g.W.Sink.held c.args.writer.now) c.args.self.now.lines (seen_as c.args.server.now) c.args.self.now.begun in
+    let (bytes, so_far) = c.reads.invariant in
+    let next = point (seen_as c.reads.server) (out (g.W.Sink.held c.flush.new.writer) c.flush.new.self) c.reads.self.lines.count c.reads.self.begun in
+    let fed : Fed (and_then start bytes) next = Fed-flushed (and_then start bytes) (seen_as c.reads.server) (g.W.Sink.held c.reads.writer) _
+    c.reads.self.lines.output.gathered c.flush.new.self c.reads.self.begun _ so_far.fed c.in_ok-flush.ensures.emptied c.in_ok-flush.ensures.bytes in
+    let end = point (seen_as c.reads.server) (out (g.W.Sink.held c.flush.new.writer) c.flush.new.self) c.reads.self.lines.count [] in
     let kept = Consumes-kept _ _ _ bytes so_far.consumed c.in_default.ensures.bytes in
     let (rest, left, is) = known_rest _ _ bytes input kept known in (
-      Cut-known start end bytes rest input is Read (Cut-after Read (and_then start bytes) next end rest fed_all (Cut-here Read next [] rest tt)),
-      counted_read start next bytes rest input (g.R.Source.left c.read.new.self) [] is left fed_all c.reads.self.no_end,
+      Cut-known start end bytes rest input is Read (Cut-after Read (and_then start bytes) next end rest fed (Cut-here Read next [] rest tt)),
+      counted_read start next bytes rest input (g.R.Source.left c.read.new.self) [] is left fed c.reads.self.no_end,
     )
 
 pub returns-then-count-eq0-clause-ends : goal.returns-then-count-eq0-clause-ends
 returns-then-count-eq0-clause-ends g c = λ input known.
-    let old = c.args.self.now in
-    let start = at (g.W.Sink.held c.args.writer.now) old.lines (seen_as c.args.server.now) old.begun in
-    let so_far = c.reads.invariant.1 in
-    let bytes = c.reads.invariant.0 in
-    let here = at (g.W.Sink.held c.reads.writer) c.reads.self.lines (seen_as c.reads.server) c.reads.self.begun in
-    let next = at (g.W.Sink.held c.flush.new.writer) c.flush.new.self (seen_as c.reads.server) c.reads.self.begun in
-    let flushed = c.in_ok-flush.ensures in
-    let fed : Fed here next = Fed-flushed (seen_as c.reads.server) (g.W.Sink.held c.reads.writer)
-    (g.W.Sink.held c.flush.new.writer) c.reads.self.lines.output.gathered c.flush.new.self.output.gathered c.reads.self.begun c.reads.self.lines.count
-    c.flush.new.self.count flushed.emptied flushed.bytes flushed.count in
-    let fed_all : Fed (and_then start bytes) next = Fed-trans (and_then start bytes) here next so_far.fed fed in
+    let start = at (g.W.Sink.held c.args.writer.now) c.args.self.now.lines (seen_as c.args.server.now) c.args.self.now.begun in
+    let (bytes, so_far) = c.reads.invariant in
+    let next = point (seen_as c.reads.server) (out (g.W.Sink.held c.flush.new.writer) c.flush.new.self) c.reads.self.lines.count c.reads.self.begun in
+    let fed : Fed (and_then start bytes) next = Fed-flushed (and_then start bytes) (seen_as c.reads.server) (g.W.Sink.held c.reads.writer) _
+    c.reads.self.lines.output.gathered c.flush.new.self c.reads.self.begun _ so_far.fed c.in_ok-flush.ensures.emptied c.in_ok-flush.ensures.bytes in
     let read = c.in-Ok.ensures.bytes in
     let none : take c.in-Ok.count c.read.new.buffer ≡ [] = ap (λ n. take n c.read.new.buffer) c.if-count-eq0.true in
     let consumed : Consumes (g.R.Source.left c.args.reader.now) (g.R.Source.left c.read.new.self) (bytes ++ take c.in-Ok.count c.read.new.buffer) =
@@ -77,14 +61,10 @@ returns-then-count-eq0-clause-ends g c = λ input known.
     let whole : bytes ≡ input = sym (is ∙ ap (λ l. (bytes ++ take c.in-Ok.count c.read.new.buffer) ++ l) nothing
     ∙ append-nil (bytes ++ take c.in-Ok.count c.read.new.buffer) ∙ ap (λ l. bytes ++ l) none ∙ append-nil bytes) in
     let end = at (g.W.Sink.held c.finish.new.writer) c.finish.new.self.lines (seen_as c.finish.new.server) [] in
-    let ends = Ends-finished c.flush.new.self.most c.args.max_reads (reads g.R.Source.calls g.R.Source.gave c.args.reader.now)
-    (reads g.R.Source.calls g.R.Source.gave c.read.new.self) (g.R.Source.left c.read.new.self)
-    (and_then start bytes) next end c.finish.result _ _ c.finish.ensures.failed fed_all c.finish.ensures.done in
-    let all = subst (λ (b : List ℕ). Ends c.flush.new.self.most c.args.max_reads (reads g.R.Source.calls g.R.Source.gave c.args.reader.now)
-    (reads g.R.Source.calls g.R.Source.gave c.read.new.self) (g.R.Source.left c.read.new.self) (and_then start b) end c.finish.result) whole ends in
-    subst (λ (most : ℕ). Ends most c.args.max_reads (reads g.R.Source.calls g.R.Source.gave c.args.reader.now)
-    (reads g.R.Source.calls g.R.Source.gave c.read.new.self) (g.R.Source.left c.read.new.self) (and_then start input) end c.finish.result)
-    (flushed.most ∙ so_far.most) all
+    Ends-finished c.args.self.now.lines.most c.args.max_reads (reads g.R.Source.calls g.R.Source.gave c.args.reader.now)
+    (reads g.R.Source.calls g.R.Source.gave c.read.new.self) (g.R.Source.left c.read.new.self) (and_then start input) next end c.finish.result _ _
+    c.finish.ensures.failed (subst (λ (b : List ℕ). Fed (and_then start b) next) whole fed)
+    (subst (λ (most : ℕ). Finishes most next end c.finish.result) so_far.most c.finish.ensures.done)
 
 pub returns-in_err-flush-clause-later : goal.returns-in_err-flush-clause-later
 returns-in_err-flush-clause-later g c = Fed-later _ _ c.reads.invariant.1.fed
@@ -107,48 +87,34 @@ returns-in_err-feed-clause-later g c =
 
 pub returns-in_err-feed-clause-ends : goal.returns-in_err-feed-clause-ends
 returns-in_err-feed-clause-ends g c = λ input known.
-    let old = c.args.self.now in
-    let start = at (g.W.Sink.held c.args.writer.now) old.lines (seen_as c.args.server.now) old.begun in
-    let so_far = c.reads.invariant.1 in
-    let bytes = c.reads.invariant.0 in
-    let here = at (g.W.Sink.held c.reads.writer) c.reads.self.lines (seen_as c.reads.server) c.reads.self.begun in
-    let next = at (g.W.Sink.held c.flush.new.writer) c.flush.new.self (seen_as c.reads.server) c.reads.self.begun in
-    let flushed = c.in_ok-flush.ensures in
-    let fed : Fed here next = Fed-flushed (seen_as c.reads.server) (g.W.Sink.held c.reads.writer)
-    (g.W.Sink.held c.flush.new.writer) c.reads.self.lines.output.gathered c.flush.new.self.output.gathered c.reads.self.begun c.reads.self.lines.count
-    c.flush.new.self.count flushed.emptied flushed.bytes flushed.count in
-    let fed_all : Fed (and_then start bytes) next = Fed-trans (and_then start bytes) here next so_far.fed fed in
-    let read = c.in-Ok.ensures.bytes in
+    let start = at (g.W.Sink.held c.args.writer.now) c.args.self.now.lines (seen_as c.args.server.now) c.args.self.now.begun in
+    let (bytes, so_far) = c.reads.invariant in
+    let next = point (seen_as c.reads.server) (out (g.W.Sink.held c.flush.new.writer) c.flush.new.self) c.reads.self.lines.count c.reads.self.begun in
+    let fed : Fed (and_then start bytes) next = Fed-flushed (and_then start bytes) (seen_as c.reads.server) (g.W.Sink.held c.reads.writer) _
+    c.reads.self.lines.output.gathered c.flush.new.self c.reads.self.begun _ so_far.fed c.in_ok-flush.ensures.emptied c.in_ok-flush.ensures.bytes in
     let chunk = take c.in-Ok.count c.read.new.buffer in
     let consumed : Consumes (g.R.Source.left c.args.reader.now) (g.R.Source.left c.read.new.self) (bytes ++ chunk) =
-    Consumes-trans _ _ _ bytes chunk so_far.consumed read.0 in
+    Consumes-trans _ _ _ bytes chunk so_far.consumed c.in-Ok.ensures.bytes.0 in
     let (rest, left, is) = known_rest _ _ _ input consumed known in
     let after = at (g.W.Sink.held c.feed.new.writer) c.feed.new.self.lines (seen_as c.feed.new.server) c.feed.new.self.begun in
     let end = at (g.W.Sink.held c.feed.new.writer) c.feed.new.self.lines (seen_as c.feed.new.server) [] in
     let fault = c.in_err-feed.field-0.0 in
-    let stops = Stops-read c.flush.new.self.most fault start here next after bytes chunk rest so_far.fed fed (c.in_err-feed.ensures.fed rest) in
-    let ended = Stops-anywhere c.flush.new.self.most fault (and_then start (bytes ++ chunk)) after [] rest stops in
-    let ends = Ends-stopped c.flush.new.self.most c.args.max_reads (reads g.R.Source.calls g.R.Source.gave c.args.reader.now)
+    let most = c.args.self.now.lines.most in
+    let stops = Stops-read most fault start next after bytes chunk rest fed
+    (subst (λ (most : ℕ). Stops most fault (and_then next chunk) after rest) so_far.most (c.in_err-feed.ensures.fed rest)) in
+    Ends-stopped most c.args.max_reads (reads g.R.Source.calls g.R.Source.gave c.args.reader.now)
     (reads g.R.Source.calls g.R.Source.gave c.read.new.self) (g.R.Source.left c.read.new.self) fault
     (and_then start input) end c.from_residual-in_err-feed.result (SinkFails-unread (Unit {0}) _ _ fault c.in_err-feed.ensures.failed)
-    (Stops-known start end (bytes ++ chunk) rest input is c.flush.new.self.most fault ended) (err_is _ _ c.from_residual-in_err-feed.ensures.1) in
-    subst (λ (most : ℕ). Ends most c.args.max_reads (reads g.R.Source.calls g.R.Source.gave c.args.reader.now)
-    (reads g.R.Source.calls g.R.Source.gave c.read.new.self) (g.R.Source.left c.read.new.self)
-    (and_then start input) end c.from_residual-in_err-feed.result) (flushed.most ∙ so_far.most) ends
+    (Stops-known start end (bytes ++ chunk) rest input is most fault (Stops-anywhere most fault (and_then start (bytes ++ chunk)) after [] rest stops))
+    (err_is _ _ c.from_residual-in_err-feed.ensures.1)
 
 pub reads-preserved : goal.reads-preserved
 reads-preserved g c =
-    let old = c.args.self.now in
-    let start = at (g.W.Sink.held c.args.writer.now) old.lines (seen_as c.args.server.now) old.begun in
-    let so_far = c.reads.invariant.1 in
-    let bytes = c.reads.invariant.0 in
-    let here = at (g.W.Sink.held c.reads.writer) c.reads.self.lines (seen_as c.reads.server) c.reads.self.begun in
-    let next = at (g.W.Sink.held c.flush.new.writer) c.flush.new.self (seen_as c.reads.server) c.reads.self.begun in
-    let flushed = c.in_ok-flush.ensures in
-    let fed : Fed here next = Fed-flushed (seen_as c.reads.server) (g.W.Sink.held c.reads.writer)
-    (g.W.Sink.held c.flush.new.writer) c.reads.self.lines.output.gathered c.flush.new.self.output.gathered c.reads.self.begun c.reads.self.lines.count
-    c.flush.new.self.count flushed.emptied flushed.bytes flushed.count in
-    let read = c.in-Ok.ensures.bytes in
+    let start = at (g.W.Sink.held c.args.writer.now) c.args.self.now.lines (seen_as c.args.server.now) c.args.self.now.begun in
+    let (bytes, so_far) = c.reads.invariant in
+    let next = point (seen_as c.reads.server) (out (g.W.Sink.held c.flush.new.writer) c.flush.new.self) c.reads.self.lines.count c.reads.self.begun in
+    let fed : Fed (and_then start bytes) next = Fed-flushed (and_then start bytes) (seen_as c.reads.server) (g.W.Sink.held c.reads.writer) _
+    c.reads.self.lines.output.gathered c.flush.new.self c.reads.self.begun _ so_far.fed c.in_ok-flush.ensures.emptied c.in_ok-flush.ensures.bytes in
     let chunk = take c.in-Ok.count c.read.new.buffer in
     let after = at (g.W.Sink.held c.feed.new.writer) c.feed.new.self.lines (seen_as c.feed.new.server) c.feed.new.self.begun in
     let fed_more = c.in_ok-feed.ensures in
@@ -156,28 +122,26 @@ reads-preserved g c =
     let some : 0 < c.in-Ok.count = omega arith in (
       bytes ++ chunk,
       record {
-        consumed = Consumes-trans _ _ _ bytes chunk so_far.consumed read.0;
+        consumed = Consumes-trans _ _ _ bytes chunk so_far.consumed c.in-Ok.ensures.bytes.0;
         asked = omega (arith, so_far.asked, c.in-Ok.ensures.asked);
         counted = omega (arith, so_far.counted, c.in-Ok.ensures.asked);
         gave = omega (arith, so_far.gave, c.in-Ok.ensures.gave.0 some);
         enough = omega (arith, so_far.enough, c.in-Ok.ensures.bound.1);
-        fed = Fed-read start here next after bytes chunk so_far.fed fed fed_more.fed;
-        most = fed_more.most ∙ flushed.most ∙ so_far.most;
+        fed = Fed-read start next after bytes chunk fed fed_more.fed;
+        most = fed_more.most ∙ so_far.most;
         read_fails = c.in-Ok.ensures.counted ∙ so_far.read_fails;
-        write_fails = fed_more.failed ∙ flushed.counted ∙ so_far.write_fails;
+        write_fails = fed_more.failed ∙ c.in_ok-flush.ensures.counted ∙ so_far.write_fails;
       },
     )
 
 pub returns-clause-ends : goal.returns-clause-ends
 returns-clause-ends g c = λ input known.
-    let old = c.args.self.now in
-    let start = at (g.W.Sink.held c.args.writer.now) old.lines (seen_as c.args.server.now) old.begun in
-    let so_far = c.reads.invariant.1 in
-    let bytes = c.reads.invariant.0 in
+    let start = at (g.W.Sink.held c.args.writer.now) c.args.self.now.lines (seen_as c.args.server.now) c.args.self.now.begun in
+    let (bytes, so_far) = c.reads.invariant in
     let (rest, left, is) = known_rest _ _ bytes input so_far.consumed known in
     let here = at (g.W.Sink.held c.reads.writer) c.reads.self.lines (seen_as c.reads.server) c.reads.self.begun in
     let end = at (g.W.Sink.held c.reads.writer) c.reads.self.lines (seen_as c.reads.server) [] in
-    let count = length-append old.begun input in
+    let count = length-append c.args.self.now.begun input in
     let all = ap length is in
     let parts = length-append bytes rest in (
       Cut-known start end bytes rest input is Endless (Cut-after Endless (and_then start bytes) here end rest so_far.fed (Cut-here Endless here [] rest tt)),
@@ -226,23 +190,17 @@ pub returns-clause-written : goal.returns-clause-written
 returns-clause-written g c = λ reads. absurd (cc reads)
 
 pub returns-in_err-flush-clause-within : goal.returns-in_err-flush-clause-within
-returns-in_err-flush-clause-within g c = omega (arith, c.flush.new.self.within, c.in_err-flush.ensures.most, c.reads.invariant.1.most)
+returns-in_err-flush-clause-within g c = omega (arith, c.reads.self.lines.within, c.reads.invariant.1.most)
 
 pub returns-in_default-clause-within : goal.returns-in_default-clause-within
-returns-in_default-clause-within g c = omega (arith, c.flush.new.self.within, c.in_ok-flush.ensures.most, c.reads.invariant.1.most)
+returns-in_default-clause-within g c = omega (arith, c.reads.self.lines.within, c.reads.invariant.1.most)
 
 pub returns-then-count-eq0-clause-within : goal.returns-then-count-eq0-clause-within
 returns-then-count-eq0-clause-within g c =
-    omega (arith, c.finish.new.self.lines.within, c.finish.ensures.most, c.in_ok-flush.ensures.most, c.reads.invariant.1.most)
+    omega (arith, c.finish.new.self.lines.within, c.finish.ensures.most, c.reads.invariant.1.most)
 
 pub returns-in_err-feed-clause-within : goal.returns-in_err-feed-clause-within
-returns-in_err-feed-clause-within g c = omega (
-  arith,
-  c.feed.new.self.lines.within,
-  c.in_err-feed.ensures.most,
-  c.in_ok-flush.ensures.most,
-  c.reads.invariant.1.most,
-)
+returns-in_err-feed-clause-within g c = omega (arith, c.feed.new.self.lines.within, c.in_err-feed.ensures.most, c.reads.invariant.1.most)
 
 pub returns-clause-within : goal.returns-clause-within
 returns-clause-within g c = omega (arith, c.reads.self.lines.within, c.reads.invariant.1.most)
@@ -250,48 +208,36 @@ returns-clause-within g c = omega (arith, c.reads.self.lines.within, c.reads.inv
 pub returns-in_err-flush-clause-asked : goal.returns-in_err-flush-clause-asked
 returns-in_err-flush-clause-asked g c =
     let so_far = c.reads.invariant.1 in
-    AsksSource-stopped c.args.max_reads (reads g.R.Source.calls g.R.Source.gave c.args.reader.now)
-    (reads g.R.Source.calls g.R.Source.gave c.reads.reader) c.reads._reads 0
-    (omega (arith, so_far.asked)) (omega (arith, so_far.counted), omega (arith, so_far.gave)) (omega arith) Write c.from_residual.result
-    (err_is _ _ c.from_residual.ensures.1)
+    AsksSource-stopped c.args.max_reads _ _ c.reads._reads 0
+    (omega (arith, so_far.asked)) (omega (arith, so_far.counted), omega (arith, so_far.gave)) (omega arith) Write _ (err_is _ _ c.from_residual.ensures.1)
 
 -- the read that failed gave nothing
 pub returns-in_default-clause-asked : goal.returns-in_default-clause-asked
 returns-in_default-clause-asked g c =
     let so_far = c.reads.invariant.1 in
     let read = c.in_default.ensures in
-    AsksSource-stopped c.args.max_reads (reads g.R.Source.calls g.R.Source.gave c.args.reader.now)
-    (reads g.R.Source.calls g.R.Source.gave c.read.new.self) c.reads._reads 1
-    (omega (arith, so_far.asked, read.asked)) (omega (arith, so_far.counted, read.asked), omega (arith, so_far.gave, read.gave)) (omega arith) Read
-    (Err Read) refl
+    AsksSource-stopped c.args.max_reads _ _ c.reads._reads 1 (omega (arith, so_far.asked, read.asked))
+    (omega (arith, so_far.counted, read.asked), omega (arith, so_far.gave, read.gave)) (omega arith) Read (Err Read) refl
 
 -- nor did the one that found the end
 pub returns-then-count-eq0-clause-asked : goal.returns-then-count-eq0-clause-asked
 returns-then-count-eq0-clause-asked g c =
     let so_far = c.reads.invariant.1 in
     let read = c.in-Ok.ensures in
-    record {
-      within = omega (arith, so_far.asked, read.asked);
-      gave = c.reads._reads;
-      others = 1;
-      counted = (omega (arith, so_far.counted, read.asked), omega (arith, so_far.gave, read.gave.1 c.if-count-eq0.true));
-      once = omega arith;
-      ended = λ ok. refl;
-    }
+    AsksSource-ended c.args.max_reads _ _ c.reads._reads _ (omega (arith, so_far.asked, read.asked))
+    (omega (arith, so_far.counted, read.asked), omega (arith, so_far.gave, read.gave.1 c.if-count-eq0.true))
 
 pub returns-in_err-feed-clause-asked : goal.returns-in_err-feed-clause-asked
 returns-in_err-feed-clause-asked g c =
     let so_far = c.reads.invariant.1 in
     let read = c.in-Ok.ensures in
     let some : 0 < c.in-Ok.count = omega arith in
-    AsksSource-stopped c.args.max_reads (reads g.R.Source.calls g.R.Source.gave c.args.reader.now) (reads g.R.Source.calls g.R.Source.gave c.read.new.self)
-    (c.reads._reads + 1) 0
-    (omega (arith, so_far.asked, read.asked)) (omega (arith, so_far.counted, read.asked), omega (arith, so_far.gave, read.gave.0 some))
-    (omega arith) c.in_err-feed.field-0.0 c.from_residual-in_err-feed.result (err_is _ _ c.from_residual-in_err-feed.ensures.1)
+    AsksSource-stopped c.args.max_reads _ _ (c.reads._reads + 1) 0 (omega (arith, so_far.asked, read.asked))
+    (omega (arith, so_far.counted, read.asked), omega (arith, so_far.gave, read.gave.0 some))
+    (omega arith) c.in_err-feed.field-0.0 _ (err_is _ _ c.from_residual-in_err-feed.ensures.1)
 
 pub returns-clause-asked : goal.returns-clause-asked
 returns-clause-asked g c =
     let so_far = c.reads.invariant.1 in
-    AsksSource-stopped c.args.max_reads (reads g.R.Source.calls g.R.Source.gave c.args.reader.now)
-    (reads g.R.Source.calls g.R.Source.gave c.reads.reader) c.reads._reads 0
+    AsksSource-stopped c.args.max_reads _ _ c.reads._reads 0
     (omega (arith, so_far.asked)) (omega (arith, so_far.counted), omega (arith, so_far.gave)) (omega arith) Endless (Err Endless) refl

@@ -1,4 +1,4 @@
-use Rattle.std.proofs.Common.{[], ◌++◌, sym}
+use Rattle.std.proofs.Common.{◌++◌, sym}
 use Rattle.wire_lines.specs.declared.fault.RunFault.TheVariants.{Write}
 use Rattle.wire_lines.specs.Feeding.{at}
 use Rattle.wire_lines.specs.Run.{reads}
@@ -14,15 +14,12 @@ returns-in_err-flush-clause-ends g c = λ input known.
     let old = c.args.self.now in
     let start = at (g.W.Sink.held c.args.writer.now) old.lines (seen_as c.args.server.now) (old.begun ++ input) in
     let served = c.serve_all-ended in
-    let end = at (g.W.Sink.held c.flush.new.writer) c.flush.new.self (seen_as served.new.server) [] in
     let flushed = c.in_err-flush.ensures in
     Ends-stopped old.lines.most c.args.max_reads (reads g.R.Source.calls g.R.Source.gave c.args.reader.now)
-    (reads g.R.Source.calls g.R.Source.gave served.new.reader) (g.R.Source.left served.new.reader) Write start end c.from_residual.result not_read
-    (Ends-flush_failed old.lines.most c.args.max_reads (reads g.R.Source.calls g.R.Source.gave c.args.reader.now)
-    (reads g.R.Source.calls g.R.Source.gave served.new.reader) (g.R.Source.left served.new.reader) start (seen_as served.new.server)
-    (g.W.Sink.held served.new.writer) (g.W.Sink.held c.flush.new.writer)
-    served.new.self.lines.output.gathered c.flush.new.self.output.gathered served.new.self.lines.count c.flush.new.self.count served.result flushed.emptied
-    flushed.count flushed.bytes (served.ensures.ends input known))
+    (reads g.R.Source.calls g.R.Source.gave served.new.reader) (g.R.Source.left served.new.reader) Write start _ c.from_residual.result not_read
+    (Ends-flush_failed start (seen_as served.new.server) (g.W.Sink.held served.new.writer) (g.W.Sink.held c.flush.new.writer)
+    served.new.self.lines.output.gathered c.flush.new.self served.new.self.lines.count flushed.emptied flushed.bytes _ _ _ _ _ served.result
+    (served.ensures.ends input known))
     (err_is _ _ c.from_residual.ensures.1)
 
 pub returns-clause-ends : goal.returns-clause-ends
@@ -31,11 +28,9 @@ returns-clause-ends g c = λ input known.
     let start = at (g.W.Sink.held c.args.writer.now) old.lines (seen_as c.args.server.now) (old.begun ++ input) in
     let served = c.serve_all-ended in
     let flushed = c.in_ok-flush.ensures in
-    Ends-flushed old.lines.most c.args.max_reads (reads g.R.Source.calls g.R.Source.gave c.args.reader.now)
-    (reads g.R.Source.calls g.R.Source.gave served.new.reader) (g.R.Source.left served.new.reader) start (seen_as served.new.server)
-    (g.W.Sink.held served.new.writer) (g.W.Sink.held c.flush.new.writer)
-    served.new.self.lines.output.gathered c.flush.new.self.output.gathered served.new.self.lines.count c.flush.new.self.count served.result flushed.emptied
-    flushed.count flushed.bytes (served.ensures.ends input known)
+    Ends-flushed start (seen_as served.new.server) (g.W.Sink.held served.new.writer) (g.W.Sink.held c.flush.new.writer)
+    served.new.self.lines.output.gathered c.flush.new.self served.new.self.lines.count flushed.emptied flushed.bytes _ _ _ _ _ served.result
+    (served.ensures.ends input known)
 
 pub returns-in_err-flush-clause-written : goal.returns-in_err-flush-clause-written
 returns-in_err-flush-clause-written g c = IsWrittenOut-empty c.from_residual.result _ c.in_err-flush.ensures.emptied
@@ -48,8 +43,5 @@ returns-then-device_failed-clause-written g c = IsWrittenOut-failed c.serve_all-
     (sym c.if-device_failed.ensures) c.serve_all-ended.ensures.written
 
 pub returns-in_err-flush-clause-asked : goal.returns-in_err-flush-clause-asked
-returns-in_err-flush-clause-asked g c =
-    let served = c.serve_all-ended in
-    AsksSource-failed c.args.max_reads (reads g.R.Source.calls g.R.Source.gave c.args.reader.now)
-    (reads g.R.Source.calls g.R.Source.gave served.new.reader) served.result Write c.from_residual.result
-    (err_is _ _ c.from_residual.ensures.1) served.ensures.asked
+returns-in_err-flush-clause-asked g c = AsksSource-failed c.args.max_reads _ _ c.serve_all-ended.result Write _ (err_is _ _ c.from_residual.ensures.1)
+    c.serve_all-ended.ensures.asked
