@@ -1,5 +1,5 @@
 -- The tables, where the stores and the bindings of one place have changed.
-use Rattle.std.proofs.Common.{◌≡◌, ◌∙◌, ℕ, false, Option, refl, sym, ap, subst, arith}
+use Rattle.std.proofs.Common.{◌≡◌, ◌∙◌, ℕ, Option, refl, sym, ap, subst, arith}
 use Rattle.std.proofs.lemmas.List.{length-map}
 use Rattle.shared_rows.specs.Table.{IsPlace, Table}
 use Rattle.shared_rows.proofs.ForCallers as column
@@ -14,8 +14,8 @@ use Rattle.binding_values.specs.Graph.{Graph}
 use Rattle.binding_graph.specs.Table.{Graphs}
 use Rattle.session_model.specs.Showing.{changes}
 use Rattle.session_tables.specs.declared.tables.Tables.{Tables}
-use Rattle.session_tables.specs.Bound.{BoundShelves, ChangesBound, all_closed, seen_of, with_bound}
-use Rattle.session_tables.specs.Tables.{ChangesOnly, IsPlaced, state_at, with_state}
+use Rattle.session_tables.specs.Bound.{BoundShelves, all_closed, seen_of, with_bound}
+use Rattle.session_tables.specs.Tables.{IsPlaced, state_at, with_state}
 use Rattle.session_tables.specs.Told.{told_at}
 use Rattle.session_tables.proofs.TablesLemmas.{columns}
 
@@ -54,21 +54,6 @@ module _ (tables : Tables) (place : ℕ) (stores : StoreTable) (bindings : Graph
   put_state store graph new put =
       ap (with_stores tables) (put ∙ ap (λ bound. with_bound bound place (store bound) (graph bound)) is)
       ∙ state_with_stores tables place (store tables.stores) (graph tables.stores)
-
-  -- nothing else has changed
-  pub only_here : (new : BoundShelves) → ChangesBound place seen new → ChangesOnly place tables (with_stores tables new)
-  only_here new changed =
-      let its : ChangesBound place tables.stores new = subst (λ bound. ChangesBound place bound new) is changed in
-      record {
-        forests = column.changes_same empty_forest tables.forests tables.forests place refl;
-        layouts = its.layouts;
-        stores = its.stores;
-        graphs = its.graphs;
-        connections = column.changes_same no_rows tables.connections tables.connections place refl;
-        queues = column.changes_same empty_queue tables.queues tables.queues place refl;
-        desks = column.changes_same no_desk tables.desks tables.desks place refl;
-        failed = column.changes_same false tables.failed tables.failed place refl;
-      }
 
   -- and what is told is told of the states
   pub told_here : (new : BoundShelves) (written : Option Property)

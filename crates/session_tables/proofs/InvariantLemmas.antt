@@ -9,7 +9,7 @@ use Rattle.property_store.specs.Store.{Properties, Store, changed}
 use Rattle.property_store.specs.Table.{StoreTable, StoresView, store_at, with_store}
 use Rattle.binding_values.specs.declared.binding.Binding.{Binding}
 use Rattle.binding_values.specs.declared.shown.Shown.{Shown}
-use Rattle.binding_values.specs.Graph.{Graph, all_shown, begun, ended, is_open, settled_graph}
+use Rattle.binding_values.specs.Graph.{Graph, all_shown, begun, ended, is_open, no_graph, settled_graph}
 use Rattle.binding_graph.specs.Step.{InStep}
 use Rattle.binding_graph.specs.Table.{Graphs, graph_at, with_graph}
 use Rattle.session_model.specs.State.{closed}
@@ -17,27 +17,42 @@ use Rattle.session_model.proofs.ForCallers.{showing_same}
 use Rattle.session_tables.specs.Bound.{all_closed}
 use Rattle.session_tables.specs.Settled.{AllSettled, IsSettled}
 
--- all stay settled with a change of an object that leaves its declared properties
-pub settled_changed : (change : Properties → Properties) (object : ℕ) → ((of : Properties) → (change of).object ≡ of.object)
-    → ((of : Properties) → (change of).fields ≡ of.fields) → ((of : Properties) → (change of).values ≡ of.values)
-    → (stores new : StoresView) (bindings : Graphs) (place : ℕ) → IsPlace stores.shelves.table place → AllSettled stores bindings
-    → new.shelves ≡ with_store stores.shelves place (changed change object (store_at stores.shelves place)) → InStep new bindings → AllSettled new bindings
-settled_changed change object same fields values stores new bindings place shelf all is step =
+-- all stay settled where one place gets a store and a graph that are
+pub settled_put : (stores new : StoresView) (bindings after : Graphs) (place : ℕ) (store : Store) (graph : Graph) → IsPlace stores.shelves.table place
+    → IsPlace bindings.graphs place → new.shelves ≡ with_store stores.shelves place store → after.graphs ≡ with_graph bindings.graphs place graph
+    → IsSettled store graph → AllSettled stores bindings → InStep new after → AllSettled new after
+settled_put stores new bindings after place store graph shelf there stored bound settled all step =
     record { step = step; each = λ at. ⊎_elim (here at) (λ e. elsewhere at (λ same. absurd (grind (arith, same, e)))) (cases_Bool (eqb at place)) }
   where
-    at_place : IsSettled (store_at new.shelves place) (graph_at bindings.graphs place)
-    at_place shut some =
-        all.each place shut some
-        ∙ (sym (showing_same change object same fields values (store_at stores.shelves place) (graph_at bindings.graphs place).bindings)
-        ∙ ap (λ store. all_shown store (graph_at bindings.graphs place).bindings)
-        (sym (ap (λ (stores : StoreTable). store_at stores place) is ∙ column.with_there [] stores.shelves.table place _ shelf)))
+    at_place : IsSettled (store_at new.shelves place) (graph_at after.graphs place)
+    at_place =
+        subst (λ store. IsSettled store (graph_at after.graphs place))
+        (sym (ap (λ (shelves : StoreTable). store_at shelves place) stored ∙ column.with_there [] stores.shelves.table place store shelf))
+        (subst (IsSettled store)
+        (sym (ap (λ graphs. graph_at graphs place) bound ∙ column.with_there no_graph bindings.graphs place graph there)) settled)
 
-    here : (at : ℕ) → eqb at place ≡ true → IsSettled (store_at new.shelves at) (graph_at bindings.graphs at)
-    here at e = let same : at ≡ place = grind (arith, e) in subst (λ at. IsSettled (store_at new.shelves at) (graph_at bindings.graphs at)) (sym same) at_place
+    here : (at : ℕ) → eqb at place ≡ true → IsSettled (store_at new.shelves at) (graph_at after.graphs at)
+    here at e = let same : at ≡ place = grind (arith, e) in subst (λ at. IsSettled (store_at new.shelves at) (graph_at after.graphs at)) (sym same) at_place
 
-    elsewhere : (at : ℕ) → at ≢ place → IsSettled (store_at new.shelves at) (graph_at bindings.graphs at)
-    elsewhere at differ = subst (λ store. IsSettled store (graph_at bindings.graphs at))
-        (sym (ap (λ (stores : StoreTable). store_at stores at) is ∙ get_or-set_other stores.shelves.table.places place at _ [] differ)) (all.each at)
+    elsewhere : (at : ℕ) → at ≢ place → IsSettled (store_at new.shelves at) (graph_at after.graphs at)
+    elsewhere at differ =
+        subst (λ store. IsSettled store (graph_at after.graphs at))
+        (sym (ap (λ (shelves : StoreTable). store_at shelves at) stored ∙ get_or-set_other stores.shelves.table.places place at store [] differ))
+        (subst (IsSettled (store_at stores.shelves at))
+        (sym (ap (λ graphs. graph_at graphs at) bound ∙ get_or-set_other bindings.graphs.places place at graph no_graph differ)) (all.each at))
+
+-- so they do with a change of an object that leaves its declared properties
+pub settled_changed : (change : Properties → Properties) (object : ℕ) → ((of : Properties) → (change of).object ≡ of.object)
+    → ((of : Properties) → (change of).fields ≡ of.fields) → ((of : Properties) → (change of).values ≡ of.values)
+    → (stores new : StoresView) (bindings : Graphs) (place : ℕ) → IsPlace stores.shelves.table place → IsPlace bindings.graphs place
+    → AllSettled stores bindings → new.shelves ≡ with_store stores.shelves place (changed change object (store_at stores.shelves place))
+    → InStep new bindings → AllSettled new bindings
+settled_changed change object same fields values stores new bindings place shelf there all is =
+    settled_put stores new bindings bindings place (changed change object (store_at stores.shelves place)) (graph_at bindings.graphs place) shelf there is
+    (sym (column.with_same no_graph bindings.graphs place))
+    (λ shut some. all.each place shut some
+    ∙ sym (showing_same change object same fields values (store_at stores.shelves place) (graph_at bindings.graphs place).bindings))
+    all
 
 -- what contracts see of a graph that is put
 pub seen_put : (graphs : Table Graph) (place : ℕ) (graph : Graph)

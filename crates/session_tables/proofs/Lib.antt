@@ -15,7 +15,6 @@ pub mod ReadingLemmas
 pub mod SeenLemmas
 pub mod SettledLemmas
 pub mod ShowingLemmas
-pub mod TakenLemmas
 pub mod WrittenLemmas
 pub mod BoundLemmas
 pub mod HereLemmas

@@ -1,6 +1,6 @@
 -- What contracts see of a place after a change.
 use Rattle.std.proofs.Common.{◌≡◌, ◌∙◌, ℕ, Bool, true, false, cond, List, [], Option, refl, sym, ap}
-use Rattle.shared_rows.specs.Table.{ChangesAt, IsPlace, Table}
+use Rattle.shared_rows.specs.Table.{IsPlace}
 use Rattle.shared_rows.proofs.ForCallers as column
 use Rattle.property_store.specs.Store.{Store}
 use Rattle.property_store.specs.Table.{StoreTable, store_at, with_store}
@@ -10,9 +10,9 @@ use Rattle.property_store.specs.declared.property.Property.{Property}
 use Rattle.binding_values.specs.Graph.{Graph, all_shown, changes, is_open, no_graph, settled_graph}
 use Rattle.binding_graph.specs.Table.{Graphs, graph_at, with_graph}
 use Rattle.session_model.specs.State.{closed}
-use Rattle.session_tables.specs.Bound.{BoundShelves, ChangesBound, all_closed, bound_at, seen_of, with_bound}
+use Rattle.session_tables.specs.Bound.{BoundShelves, ChangesBound, all_closed, seen_of, with_bound}
 use Rattle.session_tables.specs.Told.{told_at, told_of}
-use Rattle.session_tables.proofs.InvariantLemmas.{closed_bound, closed_settled, seen_put}
+use Rattle.session_tables.proofs.InvariantLemmas.{closed_bound, seen_put}
 use Rattle.session_tables.proofs.SettledLemmas.{closed_at, closed_bindings, closed_depth}
 
 -- what is stored at a place, put there again
@@ -27,6 +27,10 @@ settled_store stores new place same = same ∙ sym (same_store stores place)
 abbrev pub with_bindings : (List Binding → List Binding) → Graph → Graph
 with_bindings change graph = record graph { bindings = change graph.bindings }
 
+pub bindings_seen : (bindings : Graphs) (place : ℕ) (change : List Binding → List Binding)
+    → closed (with_bindings change (graph_at bindings.graphs place)) ≡ with_bindings change (graph_at (all_closed bindings.graphs) place)
+bindings_seen bindings place change = closed_bound (graph_at bindings.graphs place) change ∙ ap (with_bindings change) (sym (closed_at bindings.graphs place))
+
 -- what is told says nothing of what is kept
 pub told_closed : (store : Store) (graph : Graph) (other : Store) (after : Graph) (written : Option Property)
     → told_of store (closed graph) other (closed after) written ≡ told_of store graph other after written
@@ -36,10 +40,14 @@ told_closed store graph other after written =
     ∙ (ap (λ bindings. cond (is_open after) [] (changes (all_shown store bindings) (all_shown other (closed after).bindings) written)) (closed_bindings graph)
     ∙ ap (λ bindings. cond (is_open after) [] (changes (all_shown store graph.bindings) (all_shown other bindings) written)) (closed_bindings after))
 
--- only this place has changed where it is seen, too
-pub changes_closed : (old new : Table Graph) (place : ℕ) → ChangesAt no_graph place old new → ChangesAt no_graph place (all_closed old) (all_closed new)
-changes_closed old new place e = ap all_closed e
-    ∙ (seen_put old place (graph_at new place) ∙ ap (with_graph (all_closed old) place) (sym (closed_at new place)))
+-- a place with another store and another graph
+pub changes_bound : (old new : BoundShelves) (place : ℕ) (store : Store) (graph : Graph) → IsPlace old.shelves.table place → IsPlace old.graphs place
+    → new ≡ with_bound old place store graph → ChangesBound place old new
+changes_bound old new place store graph shelf there is = record {
+  layouts = ap (λ (bound : BoundShelves). bound.shelves.layouts) is;
+  stores = column.changes_with [] old.shelves.table new.shelves.table place store shelf (ap (λ (bound : BoundShelves). bound.shelves.table) is);
+  graphs = column.changes_with no_graph old.graphs new.graphs place graph there (ap (λ (bound : BoundShelves). bound.graphs) is);
+}
 
 module _ (stores new : StoreTable) (bindings after : Graphs) (place : ℕ) where
   -- a store and a graph that are put
@@ -49,16 +57,6 @@ module _ (stores new : StoreTable) (bindings after : Graphs) (place : ℕ) where
       ap (λ shelves. let made : BoundShelves = record { shelves = shelves; graphs = all_closed after.graphs } in made) first
       ∙ ap (λ graphs. let made : BoundShelves = record { shelves = with_store stores place store; graphs = graphs } in made)
       (ap all_closed second ∙ (seen_put bindings.graphs place graph ∙ ap (with_graph (all_closed bindings.graphs) place) is))
-
-  -- with other bindings, settled
-  pub settled_seen : (store : Store) (change : List Binding → List Binding) → new ≡ with_store stores place store
-      → after.graphs ≡ with_graph bindings.graphs place (settled_graph store (with_bindings change (graph_at bindings.graphs place)))
-      → seen_of new after ≡ with_bound (seen_of stores bindings) place store (with_bindings change (bound_at (seen_of stores bindings) place))
-  settled_seen store change first second =
-      put_seen store (settled_graph store (with_bindings change (graph_at bindings.graphs place)))
-      (with_bindings change (bound_at (seen_of stores bindings) place)) first second
-      (closed_settled store (with_bindings change (graph_at bindings.graphs place))
-      ∙ (closed_bound (graph_at bindings.graphs place) change ∙ ap (with_bindings change) (sym (closed_at bindings.graphs place))))
 
   -- what is told of two states, as it is seen
   pub told_seen : (written : Option Property) → told_at place (seen_of stores bindings) (seen_of new after) written
@@ -70,18 +68,13 @@ module _ (stores new : StoreTable) (bindings after : Graphs) (place : ℕ) where
       (closed_at after.graphs place)
       ∙ told_closed (store_at stores place) (graph_at bindings.graphs place) (store_at new place) (graph_at after.graphs place) written)
 
-  pub changes_seen : new.layouts ≡ stores.layouts → ChangesAt [] place stores.table new.table → ChangesAt no_graph place bindings.graphs after.graphs
-      → ChangesBound place (seen_of stores bindings) (seen_of new after)
-  changes_seen layouts tables graphs = record { layouts = layouts; stores = tables; graphs = changes_closed bindings.graphs after.graphs place graphs }
+  -- where contracts see no change
+  pub seen_alike : new ≡ stores → all_closed after.graphs ≡ all_closed bindings.graphs → seen_of new after ≡ seen_of stores bindings
+  seen_alike first second =
+      ap (λ shelves. let made : BoundShelves = record { shelves = shelves; graphs = all_closed after.graphs } in made) first
+      ∙ ap (λ graphs. let made : BoundShelves = record { shelves = stores; graphs = graphs } in made) second
 
   module _ (shelf : IsPlace stores.table place) (there : IsPlace bindings.graphs place) where
-    pub put_changes : (store : Store) (graph : Graph) → new ≡ with_store stores place store → after.graphs ≡ with_graph bindings.graphs place graph
-        → ChangesBound place (seen_of stores bindings) (seen_of new after)
-    put_changes store graph first second =
-        changes_seen (ap (λ (shelves : StoreTable). shelves.layouts) first)
-        (column.changes_with [] stores.table new.table place store shelf (ap (λ (shelves : StoreTable). shelves.table) first))
-        (column.changes_with no_graph bindings.graphs after.graphs place graph there second)
-
     pub put_told : (store : Store) (change : List Binding → List Binding) (written : Option Property) → new ≡ with_store stores place store
         → after.graphs ≡ with_graph bindings.graphs place (settled_graph store (with_bindings change (graph_at bindings.graphs place)))
         → told_at place (seen_of stores bindings) (seen_of new after) written
@@ -106,12 +99,3 @@ module _ (stores new : StoreTable) (bindings after : Graphs) (place : ℕ) where
             (cond deep (with_bindings change old) (record (with_bindings change old) { last = all_shown store (change old.bindings) })) written ≡ told
         by true = refl
         by false = refl
-
-    -- a place whose bindings were forgotten
-    module _ (middle : Table Graph) (layouts : new.layouts ≡ stores.layouts) (tables : ChangesAt [] place stores.table new.table)
-        (changed : ChangesAt no_graph place bindings.graphs middle) (forgotten : after.graphs ≡ with_graph middle place no_graph) where
-      left : after.graphs ≡ with_graph bindings.graphs place no_graph
-      left = forgotten ∙ column.with_after no_graph bindings.graphs middle place no_graph changed
-
-      pub forgotten_changes : ChangesBound place (seen_of stores bindings) (seen_of new after)
-      forgotten_changes = changes_seen layouts tables (column.changes_with no_graph bindings.graphs after.graphs place no_graph there left)

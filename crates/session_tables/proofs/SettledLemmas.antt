@@ -1,5 +1,5 @@
 -- Graphs as contracts see them.
-use Rattle.std.proofs.Common.{◌≡◌, ◌∙◌, ℕ, zero, suc, Bool, true, false, cond, List, [], ◌∷◌, Result, Ok, Err, OnOk, get_or, map, refl, sym, ap}
+use Rattle.std.proofs.Common.{◌≡◌, ◌∙◌, ℕ, zero, suc, Bool, true, false, cond, List, [], ◌∷◌, get_or, map, refl, sym, ap}
 use Rattle.shared_rows.specs.Table.{Table}
 use Rattle.binding_values.specs.Graph.{Graph, is_open, no_graph}
 use Rattle.binding_graph.specs.Table.{graph_at}
@@ -33,8 +33,3 @@ closed_depth = closed_like (λ (graph : Graph). graph.depth) (λ graph. refl)
 pub depth_seen : (graphs seen : Table Graph) (place : ℕ) → all_closed graphs ≡ seen → (graph_at seen place).depth ≡ (graph_at graphs place).depth
 depth_seen graphs seen place is = ap (λ (graphs : Table Graph). (graph_at graphs place).depth) (sym is)
     ∙ (ap (λ (graph : Graph). graph.depth) (closed_at graphs place) ∙ closed_depth (graph_at graphs place))
-
--- what holds holds where all went well
-pub where_ok : {T E P : Type 0} (result : Result T E) → P → OnOk result P
-where_ok (Ok value) holds = holds
-where_ok (Err error) holds = tt

@@ -10,7 +10,7 @@ use Rattle.binding_values.specs.declared.property.BindingError.{BindingError}
 use Rattle.binding_values.specs.declared.property.BindingError.TheVariants.{EvaluationError}
 use Rattle.property_store.specs.declared.property.Property.{Property}
 use Rattle.binding_values.specs.declared.shown.Shown.{Shown}
-use Rattle.binding_values.specs.Graph.{Graph, all_shown, fresh, is_bound, is_open, shown_as, shown_at, shown_now, settled_graph, taken, value_in}
+use Rattle.binding_values.specs.Graph.{Graph, fresh, is_bound, is_open, shown_as, shown_at, shown_now, taken, value_in}
 use Rattle.binding_values.specs.Scene.{Cell, Outcome, term_at}
 use Rattle.binding_values.specs.Stored.{cell_in, outcome_in, scene_of}
 use Rattle.binding_graph.specs.Table.{graph_at}
@@ -87,14 +87,6 @@ one_value f g (Some a) None e = absurd (cc)
 one_value f g (Some a) (Some b) e = cc
 
 -- so what is taken is the same
-pub taken_noted : (store : Store) (graph : Graph) (q : Property) → taken store (settled_graph store graph) q ≡ taken store graph q
-taken_noted store graph q = by (is_open graph) refl
-  where
-    by : (deep : Bool) → is_open graph ≡ deep → taken store (cond deep graph (record graph { last = all_shown store graph.bindings })) q ≡ taken store graph q
-    by true e = refl
-    by false e = ap (λ (value : Value × Option BindingError). cond (is_bound graph.bindings q) (written store q.object q.number value.0) store)
-        (value_kept store graph q (all_shown store graph.bindings) e)
-
 pub taken_closed : (store : Store) (graph : Graph) (q : Property) → taken store (closed graph) q ≡ taken store graph q
 taken_closed store graph q =
     ap (λ bindings. cond (is_bound bindings q) (written store q.object q.number (value_in store (closed graph) q).0) store) (closed_bindings graph)

@@ -73,6 +73,23 @@ written_taken store graph q value fits = by (is_bound graph.bindings q)
     by true = over (fitting store q.object q.number old)
     by false = refl
 
+-- so the property is written as if it was written alone
+pub wrote_is : (stores took wrote : StoreTable) (place : ℕ) (graph : Graph) (q : Property) (value : Value) → IsPlace stores.table place
+    → fitting (store_at stores place) q.object q.number value ≡ Some value → took ≡ with_store stores place (taken (store_at stores place) graph q)
+    → wrote ≡ with_store took place (written (store_at took place) q.object q.number value)
+    → wrote ≡ with_store stores place (written (store_at stores place) q.object q.number value)
+wrote_is stores took wrote place graph q value shelf fits first second =
+    second
+    ∙ (ap (with_store took place) (ap (λ store. written store q.object q.number value)
+    (ap (λ (shelves : StoreTable). store_at shelves place) first ∙ column.with_there [] stores.table place (taken store graph q) shelf)
+    ∙ written_taken store graph q value fits)
+    ∙ (ap (λ (shelves : StoreTable). with_store shelves place (written store q.object q.number value)) first
+    ∙ ap (λ table. let shelves : StoreTable = record stores { table = table } in shelves)
+    (column.with_twice stores.table place (taken store graph q) (written store q.object q.number value))))
+  where
+    store : Store
+    store = store_at stores place
+
 -- a property that is bound no longer shows what is stored
 unbound_not : (bindings : List Binding) (q : Property) → is_bound (filter (λ binding. not (is_property q binding.at)) bindings) q ≡ false
 unbound_not [] q = refl

@@ -11,7 +11,7 @@ ghost use Rattle.session_model.specs.State.{with_binding, with_binding_taken, wi
 ghost use Rattle.session_tables.specs.Refused.{OnRefused};
 ghost use Rattle.session_tables.specs.Tables.{IsPlaced, KeepsOthers, state_at, with_state};
 
-use crate::settling;
+use crate::settling::{note, or_clear};
 use crate::tables::Tables;
 use binding_values::{Change, is_bindable};
 use plain_types::{Code, Fault, Items};
@@ -57,20 +57,15 @@ impl Tables {
         ensures refused { OnRefused result (self.new ≡ self.old) }
         ensures keeps { KeepsOthers place self.old self.new }
     {
-        match settling::bind(
-            &mut self.stores.stores,
-            &mut self.stores.bindings,
-            place,
-            at,
-            expr,
-        ) {
-            Ok(told) => Ok(told),
-            Err(Fault::Refused(code)) => Err(Fault::Refused(code)),
-            Err(Fault::Memory) => {
-                self.stores.bindings.clear(place);
-                Err(Fault::Memory)
-            }
-        }
+        note(&mut self.stores.stores, &mut self.stores.bindings, place)?;
+        self.stores
+            .bindings
+            .bind(place, &self.stores.stores, at, expr)?;
+        let told = self
+            .stores
+            .bindings
+            .settle(place, &mut self.stores.stores, Some(at));
+        Ok(or_clear(&mut self.stores.bindings, place, told)?)
     }
 
     /// Binds a property no longer, which keeps the value that it shows, and returns what has changed by it.
@@ -80,18 +75,15 @@ impl Tables {
         ensures ok { OnOk result (self.new ≡ with_state self.old place (with_binding_taken (state_at self.old place) at)) }
         ensures keeps { KeepsOthers place self.old self.new }
     {
-        match settling::unbind(
-            &mut self.stores.stores,
-            &mut self.stores.bindings,
-            place,
-            at,
-        ) {
-            Ok(told) => Ok(told),
-            Err(error) => {
-                self.stores.bindings.clear(place);
-                Err(error)
-            }
-        }
+        note(&mut self.stores.stores, &mut self.stores.bindings, place)?;
+        self.stores
+            .bindings
+            .take(place, &mut self.stores.stores, at)?;
+        let told = self
+            .stores
+            .bindings
+            .settle(place, &mut self.stores.stores, Some(at));
+        or_clear(&mut self.stores.bindings, place, told)
     }
 
     /// Begins a group, within which changes are not told, and returns how many are open then. More than
@@ -119,13 +111,11 @@ impl Tables {
         ensures refused { OnRefused result (self.new ≡ self.old) }
         ensures keeps { KeepsOthers place self.old self.new }
     {
-        match settling::end(&mut self.stores.stores, &mut self.stores.bindings, place) {
-            Ok(left) => Ok(left),
-            Err(Fault::Refused(code)) => Err(Fault::Refused(code)),
-            Err(Fault::Memory) => {
-                self.stores.bindings.clear(place);
-                Err(Fault::Memory)
-            }
-        }
+        let left = self.stores.bindings.end(place, &self.stores.stores)?;
+        let told = self
+            .stores
+            .bindings
+            .settle(place, &mut self.stores.stores, None);
+        Ok((left, or_clear(&mut self.stores.bindings, place, told)?))
     }
 }

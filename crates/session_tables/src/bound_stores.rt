@@ -1,15 +1,14 @@
 //! The properties of the objects of all places, together with their bindings.
 ghost use Rattle.std.specs.Prelude.{◌≡◌, ◌≤◌, [], IfOk, IsFalse, None, OnErr, OnOk};
 ghost use Rattle.shared_rows.specs.Table.{IsPlace, Opens, opened};
-ghost use Rattle.property_store.specs.Store.{IsSound, added, properties_of, without};
-ghost use Rattle.property_store.specs.Table.{fields_of, store_at};
+ghost use Rattle.property_store.specs.Store.{added, properties_of, without};
+ghost use Rattle.property_store.specs.Table.{fields_of};
 ghost use Rattle.binding_values.specs.Graph.{no_graph, without_object};
-ghost use Rattle.binding_graph.specs.Table.{graph_at};
 ghost use Rattle.session_tables.specs.Bound.{ChangesBound, bound_at, stored_at, with_bound};
 ghost use Rattle.session_tables.specs.Settled.{is_idle};
 ghost use Rattle.session_tables.specs.Told.{told_at};
 
-use crate::settling;
+use crate::settling::{is_idle, note, or_clear};
 use binding_graph::Bindings;
 use binding_values::Change;
 use plain_types::Items;
@@ -112,16 +111,9 @@ impl BoundStores {
         if self.bindings.count(place) == 0 {
             return Ok(());
         }
-        match self.bindings.settle(place, &mut self.stores, None) {
-            Ok(told) => {
-                drop(told);
-                Ok(())
-            }
-            Err(error) => {
-                self.bindings.clear(place);
-                Err(error)
-            }
-        }
+        let told = self.bindings.settle(place, &mut self.stores, None);
+        or_clear(&mut self.bindings, place, told)?;
+        Ok(())
     }
 
     /// Takes an object out with its bindings, and returns what has changed by it. Where nothing is bound and no
@@ -144,24 +136,8 @@ impl BoundStores {
             self.stores.drop_object(place, object);
             return Ok(Items::new(self.alloc));
         }
-        match settling::remove(&mut self.stores, &mut self.bindings, place, object) {
-            Ok(told) => Ok(told),
-            Err(error) => {
-                self.bindings.clear(place);
-                Err(error)
-            }
-        }
+        note(&mut self.stores, &mut self.bindings, place)?;
+        let told = self.bindings.remove(place, &mut self.stores, object);
+        or_clear(&mut self.bindings, place, told)
     }
-}
-
-/// Whether nothing is bound and no group is open. The contract also says that the store is sound, as every store
-/// is.
-pub(crate) fn is_idle(stores: &Stores, bindings: &Bindings, place: usize) -> bool
-    requires store { IsPlace stores.now.shelves.table place }
-    requires graph { IsPlace bindings.now.graphs place }
-    ensures idle { result ≡ is_idle (graph_at bindings.now.graphs place) }
-    ensures sound { IsSound (store_at stores.now.shelves place) }
-{
-    let _ = stores.count(place);
-    bindings.count(place) == 0 && bindings.depth(place) == 0
 }

@@ -11,9 +11,8 @@ ghost use Rattle.session_tables.specs.Named.{Tells, WritesNamed};
 ghost use Rattle.session_tables.specs.Settled.{is_idle};
 ghost use Rattle.session_tables.specs.Tables.{IsPlaced, KeepsOthers, state_at, with_state};
 
-use crate::bound_stores::is_idle;
 use crate::named::NamedWrite;
-use crate::settling;
+use crate::settling::{is_idle, note, or_clear};
 use crate::tables::Tables;
 use binding_graph::{WriteChanges, law_steps};
 use plain_types::{Code, Fault, Text};
@@ -67,19 +66,17 @@ impl Tables {
             let is_change = self.stores.stores.write(place, object, number, value);
             return Ok(WriteChanges::alone(is_change.unwrap_or(false)));
         }
-        match settling::write(
-            &mut self.stores.stores,
-            &mut self.stores.bindings,
-            place,
-            Property { object, number },
-            value,
-        ) {
-            Ok(changed) => Ok(changed),
-            Err(error) => {
-                self.stores.bindings.clear(place);
-                Err(error)
-            }
-        }
+        note(&mut self.stores.stores, &mut self.stores.bindings, place)?;
+        let at = Property { object, number };
+        self.stores
+            .bindings
+            .take(place, &mut self.stores.stores, at)?;
+        let _ = self.stores.stores.write(place, object, number, value);
+        let changed = self
+            .stores
+            .bindings
+            .settle_written(place, &mut self.stores.stores, at);
+        or_clear(&mut self.stores.bindings, place, changed)
     }
 
     /// Gives the declared property of this name a value as one of its kind, in the same way.

@@ -3,12 +3,13 @@ use Rattle.shared_rows.proofs.ForCallers as column
 use Rattle.property_store.specs.Table.{store_at}
 use Rattle.binding_values.specs.Graph.{Graph, begun, no_graph}
 use Rattle.binding_graph.specs.Table.{graph_at}
-use Rattle.session_tables.specs.Bound.{bound_at, seen_of, stored_at}
-use Rattle.session_tables.proofs.HereLemmas.{bindings_change, graph_stands, state_put}
+use Rattle.session_tables.specs.Bound.{all_closed, bound_at, seen_of, stored_at}
+use Rattle.session_tables.proofs.HereLemmas.{graph_stands, same_there, state_put}
 use Rattle.session_tables.proofs.InvariantLemmas.{closed_begun}
-use Rattle.session_tables.proofs.PlaceLemmas.{changes_either, if_ok_with, where_ok_too}
+use Rattle.session_tables.proofs.PlaceLemmas.{by_result, if_ok_with, where_ok_too}
 use Rattle.session_tables.proofs.SettledLemmas.{closed_at, depth_seen}
 use Rattle.session_tables.proofs.SeenLemmas.{put_seen, settled_store}
+use Rattle.session_tables.proofs.TablesLemmas.{keeps_same, keeps_with}
 use Rattle.session_tables.proofs.tables.Tables.begin.Goals as goal
 
 pub returns-clause-depth : goal.returns-clause-depth
@@ -43,6 +44,7 @@ pub returns-clause-keeps : goal.returns-clause-keeps
 returns-clause-keeps c =
     let stores = c.self.inside.0.1.0.stores.shelves in
     let bindings = c.self.inside.0.1.0.bindings in
-    bindings_change stores bindings c.self.view_is c.requires c.begin.new.stores.shelves c.begin.new.self c.begin.ensures.stores.shelves
-    (changes_either c.begin.result bindings.graphs c.begin.new.self.graphs c.args.place _
-    (graph_stands stores bindings c.self.view_is c.requires) c.begin.ensures.ok c.begin.ensures.err)
+    by_result c.begin.result (keeps_with c.args.self.now _ c.args.place _ c.requires)
+    (λ same. keeps_same c.args.self.now _ c.args.place
+    (same_there stores bindings c.self.view_is c.requires c.begin.new.stores.shelves c.begin.new.self c.begin.ensures.stores.shelves (ap all_closed same)))
+    (returns-clause-ok c) c.begin.ensures.err

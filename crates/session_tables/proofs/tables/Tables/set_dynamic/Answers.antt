@@ -5,7 +5,7 @@ use Rattle.property_store.specs.Store.{changed, with_dynamic}
 use Rattle.property_store.specs.Table.{StoresView, store_at}
 use Rattle.binding_graph.specs.Step.{HasStore}
 use Rattle.session_tables.specs.Settled.{AllSettled}
-use Rattle.session_tables.proofs.HereLemmas.{shelf_stands}
+use Rattle.session_tables.proofs.HereLemmas.{graph_stands, shelf_stands}
 use Rattle.session_tables.proofs.InvariantLemmas.{settled_changed}
 use Rattle.session_tables.proofs.tables.Tables.set_dynamic.Goals as goal
 
@@ -23,7 +23,8 @@ invariant_of-self c = by c.set_dynamic.result c.set_dynamic.ensures.ok c.set_dyn
         c.set_dynamic.new.self) → OnErr result (c.set_dynamic.new.self ≡ stores) → AllSettled c.set_dynamic.new.self c.self.inside.0.1.0.bindings
     by (Ok done) ok err =
         settled_changed (with_dynamic c.args.name c.args.value) c.args.object (λ of. refl) (λ of. refl)
-        (λ of. refl) stores c.set_dynamic.new.self c.self.inside.0.1.0.bindings c.args.place place c.self.invariant ok
+        (λ of. refl) stores c.set_dynamic.new.self c.self.inside.0.1.0.bindings c.args.place place
+        (graph_stands stores.shelves c.self.inside.0.1.0.bindings c.self.view_is c.requires.place) c.self.invariant ok
         (c.law_steps.ensures.set_dynamic stores c.set_dynamic.new.self c.args.place c.args.object c.args.name c.args.value place ok c.set_dynamic.ensures.marks
         c.self.inside.0.1.0.bindings c.self.invariant.step)
     by (Err fault) ok err = subst (λ stores. AllSettled stores c.self.inside.0.1.0.bindings) (sym err) c.self.invariant
