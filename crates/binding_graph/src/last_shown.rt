@@ -1,4 +1,4 @@
-//! What the properties of a place showed, by object.
+//! The values that the properties of a place showed, by object.
 ghost use Rattle.std.specs.Prelude.{◌≡◌, ◌==◌, [], if◌then◌else◌, IfErr, IfOk, None, OnErr, OnOk, filter, not, option_map};
 ghost use Rattle.property_store.specs.declared.property.Property.{Property};
 ghost use Rattle.property_store.specs.Property.{among, is_property};
@@ -15,7 +15,7 @@ use property_store::Property;
 use std::alloc::{AllocError, Global};
 use std::marker::Model;
 
-/// What the properties of a place showed, by object, so that an object that goes takes only its own rows along.
+/// The values that the properties of a place showed, by object, so that an object that goes takes only its own rows along.
 #[derive(Drop)]
 pub(crate) struct LastShown {
     objects: Vec<ShownObject>,

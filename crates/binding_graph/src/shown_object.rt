@@ -1,4 +1,4 @@
-//! What the properties of one object showed.
+//! The values that the properties of one object showed.
 ghost use Rattle.std.specs.Prelude.{◌≡◌, ◌≤◌, ◌<◌, ◌==◌, ℕ, if◌then◌else◌, None, OnOk, length, option_map};
 ghost use Rattle.binding_graph.specs.LastShown.{HasMoreSlots, head, slot_at};
 
@@ -6,7 +6,7 @@ use binding_values::{HasProperty, Shown};
 use property_store::Property;
 use std::alloc::AllocError;
 
-/// What the properties of an object showed, each in the slot of its number.
+/// The values that the properties of an object showed, each in the slot of its number.
 #[derive(Drop)]
 pub(crate) struct ShownObject {
     pub(crate) object: u32,

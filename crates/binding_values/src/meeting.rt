@@ -14,7 +14,7 @@ use term_core::{Expr, Target};
 use term_evaluation::{Halt, Notes, meet};
 use variant_value::Value;
 
-/// What the expression of an object's binding is evaluated with: the values that are known.
+/// Answers the reads of an object's binding while its expression is evaluated, by the values that are known.
 #[derive(Clone, Copy)]
 struct Meeting<'a> {
     known: Known<'a>,

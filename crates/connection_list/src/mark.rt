@@ -20,7 +20,7 @@ pub(crate) fn mark_of(signal: u32, callee: Callee) -> u32
     signal_mark(signal) + callee_mark(callee)
 }
 
-/// What a signal adds to a mark.
+/// The bits that a signal adds to a mark.
 fn signal_mark(signal: u32) -> u32
     ensures mark { result ≡ signal_mark signal }
     ensures bound { result ≤ 4294901760 }
@@ -28,7 +28,7 @@ fn signal_mark(signal: u32) -> u32
     65536 * signal.min(65535)
 }
 
-/// What a callee adds to a mark.
+/// The bits that a callee adds to a mark.
 fn callee_mark(callee: Callee) -> u32
     ensures mark { result ≡ callee_mark callee }
     ensures bound { result ≤ 65535 }

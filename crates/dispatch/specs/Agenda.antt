@@ -29,8 +29,8 @@ pub record RunsNext {T E : Type 0} (caller : SessionContext) (next : List Post �
 abbrev pub RunsItems : {T E : Type 0} → SessionContext → List Item → Tables → Tables → CommandOutput → CommandOutput → Result T E → Type 0
 RunsItems caller items old new before after = RunsNext caller (λ earlier. puts items (doing_at caller.place old before earlier)) old new before after
 
--- A nested call may be made: the session has its place in the tables, and a signal that is sent at this depth is at most so
--- deep that it is warned of.
+-- A nested call may be made: the session has its place in the tables, and the depth is at most the one at which a signal is
+-- only warned of and not sent.
 pub record MayNest (caller : SessionContext) (tables : Tables) (depth : ℕ) : Type 0 where
   pub placed : IsPlaced tables caller.place
   pub within : depth ≤ NESTED_SIGNALS

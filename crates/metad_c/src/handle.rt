@@ -37,7 +37,7 @@ impl Handle {
         }
     }
 
-    /// What a handle stands for.
+    /// The server that a handle stands for.
     pub(crate) fn into_box(self) -> Option<Box<Kept>>
         ensures { self.loose.value ≡ option_map (λ found. found.value) result }
     {
@@ -49,7 +49,7 @@ impl Handle {
         }
     }
 
-    /// What a handle stands for. The handle is left with nothing.
+    /// Takes the server that a handle stands for. The handle is left with nothing.
     pub(crate) fn take(&mut self, alloc: Global) -> Option<Box<Kept>>
         ensures found { self.old.loose.value ≡ option_map (λ found. found.value) result }
         ensures left { self.new.loose.value ≡ None }

@@ -1,4 +1,4 @@
-//! What a handle owns.
+//! A handle owns one of these.
 ghost use Rattle.std.proofs.Props.{props};
 ghost use Rattle.std.specs.Coded.{codes};
 ghost use Rattle.std.specs.Prelude.{◌≡◌};

@@ -1,4 +1,4 @@
-//! What a list of calls on one handle does.
+//! A list of calls on one handle, and the theorem about what they do.
 ghost use Rattle.metad_c.specs.Calls.{CallsAreIsolated, CallsGoOn};
 
 /// Sessions are isolated in every list of calls on one handle, whatever memory is refused: a session receives what it

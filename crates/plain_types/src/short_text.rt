@@ -29,7 +29,7 @@ impl ShortText {
         }
     }
 
-    /// The same text, if it is short.
+    /// Returns the text as a short one, if it is short.
     pub(crate) fn from(text: &str) -> Option<ShortText>
         ensures { IfSome result (λ short. short_bytes short ≡ text.now) }
     {

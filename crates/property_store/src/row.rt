@@ -31,7 +31,7 @@ pub(crate) struct Row {
     pub(crate) dynamic: Vec<Named>,
 }
 
-/// What a write has changed.
+/// The change that a write has made.
 #[derive(Clone, Copy)]
 pub(crate) struct Stored {
     /// Whether the new value differs from the previous one.

@@ -1,7 +1,7 @@
 //! Which properties were written.
 use crate::property::Property;
 
-/// What was written, as `Stores::take_written` returns it.
+/// The properties that were written, as `Stores::take_written` returns them.
 #[derive(Clone, Copy)]
 pub enum Written {
     /// No mark was left.

@@ -39,7 +39,7 @@ impl Join {
         }
     }
 
-    /// What that publishes under the name of the join, as a topic.
+    /// The topic of that session and of the name of the join.
     pub(crate) fn publication(&self) -> Sought<'_>
         ensures { topic_of result ≡ record { from = self.now.from; name = Some self.now.name } }
     {

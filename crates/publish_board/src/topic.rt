@@ -1,4 +1,4 @@
-//! What places are listed under.
+//! Places are listed under topics.
 ghost use Rattle.std.specs.Prelude.{◌≡◌, IfOk};
 ghost use Rattle.publish_board.specs.Topics.{is_same, topic_fed, topic_of};
 ghost use Rattle.std.proofs.Common.{rules};

@@ -22,7 +22,7 @@ use session_tables::{Tables, WriteChanges};
 use std::alloc::AllocError;
 use variant_value::{Args, Value};
 
-/// What a write leaves to be announced.
+/// The announcements that are still to be made after a write.
 #[derive(Drop)]
 pub enum PendingAnnouncements {
     Nothing,

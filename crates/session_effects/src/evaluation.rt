@@ -15,7 +15,7 @@ use term_core::{Expr, Target};
 use term_evaluation::{Halt, Reads, evaluate, standing};
 use variant_value::Value;
 
-/// What the expressions of a slot's body are evaluated with: the session's current state, the object whose
+/// Answers the reads of expressions in a slot's body: by the session's current state, the object whose
 /// slot it is, and the object that sent the signal, or 0.
 #[derive(Clone, Copy)]
 pub struct Reader<'a> {

@@ -1,4 +1,4 @@
-//! What single actions do to a session, and what actions and commands look up for it: methods, arguments, and
+//! Runs single actions in a session, and looks up what actions and commands need for it: methods, arguments, and
 //! the connections that are asked for. Nothing here calls a slot, sends a signal or deletes an object: for an
 //! action that does, the functions return what is to be done. The crate also lists the properties of each class
 //! in the form that the tables take.

@@ -163,7 +163,7 @@ impl Drop for JoinDescription {
     }
 }
 
-/// What a connection calls.
+/// The method or functor that a connection calls.
 pub enum CalleeDescription {
     /// The method of this text.
     Method(Text),

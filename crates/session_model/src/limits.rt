@@ -1,4 +1,4 @@
-//! What a server allows, in numbers.
+//! The limits of a server.
 ghost use Rattle.session_model.specs.Limits.{AreTheLimits};
 
 /// The value of each limit of sessions, classes and functors. There is nothing to run: other clauses use limits by

@@ -1,4 +1,4 @@
-//! What clients may read of a session.
+//! The queries that clients may make about a session.
 use crate::named_property::NamedProperty;
 use plain_types::Text;
 

@@ -28,7 +28,7 @@ pub trait Notes {
     /// Reading a property of an object gives its value, or why it has none.
     ghost reads: { Self → Target → List ℕ → Answer Self.Own };
 
-    /// What is noted of a property, if it is noted.
+    /// The note of a property that is read, if it is noted.
     ghost note: { Self → Read → Option Self.Note };
 
     /// The value of a property of an object. Appends to `noted` what is noted of it.

@@ -22,7 +22,7 @@ pub(crate) enum Scalar {
     Int(i32),
     True,
     False,
-    /// What the evaluation put aside.
+    /// The result that the evaluation put aside.
     Other,
 }
 

@@ -19,7 +19,7 @@ use std::test::Fail;
 use stored_slots::Functors;
 use variant_value::Value;
 
-/// What a session receives: a line of its own, or a number that another session posts under the name `temp`.
+/// An input of a session: a line of its own, or a number that another session posts under the name `temp`.
 #[derive(Clone, Copy)]
 enum Coming<'a> {
     Own(&'a str),
@@ -116,7 +116,7 @@ fn told_alone(alloc: Global, name: &str, comings: &[Coming]) -> Result<String, A
     )
 }
 
-/// What a session receives that joins what `a` publishes, and gets two posts before it leaves.
+/// The inputs of a session that joins what `a` publishes, and gets two posts before it leaves.
 const JOINER: [Coming<'static>; 7] = [
     Coming::Own(r#"{"class":"Cell","do":"new","session":"b"}"#),
     Coming::Own(

@@ -36,7 +36,7 @@ const SESSIONS: [Session; 3] = [
     (GIVEN, 10, Way::SliceOfB, GIVEN_BY_B),
 ];
 
-/// What goes wrong at a call: the source fails, the sink fails, or the sink takes nothing.
+/// A fault at a call: the source fails, the sink fails, or the sink takes nothing.
 #[derive(Clone, Copy)]
 enum Trouble {
     Reading,

@@ -1,4 +1,4 @@
-//! What several commands have at their keys: nothing, an object, a property, a class, or what is looked for.
+//! Reads members that several commands have: nothing, an object, a property, a class, or a search.
 ghost use Rattle.std.specs.Prelude.{◌≡◌, ℕ, IfOk, List, None, Option, Some, if◌then◌else◌, option_map};
 ghost use Rattle.serde_json.specs.Data.{object};
 ghost use Rattle.json_reading.specs.Members.{members_in};
@@ -81,7 +81,7 @@ pub(crate) fn class_in(alloc: Global, members: &[Member<'_>]) -> Result<Option<T
     class.text(alloc)
 }
 
-/// What is looked for below an object: any object, or one of a name, of a class, or of both.
+/// A search below an object: for any object, or for one of a name, of a class, or of both.
 pub(crate) struct Search {
     pub(crate) object: u32,
     pub(crate) name: Option<Text>,
@@ -94,7 +94,7 @@ const SEARCH: [Key; 3] = [
     Key::Optional("class", Holds::Name),
 ];
 
-/// What a command looks for.
+/// Reads the search of a command.
 #[tactic(auto, unfolding(crate::specs::Shared::of_search))]
 pub(crate) fn search_in(alloc: Global, members: &[Member<'_>]) -> Result<Option<Search>, AllocError>
     ensures { IfOk result (λ found. (word : List ℕ) (asks : ℕ → Option (List ℕ) → Option (List ℕ) → Asked)

@@ -40,7 +40,7 @@ pub fn sessions_are_isolated()
     ensures strangers { LeavingOutStrangers }
 {}
 
-/// What is written for the expression of a binding is read as the same expression: whoever copies the reply of
+/// The text that is written for the expression of a binding is read as the same expression: whoever copies the reply of
 /// `binding` into `bind` binds the same.
 pub fn expressions_are_read_again()
     ensures { AreReadAgain }

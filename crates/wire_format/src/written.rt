@@ -1,4 +1,4 @@
-//! What is written as one piece of JSON.
+//! Values that are written as one piece of JSON, and the ways to write members and arrays of them.
 ghost use Rattle.std.specs.Prelude.{◌≡◌, ◌++◌, ℕ, List, OnOk, false, map, string_bytes};
 ghost use Rattle.serde_json.specs.Data.{boolean, string};
 ghost use Rattle.serde_json.specs.View.{items_of};
@@ -15,7 +15,7 @@ use signature_core::Kind;
 use std::alloc::{AllocError, Global};
 use variant_value::Value;
 
-/// What is written as one piece of JSON.
+/// A value that is written as one piece of JSON.
 pub(crate) trait Written {
     ghost use Rattle.serde_json.specs.Data.{Data};
 

@@ -1,4 +1,4 @@
-//! What a run reads at most, in numbers.
+//! The limits of what a run reads.
 ghost use Rattle.wire_lines.specs.Limits.{AreLimitsOfRuns};
 
 /// The number of each limit of a run. There is nothing to run: other clauses know limits by their names, and

@@ -30,7 +30,7 @@ use wire_format::{
 #[derive(Drop)]
 pub struct Output {
     alloc: Global,
-    /// What is written next: all of it before each read.
+    /// The bytes that are written next: all of them before each read.
     pub gathered: Buffer,
     /// The text of a line that is not said in parts, in memory that serves for all of them. A line
     /// of more than [`BUFFER_BYTES`] makes it grow.

@@ -240,7 +240,7 @@ pub fn run<R: Source, W: Sink>(
 ///
 /// # Errors
 ///
-/// As those of [`run`], at these bounds.
+/// Those of [`run`], at these bounds.
 pub fn run_bounded<R: Source, W: Sink>(
     alloc: Global,
     reader: &mut R,
