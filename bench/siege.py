@@ -27,7 +27,7 @@ from typing import Counter as Counts, Dict, List, Optional, Tuple
 BENCH = Path(__file__).resolve().parent
 sys.path[:0] = [str(BENCH), str(BENCH.parent / "clients" / "python")]
 
-from hard_clients import Failed, Front, Pump, Pumps, connected, group_hello  # noqa: E402
+from hard_clients import PATIENCE, Failed, Front, Pump, Pumps, connected, group_hello  # noqa: E402
 from siege_attacks import ATTACKS, HEARD  # noqa: E402
 
 HONEST, GROUPS, WORKERS = 40, 10, 3
@@ -160,8 +160,9 @@ class Siege:
         return f"{done:,} commands of {HONEST} clients, each answered once; attacks: {json.dumps(self.attacks, sort_keys=True)}; memory: {self.memory()}"
 
     def hold(self, pumps: Pumps, begun: float, until: float) -> None:
-        """Drives the clients, looks at the front's health and memory, and fails at the first fault."""
-        while time.monotonic() < until:
+        """Drives the clients, looks at the front's health and memory, and fails at the first fault. On a slow machine it waits
+        until each attack was made once."""
+        while time.monotonic() < until or (self.attacks.keys() != ATTACKS.keys() and time.monotonic() < until + PATIENCE):
             pumps.drive(0.5)
             check_health(self.room)
             is_late = time.monotonic() > begun + self.seconds / 4

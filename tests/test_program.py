@@ -175,7 +175,7 @@ class Ends(ProgramCases):
             self.assertIn(words, ran.stdout)
 
 
-PATIENCE = 10  # seconds in which a reply has to come
+PATIENCE = 60  # seconds in which a reply has to come
 QUIET = 0.2  # seconds in which nothing may come where nothing is to be said
 
 GET = b'{"do":"get","object":1,"property":"objectName","session":"a"}\n'

@@ -9,7 +9,7 @@ import { connect, startFront } from "../../clients/js/index.mjs";
 export const ROOT = path.resolve(path.dirname(fileURLToPath(import.meta.url)), "../..");
 export const PROGRAM = process.env.METAD ?? path.join(ROOT, "bin", "metad");
 export const FRONT = process.env.METAD_FRONT ?? path.join(ROOT, "bin", "metad-front");
-export const PATIENCE = 30_000; // milliseconds
+export const PATIENCE = 60_000; // milliseconds
 
 /** A client of a program that is started, and ended with the test. */
 export async function served(test, what = {}, options = {}) {

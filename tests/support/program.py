@@ -9,7 +9,7 @@ from .differences import difference, line_asked, shown_input
 
 ROOT = Path(__file__).resolve().parents[2]
 ROWS = ROOT / "tests" / "rows"
-SECONDS = 60
+SECONDS = 300  # in which a run has to end: a machine may be slow, and only what hangs gets there
 OF_MAKE = ("MAKEFLAGS", "MAKELEVEL", "MFLAGS")
 
 
@@ -25,7 +25,7 @@ def make(*words, folder=ROOT):
     """Runs the Makefile as if no other make had called it."""
     own = {key: value for key, value in os.environ.items() if key not in OF_MAKE}
     words = ["make", "-s", "-f", ROOT / "Makefile", *words]
-    return subprocess.run(words, cwd=folder, env=own, capture_output=True, text=True, timeout=SECONDS)
+    return subprocess.run(words, cwd=folder, env=own, capture_output=True, text=True, timeout=3 * SECONDS)
 
 
 def library(name):

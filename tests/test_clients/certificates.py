@@ -4,7 +4,7 @@ import shutil
 import subprocess
 from pathlib import Path
 
-PATIENCE = 60  # seconds for a key, on a machine that does much else
+PATIENCE = 300  # seconds for a key, on a machine that does much else
 CONFIG = """[req]
 distinguished_name = name
 prompt = no

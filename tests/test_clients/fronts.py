@@ -22,7 +22,7 @@ from . import PYTHON
 
 FRONT = Path(os.environ.get("METAD_FRONT") or ROOT / "bin" / "metad-front")  # the front that is tested
 PASSED = "-"  # stands for a socket that the front was passed
-PATIENCE = 30  # seconds in which a front has to listen, to answer and to end
+PATIENCE = 60  # seconds in which a front has to listen, to answer and to end: more than any machine needs
 STATUS = '{"do":"status"}'
 GREETED = '{"error":"E02","session":"-"}'  # the server's answer to the front's first line
 GREETED_BY_PYTHON = f"import sys; sys.stdin.readline(); print('{GREETED}', flush=True)\n"

@@ -7,7 +7,7 @@ import subprocess
 import threading
 import time
 from collections import defaultdict
-from contextlib import contextmanager
+from contextlib import contextmanager, suppress
 from hashlib import blake2b
 from pathlib import Path
 
@@ -265,3 +265,19 @@ def wait_until(test, holds, what):
         if time.monotonic() > until:
             test.fail(f"this does not happen: {what}")
         time.sleep(0.005)
+
+
+def write_until(test, link, lines, holds, what):
+    """Writes these lines again and again, as many as the other side takes, and reads nothing, until something holds."""
+    rest = b""
+
+    def holds_now():
+        nonlocal rest
+        with suppress(OSError):  # the other side takes nothing more, for now or at all
+            for _ in range(1_000):
+                rest = rest or lines
+                rest = rest[link.send(rest) :]
+        return holds()
+
+    link.setblocking(False)
+    wait_until(test, holds_now, what)

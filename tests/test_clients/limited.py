@@ -1,5 +1,6 @@
 """Fronts with limits: the file of `--limits`, and clients that exceed them next to one that does not."""
 
+import re
 import statistics
 import subprocess
 import time
@@ -12,7 +13,7 @@ from .fronts import FRONT, NEW, PATIENCE, Client, reply
 from .grouped import WorkerCases
 
 SAMPLES = 200  # round trips of a client that means well
-RUNS, TRIES = 3, 8  # of so many the median counts; of so many medians one has to be good, since others use the machine too
+RUNS, TRIES = 3, 20  # of so many the median counts; of so many medians one has to be good, since others use the machine too
 TIMES = 5  # how much longer others may wait under an attack than alone
 LEAST = 0.004  # seconds: shorter waits are not compared, since machines of tests have other things to do
 
@@ -20,6 +21,14 @@ LEAST = 0.004  # seconds: shorter waits are not compared, since machines of test
 def exceeded(code, limit, session="-"):
     """The line of a front that says which limit was exceeded."""
     return f'{{"error":"{code}","limit":"{limit}","session":"{session}"}}'
+
+
+def refusals_of(metrics, code):
+    """How often a front has refused something by this code, as its metrics say."""
+    with Client(metrics) as asker:
+        asker.say("GET /metrics HTTP/1.0\r", "\r")
+        found = re.findall(rf'^metad_front_refusals_total{{code="{code}"}} (\d+)$', asker.until_closed().decode(), re.MULTILINE)
+        return sum(map(int, found))
 
 
 def round_trips(client, count=SAMPLES):

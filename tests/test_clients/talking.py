@@ -5,7 +5,7 @@ import socket
 import threading
 from pathlib import Path
 
-PATIENCE = 30  # seconds in which each line has to come
+PATIENCE = 60  # seconds in which each line has to come
 
 
 class Talker:

@@ -6,7 +6,7 @@ import select
 import termios
 import time
 
-PATIENCE = 30  # seconds in which a terminal has to show what is waited for
+PATIENCE = 60  # seconds in which a terminal has to show what is waited for
 
 
 def make_controlling():

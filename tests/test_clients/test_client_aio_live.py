@@ -8,6 +8,7 @@ import metad
 from metad import aio
 
 from .fronts import PATIENCE, FrontCases
+from .grouped import wait_until
 from .test_client_live import GREETED, IDLE, LIVE, NEW, given_in, seen
 from .talking import Talker
 
@@ -37,6 +38,7 @@ class AioLive(FrontCases):
 
         with self.front(options=("--quiet", "--record", record)) as (path, _):
             asyncio.run(live(path))
+            wait_until(self, lambda: "reset" in given_in(record, "c2"), "the guest's session is reset")
         return given_in(record, "c2")
 
     def test_told(self):

@@ -34,7 +34,7 @@ class Ends(ClientCases):
     """The beginning and the end of a server."""
 
     def wait_until(self, what, holds):
-        until = time.monotonic() + SECONDS / 2
+        until = time.monotonic() + SECONDS
         while not holds():
             self.assertLess(time.monotonic(), until, what)
             time.sleep(0.01)

@@ -139,7 +139,7 @@ class Uses(InsideCases):
                 session, done, stopped = server.session("a"), 0, 0
                 session.new("Probe")
                 until = time.monotonic() + 2
-                while time.monotonic() < until:
+                while time.monotonic() < until or stopped <= 10:
                     try:
                         signal.setitimer(signal.ITIMER_VIRTUAL, 0.0003)
                         while True:

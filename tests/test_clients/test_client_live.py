@@ -209,6 +209,8 @@ class Live(FrontCases):
         heard = []
         with self.pair() as (host, guest, _):
             guest.on_call = heard.append
+            # a shell may start these tests in the background with interrupts ignored
+            self.addCleanup(signal.signal, signal.SIGINT, signal.signal(signal.SIGINT, signal.default_int_handler))
             interrupt = partial(signal.pthread_kill, threading.main_thread().ident, signal.SIGINT)
             with self.later(interrupt):
                 self.raised("an interrupt", KeyboardInterrupt, guest.wait_for, lambda: False, PATIENCE)
@@ -322,7 +324,7 @@ class StandIns(FrontCases):
         """A wait for a signal also ends when another thread has delivered the signal before the wait begins."""
         sent = mock.MagicMock()
         sent.connect.side_effect = lambda told, via: told(5) or mock.MagicMock()
-        self.assertEqual(metad.wait_for(sent, 0.5), [5], "what it was sent with")
+        self.assertEqual(metad.wait_for(sent, PATIENCE), [5], "what it was sent with")
 
     def test_failed(self):
         """If the front's own spin fails, its error answers no command; the session is not live any more, and waits spin."""

@@ -13,6 +13,7 @@ import metad
 from tests.support.lines import text_of
 
 from .fronts import PATIENCE, Client, ClientCases, error, monitored, reply
+from .grouped import wait_until
 
 UNREAD_MOST = 16 * 1024 * 1024
 CALL = {"args": ["x" * 4_000], "call": "f(QString)", "object": 1, "sender": 0}
@@ -92,10 +93,11 @@ class Monitors(ClientCases):
         count = each * times
         with self.talking() as front, front.monitor() as monitor, front.monitor() as other, Client(front.monitor_path) as other_raw:
             others = []
-            reading = self.in_thread(lambda: others.extend(other))
+            reading = self.in_thread(lambda: [others.append(line) for line in other])
             with front.connect() as server:
-                for _ in range(times):
+                for at in range(1, times + 1):
                     self.assertIs(server.session("a").command("talk", count=each), True, "the answer")
+                    wait_until(self, lambda told=at * (each + 1): len(others) >= told, "a monitor that reads has kept up")
             raw = other_raw.told()
             told = []
             lost = self.raised("the end", metad.LinesLost, told.extend, monitor)

@@ -142,9 +142,10 @@ class OverTcp(NetworkCases):
         with self.front(options=("--tcp", ANY_PORT)) as (_, process):
             with metad.connect(f"tcp://127.0.0.1:{port_of(process.log, 'TCP')}") as client:
                 self.assertEqual(client.session("one").new("Probe"), 1)
-        with socket.create_server(("127.0.0.1", 0)) as free:
-            port = free.getsockname()[1]
-        refused = self.raised("nobody listens", ConnectionRefusedError, metad.connect, f"tls://127.0.0.1:{port}")
+        with socket.socket() as taken:  # by nobody who listens, and so by nobody else
+            taken.bind(("127.0.0.1", 0))
+            place = f"tls://127.0.0.1:{taken.getsockname()[1]}"
+            refused = self.raised("nobody listens", ConnectionRefusedError, metad.connect, place)
         self.assertIn("is a front running that listens there?", str(refused))
         for place in ("tls://localhost", "tcp://:1", "tls://host:port", "tls://[::1:5"):
             self.assertIn("HOST:PORT", str(self.raised(place, ValueError, metad.connect, place)))

@@ -109,7 +109,7 @@ class Reading(ClientCases):
             signal.signal(signal.SIGUSR1, before)
 
     def wait_until(self, what, holds):
-        until = time.monotonic() + SECONDS / 2
+        until = time.monotonic() + SECONDS
         while not holds():
             self.assertLess(time.monotonic(), until, what)
             time.sleep(0.01)
@@ -203,12 +203,10 @@ class Reading(ClientCases):
             raise TimeoutError("the time of the program is over")
 
         with self.played() as played, self.handled(time_out, played):
-            answerer = threading.Timer(2, played.say, (reply(1),))
-            answerer.start()
             late = self.raised("a method that waits", TimeoutError, played.session.status)
             self.assertEqual(str(late), "the time of the program is over", "what is raised")
             pending = played.session.send("status")
-            answerer.join()
+            played.say(reply(1))
             self.assertFalse(pending.done(), "whether a later command has the answer")
             played.say(reply(2))
             self.assertEqual(pending.result(PATIENCE), 2, "the answer to the later command")
@@ -263,7 +261,7 @@ class Reading(ClientCases):
                 thread.start()
                 time.sleep(0.1)
                 played.say(reply(1))
-                thread.join(3)
+                thread.join(PATIENCE)
                 connection._unwritten.clear()
                 self.assertEqual(came, [1], "the answer")
             thread.join()

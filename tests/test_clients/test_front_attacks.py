@@ -3,16 +3,15 @@ nothing (docs/LIMITS.md)."""
 
 import json
 import multiprocessing
-import socket
 import threading
 from contextlib import contextmanager
 from pathlib import Path
 
 from tests.support.lines import text_of
 
-from .fronts import NEW, STATUS, Client, error, reply
-from .grouped import hello
-from .limited import LimitedCases, exceeded
+from .fronts import NEW, PATIENCE, STATUS, Client, error, reply
+from .grouped import hello, write_until
+from .limited import LimitedCases, exceeded, refusals_of
 from .test_front_health import ALIVE, GET
 
 FORKS = multiprocessing.get_context("fork")
@@ -122,19 +121,16 @@ class Attacks(LimitedCases):
     def test_slow_reader(self):
         """A client that does not read is closed after a line that says so."""
 
+        metrics = Path(self.room, "metrics")
+
         def attack(path, ended):
             with Client(path) as client:
-                client.link.settimeout(0.5)
-                try:
-                    while True:
-                        client.link.sendall(b'{"do":"classes"}\n' * 100)
-                except OSError:
-                    pass  # the front takes nothing more
-                client.link.settimeout(30)
-                client.link.shutdown(socket.SHUT_WR)
+                before = refusals_of(metrics, "F13")
+                write_until(self, client.link, b'{"do":"classes"}\n' * 100, lambda: refusals_of(metrics, "F13") > before, "it is closed")
+                client.link.settimeout(PATIENCE)
                 return self.closed_lines(client)
 
-        ends = [lines[-1] for lines in self.attacked(HARMLESS, attack, "a slow reader")]
+        ends = [lines[-1] for lines in self.attacked(HARMLESS, attack, "a slow reader", "--metrics", metrics)]
         self.assertTrue(any('"F13","limit":"client.unread_bytes"' in end for end in ends), ends)
 
     def test_memory(self):

@@ -53,6 +53,16 @@ def stop():
     os.kill(front, signal.SIGKILL)
     sys.exit()
 """
+# stops itself the first time that it is started, and is then the program that shortens
+STOPS = f"""
+import os, signal, sys
+try:
+    os.mkdir(__file__ + ".stopped")
+    os.kill(os.getpid(), signal.SIGSTOP)
+except FileExistsError:
+    pass
+os.execv(sys.executable, [sys.executable, {str(COMPACT)!r}, *sys.argv[1:]])
+"""
 
 
 def setting(value):
@@ -120,6 +130,17 @@ class CompactCases(WorkerCases):
         process.log = log
         log.wait_for(self, f"metad-front: listening at {path}", process)
         return path, process
+
+    @contextmanager
+    def stand_in(self, text):
+        """A front next to another program in place of the one that shortens."""
+        place = Path(self.room, "place")
+        place.mkdir(exist_ok=True)
+        shutil.copy(FRONT, place / "metad-front")
+        (place / "compact").write_text(text)
+        self.front_program = place / "metad-front"
+        yield
+        self.front_program = FRONT
 
     def end(self, process):
         process.terminate()
@@ -193,20 +214,28 @@ class Compacts(CompactCases):
         self.assertEqual(client.ask(text_of({"do": "get", "object": 1, "property": "x"})), reply(599, "desk__team"), "its value")
         self.end(process)
 
-    def test_not_in_the_way(self):
-        """Clients are answered while the program that shortens is stopped, and what is recorded meanwhile is not lost."""
-        path, process = self.start()
+    @contextmanager
+    def stopped(self):
+        """A client of a front, the front and its server, while the program that shortens the client's record is stopped."""
+        with self.stand_in(STOPS):
+            path, process = self.start()
         client = self.member(path)
         client.ask(CELL)
-        server = servers_of(process)
+        (server,) = servers_of(process)
         self.set_many(client, 300)
         wait_until(self, lambda: len(servers_of(process)) > 1, "the program is started")
-        (child,) = (it for it in servers_of(process) if it not in server)
-        os.kill(child, signal.SIGSTOP)
-        self.set_many(client, 1_000)
+        (child,) = (it for it in servers_of(process) if it != server)
+        stat = Path(f"/proc/{child}/stat")
+        wait_until(self, lambda: stat.read_text().rpartition(")")[2].split()[0] == "T", "it has stopped")
+        yield client, process, server
         os.kill(child, signal.SIGCONT)
+
+    def test_not_in_the_way(self):
+        """Clients are answered while the program that shortens is stopped, and what is recorded meanwhile is not lost."""
+        with self.stopped() as (client, process, server):
+            self.set_many(client, 1_000)
         self.wait_for_words(process, "the record of desk is compacted: ")
-        os.kill(server[0], signal.SIGKILL)
+        os.kill(server, signal.SIGKILL)
         self.assertEqual(client.ask(text_of({"do": "get", "object": 1, "property": "x"})), reply(999, "desk__team"), "its value")
         self.end(process)
 
@@ -251,19 +280,11 @@ class Compacts(CompactCases):
 
     def test_reset_meanwhile(self):
         """A record that begins again while it is shortened is not replaced."""
-        path, process = self.start()
-        client = self.member(path)
-        client.ask(CELL)
-        server = servers_of(process)
-        self.set_many(client, 300)
-        wait_until(self, lambda: len(servers_of(process)) > 1, "the program is started")
-        (child,) = (it for it in servers_of(process) if it not in server)
-        os.kill(child, signal.SIGSTOP)
-        self.assertEqual(client.ask('{"do":"reset"}'), reply(True, "desk__team"), "a reset")
-        self.assertEqual(client.ask(CELL), reply(1, "desk__team"), "an object")
-        os.kill(child, signal.SIGCONT)
+        with self.stopped() as (client, process, server):
+            self.assertEqual(client.ask('{"do":"reset"}'), reply(True, "desk__team"), "a reset")
+            self.assertEqual(client.ask(CELL), reply(1, "desk__team"), "an object")
         self.wait_for_words(process, "metad-front: the record of desk is not compacted: it has changed meanwhile")
-        os.kill(server[0], signal.SIGKILL)
+        os.kill(server, signal.SIGKILL)
         self.assertEqual(client.ask(CELL), reply(2, "desk__team"), "the next one")
         self.end(process)
 
@@ -309,24 +330,13 @@ class Compacts(CompactCases):
 class Killed(CompactCases):
     """Fronts that are killed at each step."""
 
-    @contextmanager
-    def stand_in(self, step):
-        """A front next to another program in place of the one that shortens."""
-        place = Path(self.room, "place")
-        place.mkdir(exist_ok=True)
-        shutil.copy(FRONT, place / "metad-front")
-        (place / "compact").write_text(STAND_IN + STEPS[step])
-        self.front_program = place / "metad-front"
-        yield
-        self.front_program = FRONT
-
     def check_killed(self, what, *before):
         """A front that is killed while it shortens a record leaves one that restores all that was answered."""
         shutil.rmtree(self.records, ignore_errors=True)
         path, process = self.start(before=before)
         client = self.member(path)
         self.assertEqual(client.ask(CELL), reply(1, "desk__team"), what)
-        client.say(*[setting(value) for value in range(2_000)])
+        client.offer(*[setting(value) for value in range(2_000)])  # the front may end before it has read all
         told = answers_until_killed(client)
         self.assertEqual(set(told), {reply(True, "desk__team")}, what)
         self.assertEqual(process.wait(PATIENCE), -signal.SIGKILL, what)
@@ -339,7 +349,7 @@ class Killed(CompactCases):
     def test_steps(self):
         """Fronts that are killed when the program begins, has written half a record, a whole one, and says so."""
         for step in STEPS:
-            with self.subTest(step), self.stand_in(step):
+            with self.subTest(step), self.stand_in(STAND_IN + STEPS[step]):
                 self.check_killed(step)
 
     def test_rename(self):

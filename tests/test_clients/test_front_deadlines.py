@@ -109,13 +109,13 @@ class Deadlines(LimitedCases):
 
     def test_waiting(self):
         """Time in which a command waits for others does not count, and short commands may come for as long as they like."""
-        slowly = COUNTS.replace("    counts[name] =", "    time.sleep(0.4)\n    counts[name] =", 1)
-        with self.limited(SECOND, "--workers", "1", server=[sys.executable, "-c", slowly]) as (path, _):
+        slowly = COUNTS.replace("    counts[name] =", "    time.sleep(0.3)\n    counts[name] =", 1)
+        with self.limited("command_seconds = 3\n", "--workers", "1", server=[sys.executable, "-c", slowly]) as (path, _):
             one, two = (self.entered(path, group) for group in ("desk", "lamp"))
             for client, _ in (one, two):
-                client.say(*[ONE] * 4)
+                client.say(*[ONE] * 8)
             for client, name in (one, two):
-                self.assertEqual([client.hear() for _ in range(4)], [reply(at, name) for at in range(1, 5)], name)
+                self.assertEqual([client.hear() for _ in range(8)], [reply(at, name) for at in range(1, 9)], name)
 
 
 class Memory(LimitedCases):

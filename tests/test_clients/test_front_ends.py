@@ -20,7 +20,7 @@ USAGE = "usage: metad-front [options] SOCKET PROGRAM [ARGS...]\n"
 HELLO = "metad-front: the server wrote no line of the protocol: b'hello'\n"
 REFUSED = "metad: class file refused: C01 at class 0\nmetad-front: the server has ended with status 1\n"
 CALL = '{"args":[],"call":"note()","object":1,"sender":0,"session":"c1"}'
-SECONDS_TO_END = 5 + 10 + 5  # of the server, of monitors that read, and for a busy machine
+SECONDS_TO_END = 5 + 10 + 40  # of the server, of monitors that read, and for a busy machine
 TAKING_ITS_TIME = "import signal, time; signal.signal(signal.SIGTERM, signal.SIG_IGN)"
 
 

@@ -10,7 +10,7 @@ from tests.support.seeds import seed_of
 from .fronts import PATIENCE
 
 HARD_USE, ECHO = (ROOT / "bench" / name for name in ("hard_use.py", "hard_echo.py"))
-SECONDS = 200
+SECONDS = 600  # in which a trial has to end, however slow the machine is
 PART = "25"
 
 

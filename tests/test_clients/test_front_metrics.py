@@ -17,7 +17,7 @@ from tests.support.lines import text_of
 from tests.support.markdown import section
 
 from .fronts import FRONT, NEW, PATIENCE, STATUS, Client, error, reply
-from .grouped import WorkerCases, hello, servers_of, wait_until
+from .grouped import WorkerCases, by_session, hello, servers_of, wait_until, write_until
 from .stand_servers import stopped
 
 GET = "GET /metrics HTTP/1.0\r\n\r\n"
@@ -283,8 +283,11 @@ class Counts(MetricsCases):
             self.assertEqual(self.refusals(), {}, "at first")
             join = {"do": "join", "from": "other", "name": "level", "object": 1, "method": "note()", "types": [], "session": "desk"}
             made = NEW.replace("{", '{"session":"desk",')
-            told = [json.loads(client.ask(line)).get("error") for line in (made, text_of(join), made.replace("desk", "lamp"), made)]
-            self.assertEqual(told, [None, "F17", "F16", "F12"], "what is refused")
+            lines = (made, text_of(join), made.replace("desk", "lamp"), made)
+            client.say(*lines)  # at once, since another one is allowed each second
+            told = by_session(client.hear() for _ in lines)
+            found = {name: [json.loads(line).get("error") for line in own] for name, own in told.items()}
+            self.assertEqual(found, {"desk": [None, "F17", "F12"], "lamp": ["F16"]}, "what is refused")
             self.assertEqual(self.refusals(), {"F12": 1, "F16": 1, "F17": 1})
             self.assertEqual([self.value("errors_total", code) for code in ("F12", "F16", "F17")], [1, 1, 1], "among the errors")
 
@@ -309,13 +312,7 @@ class Counts(MetricsCases):
         for text, code in (("[client]\nunread_bytes = 50000\n", "F13"), ("front_memory = 50000\n", "F19")):
             with self.bounded(text) as (path, _), Client(path) as slow:
                 slow.link.setsockopt(socket.SOL_SOCKET, socket.SO_RCVBUF, 4_096)
-                slow.link.settimeout(2)
-                try:
-                    for _ in range(1_000):
-                        slow.say(*['{"do":"classes"}'] * 100)
-                except OSError:
-                    pass  # the front reads nothing more
-                wait_until(self, lambda: self.refusals() == {code: 1}, f"{text!r}: {code} is counted once")
+                write_until(self, slow.link, b'{"do":"classes"}\n' * 100, lambda: self.refusals() == {code: 1}, f"{text!r}: {code} is counted once")
 
     def test_limit_of_time(self):
         """A command that takes too long is counted."""

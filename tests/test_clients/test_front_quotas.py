@@ -5,12 +5,13 @@ import os
 import signal
 import socket
 import time
+from pathlib import Path
 
 from tests.support.lines import text_of
 
-from .fronts import NEW, STATUS, Client, error, reply
-from .grouped import hello, wait_until
-from .limited import LimitedCases, exceeded
+from .fronts import NEW, PATIENCE, STATUS, Client, error, reply
+from .grouped import hello, wait_until, write_until
+from .limited import LimitedCases, exceeded, refusals_of
 from .stand_servers import wait_until_read
 
 UID = os.getuid()
@@ -104,7 +105,8 @@ class Users(LimitedCases):
         with self.limited(text + "commands = { per_second = 1, burst = 4 }\n") as (path, _), Client(path) as client:
             told = [client.ask(line) for line in (NEW, join_of("c8"), join_of("c9"))]
             self.assertEqual(told, [reply(1, "c1"), reply(True, "c1"), exceeded("F17", "uid.joins", "c1")], "joins")
-            told = [client.ask(STATUS) for _ in range(4)]
+            client.say(*[STATUS] * 4)  # at once, since another one is allowed each second
+            told = [client.hear() for _ in range(4)]
             self.assertEqual(told[-1], exceeded("F12", "uid.commands", "c1"), "the rate")
             client.link.sendall(b" " * 1_001)
             self.assertEqual(self.closed_lines(client), [exceeded("F14", "uid.half_line_bytes", "c1")], "unfinished lines")
@@ -303,26 +305,21 @@ class Bounds(LimitedCases):
 
     def test_unread(self):
         """A client that does not read is closed after a last line that says why, and others are served."""
+        metrics = Path(self.room, "metrics")
         for key in ("client", "uid"):
-            with self.limited(f"[{key}]\nunread_bytes = 50000\n") as (path, _), Client(path) as slow, Client(path) as other:
+            text, options = f"[{key}]\nunread_bytes = 50000\n", ("--metrics", metrics)
+            with self.limited(text, *options) as (path, _), Client(path) as slow, Client(path) as other:
                 slow.link.setsockopt(socket.SOL_SOCKET, socket.SO_RCVBUF, 4_096)
-                slow.link.settimeout(2)
-                answered = 0
-                try:
-                    while answered < 100_000:
-                        slow.say(*['{"do":"classes"}'] * 100)
-                        answered += 100
-                except OSError:
-                    pass  # the front reads nothing more
-                wait_until(self, lambda: other.ask(NEW) and self.is_cut(slow, key), "it is closed")
+                is_refused = lambda: other.ask(NEW) and refusals_of(metrics, "F13") == 1
+                write_until(self, slow.link, b'{"do":"classes"}\n' * 100, is_refused, "the limit is enforced")
+                self.check_cut(slow, key)
                 told = other.name()
                 self.assertEqual(told, "c2", "the other one")
 
-    def is_cut(self, slow, key):
-        """Whether the last line of a client says that it has left too much unread; all lines before it are whole."""
-        slow.link.settimeout(30)
+    def check_cut(self, slow, key):
+        """The last line of a client says that it has left too much unread; all lines before it are whole."""
+        slow.link.settimeout(PATIENCE)
         told = self.closed_lines(slow)
         self.assertEqual(told[-1], exceeded("F13", f"{key}.unread_bytes", "c1"), "the last line")
         for line in told[:-1]:
             json.loads(line)
-        return True

@@ -9,7 +9,7 @@ from tests.support.program import ROOT
 from .fronts import PATIENCE
 
 SIEGE = ROOT / "bench" / "siege.py"
-SECONDS = 240  # in which it has to end, however slow the machine is
+SECONDS = 600  # in which it has to end, however slow the machine is
 
 
 class Siege(ProgramCases):

@@ -12,6 +12,7 @@ from pathlib import Path
 from tests.support.lines import text_of
 
 from .fronts import FRONT, NEW, PATIENCE, STATUS, Client, FrontCases, classes_in, error, reply
+from .grouped import wait_until
 
 TEXT = "n" * 4_096
 UNREAD_MOST = 16 * 1024 * 1024
@@ -132,6 +133,8 @@ class Recording(FrontCases):
                         self.assertEqual(json.loads(told[0])["reply"], number, "an object")
                 one.link.sendall(b'{"do":"\xff"}\n')
                 self.assertEqual(one.hear(), error("E01", "-"), "a line that is no UTF-8")
+            given = {b'{"do":"reset","session":"%s"}' % name for name in (b"c1", b"c2")}
+            wait_until(self, lambda: given <= set(record.read_bytes().splitlines()), "the sessions of both are reset")
             with Client(path) as last:
                 self.assertEqual(last.ask(NEW), reply(1, "c3"), "an object")
             lines = []
@@ -159,6 +162,7 @@ class Recording(FrontCases):
         with self.front(options=("--record", "/dev/full")) as (path, process), Client(path) as client:
             self.assertEqual([client.ask(NEW) for _ in range(3)], [reply(number, "c1") for number in (1, 2, 3)], "its objects")
             line = "metad-front: /dev/full cannot be written: No space left on device; nothing more is recorded"
+            process.log.wait_for(self, line)
             self.assertEqual(process.log.lines().count(line), 1, "what is said")
 
 

@@ -83,7 +83,7 @@ class Sessions(NetworkCases):
         with self.tls_front() as (port, _, _):
             for _ in range(20):
                 with NetworkClient(port, context_of(self.authority)) as client:
-                    client.say(asked, *[STATUS] * 2_000)
+                    client.offer(asked, *[STATUS] * 2_000)
                     self.assertEqual(client.told(), [error("F02", "-")])
 
     def test_unread(self):

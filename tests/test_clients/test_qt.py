@@ -24,8 +24,8 @@ TOOL = ROOT / "tools" / "qt_commands.py"
 SOURCE = CLIENTS / "qt"
 EXAMPLES = ROOT / "examples" / "qt"
 BUILD = ROOT / "bin" / "build-qt"
-BUILDING = 1800  # seconds that a build may take on a machine that is busy
-RUNNING = 4 * PATIENCE
+BUILDING = 3600  # seconds that a build may take on a machine that is busy
+RUNNING = 10 * PATIENCE
 QML_MODULES = ("QtQuick", "QtQml/WorkerScript")
 QML_PACKAGES = "qt6-declarative-dev qml6-module-qtquick qml6-module-qtqml-workerscript"
 OPTIONS = ("-DMETAD_QT_TESTS=ON", "-DMETAD_QT_EXAMPLES=ON", "-DCMAKE_UNITY_BUILD=ON")

@@ -14,7 +14,7 @@ from tests.support.documents import WORKERS_PAGE
 from tests.support.lines import text_of
 from tests.support.seeds import seed_of
 
-from .fronts import NEW, Client, error, reply
+from .fronts import NEW, PATIENCE, Client, error, reply
 from .grouped import Greeted, Killer, Named, Runs, WorkerCases, hello, servers_of, wait_until, worker_of
 
 KILLS = 100
@@ -175,7 +175,7 @@ class Ends(WorkerCases):
             length = len(reply(2, "odd__c1"))
             why = f"answer 2 of its record is a reply of {length} bytes, and is now a reply of {length} bytes"
             wanted = f"metad-front: odd cannot be brought back: {why}"
-            self.assertIn(wanted, process.log.lines(), "what is said")
+            process.log.wait_for(self, wanted)
             with Client(path) as later:
                 self.assertEqual(later.ask(hello("odd")), reply(True, "odd__c3"), "a later one")
                 self.assertEqual(later.ask(NEW), reply(1, "odd__c3"), "its object")
@@ -289,7 +289,7 @@ class Ends(WorkerCases):
     def test_class_file(self):
         """A front whose servers cannot be started ends with status 1."""
         words = [*self.front_words("--workers", "2"), self.program, "/dev/null"]
-        ran = subprocess.run(words, capture_output=True, text=True, timeout=30)
+        ran = subprocess.run(words, capture_output=True, text=True, timeout=PATIENCE)
         self.assertEqual(ran.returncode, 1, ran.stderr)
         self.assertIn("metad-front: the server has ended with status 1\n", ran.stderr, "what it says")
 

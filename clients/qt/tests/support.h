@@ -12,7 +12,7 @@
 
 #include <memory>
 
-constexpr int patience = 30'000; // milliseconds in which anything has to happen
+constexpr int patience = 60'000; // milliseconds in which anything has to happen
 
 /// A program that the variable of the environment names; the tests cannot run without it.
 QString programNamed(const char *variable);
