@@ -26,7 +26,7 @@ SECONDS_OF_QUIET = 5  # after which it is said that nothing is new
 SECONDS_TO_TAKE = 10  # in which a browser takes what it receives, or is dropped
 NEWS_MOST = 32  # browsers that receive news at once
 CONNECTIONS_MOST = 6 * NEWS_MOST  # of all browsers together: as many as each of them opens
-SECONDS_TO_BEGIN = 5  # in which the first request of a connection has to come, whole and with the token
+SECONDS_TO_BEGIN = 30  # in which the first request of a connection has to come, whole and with the token: a browser does not ask again
 SECONDS_OF_REST = 20  # in which each further one has to
 POLICY = "; ".join((
     "default-src 'none'", "script-src 'self'", "style-src 'self'", "connect-src 'self'",

@@ -261,6 +261,7 @@ class World:
 
     def go(self, name: str) -> None:
         """The client of a session has gone. Its last answers and its reset may still come, or not be seen."""
+        self.version += 1
         self.slots.pop(name, None)
         session = self.sessions.get(name)
         if session is None:

@@ -121,8 +121,8 @@ def reached(browser, most=400):
     browser.value(f"window.stops = [...document.querySelectorAll({FOCUSABLE!r})].filter({SEEN}).filter((it) => !it.disabled && it.tabIndex >= 0); document.activeElement.blur(); document.body.tabIndex = -1; document.body.focus(); document.body.removeAttribute('tabindex')")  # noqa: E501
     found, others = [], 0
     for _ in range(most):
-        browser.press("Tab")
-        at = browser.value("window.stops.indexOf(document.activeElement)")
+        browser.tap("Tab")  # moves the focus, and draws nothing
+        at = browser.evaluate("window.stops.indexOf(document.activeElement)")
         others = others + 1 if at < 0 else 0  # the browser stops at what can be scrolled, too
         if at in found or others > 3:
             break

@@ -17,7 +17,8 @@ WORDS = (
     "--disable-background-networking", "--disable-component-update", "--remote-debugging-pipe", "--window-size=1400,860",
     "--host-resolver-rules=MAP * ~NOTFOUND, EXCLUDE 127.0.0.1",
 )  # fmt: skip
-PATIENCE = 60  # seconds, as a browser is slow on a busy machine
+PATIENCE = 120  # seconds, as a browser is slow on a busy machine
+PIECE = 2  # seconds in which a page is waited for at once, since a page to which much happens is drawn again and again
 READ, WRITE = 3, 4  # the files by which the browser is driven
 OPEN = "about:blank"
 KEY_CODES = {
@@ -33,6 +34,11 @@ def browser_here():
 
 class Fault(Exception):
     """What the page or the browser says is wrong."""
+
+
+def is_begun(event, loader):
+    """Whether an event says that the page of a navigation has taken the place of the one before."""
+    return event.get("method") == "Page.frameNavigated" and event["params"]["frame"].get("loaderId") == loader
 
 
 class Browser:
@@ -109,10 +115,31 @@ class Browser:
             self.events.append(said)
 
     def open(self, address):
-        self.ask("Page.navigate", url=address)
+        """Opens a page, and waits until it has taken the place of the one before."""
+        made = self.ask("Page.navigate", url=address)
+        if "errorText" in made:
+            raise Fault(f"{address}: {made['errorText']}")
+        until = time.monotonic() + PATIENCE
+        while "loaderId" in made and not any(is_begun(it, made["loaderId"]) for it in self.events):
+            self.events.append(self.hear(until))
+
+    def settle(self, seconds=PATIENCE):
+        """Waits until a page that can tell has drawn all that it was given; returns whether it has."""
+        until = time.monotonic() + seconds
+        script = f"Promise.race([window.page?.settled?.().then(() => true) ?? true, new Promise((done) => setTimeout(done, {1_000 * PIECE}, false))])"
+        while not self.evaluate(script):
+            if time.monotonic() > until:
+                return False
+        return True
 
     def value(self, script):
-        """The value of an expression in the page."""
+        """The value of an expression, once the page has drawn all that it was given."""
+        if not self.settle():
+            raise Fault(f"the page is still drawn after {PATIENCE} seconds")
+        return self.evaluate(script)
+
+    def evaluate(self, script):
+        """The value of an expression in the page as it is."""
         said = self.ask("Runtime.evaluate", expression=script, returnByValue=True, awaitPromise=True)
         if "exceptionDetails" in said:
             raise Fault(said["exceptionDetails"].get("exception", {}).get("description", "an exception"))
@@ -122,25 +149,35 @@ class Browser:
         """The value of an expression, as soon as it is true."""
         until = time.monotonic() + seconds
         while True:
-            found = self.value(script)
+            self.settle(PIECE)
+            found = self.evaluate(script)
             if found:
                 return found
             if time.monotonic() > until:
-                raise Fault(f"it is not so in {seconds} seconds: {script}\n{self.value('document.body.innerText')}")
+                shown = self.evaluate("document.body.innerText")
+                raise Fault(f"it is not so in {seconds} seconds: {script}\n{shown}\n{self.said_wrong()}")
             time.sleep(0.02)
+
+    def at(self, selector, *does):
+        """Does something with the first element of a selector, as soon as it is there."""
+        self.wait_for(f"(() => {{ const it = document.querySelector({json.dumps(selector)}); if (it) {{ {'; '.join(does)}; }} return Boolean(it); }})()")
 
     def click(self, selector):
         """Clicks the first element of a selector, as soon as it is there."""
-        self.wait_for(f"Boolean(document.querySelector({json.dumps(selector)}))")
-        self.value(f"document.querySelector({json.dumps(selector)}).dispatchEvent(new MouseEvent('click', {{bubbles: true}}))")
+        self.at(selector, "it.dispatchEvent(new MouseEvent('click', {bubbles: true}))")
 
     def write(self, selector, text):
-        """Writes into a field."""
-        found = f"document.querySelector({json.dumps(selector)})"
-        self.value(f"{{ const it = {found}; it.value = {json.dumps(text)}; it.dispatchEvent(new Event('input', {{bubbles: true}})); it.dispatchEvent(new Event('change', {{bubbles: true}})); }}")  # noqa: E501
+        """Writes into a field, as soon as it is there."""
+        events = (f"it.dispatchEvent(new Event('{name}', {{bubbles: true}}))" for name in ("input", "change"))
+        self.at(selector, f"it.value = {json.dumps(text)}", *events)
 
     def press(self, key, **held):
         """Presses a key, by its name in the DOM, with `alt` or `ctrl` held where that is said."""
+        self.settle()
+        self.tap(key, **held)
+
+    def tap(self, key, **held):
+        """Presses a key in the page as it is."""
         code = KEY_CODES.get(key, ord(key.upper()[0]))
         text = key if len(key) == 1 and not held else {"Enter": "\r"}.get(key, "")
         word = f"Digit{key}" if key.isdigit() else f"Key{key.upper()}" if key.isalpha() and len(key) == 1 else key
@@ -151,6 +188,7 @@ class Browser:
 
     def type(self, text):
         """Types a text where the focus is."""
+        self.settle()
         self.ask("Input.insertText", text=text)
 
     def prefer(self, scheme):
@@ -166,8 +204,12 @@ class Browser:
         return self.value(f"[...document.querySelectorAll({json.dumps(selector)})].map((it) => it.textContent)")
 
     def faults(self):
-        """What the page has said is wrong: exceptions, and what its policy has refused."""
-        self.value("1")
+        """What the page has said is wrong, once it has drawn all."""
+        self.settle()
+        return self.said_wrong()
+
+    def said_wrong(self):
+        """What the page has said is wrong so far: exceptions, what its policy has refused, and what was not loaded."""
         found = []
         for it in self.events:
             if it.get("method") == "Runtime.exceptionThrown":

@@ -53,7 +53,7 @@ class Asker:
 
     def until(self, test, holds, name, **asked):
         """What is known as soon as it is so."""
-        until = time.monotonic() + PATIENCE
+        until = time.monotonic() + 4 * PATIENCE
         while True:
             found = self.get(name, **asked)
             if found is not None and holds(found):
@@ -70,7 +70,15 @@ class InspectCases(FrontCases):
     def shown(self, *words, options=(), server=None):
         """The path of a front that is shown, its process, and who asks its inspector."""
         with self.front(*words, options=("--quiet", "--inspect", "0", *options), server=server) as (path, process):
-            yield path, process, Asker(address_in(process.log.lines()))
+            yield path, process, Asker(address_in(self.said_by(process)))
+
+    def said_by(self, process):
+        """What a front has said, as soon as the address is among it."""
+        until = time.monotonic() + PATIENCE
+        while not any(map(ADDRESS.search, process.log.lines())):
+            self.assertLess(time.monotonic(), until, "no address is said")
+            time.sleep(0.01)
+        return process.log.lines()
 
     def inspector_of(self, process):
         """The process of the inspector of a front."""

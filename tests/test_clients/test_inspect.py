@@ -21,6 +21,7 @@ from . import CLIENTS
 from .fronts import NEW, PATIENCE, Client, front_of, reply
 from .inspected import world_of
 from .inspectors import Asker, InspectCases, address_in
+from .stand_ins import is_running
 
 LONG_TEXT = "x" * 4_096
 MARKUP = "<img src=x onerror=alert(1)>"
@@ -200,8 +201,8 @@ class Looking(InspectCases):
                 links.append(link.getresponse())
             client.ask(NEW)
             for answer in links:
-                told = {"commands": 0}
-                while told["commands"] == 0:
+                told = {"commands": 0, "waiting": 0}
+                while told["commands"] == 0 or told["waiting"]:
                     line = answer.readline()
                     told = json.loads(line[6:]) if line.startswith(b"data: ") else told
                 self.assertEqual((told["commands"], told["sessions"]), (1, 1))
@@ -238,7 +239,7 @@ class Speaking(InspectCases):
                 self.assertEqual(asker.ask(name, do="status"), {"answer": None}, name)
             with Client(path) as client:
                 client.ask(NEW)
-            asker.until(self, lambda it: it["total"] == 0, "sessions")
+            asker.until(self, lambda it: (it["commands"], it["waiting"], it["sessions"]) == (2, 0, 0), "about")  # `new` and `reset`
             self.assertEqual(asker.ask("c1", do="status"), {"answer": None})
             self.assertEqual(asker.get("sessions")["total"], 0)
 
@@ -297,7 +298,7 @@ class Nobody(InspectCases):
             self.assertEqual(asker.get("about")["commands"], 0)
             process.kill()
         until = time.monotonic() + PATIENCE
-        while Path(f"/proc/{number}").exists() and Path(f"/proc/{number}/stat").read_text().split()[2] != "Z":
+        while is_running(number):
             self.assertLess(time.monotonic(), until, "it is still there")
             time.sleep(0.02)
 

@@ -64,8 +64,7 @@ class Shown(InspectCases):
         """The page of a front that has just started is not late, and shows no lines per second once they have ended."""
         with self.shown() as (path, _, asker), Client(path) as client:
             client.ask('{"do":"new","class":"Cell"}')
-            about = asker.until(self, lambda it: it["commands"] == 1, "about")
-            self.assertEqual(late_in(about), 0)
-            time.sleep(2.1)
-            self.assertEqual(asker.get("about")["rate"], 0)
-            self.assertEqual(asker.get("sessions")["rows"][0]["rate"], 0)
+            asker.until(self, lambda it: it["commands"] == 1 and late_in(it) == 0, "about")
+            time.sleep(2.1)  # after which its lines are not of the last second any more
+            asker.until(self, lambda it: it["rate"] == 0, "about")
+            asker.until(self, lambda it: it["rows"][0]["rate"] == 0, "sessions")

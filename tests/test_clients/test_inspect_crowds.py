@@ -71,7 +71,7 @@ class Crowd(PageCases):
         is new."""
         with self.shown() as (path, _, asker), Client(path) as client:
             self.give(client, [CELL, setting(1, "x", 1)])
-            statuses, gate = [], threading.Barrier(BROWSERS, timeout=PATIENCE)
+            statuses, gate = [], threading.Barrier(BROWSERS, timeout=4 * PATIENCE)
             others = [threading.Thread(target=self.one_browser, args=(asker, gate, statuses)) for _ in range(BROWSERS - 1)]
             with self.opened(asker.address + "#session=c1&object=1") as browser:
                 browser.wait_for("document.querySelector('[data-property=x]')?.children[2].textContent === '1'")
@@ -81,7 +81,7 @@ class Crowd(PageCases):
                 self.give(client, [setting(1, "x", 2)])
                 browser.wait_for("document.querySelector('[data-property=x]').children[2].textContent === '2'")
                 for it in others:
-                    it.join(PATIENCE)
+                    it.join()
             self.assertEqual((len(statuses), set(statuses)), ((BROWSERS - 1) * (1 + AT_ONCE * ROUNDS), {200}))
 
     def one_browser(self, asker, gate, statuses):

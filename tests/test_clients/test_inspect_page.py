@@ -2,7 +2,6 @@
 compared with what the plain program knows."""
 
 import json
-import os
 import subprocess
 import sys
 import time
@@ -21,8 +20,7 @@ from .inspectors import InspectCases, address_in
 
 MANY = 1_000
 OBJECTS = 4_096
-FIRST_PICTURE, WHERE_BUSY = 1, 60  # seconds up to the first picture
-TRIES = 3  # one has to show it in time, since others use the machine too
+FIRST_PICTURE = 60  # seconds up to the first picture, on a machine that does much else
 ROWS_MOST = 150  # rows that are in the page at once
 MARKUP = "<img src=x onerror=document.title='run'><b>bold</b>"
 FALL = {"do": "invoke", "object": 1, "method": "fall()", "args": []}  # by which nearly all objects go
@@ -32,6 +30,13 @@ TREE_OF_C2 = """(async () => {
   const told = await (await fetch("tree?session=c2&from=0&count=400")).json();
   return JSON.stringify(told.rows) === JSON.stringify(page.view().list.found?.rows);
 })()"""
+
+# keeps all that the page says of how much of the lines it shows
+SAMPLED = """{
+  const place = document.getElementById("sampled");
+  window.said = [];
+  new MutationObserver(() => window.said.push(place.textContent)).observe(place, { childList: true, characterData: true, subtree: true });
+}"""
 
 
 def command(word, **more):
@@ -49,9 +54,16 @@ def connecting(sender, receiver, method, **more):
 class PageCases(InspectCases):
     """Tests of the page, in a browser."""
 
-    seconds = 600
+    seconds = 1_200
     shares_browser = False  # whether all tests of a class have the same browser
     kept = None
+    asker, given = None, 0  # who asks the inspector, and how many commands were given
+
+    @contextmanager
+    def shown(self, *words, **how):
+        with super().shown(*words, **how) as (path, process, asker):
+            self.asker, self.given = asker, 0
+            yield path, process, asker
 
     @contextmanager
     def browser(self):
@@ -95,11 +107,13 @@ class PageCases(InspectCases):
             self.assertEqual(browser.faults(), [])
 
     def give(self, client, commands):
-        """Gives a client's commands, and waits until they are answered."""
+        """Gives a client's commands, and waits until they are answered and the inspector knows of it."""
         for one in commands:
             client.say(text_of(one))
             while not client.hear().startswith(('{"reply"', '{"error"')):
                 pass
+        self.given += len(commands)
+        self.asker.until(self, lambda it: it["commands"] >= self.given and not it["waiting"], "about")
 
     def settled(self, browser, commands):
         """Waits until the page has heard of so many commands, or of more, as where it asks some itself."""
@@ -266,12 +280,8 @@ class Many(PageCases):
                 client.hear()
             self.give(clients[0], [{**CELL, "parent": 1 + at // 8} for at in range(OBJECTS - 1)])
             asker.until(self, lambda it: it["commands"] == MANY + OBJECTS - 1 and not it["waiting"], "about")
-            is_busy = os.getloadavg()[0] > (os.cpu_count() or 1) / 2
-            most, tried = WHERE_BUSY if is_busy else FIRST_PICTURE, []
-            while not tried or (max(tried[-1]) > most and len(tried) < TRIES):
-                tried.append(self.first_pictures(asker))
-            sessions_after, objects_after = min(tried, key=max)
-            self.assertLess(max(sessions_after, objects_after), most, "seconds up to the first picture")
+            sessions_after, objects_after = self.first_pictures(asker)
+            self.assertLess(max(sessions_after, objects_after), FIRST_PICTURE, "seconds up to the first picture")
             self.tell(f"{MANY} sessions after {sessions_after:.2f} s, {OBJECTS} objects after {objects_after:.2f} s")
 
     def first_pictures(self, asker):
@@ -295,12 +305,13 @@ class Many(PageCases):
         with self.shown() as (path, _, asker), Client(path) as client:
             self.give(client, [CELL])
             with self.opened(asker.address + "#view=happened&session=c1") as browser:
+                browser.value(SAMPLED)
                 piece = [text_of(setting(1, "y", at)) for at in range(2_000)]
                 for _ in range(15):
                     client.say(*piece)
                     for _ in piece:
                         client.hear()
-                browser.wait_for("document.getElementById('sampled').textContent.startsWith('a sample')")
+                browser.wait_for("window.said.some((it) => it.startsWith('a sample'))")
                 self.assertLess(browser.value("document.querySelectorAll('[data-entry]').length"), ROWS_MOST)
 
 

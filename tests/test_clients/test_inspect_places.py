@@ -3,7 +3,6 @@
 import json
 import random
 import sys
-import time
 
 from inspecting import searching
 from inspecting.searching import FOUND_MOST, query_of, search
@@ -178,7 +177,6 @@ class Places(PageCases):
             two.ask(text_of(CELL))
             with self.opened(asker.address) as browser:
                 self.check_filter(browser, "failed", ["c1"])
-                time.sleep(2.1)  # until no lines are of the last second
                 self.check_filter(browser, "busy", [])
                 self.assertEqual(browser.value("location.hash"), "#view=objects&only=busy")
         with self.shown() as (path, _, asker), Client(path) as one, Client(path) as two, Client(path) as three:

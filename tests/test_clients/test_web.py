@@ -38,6 +38,7 @@ GONE = (GOING, "the front has closed the connection")
 OVER = (GOING, "the relay has ended")
 UNREAD_MOST = 16 * 1024 * 1024  # bytes that the front keeps for a client
 MEMORY_MOST = 96 * 1024 * 1024  # bytes of a relay
+SECONDS_OF_FILE = 60  # for which a relay would wait for a page that does not read, if it did not end
 
 
 class Lines(WebCases):
@@ -282,10 +283,10 @@ class Ends(WebCases):
             process.send_signal(signal.SIGTERM)
             for it in (client, other):
                 self.assertEqual(it.hear(), OVER)
-                it.link.sendall(frame(CLOSE, b"\x03\xe9"))
+                give(it.link, frame(CLOSE, b"\x03\xe9"))  # where the relay has ended, it takes no answer
                 self.assertIsNone(it.read(), "the end of the connection")
             self.assertEqual(process.wait(PATIENCE), 0)
-            self.assertLess(time.monotonic() - begun, 15, "seconds until the end")
+            self.assertLess(time.monotonic() - begun, SECONDS_OF_FILE - 15, "seconds until the end")
 
     def memory_of(self, process):
         """The bytes of memory that a process has had at most."""
@@ -320,13 +321,14 @@ class Ends(WebCases):
         with self.front(classes_in(self.room, classes), options=options) as (path, _), self.relay(path) as (port, process), Client(path) as other:
             files = Path(f"/proc/{process.pid}/fd")
             before = len(list(files.iterdir()))
-            with socket.create_connection(("127.0.0.1", port), PATIENCE) as half, self.opened(port, receive=4_096) as deaf:
-                half.sendall(b"GET / HT")
+            with self.opened(port, receive=4_096) as deaf:
                 for client in (deaf, other):
                     self.assertIn("reply", client.ask(share))
                 other.ask('{"class":"Ear","do":"new"}')
                 other.ask('{"do":"connect","method":"hear(QString)","receiver":1,"sender":1,"signal":"objectNameChanged(QString)"}')
-                self.assertEqual(len(list(files.iterdir())), before + 3, "the open files with one page and half a request")
+                half = self.enterContext(socket.create_connection(("127.0.0.1", port), PATIENCE))
+                half.sendall(b"GET / HT")
+                wait_until_true(self, lambda: len(list(files.iterdir())) == before + 3, "the relay has files for one page and half a request")
                 for at in range(4_000):
                     other.say('{"do":"set","object":1,"property":"objectName","value":"%d%s"}' % (at, "n" * 4_000))
                     self.assertIn('"hear(QString)"', other.hear())

@@ -2,7 +2,7 @@
 
 import { el, say, span } from "./elements.js";
 import { write } from "./texts.js";
-import { get, hear } from "./asking.js";
+import { endedSoFar, get, hear, isWaiting, versionNow } from "./asking.js";
 import { changed, hashOf, readState } from "./location.js";
 import { Look } from "./looking.js";
 import { Crumbs } from "./crumbs.js";
@@ -61,7 +61,9 @@ class Page {
   note(more) {
     if (Object.entries(more).every(([key, value]) => this.state[key] === value)) return;
     this.state = { ...this.state, ...more };
+    const isShown = this.isShown();
     history.replaceState(null, "", hashOf(this.state));
+    if (isShown) this.shown = location.hash;
   }
 
   /** Shows a command with its calls. */
@@ -83,8 +85,25 @@ class Page {
     return this.views.get(this.state.view);
   }
 
+  /** Whether the page was drawn since its address has changed. */
+  isShown() {
+    return this.shown === location.hash;
+  }
+
+  /** Resolves once the page has drawn all that the inspector knows now and all that was chosen here. Views draw when they
+   * are scrolled and get another size, which a browser tells them in its next frame. */
+  async settled() {
+    const version = await versionNow();
+    let ended = null;
+    while (isWaiting() || ended !== endedSoFar() || !this.isShown() || !(this.version >= version)) {
+      ended = endedSoFar();
+      await nextFrame();
+    }
+  }
+
   show() {
     const view = this.view();
+    this.shown = location.hash;
     this.tabs.show(this.state.view);
     const place = document.getElementById("view");
     if (place.firstChild !== view.place) place.replaceChildren(view.place);
@@ -111,11 +130,16 @@ class Page {
     write(place, parts.join(" · "));
     place.classList.toggle("unsure", news.left_out > 0 || news.behind > 0);
     this.replay?.tell(news);
-    if (news.version !== this.version) {
-      this.version = news.version;
-      this.refresh();
-    }
+    const isNew = news.version !== this.version, isSlower = news.rate !== this.rate;
+    [this.version, this.rate] = [news.version, news.rate];
+    if (isNew) this.refresh();
+    else if (isSlower && !document.hidden) this.sessions.refresh(); // lines per second change where nothing else does
   }
+}
+
+/** Resolves after the browser has drawn a frame, and has called all that listens to it. */
+function nextFrame() {
+  return new Promise((drawn) => requestAnimationFrame(() => setTimeout(drawn, 0)));
 }
 
 async function begin() {

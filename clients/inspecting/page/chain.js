@@ -16,11 +16,12 @@ export class ChainView {
 
   /** Shows a command, and what has led to one of its calls. */
   async show(number, call = null) {
-    this.number = number;
+    const turn = this.turn = {}; // what was chosen later is not overwritten
     const it = await get("entry", { number });
-    if (this.number !== number) return;
+    if (this.turn !== turn) return;
     if (!it) return void clear(this.place, el("p", { text: `Line ${number} is not kept any more, or was never seen.` }));
     const chain = call === null || !it.call_rows[call] ? null : await get("chain", { number, call });
+    if (this.turn !== turn) return;
     clear(
       this.place, this.head(it), chain ? this.chain(chain) : null, this.calls(it, call), el("h3", { text: "Answer" }),
       el("div", { class: "code", text: short(it.answer, 4000) }),

@@ -85,9 +85,13 @@ export class Field {
     else this.input.removeAttribute("aria-describedby");
   }
 
-  /** Forgets what was typed. */
-  settle() {
-    if (this.input.tagName === "INPUT") this.input.value = this.input.defaultValue;
-    else for (const it of this.input.options) it.selected = it.defaultSelected;
+  /** Forgets what was typed, in the field of the same key that is within a place now: it may have been drawn again. */
+  settle(place) {
+    for (const it of place.querySelectorAll("[data-key]")) if (it.dataset.key === this.input.dataset.key) forget(it);
   }
+}
+
+function forget(input) {
+  if (input.tagName === "INPUT") input.value = input.defaultValue;
+  else for (const it of input.options) it.selected = it.defaultSelected;
 }

@@ -2,7 +2,7 @@
 
 import { clear, el } from "./elements.js";
 import { write } from "./texts.js";
-import { get, oneAtATime } from "./asking.js";
+import { Pause, get, oneAtATime } from "./asking.js";
 import { Drawing, legend } from "./drawing.js";
 
 const KINDS = [
@@ -30,6 +30,7 @@ export class GraphsView {
       el("div", { class: "bar" }, this.kind, this.near, this.drawing.buttons, this.legend), this.said, this.drawing.place,
     );
     this.load = oneAtATime(() => this.draw());
+    this.later = new Pause(() => this.load());
   }
 
   show() {
@@ -43,8 +44,8 @@ export class GraphsView {
   /** Draws again soon, if something has changed: the last change is always drawn. */
   refresh() {
     const soon = (this.drawnAt ?? 0) + PAUSE - performance.now();
-    clearTimeout(this.later);
-    if (soon <= 0) this.load(); else this.later = setTimeout(() => this.load(), soon);
+    this.later.end();
+    if (soon <= 0) this.load(); else this.later.begin(soon);
   }
 
   choose(node) {
@@ -56,6 +57,7 @@ export class GraphsView {
     const { session, object } = this.page.state, kind = this.kind.value, near = Number(this.near.value);
     const isNear = near && (object || kind === "joins");
     const found = session || kind === "joins" ? await get("graph", { kind, session, object, near: isNear ? near : "" }) : null;
+    if (session !== this.page.state.session || object !== this.page.state.object) return void this.load();
     this.drawnAt = performance.now();
     const key = JSON.stringify([kind, session, object, found]);
     if (key === this.key) return;

@@ -114,6 +114,13 @@ export class List {
     this.place.scrollTop = 0;
   }
 
+  /** Shows nothing, until other rows come. */
+  empty() {
+    this.cursor = null;
+    this.show({ total: 0, rows: [] }, 0);
+    this.toTop();
+  }
+
   showRow(at) {
     const top = at * HEIGHT, { scrollTop, clientHeight } = this.place;
     if (top < scrollTop || top > scrollTop + clientHeight - HEIGHT) {

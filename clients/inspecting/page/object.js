@@ -33,6 +33,7 @@ export class ObjectView {
       this.place, el("p", { class: "faint", text: "Choose an object of the tree." }),
     ); }
     const found = await get("object", { session, number: object });
+    if (session !== this.page.state.session || object !== this.page.state.object) return void this.refresh();
     const key = JSON.stringify([found, this.page.undo.done.length]);
     if (key === this.key || this.isComposing) return;
     this.key = key;
@@ -139,7 +140,7 @@ export class ObjectView {
     const isDone = await this.give(it.session, command);
     const before = shown(row.value);
     if (isDone && isKept && before !== json) this.page.undo.keep(it.session, it.object, row.name, before, json);
-    if (isDone) field.settle();
+    if (isDone) field.settle(this.place);
     this.key = null;
     this.refresh();
   }
@@ -179,7 +180,7 @@ export class ObjectView {
       const given = fields.map((field) => field.json());
       if (given.includes(null)) return;
       const command = { do: "invoke", object: it.object, method: row.text, args: { json: `[${given.join(",")}]` } };
-      if (await this.give(it.session, command)) fields.forEach((field) => field.settle());
+      if (await this.give(it.session, command)) fields.forEach((field) => field.settle(this.place));
     };
     const button = el(
       "button", { type: "submit", text: "invoke", "aria-label": `invoke ${row.text}`, "data-key": `${key} button` },

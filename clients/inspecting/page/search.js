@@ -2,7 +2,7 @@
 
 import { clear, el, link, name } from "./elements.js";
 import { write } from "./texts.js";
-import { get, oneAtATime } from "./asking.js";
+import { Pause, get, oneAtATime } from "./asking.js";
 
 const KINDS = ["", "session", "object", "class", "name", "value", "publication"];
 const PAUSE = 200; // milliseconds after a key, before what was typed is searched
@@ -29,7 +29,8 @@ export class SearchView {
       el("div", { class: "bar" }, this.sought, this.by, again, this.said),
       el("div", { class: "scroll detail", role: "region", "aria-label": "Found" }, this.table),
     );
-    this.sought.addEventListener("input", () => { clearTimeout(this.later); this.later = setTimeout(() => this.go(), PAUSE); });
+    this.later = new Pause(() => this.go());
+    this.sought.addEventListener("input", () => this.later.begin(PAUSE));
     this.sought.addEventListener("keydown", (event) => { if (event.key === "Enter") { this.key = null; this.go(); } });
     this.load = oneAtATime(() => this.search());
   }
@@ -44,7 +45,7 @@ export class SearchView {
   refresh() {} // a search is not repeated before somebody asks
 
   go() {
-    clearTimeout(this.later);
+    this.later.end();
     this.page.choose({ view: "search", sought: this.sought.value.trim() || null, by: this.by.value || null });
     this.load();
   }

@@ -235,6 +235,7 @@ export class TimelineView {
     this.chosen = made.dataset.emission;
     try {
       const whole = await get("entry", { number: entry });
+      if (this.chosen !== `${entry} ${at}`) return; // another one was chosen meanwhile
       const emission = whole?.emissions[at];
       const event = emission && !emission[3].length ? emission[4].at(-1) : null;
       await (event ? this.chain.show(...event) : this.chain.show(entry, emission ? lastOf(whole, emission) : null));

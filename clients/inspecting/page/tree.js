@@ -35,7 +35,7 @@ export class TreeView {
     if (this.session !== this.page.state.session) {
       this.session = this.page.state.session;
       this.closed.clear();
-      this.list.toTop();
+      this.list.empty();
     }
     this.refresh();
   }
@@ -56,6 +56,7 @@ export class TreeView {
     const found = session ? await get(
       "tree", { session, from, count, closed: [...this.closed].join(","), sought: this.sought.value, class: className, chosen: object },
     ) : null;
+    if (session !== this.page.state.session) return this.fetchRows(from, count); // the objects of another session are not shown
     this.tell(found, className);
     if (found && object && !found.chosen) await this.openTo(session, object);
     return found;
