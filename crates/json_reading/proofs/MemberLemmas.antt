@@ -1,7 +1,8 @@
 -- One member more, and what is found then.
-use Rattle.std.proofs.Common.{◌≡◌, ℕ, zero, suc, ◌+◌, ◌<◌, List, [], ◌∷◌, ◌++◌, length, take, get_or}
-use Rattle.std.proofs.Common.{Some, true, false, bytes_eq, true≢false, refl, sym, ap, ◌∙◌, arith}
+use Rattle.std.proofs.Common.{◌≡◌, ℕ, ◌+◌, ◌<◌, List, [], ◌∷◌, ◌++◌, length, take, get_or, slice_get, option_map}
+use Rattle.std.proofs.Common.{Some, true, false, bytes_eq, true≢false, refl, sym, ap, ◌∙◌}
 use Rattle.std.proofs.lemmas.List.{take_more}
+use Rattle.std.proofs.lemmas.Option.{slice_get_read}
 use Rattle.std.proofs.lemmas.Slice.Eq.{bytes_eq-Decides}
 use Rattle.serde_json.specs.Data.{Data, object, Members, no_members, put}
 use Rattle.serde_json.specs.Find.{get_member, as_object}
@@ -36,12 +37,20 @@ found_before_last key ms m other =
 -- ---- members looked at from the last one on
 
 -- the member that is looked at is the last of those that are left
-pub looks_at_last : (ms : List Member) (left next : ℕ) (m : Member) → next ≡ left + 1 → left < length ms → m ≡ get_or ms left m
-    → take next ms ≡ take left ms ++ m ∷ []
-looks_at_last ms left next m is within item = ap (λ k. take k ms) is ∙ take_more ms left m within ∙ ap (λ y. take left ms ++ y ∷ []) (sym item)
+looks_at_last : (ms : List Member) (left next : ℕ) (m : Member) → next ≡ left + 1 → left < length ms → m ≡ get_or ms left m
+    → members_in (take next ms) ≡ members_in (take left ms ++ m ∷ [])
+looks_at_last ms left next m is within item =
+    ap (λ k. members_in (take k ms)) is ∙ ap members_in (take_more ms left m within) ∙ ap (λ n. members_in (take left ms ++ n ∷ [])) (sym item)
 
--- two looks at one place find the same member
-pub same_member : (ms : List Member) (place : ℕ) (m n : Member) → place < length ms → m ≡ get_or ms place m → n ≡ get_or ms place n → m ≡ n
-same_member [] place m n within first second = absurd (omega arith)
-same_member (o ∷ ms) zero m n within first second = first ∙ sym second
-same_member (o ∷ ms) (suc place) m n within first second = same_member ms place m n (omega arith) first second
+-- either it has the key
+pub key_is_here : (key : List ℕ) (ms : List Member) (left next : ℕ) (m : Member) → next ≡ left + 1 → left < length ms → m ≡ get_or ms left m
+    → bytes_eq m.key.now key ≡ true → get_member key (members_in (take next ms)) ≡ option_map (λ n. data_of n.value) (slice_get ms left)
+key_is_here key ms left next m is within item same =
+    ap (get_member key) (looks_at_last ms left next m is within item) ∙ found_at_last key (take left ms) m same
+    ∙ ap (option_map (λ n. data_of n.value)) (sym (slice_get_read ms (length ms) left m refl within item))
+
+-- or one before it may have the key
+pub key_is_before : (key : List ℕ) (ms : List Member) (left next : ℕ) (m : Member) → next ≡ left + 1 → left < length ms → m ≡ get_or ms left m
+    → bytes_eq m.key.now key ≡ false → get_member key (members_in (take next ms)) ≡ get_member key (members_in (take left ms))
+key_is_before key ms left next m is within item other =
+    ap (get_member key) (looks_at_last ms left next m is within item) ∙ found_before_last key (take left ms) m other

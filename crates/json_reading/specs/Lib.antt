@@ -3,3 +3,4 @@ pub mod Reals
 pub mod Members
 pub mod Spelling
 pub mod Faults
+pub mod Tokens

@@ -1,5 +1,5 @@
 //! Looking for a member.
-ghost use Rattle.std.specs.Prelude.{◌≡◌, IfOk, bytes_eq, option_map};
+ghost use Rattle.std.specs.Prelude.{◌≡◌, ◌<◌, IfOk, IfSome, bytes_eq, length, option_and_then, option_map, slice_get};
 ghost use Rattle.serde_json.specs.Find.{get_member};
 ghost use Rattle.serde_json.specs.View.{view};
 ghost use Rattle.json_reading.specs.Members.{data_of, members_in};
@@ -21,15 +21,10 @@ pub fn value_at<'m, 'a>(members: &'m [Member<'a>], key: &str) -> Option<&'m Fiel
     ensures { option_map (λ field. data_of field.now) result
         ≡ get_member key.now (members_in members.now) }
 {
-    let mut left = members.len();
-    'left: while left > 0 {
-        left -= 1;
-        let member = &members[left];
-        if is_word(member.key, key) {
-            return Some(&member.value);
-        }
+    match last_at(members, key) {
+        Some(place) => Some(&members[place].value),
+        None => None,
     }
-    None
 }
 
 /// The JSON of the last member with this key: itself where the member owns it, which then has null, and else a copy.
@@ -40,12 +35,25 @@ pub fn take_at(
 ) -> Result<Option<Value>, AllocError>
     ensures { IfOk result (λ json. option_map view json ≡ get_member key.now (members_in members.old)) }
 {
+    match last_at(members, key) {
+        Some(place) => Ok(Some(members[place].value.take_json(alloc)?)),
+        None => Ok(None),
+    }
+}
+
+/// The place of the last member with this key.
+#[inline(always)]
+fn last_at(members: &[Member<'_>], key: &str) -> Option<usize>
+    ensures value { get_member key.now (members_in members.now)
+        ≡ option_map (λ member. data_of member.value) (option_and_then (slice_get members.now) result) }
+    ensures within { IfSome result (λ place. place < length members.now) }
+{
     let mut left = members.len();
     'left: while left > 0 {
         left -= 1;
         if is_word(members[left].key, key) {
-            return Ok(Some(members[left].value.take_json(alloc)?));
+            return Some(left);
         }
     }
-    Ok(None)
+    None
 }

@@ -3,14 +3,14 @@ ghost use Rattle.std.specs.Prelude.{FitsSigned, ◌≡◌, ◌++◌, ◌∷◌, 
 ghost use Rattle.std.specs.Int.{w64};
 ghost use Rattle.std.specs.Fmt.{signed_decimal};
 ghost use Rattle.json.specs.Token.{end_array, number};
-ghost use Rattle.json.specs.Json.{members, value};
 ghost use Rattle.json.specs.Reads.{token_of};
-ghost use Rattle.serde_json.specs.Data.{no_members, object};
-ghost use Rattle.serde_json.specs.Read.{converted, of_json, of_members, read};
+ghost use Rattle.serde_json.specs.Data.{object};
+ghost use Rattle.serde_json.specs.Read.{read};
 ghost use Rattle.json_reading.specs.declared.stop.Stop.TheVariants.{NotJson};
 ghost use Rattle.json_reading.specs.Faults.{BeginsNoValue, HasNoItems};
 ghost use Rattle.json_reading.specs.Members.{data_of, members_in};
 ghost use Rattle.json_reading.specs.Spelling.{scalar_token, Fits, AllFit};
+ghost use Rattle.json_reading.specs.Tokens.{rest_of_members, value_in};
 
 use crate::field::{Field, Member, ROOM, Scalar};
 use crate::own::Own;
@@ -47,10 +47,8 @@ pub fn token_members<'a>(
 
 /// The members up to the brace that closes the object.
 fn rest_of_members<'a>(alloc: Global, reader: &mut Reader<'a>) -> Result<Vec<Member<'a>>, Stop>
-    ensures ok { IfOk result (λ found. converted (λ ms. of_members ms no_members) (members (value 126) (length reader.old) reader.old)
-        ≡ Some (members_in found.items, reader.new)) }
-    ensures not_json { result ≡ Err NotJson
-        → converted (λ ms. of_members ms no_members) (members (value 126) (length reader.old) reader.old) ≡ None }
+    ensures ok { IfOk result (λ found. rest_of_members 126 reader.old ≡ Some (members_in found.items, reader.new)) }
+    ensures not_json { result ≡ Err NotJson → rest_of_members 126 reader.old ≡ None }
 {
     let mut found = Vec::with_capacity(alloc, ROOM)?;
     'members: while let Some(key) = reader.next_key()? {
@@ -62,9 +60,9 @@ fn rest_of_members<'a>(alloc: Global, reader: &mut Reader<'a>) -> Result<Vec<Mem
 
 /// The next value.
 fn token_field<'a>(alloc: Global, reader: &mut Reader<'a>) -> Result<Field<'a>, Stop>
-    ensures ok { IfOk result (λ found. converted of_json (value 126 reader.old) ≡ Some (data_of found, reader.new)) }
+    ensures ok { IfOk result (λ found. value_in 126 reader.old ≡ Some (data_of found, reader.new)) }
     ensures shorter { OnOk result (length reader.new < length reader.old) }
-    ensures not_json { result ≡ Err NotJson → converted of_json (value 126 reader.old) ≡ None }
+    ensures not_json { result ≡ Err NotJson → value_in 126 reader.old ≡ None }
 {
     match reader.next().ok_or(Stop::NotJson)? {
         Token::BeginArray => Ok(Field::List(token_items(alloc, reader)?)),

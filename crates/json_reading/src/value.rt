@@ -1,10 +1,9 @@
 //! JSON of any form, read by tokens with memory that is lent.
 ghost use Rattle.std.specs.Prelude.{◌≡◌, ◌<◌, length, Err, IfOk, None, OnOk, Some, option_map};
-ghost use Rattle.json.specs.Json.{items, members, value};
-ghost use Rattle.serde_json.specs.Data.{no_members};
-ghost use Rattle.serde_json.specs.Read.{converted, of_items, of_json, of_members, read};
+ghost use Rattle.serde_json.specs.Read.{read};
 ghost use Rattle.serde_json.specs.View.{items_view, members_view, view};
 ghost use Rattle.json_reading.specs.declared.stop.Stop.TheVariants.{NotJson};
+ghost use Rattle.json_reading.specs.Tokens.{rest_of_items, rest_of_members, value_in};
 
 use crate::copy::scalar_json;
 use crate::stop::Stop;
@@ -59,9 +58,9 @@ fn whole_json(alloc: Global, text: &str, scratch: &mut Scratch) -> Result<Value,
 /// The next value, in which arrays and objects nest no deeper than this.
 #[cycle(value)]
 fn read_value(alloc: Global, reader: &mut Reader<'_>, depth: usize) -> Result<Value, Stop>
-    ensures ok { IfOk result (λ json. converted of_json (value depth reader.old) ≡ Some (view json, reader.new)) }
+    ensures ok { IfOk result (λ json. value_in depth reader.old ≡ Some (view json, reader.new)) }
     ensures shorter { OnOk result (length reader.new < length reader.old) }
-    ensures not_json { result ≡ Err NotJson → converted of_json (value depth reader.old) ≡ None }
+    ensures not_json { result ≡ Err NotJson → value_in depth reader.old ≡ None }
 {
     match reader.next().ok_or(Stop::NotJson)? {
         Token::BeginArray => {
@@ -86,10 +85,9 @@ fn read_value(alloc: Global, reader: &mut Reader<'_>, depth: usize) -> Result<Va
 /// The values up to the bracket that closes their array.
 #[cycle(value)]
 fn read_items(alloc: Global, reader: &mut Reader<'_>, depth: usize) -> Result<Vec<Value>, Stop>
-    ensures ok { IfOk result (λ found. converted of_items (items (value depth) (length reader.old) reader.old)
-        ≡ Some (items_view found.items, reader.new)) }
+    ensures ok { IfOk result (λ found. rest_of_items depth reader.old ≡ Some (items_view found.items, reader.new)) }
     ensures shorter { OnOk result (length reader.new < length reader.old) }
-    ensures not_json { result ≡ Err NotJson → converted of_items (items (value depth) (length reader.old) reader.old) ≡ None }
+    ensures not_json { result ≡ Err NotJson → rest_of_items depth reader.old ≡ None }
 {
     let mut found = Vec::new(alloc);
     'items: while !reader.take_end_array() {
@@ -106,11 +104,9 @@ pub(crate) fn read_members(
     reader: &mut Reader<'_>,
     depth: usize,
 ) -> Result<Map<String, Value>, Stop>
-    ensures ok { IfOk result (λ found. converted (λ ms. of_members ms no_members) (members (value depth) (length reader.old) reader.old)
-        ≡ Some (members_view found.entries, reader.new)) }
+    ensures ok { IfOk result (λ found. rest_of_members depth reader.old ≡ Some (members_view found.entries, reader.new)) }
     ensures shorter { OnOk result (length reader.new < length reader.old) }
-    ensures not_json { result ≡ Err NotJson
-        → converted (λ ms. of_members ms no_members) (members (value depth) (length reader.old) reader.old) ≡ None }
+    ensures not_json { result ≡ Err NotJson → rest_of_members depth reader.old ≡ None }
 {
     let mut found = Map::new(alloc);
     'members: while let Some(name) = reader.next_key()? {

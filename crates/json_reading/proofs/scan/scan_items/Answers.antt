@@ -15,29 +15,24 @@ items-init c = rw c.new-found.ensures.items (record { text = refl; fit = tt; lat
 
 pub items-preserved : goal.items-preserved
 items-preserved c =
-    let d = c.args.text.now in
-    let ss = c.items.found.items in
-    let s = c.in_ok-item.item in
-    let end = c.in_ok-item.next in
+    let so_far = c.items.invariant in
     let found = c.in_ok-item.ensures in
-    let comma : get_or d end 0 ≡ 44 = cc in
+    let comma : get_or c.args.text.now c.in_ok-item.next 0 ≡ 44 = cc in
     rw c.in_ok-push.ensures.items
     (record {
-      text = item_grown_by_comma d ss s c.args.from c.items.at end c.items.invariant.text found.0 comma;
-      fit = AllFit-push ss s c.items.invariant.fit found.1;
+      text = item_grown_by_comma c.args.text.now _ _ c.args.from c.items.at c.in_ok-item.next so_far.text found.0 comma;
+      fit = AllFit-push _ _ so_far.fit found.1;
       later = omega (arith, found.0.later);
     })
 
 pub returns-in-93 : goal.returns-in-93
 returns-in-93 c =
-    let d = c.args.text.now in
-    let ss = c.items.found.items in
-    let s = c.in_ok-item.item in
+    let so_far = c.items.invariant in
     let found = c.in_ok-item.ensures in
-    let bracket : get_or d c.in_ok-item.next 0 ≡ 93 = cc in
+    let bracket : get_or c.args.text.now c.in_ok-item.next 0 ≡ 93 = cc in
     rw c.in_ok-push.ensures.items (
-      item_grown_to_end d ss s c.args.from c.items.at c.in_ok-item.next c.items.invariant.later c.items.invariant.text found.0 bracket,
-      AllFit-push ss s c.items.invariant.fit found.1,
+      item_grown_to_end c.args.text.now _ _ c.args.from c.items.at c.in_ok-item.next so_far.later so_far.text found.0 bracket,
+      AllFit-push _ _ so_far.fit found.1,
     )
 
 pub overflow_add-result : goal.overflow_add-result

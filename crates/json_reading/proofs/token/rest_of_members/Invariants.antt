@@ -1,15 +1,10 @@
-use Rattle.std.proofs.Common.{◌≡◌, ℕ, ◌≤◌, length}
-use Rattle.json.specs.Json.{members, value}
-use Rattle.serde_json.specs.Data.{no_members}
-use Rattle.serde_json.specs.Read.{converted, of_members}
+use Rattle.std.proofs.Common.{length}
 use Rattle.json_reading.specs.Members.{members_in}
+use Rattle.json_reading.proofs.Reading.{MembersSoFar}
 use Rattle.json_reading.proofs.token.rest_of_members.Given as goal
 
 abbrev pub invariant-members : goal.invariant-members
-invariant-members l =
-    (n : ℕ) × (length l.reader ≤ n)
-    × (converted (λ ms. of_members ms no_members) (members (value 126) (length l.initial.reader) l.initial.reader)
-    ≡ converted (λ ms. of_members ms (members_in l.found.items)) (members (value 126) n l.reader))
+invariant-members l = MembersSoFar 126 (members_in l.found.items) l.initial.reader l.reader
 
 abbrev pub decreases-members : goal.decreases-members
 decreases-members l = length l.reader
