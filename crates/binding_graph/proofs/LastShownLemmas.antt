@@ -17,8 +17,8 @@ use Rattle.property_store.specs.Property.{is_property}
 use Rattle.binding_values.specs.Sorted.{IsGapAt, is_before}
 use Rattle.binding_values.specs.Graph.{AreShown, shown_at}
 use Rattle.binding_values.specs.declared.shown.Shown.{Shown}
-use Rattle.binding_values.proofs.ForCallers.{found_filter, found_none, found_row, insert_rising, inserted, inserted_other, none_behind, others_before}
-use Rattle.binding_values.proofs.ForCallers.{pairs_append, same_rows, set_here, set_other, set_rising, without_none, without_row}
+use Rattle.binding_values.proofs.ForCallers.{found_none, found_row, insert_rising, inserted, inserted_other, none_behind, others_before}
+use Rattle.binding_values.proofs.ForCallers.{pairs_append, same_rows, set_here, set_other, set_rising, without_row}
 use Rattle.binding_graph.specs.declared.shown_object.ShownObject.{ShownObject}
 use Rattle.binding_graph.specs.LastShown.{AreAsMany, AreByObject, AreInSlots, HasMoreSlots, IsPlaceOf, IsSlot, ShowSame, first_of, head, joined}
 use Rattle.binding_graph.specs.LastShown.{object_in, rows_of, slot_at, slots_of}
@@ -318,50 +318,35 @@ module _ {objects : List ShownObject} (are : AreByObject objects) (new : ShownOb
 
 -- an object that goes
 
-rows_with : (object : ℕ) (rows : List Shown) (same : Bool) → All (λ (row : Shown). (row.at.object == object) ≡ same) rows
-    → filter (λ row. not (row.at.object == object)) rows ≡ cond same [] rows
-rows_with object [] true all = refl
-rows_with object [] false all = refl
-rows_with object (row ∷ rows) true all =
-    let here : (row.at.object == object) ≡ true = all 0 row (omega arith) in
-    rw here (rows_with object rows true (λ k d lt. all (suc k) d (omega arith)))
-rows_with object (row ∷ rows) false all =
-    let here : (row.at.object == object) ≡ false = all 0 row (omega arith) in
-    rw here (ap (λ later. row ∷ later) (rows_with object rows false (λ k d lt. all (suc k) d (omega arith))))
+abbrev others : ℕ → List ShownObject → List ShownObject
+others object objects = filter (λ of. not (is_head object of)) objects
 
-filter_rows : (object : ℕ) (xs ys : List Shown) → filter (λ row. not (row.at.object == object)) (xs ++ ys)
-    ≡ filter (λ row. not (row.at.object == object)) xs ++ filter (λ row. not (row.at.object == object)) ys
-filter_rows object [] ys = refl
-filter_rows object (row ∷ xs) ys = by (row.at.object == object) (filter_rows object xs ys)
+head_twice : (other object n : ℕ) → ((object == n) && (0 == 0)) ≡ true → ((other == n) && (0 == 0)) ≡ true → (other == object) ≡ true
+head_twice other object n one two = grind (arith, nat_tests)
+
+head_apart : (other object n : ℕ) → ((object == n) && (0 == 0)) ≡ false → ((other == n) && (0 == 0)) ≡ true → (other == object) ≡ false
+head_apart other object n one two = grind (arith, nat_tests)
+
+-- it is found no more, and each other one is found as before
+object_among_others : (object other : ℕ) (objects : List ShownObject)
+    → object_in (others object objects) other ≡ cond (other == object) None (object_in objects other)
+object_among_others object other [] = by (other == object)
   where
-    by : (here : Bool) → filter (λ row. not (row.at.object == object)) (xs ++ ys)
-        ≡ filter (λ row. not (row.at.object == object)) xs ++ filter (λ row. not (row.at.object == object)) ys
-        → cond (not here) (row ∷ filter (λ row. not (row.at.object == object)) (xs ++ ys)) (filter (λ row. not (row.at.object == object)) (xs ++ ys))
-        ≡ cond (not here) (row ∷ filter (λ row. not (row.at.object == object)) xs) (filter (λ row. not (row.at.object == object)) xs)
-        ++ filter (λ row. not (row.at.object == object)) ys
-    by true later = later
-    by false later = ap (λ rows. row ∷ rows) later
-
-head_turned : (a b : ℕ) → ((a == b) && (0 == 0)) ≡ (b == a)
-head_turned a b = grind (arith, nat_tests)
-
-joined_without : (object : ℕ) (objects : List ShownObject) → All Filled objects
-    → joined (filter (λ of. not (is_head object of)) objects) ≡ filter (λ row. not (row.at.object == object)) (joined objects)
-joined_without object [] filled = refl
-joined_without object (of ∷ objects) filled = by (is_head object of) refl
-    (joined_without object objects (λ k d lt. filled (suc k) d (omega arith)))
+    by : (same : Bool) → object_in [] other ≡ cond same None (object_in [] other)
+    by true = refl
+    by false = refl
+object_among_others object other (of ∷ objects) = by (is_head object of) refl (is_head other of) refl (object_among_others object other objects)
   where
-    each : (same : Bool) → is_head object of ≡ same → All (λ (row : Shown). (row.at.object == object) ≡ same) (rows_of of)
-    each same e k d lt = ap (λ n. n == object) (rows_are of (filled 0 of (omega arith)) k d lt) ∙ (sym (head_turned object of.object) ∙ e)
-
-    by : (same : Bool) → is_head object of ≡ same
-        → joined (filter (λ of. not (is_head object of)) objects) ≡ filter (λ row. not (row.at.object == object)) (joined objects)
-        → joined (cond (not same) (of ∷ filter (λ of. not (is_head object of)) objects) (filter (λ of. not (is_head object of)) objects))
-        ≡ filter (λ row. not (row.at.object == object)) (rows_of of ++ joined objects)
-    by true e later = later ∙ sym (filter_rows object (rows_of of) (joined objects)
-        ∙ ap (λ rows. rows ++ filter (λ row. not (row.at.object == object)) (joined objects)) (rows_with object (rows_of of) true (each true e)))
-    by false e later = ap (λ rows. rows_of of ++ rows) later ∙ sym (filter_rows object (rows_of of) (joined objects)
-        ∙ ap (λ rows. rows ++ filter (λ row. not (row.at.object == object)) (joined objects)) (rows_with object (rows_of of) false (each false e)))
+    by : (gone : Bool) → is_head object of ≡ gone → (here : Bool) → is_head other of ≡ here
+        → object_in (others object objects) other ≡ cond (other == object) None (object_in objects other)
+        → object_in (cond (not gone) (of ∷ others object objects) (others object objects)) other
+        ≡ cond (other == object) None (cond here (Some of) (object_in objects other))
+    by true e true f later = later ∙ (ap (λ t. cond t None (object_in objects other)) (head_twice other object of.object e f)
+        ∙ sym (ap (λ t. cond t None (Some of)) (head_twice other object of.object e f)))
+    by true e false f later = later
+    by false e true f later = ap (λ t. cond t (Some of) (object_in (others object objects) other)) f
+        ∙ sym (ap (λ t. cond t None (Some of)) (head_apart other object of.object e f))
+    by false e false f later = ap (λ t. cond t (Some of) (object_in (others object objects) other)) f ∙ later
 
 module _ {objects : List ShownObject} (are : AreByObject objects) {object place : ℕ} where
   pub remove_sound : IsPlaceOf objects object place → AreByObject (remove objects place)
@@ -371,30 +356,15 @@ module _ {objects : List ShownObject} (are : AreByObject objects) {object place 
     filled = All-filter (λ of. not (is_head object of)) Filled objects are.filled;
   })
 
-  pub joined_removed : IsPlaceOf objects object place → joined (remove objects place) ≡ filter (λ row. not (row.at.object == object)) (joined objects)
-  joined_removed there = ap joined (sym (without_row there are.rising)) ∙ joined_without object objects are.filled
-
   -- an object that has no place shows nothing
   module _ (gap : IsGapAt head objects (first_of object) place) where
     pub nothing_shown : (q : Property) → q.object ≡ object → shown_at (joined objects) q ≡ None
     nothing_shown q same = joined_at objects are q
         ∙ ap (λ found. option_map_or (λ (of : ShownObject). slot_at of.slots.items q.number) found None) (ap (object_in objects) same ∙ found_none gap)
 
-    pub nothing_removed : joined objects ≡ filter (λ row. not (row.at.object == object)) (joined objects)
-    nothing_removed = ap joined (sym (without_none gap)) ∙ joined_without object objects are.filled
-
     -- and has no slot
     pub no_slots : slots_of objects object ≡ 0
     no_slots = ap (λ found. option_map_or (λ (of : ShownObject). length of.slots.items) found 0) (found_none gap)
-
--- what is shown after an object without rows went too
-shown_removed : (object : ℕ) (rows : List Shown) → ((q : Property) → q.object ≡ object → shown_at rows q ≡ None) → (q : Property)
-    → shown_at (filter (λ row. not (row.at.object == object)) rows) q ≡ shown_at rows q
-shown_removed object rows none q = found_filter (λ p. not (p.object == object)) rows q ∙ by (q.object == object) refl
-  where
-    by : (here : Bool) → (q.object == object) ≡ here → cond (not here) (shown_at rows q) None ≡ shown_at rows q
-    by true e = sym (none q (eqb-true q.object object e))
-    by false e = refl
 
 -- a row that is dropped, and its object, if no slot is left
 
@@ -411,8 +381,16 @@ module _ {objects : List ShownObject} {at : Property} {place : ℕ} {old new : S
   pub dropped_shown : length new.slots.items ≡ 0 → (q : Property)
       → shown_at (joined (remove (set objects place new) place)) q ≡ cond (is_property q at) None (shown_at (joined objects) q)
   dropped_shown none q =
-      ap (λ rows. shown_at rows q) (joined_removed it.sound it.stays)
-      ∙ (shown_removed at.object (joined (set objects place new)) (it.empty none) q ∙ it.shown q)
+      joined_at (remove (set objects place new) place) dropped_sound q
+      ∙ (ap (λ found. option_map_or (λ (of : ShownObject). slot_at of.slots.items q.number) found None)
+      (ap (λ objects. object_in objects q.object) (sym (without_row it.stays it.sound.rising)) ∙ object_among_others at.object q.object (set objects place new))
+      ∙ (by (q.object == at.object) refl ∙ it.shown q))
+    where
+      by : (same : Bool) → (q.object == at.object) ≡ same
+          → option_map_or (λ (of : ShownObject). slot_at of.slots.items q.number) (cond same None (object_in (set objects place new) q.object)) None
+          ≡ shown_at (joined (set objects place new)) q
+      by true e = sym (it.empty none q (eqb-true q.object at.object e))
+      by false e = sym (joined_at (set objects place new) it.sound q)
 
 -- the slot of a property that has one
 pub slot_has : (objects : List ShownObject) → AreByObject objects → {at : Property} {place : ℕ} → IsSlot objects at place
@@ -429,8 +407,10 @@ same_twice one two three first second = record {
   as_many = λ object. omega (arith, first.as_many object, second.as_many object);
 }
 
-pub same_itself : (objects : List ShownObject) → AreByObject objects → ShowSame objects objects
-same_itself objects are = record { sound = are; same = λ q. refl; as_many = λ object. omega arith }
+pub more_slots : {one two : List ShownObject} → ShowSame one two → {object place : ℕ} → IsPlaceOf two object place → (old : ShownObject)
+    → old ≡ get_or two place old → (new : ShownObject) → HasMoreSlots old new → ShowSame one (set two place new)
+more_slots {one} {two} same {object} {place} there old old_is new more =
+    same_twice one two (set two place new) same (same_with_more same.sound there old old_is new more)
 
 -- where nothing was shown, what is put is all
 pub all_put : (rows last new : List Shown) → AreShown rows → AreShown new → last ≡ [] → AreReplaced [] rows last new → new ≡ rows

@@ -1,8 +1,9 @@
 -- The graphs of places, and what is kept of them.
 use Rattle.std.proofs.Common.{◌≡◌, ◌≢◌, ◌∙◌, ◌==◌, ℕ, Bool, true, false, not, List, [], ◌∷◌, Option, Some, None, filter, is_some}
-use Rattle.std.proofs.Common.{Result, Ok, Err, OnErr, OnOk}
+use Rattle.std.proofs.Common.{Result, OnErr, OnOk}
 use Rattle.std.proofs.Common.{cond, find, get_or, length, option_map, refl, set, sym, ap, ap₂, subst, ⊎_elim, arith}
 use Rattle.std.proofs.lemmas.Bool.{both_ways, cases_Bool, eq-eqb, eqb-true}
+use Rattle.std.proofs.lemmas.Result.{on_err_weaker, on_ok_weaker}
 use Rattle.std.proofs.lemmas.List.{get_or-set_other, get_or-set_same, get_or_past, length-map, map-set, set-get_or}
 use Rattle.std.proofs.Math.ListN.{get_or-map}
 use Rattle.shared_rows.specs.Table.{IsPlace, Table, opened, with_place}
@@ -11,6 +12,7 @@ use Rattle.property_store.specs.declared.property.Property.{Property}
 use Rattle.property_store.specs.Marks.{marks_at}
 use Rattle.property_store.specs.Pending.{IsDrained}
 use Rattle.property_store.specs.Property.{is_property}
+use Rattle.property_store.specs.Store.{Store}
 use Rattle.property_store.specs.Table.{StoresView, store_at}
 use Rattle.binding_values.specs.declared.binding.Binding.{Binding}
 use Rattle.binding_values.specs.Scene.{term_at}
@@ -18,12 +20,13 @@ use Rattle.binding_graph.specs.Cache.{IsInStep, cache_at, no_cache}
 use Rattle.binding_values.specs.Graph.{Graph, is_bound, no_graph, unbound}
 use Rattle.binding_graph.specs.Step.{InStep, LeavesInStep}
 use Rattle.binding_graph.specs.Table.{Graphs, OthersKept, graph_at, with_graph}
+use Rattle.binding_graph.specs.Drained.{IsStored}
 use Rattle.binding_graph.specs.GraphAndCache.{GraphAndCache, IsAt, StaysAt, no_graph_and_cache}
 use Rattle.binding_graph.specs.Inside.{pair_at, pair_of, split}
 use Rattle.binding_graph.specs.declared.graph.BindingGraph.{BindingGraph}
 use Rattle.std.specs.declared.alloc.Global.{Global}
 use Rattle.std.specs.declared.boxed.Box.{Box}
-use Rattle.binding_graph.proofs.StepLemmas.{same_in_step}
+use Rattle.binding_graph.proofs.StepLemmas.{same_in_step, stands_elsewhere}
 
 -- what stands at a place
 
@@ -50,6 +53,10 @@ place_there table place is_place = omega (arith, is_place, length-map {A = Made}
 pub none_there : (table : Table Made) (place : ℕ) (made : Made) → made ≡ get_or table.places place None → pair_of made ≡ no_graph_and_cache
     → graph_at (split table).graphs place ≡ no_graph
 none_there table place made is none = graph_there table place ∙ ap (λ (pair : GraphAndCache). pair.graph) (ap pair_of (sym is) ∙ none)
+
+pub no_some : {T : Type 0} (found : Option T) → is_some found ≡ false → found ≡ None
+no_some None e = refl
+no_some (Some value) e = absurd (cc)
 
 -- another graph at a place
 pub with_pair : (table : Table Made) (place : ℕ) (made : Made)
@@ -125,15 +132,6 @@ same_step place stores old new same step = record {
   others = λ other apart. ap (λ (graphs : Graphs). cache_at graphs.caches other) same;
 }
 
--- the same stores
-pub with_in_step : (old new : StoresView) (table : Table Made) (place : ℕ) (made : Made) → IsPlace table place → IsDrained place old new
-    → IsAt new place (pair_of made) → InStep old (split table) → InStep new (split (with_place table place made))
-with_in_step old new table place made is_place drained = put_in_step old new table place made is_place
-    (λ other apart. ap (λ shelves. store_at shelves other) drained.shelves) drained.others
-
-pub nothing_drained : (place : ℕ) (stores : StoresView) → IsDrained place stores stores
-nothing_drained place stores = record { shelves = refl; others = λ other apart. refl }
-
 -- what is kept of other places
 pub others_kept : (table : Table Made) (place : ℕ) (made : Made) → OthersKept place (split table) (split (with_place table place made))
 others_kept table place made other apart =
@@ -148,53 +146,66 @@ kept_here table place made is_place = cache_there (with_place table place made) 
 
 -- the graph that a place lends, and that it gets back
 
-pub record IsLent (table : Table Made) (place : ℕ) (now : GraphAndCache) : Type 0 where
+pub record IsLent (old : Graphs) (table : Table Made) (place : ℕ) (now : GraphAndCache) : Type 0 where
+  pub view : split table ≡ old
   pub is : now ≡ made_at table place
 
-pub lent : (table : Table Made) (place : ℕ) {slot made : Made} {inner : Box BindingGraph Global} {now : GraphAndCache} → slot ≡ get_or table.places place None
-    → pair_of made ≡ pair_of slot → made ≡ Some inner → now ≡ inner.value → IsLent table place now
-lent table place there same some is = record { is = is ∙ (sym (ap pair_of some) ∙ (same ∙ ap pair_of there)) }
+pub lent : {old : Graphs} (table : Table Made) (place : ℕ) {made : Made} {inner : Box BindingGraph Global} {now : GraphAndCache} → split table ≡ old
+    → made ≡ get_or table.places place None → made ≡ Some inner → now ≡ inner.value → IsLent old table place now
+lent table place view there some is = record { view = view; is = is ∙ (sym (ap pair_of some) ∙ ap pair_of there) }
 
 pub unmade : (table : Table Made) (place : ℕ) {slot : Made} (made : Made) → slot ≡ get_or table.places place None → pair_of made ≡ pair_of slot
     → split (with_place table place made) ≡ split table
 unmade table place {slot} made there same = all_back table place (pair_of slot) made (ap pair_of there) same
 
-module _ {table : Table Made} {place : ℕ} {now : GraphAndCache} (lent : IsLent table place now) where
-  pub graph_lent : now.graph ≡ graph_at (split table).graphs place
-  graph_lent = ap (λ (pair : GraphAndCache). pair.graph) lent.is ∙ sym (graph_there table place)
+module _ {old : Graphs} {table : Table Made} {place : ℕ} {now : GraphAndCache} (lent : IsLent old table place now) where
+  pub graph_lent : now.graph ≡ graph_at old.graphs place
+  graph_lent = ap (λ (pair : GraphAndCache). pair.graph) lent.is
+      ∙ (sym (graph_there table place) ∙ ap (λ (bindings : Graphs). graph_at bindings.graphs place) lent.view)
 
-  pub step_lent : (stores : StoresView) → InStep stores (split table) → IsAt stores place now
-  step_lent stores step = subst (IsAt stores place) (sym lent.is) (at_place stores table step place)
+  step_there : (stores : StoresView) → InStep stores old → InStep stores (split table)
+  step_there stores = subst (InStep stores) (sym lent.view)
+
+  pub step_lent : (stores : StoresView) → InStep stores old → IsAt stores place now
+  step_lent stores step = subst (IsAt stores place) (sym lent.is) (at_place stores table (step_there stores step) place)
+
+  pub put_at : (made : Made) (graph : Graph) → (pair_of made).graph ≡ graph
+      → (split (with_place table place made)).graphs ≡ with_graph old.graphs place graph
+  put_at made graph is = with_pair_as table place made graph is ∙ ap (λ (bindings : Graphs). with_graph bindings.graphs place graph) lent.view
 
   module _ {T E : Type 0} (r : Result T E) (made : Made) where
-    pub put_back : OnErr r ((pair_of made).graph ≡ now.graph) → OnErr r ((split (with_place table place made)).graphs ≡ (split table).graphs)
-    put_back = by r
-      where
-        by : (r : Result T E) → OnErr r ((pair_of made).graph ≡ now.graph) → OnErr r ((split (with_place table place made)).graphs ≡ (split table).graphs)
-        by (Ok value) same = tt
-        by (Err error) same = same_back table place now made lent.is same
+    pub put_back : OnErr r ((pair_of made).graph ≡ now.graph) → OnErr r ((split (with_place table place made)).graphs ≡ old.graphs)
+    put_back = on_err_weaker r (λ same. same_back table place now made lent.is same ∙ ap (λ (bindings : Graphs). bindings.graphs) lent.view)
 
     pub put_so : (change : Graph → Graph) → OnOk r ((pair_of made).graph ≡ change now.graph)
-        → OnOk r ((split (with_place table place made)).graphs ≡ with_graph (split table).graphs place (change (graph_at (split table).graphs place)))
-    put_so change = by r
-      where
-        by : (r : Result T E) → OnOk r ((pair_of made).graph ≡ change now.graph)
-            → OnOk r ((split (with_place table place made)).graphs ≡ with_graph (split table).graphs place (change (graph_at (split table).graphs place)))
-        by (Ok value) same = with_pair_as table place made (change (graph_at (split table).graphs place)) (same ∙ ap change graph_lent)
-        by (Err error) same = tt
+        → OnOk r ((split (with_place table place made)).graphs ≡ with_graph old.graphs place (change (graph_at old.graphs place)))
+    put_so change = on_ok_weaker r (λ so. put_at made (change (graph_at old.graphs place)) (so ∙ ap change graph_lent))
 
-  -- what other places keep stays, and all is in step
-  module _ (is_place : IsPlace (split table).graphs place) (made : Made) where
-    pub leaves_drained : {old new : StoresView} → IsDrained place old new → IsAt new place (pair_of made) → InStep old (split table)
-        → LeavesInStep place new (split table) (split (with_place table place made))
-    leaves_drained {old} {new} drained here step = record {
-      step = with_in_step old new table place made (place_there table place is_place) drained here step;
-      others = others_kept table place made;
-    }
+  -- what other places keep stays, and all is in step where no other store and no other mark has changed
+  module _ (is_place : IsPlace old.graphs place) (made : Made) where
+    leaves : (before after : StoresView) → ((other : ℕ) → other ≢ place → store_at after.shelves other ≡ store_at before.shelves other)
+        → ((other : ℕ) → other ≢ place → marks_at after.marks other ≡ marks_at before.marks other) → IsAt after place (pair_of made)
+        → InStep before old → LeavesInStep place after old (split (with_place table place made))
+    leaves before after stores marks here step =
+        subst (λ (old : Graphs). LeavesInStep place after old (split (with_place table place made))) lent.view (record {
+          step = put_in_step before after table place made
+              (place_there table place (subst (λ (old : Graphs). IsPlace old.graphs place) (sym lent.view) is_place)) stores marks here
+              (step_there before step);
+          others = others_kept table place made;
+        })
 
-    pub leaves_stayed : (stores : StoresView) → StaysAt now (pair_of made) → InStep stores (split table)
-        → LeavesInStep place stores (split table) (split (with_place table place made))
-    leaves_stayed stores stays step = leaves_drained (nothing_drained place stores)
+    pub leaves_drained : {before after : StoresView} → IsDrained place before after → IsAt after place (pair_of made) → InStep before old
+        → LeavesInStep place after old (split (with_place table place made))
+    leaves_drained {before} {after} drained = leaves before after (λ other apart. ap (λ shelves. store_at shelves other) drained.shelves) drained.others
+
+    pub leaves_stored : {before after : StoresView} (store : Store) → IsPlace before.shelves.table place → IsStored place store before after
+        → IsAt after place (pair_of made) → InStep before old → LeavesInStep place after old (split (with_place table place made))
+    leaves_stored {before} {after} store is_store stored =
+        leaves before after (stands_elsewhere before after place store is_store stored.shelves) stored.others
+
+    pub leaves_stayed : (stores : StoresView) → StaysAt now (pair_of made) → InStep stores old
+        → LeavesInStep place stores old (split (with_place table place made))
+    leaves_stayed stores stays step = leaves stores stores (λ other apart. refl) (λ other apart. refl)
         (stays (store_at stores.shelves place) (marks_at stores.marks place) (step_lent stores step)) step
 
 -- a place that is opened keeps nothing, and what is kept of others stays

@@ -1,7 +1,7 @@
 -- What the slots of one object hold.
-use Rattle.std.proofs.Common.{◌≡◌, ◌∙◌, ℕ, zero, suc, ◌+◌, ◌<◌, ◌≤◌, ◌==◌, ◌&&◌, ◌||◌, nat_lt, Bool, true, false, cond, List, [], ◌∷◌, ◌++◌, Option}
+use Rattle.std.proofs.Common.{◌≡◌, ◌∙◌, ℕ, zero, suc, ◌+◌, ◌<◌, ◌≤◌, ◌==◌, ◌&&◌, ◌||◌, nat_lt, Bool, true, false, cond, List, [], ◌∷◌, Option}
 use Rattle.std.proofs.Common.{Some, None, All}
-use Rattle.std.proofs.Common.{filter_map, length, get_or, set, take, refl, sym, ap, arith}
+use Rattle.std.proofs.Common.{filter_map, length, get_or, set, refl, sym, ap, arith}
 use Rattle.std.specs.List.{AllPairs}
 use Rattle.std.proofs.lemmas.Bool.Decides.{nat_tests}
 use Rattle.std.proofs.lemmas.List.Elements.{All-cons, All-nil}
@@ -133,19 +133,6 @@ written_slot (one ∷ slots) zero slot within (suc k) = ap (λ t. cond t slot (s
 written_slot (one ∷ slots) (suc number) slot within zero = ap (λ t. cond t slot one) (sym (numbers_differ number).1)
 written_slot (one ∷ slots) (suc number) slot within (suc k) =
     written_slot slots number slot (omega arith) k ∙ ap (λ t. cond t slot (slot_at slots k)) (sym (numbers_same k number))
-
-pub added_slot : (slots : Slots) (k : ℕ) → slot_at (slots ++ None ∷ []) k ≡ slot_at slots k
-added_slot [] zero = refl
-added_slot [] (suc k) = refl
-added_slot (slot ∷ slots) zero = refl
-added_slot (slot ∷ slots) (suc k) = added_slot slots k
-
-pub fewer_slots : (slots : Slots) (count : ℕ) → ((k : ℕ) → count ≤ k → slot_at slots k ≡ None) → (k : ℕ) → slot_at (take count slots) k ≡ slot_at slots k
-fewer_slots [] zero none k = refl
-fewer_slots [] (suc count) none k = refl
-fewer_slots (slot ∷ slots) zero none k = sym (none k (omega arith))
-fewer_slots (slot ∷ slots) (suc count) none zero = refl
-fewer_slots (slot ∷ slots) (suc count) none (suc k) = fewer_slots slots count (λ j le. none (suc j) (omega arith)) k
 
 pub no_slot : (slots : Slots) → length slots ≡ 0 → (k : ℕ) → slot_at slots k ≡ None
 no_slot [] none k = refl

@@ -1,7 +1,7 @@
 //! The bindings of all places.
 #![tactic(auto, unfolding(crate::specs::Step::InStep))]
 
-ghost use Rattle.std.specs.Prelude.{◌≡◌, ◌+◌, ◌≤◌, [], IfNone, IfOk, IfSome, IsSome, IsTrue, None, OnErr, OnOk, Some, length};
+ghost use Rattle.std.specs.Prelude.{◌≡◌, ◌+◌, ◌≤◌, [], IfNone, IfOk, IfSome, IsSome, IsTrue, None, OnErr, OnOk, Some, length, slice_index_or};
 ghost use Rattle.std.specs.Option.{option_map};
 ghost use Rattle.std.specs.Result.{result_err};
 ghost use Rattle.shared_rows.specs.Table.{ChangesAt, IsPlace, MakesRoom, Opens};
@@ -14,7 +14,7 @@ ghost use Rattle.variant_value.specs.Values.{IsShort};
 ghost use Rattle.binding_graph.specs.Cache.{cache_at, no_cache};
 ghost use Rattle.binding_graph.specs.Drained.{IsStored};
 ghost use Rattle.binding_graph.specs.GraphAndCache.{no_graph_and_cache};
-ghost use Rattle.binding_graph.specs.Inside.{pair_at, pair_of};
+ghost use Rattle.binding_graph.specs.Inside.{pair_at, split};
 ghost use Rattle.binding_values.specs.Graph.{IsSound, begin_refusal, begun, bind_refusal, bound, end_refusal, ended, is_bound, no_graph};
 ghost use Rattle.binding_values.specs.Graph.{settled_changes, settled_graph, stored_value, taken, unbound, value_in, without_object};
 ghost use Rattle.binding_graph.specs.Step.{InStep, LeavesInStep};
@@ -189,9 +189,10 @@ impl Bindings {
         ensures err { OnErr result (self.new.graphs ≡ self.old.graphs) }
         ensures step { LeavesInStep place stores.now self.old self.new }
     {
-        let made = self.graphs.get_mut(place);
-        make(made, self.alloc)?;
-        let Some(graph) = made else { unreachable!() };
+        make(&mut self.graphs, place, self.alloc)?;
+        let Some(graph) = self.graphs.get_mut(place) else {
+            unreachable!()
+        };
         graph.bind(at, expr)
     }
 
@@ -264,9 +265,10 @@ impl Bindings {
         ensures err { OnErr result (self.new.graphs ≡ self.old.graphs) }
         ensures step { LeavesInStep place stores.new self.old self.new }
     {
-        let made = self.graphs.get_mut(place);
-        make(made, self.alloc)?;
-        let Some(graph) = made else { unreachable!() };
+        make(&mut self.graphs, place, self.alloc)?;
+        let Some(graph) = self.graphs.get_mut(place) else {
+            unreachable!()
+        };
         graph.settle(self.alloc, stores, place, written)
     }
 
@@ -288,9 +290,10 @@ impl Bindings {
         ensures err { OnErr result (self.new.graphs ≡ self.old.graphs) }
         ensures step { LeavesInStep place stores.new self.old self.new }
     {
-        let made = self.graphs.get_mut(place);
-        make(made, self.alloc)?;
-        let Some(graph) = made else { unreachable!() };
+        make(&mut self.graphs, place, self.alloc)?;
+        let Some(graph) = self.graphs.get_mut(place) else {
+            unreachable!()
+        };
         graph.settle_written(self.alloc, stores, place, at)
     }
 
@@ -307,9 +310,10 @@ impl Bindings {
         ensures err { OnErr result (self.new.graphs ≡ self.old.graphs) }
         ensures step { LeavesInStep place stores.new self.old self.new }
     {
-        let made = self.graphs.get_mut(place);
-        make(made, self.alloc)?;
-        let Some(graph) = made else { unreachable!() };
+        make(&mut self.graphs, place, self.alloc)?;
+        let Some(graph) = self.graphs.get_mut(place) else {
+            unreachable!()
+        };
         graph.begin(self.alloc, stores, place)
     }
 
@@ -360,11 +364,17 @@ impl Bindings {
 }
 
 /// Allocates the graph of a place, unless that has been done.
-fn make(made: &mut Option<Box<BindingGraph>>, alloc: Global) -> Result<(), AllocError>
-    ensures same { pair_of made.new ≡ pair_of made.old }
-    ensures made { OnOk result (IsSome made.new) }
-    ensures err { OnErr result (pair_of made.old ≡ no_graph_and_cache) }
+fn make(
+    graphs: &mut Places<Option<Box<BindingGraph>>>,
+    place: usize,
+    alloc: Global,
+) -> Result<(), AllocError>
+    requires { IsPlace graphs.old place }
+    ensures same { split graphs.new ≡ split graphs.old }
+    ensures made { OnOk result (IsSome (slice_index_or graphs.new.places place None)) }
+    ensures err { OnErr result (graph_at (split graphs.old).graphs place ≡ no_graph) }
 {
+    let made = graphs.get_mut(place);
     if made.is_none() {
         *made = Some(Box::new(alloc, BindingGraph::new(alloc))?);
     }

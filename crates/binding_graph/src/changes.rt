@@ -1,13 +1,12 @@
 //! Changes are found by a comparison of two showings.
 ghost use Rattle.std.specs.Prelude.{◌≡◌, ◌++◌, IfOk, IsTrue, OnOk, filter, filter_map};
-ghost use Rattle.variant_value.specs.Values.{is_same};
 ghost use Rattle.binding_values.specs.Graph.{before, changes, has_turn, is_same_error, notice, warning};
 
-use crate::last_shown::LastShown;
+use crate::last_shown::{LastShown, is_value_before};
 use crate::showing::Showing;
 use binding_values::{BindingError, Change, ChangeKind, Shown};
 use plain_types::Items;
-use property_store::{Property, default_of, is_property};
+use property_store::{Property, is_property};
 use std::alloc::{AllocError, Global};
 
 fn is_same_error(a: BindingError, b: BindingError) -> bool
@@ -25,16 +24,6 @@ fn error_before(last: &LastShown, shown: &Shown) -> Option<BindingError>
 {
     let then = last.at(shown.at)?;
     then.error
-}
-
-/// Whether a property showed this value before.
-pub(crate) fn is_value_before(last: &LastShown, shown: &Shown) -> bool
-    ensures { result ≡ is_same (before last.now shown.now).value shown.now.value }
-{
-    match last.at(shown.at) {
-        Some(then) => then.value.is_same(&shown.value),
-        None => default_of(shown.kind).is_same(&shown.value),
-    }
 }
 
 /// The warning of a property whose error is new or different.
@@ -57,7 +46,7 @@ fn warning(last: &LastShown, shown: &Shown) -> Option<Change>
 fn notice(alloc: Global, last: &LastShown, shown: &Shown) -> Result<Option<Change>, AllocError>
     ensures { IfOk result (λ change. change ≡ notice last.now shown.now) }
 {
-    if is_value_before(last, shown) {
+    if is_value_before(last.at(shown.at), shown) {
         return Ok(None);
     }
     Ok(Some(Change {

@@ -21,8 +21,8 @@ use std::marker::Model;
 use term_core::Expr;
 use variant_value::Value;
 
-/// The bindings of a place, what its properties showed, and its groups; what is kept of the bindings' values, and
-/// what has changed since of the bindings.
+/// The bindings of a place, what its properties showed, and its groups, with the cached results of the bindings and
+/// what has changed since.
 #[derive(Drop)]
 pub(crate) struct BindingGraph {
     pub(crate) bindings: Bound,
@@ -112,8 +112,7 @@ impl BindingGraph {
         }
     }
 
-    /// Returns the value that a property shows by the values and the bindings of now: by the cache, where
-    /// nothing is marked.
+    /// Returns what a property shows now, from the cache if nothing is marked.
     fn shown_now(
         &self,
         alloc: Global,
@@ -131,7 +130,7 @@ impl BindingGraph {
         show(alloc, stores, place, &self.bindings, at)
     }
 
-    /// Returns the value that a property shows, where it is there.
+    /// Returns what a property shows, if the property exists.
     fn shown(
         &self,
         alloc: Global,
@@ -152,7 +151,7 @@ impl BindingGraph {
         }
     }
 
-    /// The value of a property, with the error that it stands for.
+    /// The value of a property, and its error if it has one.
     pub(crate) fn value(
         &self,
         alloc: Global,

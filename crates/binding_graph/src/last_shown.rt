@@ -1,9 +1,10 @@
 //! The values that the properties of a place showed, by object.
-ghost use Rattle.std.specs.Prelude.{◌≡◌, ◌==◌, [], if◌then◌else◌, IfErr, IfOk, None, OnErr, OnOk, filter, not, option_map};
+ghost use Rattle.std.specs.Prelude.{◌≡◌, [], if◌then◌else◌, IfErr, IfOk, None, OnErr, OnOk, not, option_map};
+ghost use Rattle.std.specs.Option.{option_map_or};
 ghost use Rattle.property_store.specs.declared.property.Property.{Property};
 ghost use Rattle.property_store.specs.Property.{among, is_property};
-ghost use Rattle.variant_value.specs.Values.{IsOfKind};
-ghost use Rattle.binding_values.specs.Graph.{AreShown, shown_at};
+ghost use Rattle.variant_value.specs.Values.{IsOfKind, is_same};
+ghost use Rattle.binding_values.specs.Graph.{AreShown, before, fresh, shown_at};
 ghost use Rattle.binding_values.specs.Sorted.{IsGapAt};
 ghost use Rattle.binding_graph.specs.LastShown.{AreAsMany, AreByObject, HaveSlots, IsPlaceOf, IsSlot, ShowSame, first_of, head, joined};
 ghost use Rattle.binding_graph.specs.Rows.{AreMerged, AreReplaced, IsPut};
@@ -11,11 +12,11 @@ ghost use Rattle.binding_graph.specs.Rows.{AreMerged, AreReplaced, IsPut};
 use crate::showing::Showing;
 use crate::shown_object::ShownObject;
 use binding_values::{Shown, find_place, is_at};
-use property_store::Property;
+use property_store::{Property, default_of};
 use std::alloc::{AllocError, Global};
 use std::marker::Model;
 
-/// The values that the properties of a place showed, by object, so that an object that goes takes only its own rows along.
+/// The values that the properties of a place showed, by object.
 #[derive(Drop)]
 pub(crate) struct LastShown {
     objects: Vec<ShownObject>,
@@ -72,26 +73,19 @@ impl LastShown {
         }
     }
 
-    /// Inserts what a property shows, or replaces what it showed.
-    pub(crate) fn put(&mut self, alloc: Global, row: Shown) -> Result<(), AllocError>
+    /// Inserts what a property shows, or replaces what it showed, and returns whether its value is a different one.
+    pub(crate) fn put(&mut self, alloc: Global, row: Shown) -> Result<bool, AllocError>
         requires { IsOfKind row.kind row.value }
+        ensures told { IfOk result (λ is_change. is_change ≡ not (is_same (before self.old row).value row.value)) }
         ensures put { OnOk result (IsPut row self.old self.new) }
         ensures sound { OnOk result (AreShown self.new) }
         ensures err { OnErr result (self.new ≡ self.old) }
     {
         let place = make_slot(alloc, &mut self.objects, row.at)?;
+        let previous = self.objects[place].shown(row.at.number);
+        let is_change = !is_value_before(previous, &row);
         put_at(&mut self.objects, place, row);
-        Ok(())
-    }
-
-    /// Drops what the properties of an object showed.
-    pub(crate) fn remove_object(&mut self, object: u32)
-        ensures { self.new ≡ filter (λ shown. not (shown.at.object == object)) self.old }
-    {
-        match place_of(self.objects.as_slice(), object) {
-            Ok(place) => drop(self.objects.remove(place)),
-            Err(_) => {}
-        }
+        Ok(is_change)
     }
 
     /// Replaces what properties showed by what they show now, then drops what absent ones showed.
@@ -112,6 +106,18 @@ impl LastShown {
     }
 }
 
+/// Whether a property that showed `previous` shows the same value now. Before it showed anything it had the default
+/// of its kind.
+pub(crate) fn is_value_before(previous: Option<&Shown>, shown: &Shown) -> bool
+    ensures { result ≡ is_same (option_map_or (λ row. row) (option_map (λ row. row.now) previous.entry) (fresh shown.now.at shown.now.kind)).value
+        shown.now.value }
+{
+    match previous {
+        Some(previous) => previous.value.is_same(&shown.value),
+        None => default_of(shown.kind).is_same(&shown.value),
+    }
+}
+
 /// The property that stands for an object in searches.
 fn first_of(object: u32) -> Property
     ensures { result ≡ first_of object }
@@ -127,17 +133,25 @@ fn guess(objects: &[ShownObject], object: u32) -> usize {
     }
 }
 
+/// The place of an object, which is looked for at `near` first, or else the place where it would be inserted.
+fn place_near(objects: &[ShownObject], near: usize, object: u32) -> Result<usize, usize>
+    requires { AreByObject objects.now }
+    ensures place { IfOk result (λ place. IsPlaceOf objects.now object place) }
+    ensures gap { IfErr result (λ place. IsGapAt head objects.now (first_of object) place) }
+{
+    if is_at(objects, near, first_of(object)) {
+        return Ok(near);
+    }
+    find_place(objects, first_of(object))
+}
+
 /// The place of an object, or else the place where it would be inserted.
 fn place_of(objects: &[ShownObject], object: u32) -> Result<usize, usize>
     requires { AreByObject objects.now }
     ensures place { IfOk result (λ place. IsPlaceOf objects.now object place) }
     ensures gap { IfErr result (λ place. IsGapAt head objects.now (first_of object) place) }
 {
-    let guess = guess(objects, object);
-    if is_at(objects, guess, first_of(object)) {
-        return Ok(guess);
-    }
-    find_place(objects, first_of(object))
+    place_near(objects, guess(objects, object), object)
 }
 
 /// Returns the place of an object, which is inserted if it is not there.
@@ -222,14 +236,16 @@ fn put_all(objects: &mut Vec<ShownObject>, rest: Vec<Shown>)
     }
 }
 
-/// Drops what a property showed, and its object if it has shown nothing else.
-fn remove_row(objects: &mut Vec<ShownObject>, at: Property)
+/// Drops what a property showed, and its object if it has shown nothing else. The object is looked for at `near` first,
+/// which becomes its place.
+fn remove_row(objects: &mut Vec<ShownObject>, near: &mut usize, at: Property)
     requires { AreByObject objects.old.items }
     ensures removed { (q : Property) → shown_at (joined objects.new.items) q ≡ (if is_property q at then None else shown_at (joined objects.old.items) q) }
     ensures sound { AreByObject objects.new.items }
 {
-    match place_of(objects.as_slice(), at.object) {
+    match place_near(objects.as_slice(), *near, at.object) {
         Ok(place) => {
+            *near = place;
             let of = &mut objects[place];
             of.empty_slot(at.number);
             if of.slots.is_empty() {
@@ -240,13 +256,14 @@ fn remove_row(objects: &mut Vec<ShownObject>, at: Property)
     }
 }
 
-/// Drops what these properties showed.
+/// Drops what these properties showed. Those of one object are next to each other.
 fn remove_all(objects: &mut Vec<ShownObject>, gone: &[Property])
     requires { AreByObject objects.old.items }
     ensures removed { (q : Property) → shown_at (joined objects.new.items) q ≡ (if among q gone.now then None else shown_at (joined objects.old.items) q) }
     ensures sound { AreByObject objects.new.items }
 {
+    let mut near = 0;
     for at in gone {
-        remove_row(objects, *at);
+        remove_row(objects, &mut near, *at);
     }
 }

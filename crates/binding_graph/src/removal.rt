@@ -81,10 +81,6 @@ impl BindingGraph {
         self.bindings.remove_object(object);
         stores.drop_object(place, object);
         let _ = stores.take_written(place);
-        if self.is_open() {
-            return Ok(Items::new(alloc));
-        }
-        self.last.remove_object(object);
-        self.refresh(alloc, stores, place, true, None)
+        self.settle(alloc, stores, place, None)
     }
 }

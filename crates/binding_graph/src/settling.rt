@@ -11,7 +11,7 @@ ghost use Rattle.binding_values.specs.Graph.{all_shown, begin_refusal, begun, ch
 ghost use Rattle.binding_graph.specs.GraphAndCache.{IsAt};
 ghost use Rattle.binding_graph.specs.WriteChanges.{changes_in};
 
-use crate::changes::{changes, is_value_before};
+use crate::changes::changes;
 use crate::graph::BindingGraph;
 use crate::last_shown::LastShown;
 use crate::show::{show_all, show_touched, shown_as};
@@ -21,7 +21,7 @@ use plain_types::{Code, Fault, Items};
 use property_store::{Property, Stores};
 use std::alloc::{AllocError, Global};
 
-/// Bindings and stores are sound, as all are. There is nothing to run here.
+/// All bindings and all stores are sound. There is nothing to run here: the clauses are a theorem.
 fn law_sound(bindings: &Bound, stores: &Stores, place: usize)
     requires { IsPlace stores.now.shelves.table place }
     ensures bindings { AreBindings bindings.now }
@@ -31,7 +31,7 @@ fn law_sound(bindings: &Bound, stores: &Stores, place: usize)
 }
 
 impl BindingGraph {
-    /// Evaluates all that is bound.
+    /// Evaluates every binding.
     fn refresh_all(
         &mut self,
         alloc: Global,
@@ -98,7 +98,8 @@ impl BindingGraph {
         Ok(told)
     }
 
-    /// Makes that all properties show what they show now. Where that fails, all is evaluated next time.
+    /// Updates what all properties show, and returns the changes if `tells`. After a failure the next settling
+    /// evaluates every binding.
     pub(crate) fn refresh(
         &mut self,
         alloc: Global,
@@ -152,7 +153,7 @@ impl BindingGraph {
     }
 
     /// Settles a place where this property alone is marked, if nothing has to be evaluated for it, and returns whether
-    /// its value is another one. Otherwise, or where memory runs out, it does nothing and returns `None`.
+    /// its value is a different one. Otherwise, or if memory runs out, it does nothing and returns `None`.
     fn refresh_alone(
         &mut self,
         alloc: Global,
@@ -184,8 +185,7 @@ impl BindingGraph {
             return None;
         };
         let shown = shown_as(at, kind, Ok(value));
-        let is_change = !is_value_before(&self.last, &shown);
-        let Ok(()) = self.last.put(alloc, shown) else {
+        let Ok(is_change) = self.last.put(alloc, shown) else {
             return None;
         };
         self.pending.clear();
@@ -221,7 +221,7 @@ impl BindingGraph {
         Ok(WriteChanges::Several(told))
     }
 
-    /// Opens a group; the outermost begins with what is shown now.
+    /// Opens a group. The outermost one begins with what is shown now.
     pub(crate) fn begin(
         &mut self,
         alloc: Global,

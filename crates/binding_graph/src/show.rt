@@ -1,4 +1,4 @@
-//! These functions find the values that properties show by the values and the bindings of now.
+//! What properties show, from the stored values and the bindings.
 ghost use Rattle.std.specs.Prelude.{◌≡◌, ◌<◌, ◌++◌, [], ◌∷◌, if◌then◌else◌, IfOk, None, Ok, OnOk, filter_map, length, slice_index_or};
 ghost use Rattle.std.specs.Option.{option_map_or};
 ghost use Rattle.shared_rows.specs.Table.{IsPlace};
@@ -39,7 +39,7 @@ pub(crate) fn shown_as(at: Property, kind: Kind, outcome: Result<Value, BindingE
     }
 }
 
-/// Returns the value that a property shows, where it is there; all is evaluated that it reads.
+/// Returns what a property shows, if the property exists, and evaluates all that it reads.
 pub(crate) fn show(
     alloc: Global,
     stores: &Stores,
@@ -76,7 +76,7 @@ fn known(
     }
 }
 
-/// Returns the value that a property shows, where it is there, by the cached results of all that is bound.
+/// Returns what a property shows, if the property exists, from the cached results of all bindings.
 pub(crate) fn show_kept(
     alloc: Global,
     stores: &Stores,

@@ -29,7 +29,7 @@ use Rattle.property_store.proofs.ChainLemmas.{linked_more, linked_same, same_pro
 use Rattle.property_store.proofs.LinkLemmas.{link_elsewhere, link_here, link_of_old, links_same, same_properties}
 use Rattle.property_store.proofs.MarkLemmas.{each_same, marked_linked}
 use Rattle.property_store.proofs.KindLemmas.{as_many}
-use Rattle.property_store.proofs.PlaceLemmas.{IsChanged, marks_seen, shelves_seen, under_all}
+use Rattle.property_store.proofs.PlaceLemmas.{IsChanged, IsFoundAt, marks_seen, shelves_seen, under_all}
 use Rattle.property_store.proofs.StoreLemmas.{IsRowOf, number}
 
 joined_marks : (rows : List (List (Keyed Row))) (heads : List Head) → length heads ≡ length rows → (place : ℕ)
@@ -175,20 +175,14 @@ module _ (rows : List (Keyed Row)) (key n : ℕ) (old row : Row) (is : IsRowOf r
           ∙ (ap is_linked (link_of_old rows key n old row is numbered (record { object = n; number = at }) refl) ∙ marking.1 some)))
           (cases_Bool (is_all first))
 
--- the row of a number is lent to a call, which changes it where it stands, and the head is another
+-- a call has changed the row of a number where it stands, and the head is another
 pub record IsRowChanged (layouts : List (List Field)) (rows : Table (List (Keyed Row))) (heads : Table Head) (rows' : Table (List (Keyed Row)))
     (heads' : Table Head) (seen : StoresView) (place key n : ℕ) (old row : Row) (first : Head) : Type 0 where
   pub kept : IsKept layouts rows heads
   pub view_is : stock_of layouts rows heads ≡ seen
   pub is_place : IsPlace seen.shelves.table place
-  pub sound : table.IsSound number (rows_at rows place)
-  pub found : key_of number (rows_at rows place) n ≡ Some key
-  pub lent : Row
-  pub under : row_under (rows_at rows place) key ≡ Some lent
-  pub lends : old ≡ lent
-  pub left : Row
-  pub leaves : row ≡ left
-  pub rows_are : rows' ≡ with_place rows place (with_row (rows_at rows place) key left)
+  pub at : IsFoundAt (rows_at rows place) key n old
+  pub rows_are : rows' ≡ with_place rows place (with_row (rows_at rows place) key row)
   pub heads_are : heads' ≡ with_place heads place first
 
 -- so it is where the row that was found was lent and left so
@@ -198,18 +192,12 @@ pub row_changed : {layouts : List (List Field)} {rows : Table (List (Keyed Row))
     → Some key ≡ key_of number (rows_at rows place) n → row_under (rows_at rows place) key ≡ Some lent → old ≡ lent → row ≡ left
     → rows' ≡ with_place rows place (with_row (rows_at rows place) key left) → heads' ≡ with_place heads place first
     → IsRowChanged layouts rows heads rows' heads' seen place key n old row first
-row_changed {lent = lent} {left = left} kept view_is is_place sound found under lends leaves rows_are heads_are = record {
+row_changed {rows = rows} {place = place} {key = key} kept view_is is_place sound found under lends leaves rows_are heads_are = record {
   kept = kept;
   view_is = view_is;
   is_place = is_place;
-  sound = sound;
-  found = sym found;
-  lent = lent;
-  under = under;
-  lends = lends;
-  left = left;
-  leaves = leaves;
-  rows_are = rows_are;
+  at = record { sound = sound; found = sym found; under = under ∙ ap Some (sym lends) };
+  rows_are = rows_are ∙ ap (λ row. with_place rows place (with_row (rows_at rows place) key row)) (sym leaves);
   heads_are = heads_are;
 }
 
@@ -223,20 +211,14 @@ module _ {layouts : List (List Field)} {rows : Table (List (Keyed Row))} {heads 
   in_rows = grind (arith, common_steps)
 
   pub as_moved : AreMoved rows heads rows' heads' place (with_row (rows_at rows place) key row) first
-  as_moved = grind (arith, common_steps)
+  as_moved = record { rows_are = it.rows_are; heads_are = it.heads_are }
 
   pub as_changed : IsChanged layouts (limited rows heads.room) (limited rows' heads'.room) seen.shelves place key n old row
   as_changed = record {
     kept = it.kept.sound;
     view_is = shelves_seen it.view_is;
     is_place = it.is_place;
-    sound = it.sound;
-    found = it.found;
-    lent = it.lent;
-    under = it.under;
-    lends = it.lends;
-    left = it.left;
-    leaves = it.leaves;
+    at = it.at;
     new_is = (λ i. limited (it.rows_are i) (it.heads_are i).room);
   }
 

@@ -102,48 +102,42 @@ store_sound layouts rows sound each = record { rising = rising rows sound; each 
         let rise = sound.rising i j first lt inside in
         omega (arith, rise, at_i, at_j)
 
--- the row of a number is lent to a call, which changes it where it stands
+-- the row of a number is found under its key
+pub record IsFoundAt (here : List (Keyed Row)) (key n : ℕ) (row : Row) : Type 0 where
+  pub sound : table.IsSound number here
+  pub found : key_of number here n ≡ Some key
+  pub under : row_under here key ≡ Some row
+
+-- a call has changed the row of a number where it stands
 pub record IsChanged (layouts : List (List Field)) (rows new : Table (List (Keyed Row))) (seen : StoreTable) (place key n : ℕ) (old row : Row) : Type 0 where
   pub kept : AreKept layouts rows
   pub view_is : shelves_of layouts rows ≡ seen
   pub is_place : IsPlace seen.table place
-  pub sound : table.IsSound number (rows_at rows place)
-  pub found : key_of number (rows_at rows place) n ≡ Some key
-  pub lent : Row
-  pub under : row_under (rows_at rows place) key ≡ Some lent
-  pub lends : old ≡ lent
-  pub left : Row
-  pub leaves : row ≡ left
-  pub new_is : new ≡ with_place rows place (with_row (rows_at rows place) key left)
+  pub at : IsFoundAt (rows_at rows place) key n old
+  pub new_is : new ≡ with_place rows place (with_row (rows_at rows place) key row)
 
 module _ {layouts : List (List Field)} {rows new : Table (List (Keyed Row))} {seen : StoreTable} {place key n : ℕ} {old row : Row}
     (it : IsChanged layouts rows new seen place key n old row) where
-  under_old : row_under (rows_at rows place) key ≡ Some old
-  under_old = it.under ∙ ap Some (sym it.lends)
-
-  with_new : new ≡ with_place rows place (with_row (rows_at rows place) key row)
-  with_new = grind (arith, common_steps)
-
   each_sound : AreRows layouts (rows_at rows place)
   each_sound = it.kept place [] (rows_open rows it.view_is place it.is_place)
 
   pub is_row : IsRowOf (rows_at rows place) key n old
-  is_row = row_stands (rows_at rows place) it.sound key n old it.found under_old
+  is_row = row_stands (rows_at rows place) it.at.sound key n old it.at.found it.at.under
 
   pub old_there : properties_of (store_at seen place) n ≡ Some (shown layouts old)
   old_there = ap (λ s. properties_of s n) (store_there rows it.view_is place it.is_place) ∙ there layouts (rows_at rows place) key n old is_row
 
   pub old_sound : AreSound (shown layouts old)
-  old_sound = under_sound layouts (rows_at rows place) each_sound key old under_old
+  old_sound = under_sound layouts (rows_at rows place) each_sound key old it.at.under
 
   pub kept_under : AreSound (shown layouts row) → AreKept layouts new
-  kept_under sound = kept_with layouts rows it.kept place new (with_row (rows_at rows place) key row) with_new
+  kept_under sound = kept_with layouts rows it.kept place new (with_row (rows_at rows place) key row) it.new_is
       (with_row_sound layouts (rows_at rows place) each_sound key row sound)
 
   pub view_under : (change : Properties → Properties) → shown layouts row ≡ change (shown layouts old)
       → shelves_of layouts new ≡ with_store seen place (changed change n (store_at seen place))
   view_under change e =
-      after rows it.view_is place new (with_row (rows_at rows place) key row) (changed change n (store_at seen place)) with_new
+      after rows it.view_is place new (with_row (rows_at rows place) key row) (changed change n (store_at seen place)) it.new_is
       (changed_shown layouts (rows_at rows place) key n old is_row row change e ∙ ap (changed change n) (sym (store_there rows it.view_is place it.is_place)))
 
   pub view_same : shown layouts row ≡ shown layouts old → shelves_of layouts new ≡ seen

@@ -89,8 +89,7 @@ module _ {layouts : List (List Field)} {rows : Table (List (Keyed Row))} {heads 
   is_old = is_row (as_changed it)
 
   old_many : length old.links ≡ length old.values
-  old_many = under_all (λ row. length row.links ≡ length row.values) (rows_at rows place) (it.kept.chained place).as_many key old
-      (it.under ∙ ap Some (sym it.lends))
+  old_many = under_all (λ row. length row.links ≡ length row.values) (rows_at rows place) (it.kept.chained place).as_many key old it.at.under
 
   -- with the same links
   module _ (same : row.links ≡ old.links) (values : length row.values ≡ length old.values) (numbered_same : row.object ≡ old.object)

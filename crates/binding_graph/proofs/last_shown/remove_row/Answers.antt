@@ -12,24 +12,21 @@ index_mut-of-requires c = omega (arith, (rw c.as_slice.ensures.value at c.in-Ok.
 pub remove-requires : goal.remove-requires
 remove-requires c = omega (arith, (rw c.as_slice.ensures.value at c.in-Ok.ensures.place).within, c.args.objects.now.ok)
 
-pub returns-else-is_empty-clause-removed : goal.returns-else-is_empty-clause-removed
-returns-else-is_empty-clause-removed c = (slot_emptied c.requires (rw c.as_slice.ensures.value at c.in-Ok.ensures.place)
-    c.index_mut-of.result.now c.index_mut-of.ensures.value c.empty_slot.new.self c.empty_slot.ensures.object c.empty_slot.ensures.emptied).shown
+pub returns-else-is_empty : goal.returns-else-is_empty
+returns-else-is_empty c =
+    let it = slot_emptied c.requires (rw c.as_slice.ensures.value at c.in-Ok.ensures.place) c.index_mut-of.result.now c.index_mut-of.ensures.value
+    c.empty_slot.new.self c.empty_slot.ensures.object c.empty_slot.ensures.emptied in
+    record { removed = it.shown; sound = it.sound }
 
-pub returns-else-is_empty-clause-sound : goal.returns-else-is_empty-clause-sound
-returns-else-is_empty-clause-sound c = (slot_emptied c.requires (rw c.as_slice.ensures.value at c.in-Ok.ensures.place)
-    c.index_mut-of.result.now c.index_mut-of.ensures.value c.empty_slot.new.self c.empty_slot.ensures.object c.empty_slot.ensures.emptied).sound
-
-pub returns-then-is_empty-clause-sound : goal.returns-then-is_empty-clause-sound
-returns-then-is_empty-clause-sound c = rw c.remove.ensures.items (dropped_sound
-    (slot_emptied c.requires (rw c.as_slice.ensures.value at c.in-Ok.ensures.place)
-    c.index_mut-of.result.now c.index_mut-of.ensures.value c.empty_slot.new.self c.empty_slot.ensures.object c.empty_slot.ensures.emptied))
-
-pub returns-then-is_empty-clause-removed : goal.returns-then-is_empty-clause-removed
-returns-then-is_empty-clause-removed c = λ q. ap (λ objects. shown_at (joined objects) q) c.remove.ensures.items
-    ∙ dropped_shown (slot_emptied c.requires (rw c.as_slice.ensures.value at c.in-Ok.ensures.place)
-    c.index_mut-of.result.now c.index_mut-of.ensures.value c.empty_slot.new.self c.empty_slot.ensures.object c.empty_slot.ensures.emptied)
-    (omega (arith, eqb-true (vec_len c.empty_slot.new.self.slots) 0 (sym c.is_empty.ensures ∙ c.if-is_empty.true), c.empty_slot.new.self.slots.ok)) q
+pub returns-then-is_empty : goal.returns-then-is_empty
+returns-then-is_empty c =
+    let it = slot_emptied c.requires (rw c.as_slice.ensures.value at c.in-Ok.ensures.place) c.index_mut-of.result.now c.index_mut-of.ensures.value
+    c.empty_slot.new.self c.empty_slot.ensures.object c.empty_slot.ensures.emptied in
+    record {
+      removed = λ q. ap (λ objects. shown_at (joined objects) q) c.remove.ensures.items ∙ dropped_shown it
+          (omega (arith, eqb-true (vec_len c.empty_slot.new.self.slots) 0 (sym c.is_empty.ensures ∙ c.if-is_empty.true), c.empty_slot.new.self.slots.ok)) q;
+      sound = rw c.remove.ensures.items (dropped_sound it);
+    }
 
 pub returns-in-Err-clause-removed : goal.returns-in-Err-clause-removed
 returns-in-Err-clause-removed c = none_there (joined c.args.objects.now.items) c.args.at

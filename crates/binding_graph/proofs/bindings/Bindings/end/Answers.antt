@@ -1,7 +1,6 @@
-use Rattle.std.proofs.Common.{◌≡◌, ◌∙◌, IfOk, None, ap, refl, subst, sym}
-use Rattle.std.specs.Result.{result_err}
+use Rattle.std.proofs.Common.{◌≡◌, ◌∙◌, IfOk, None, ap, refl, sym}
 use Rattle.binding_values.specs.Graph.{Graph, end_refusal, ended}
-use Rattle.binding_graph.specs.Inside.{pair_of, split}
+use Rattle.binding_graph.specs.Inside.{pair_of}
 use Rattle.binding_graph.specs.Table.{Graphs}
 use Rattle.binding_graph.proofs.PlaceLemmas.{IsLent, graph_lent, leaves_stayed, lent, none_there, put_back, put_so, same_step, unmade}
 use Rattle.std.proofs.Common.{Result, Ok, Err, OnOk, ℕ}
@@ -17,33 +16,29 @@ returns-in_default-clause-refused c = rw (← c.self.view_is)
     (sym (ap end_refusal (none_there c.self.inside.graphs c.args.place c.get_mut.result.now (c.get_mut.ensures.value None) (ap pair_of c.in_default.is))))
 
 pub returns-in_default-clause-err : goal.returns-in_default-clause-err
-returns-in_default-clause-err c = rw (← c.self.view_is)
-    (ap (λ (graphs : Graphs). graphs.graphs) (unmade c.self.inside.graphs c.args.place _ (c.get_mut.ensures.value None) refl))
+returns-in_default-clause-err c = ap (λ (graphs : Graphs). graphs.graphs)
+    (unmade c.self.inside.graphs c.args.place _ (c.get_mut.ensures.value None) refl ∙ c.self.view_is)
 
 pub returns-in_default-clause-step : goal.returns-in_default-clause-step
-returns-in_default-clause-step c = rw (← c.self.view_is)
-    (same_step c.args.place c.args.stores.now (split c.self.inside.graphs) _
-    (unmade c.self.inside.graphs c.args.place _ (c.get_mut.ensures.value None) refl) (rw (← c.self.view_is) at c.requires.step))
+returns-in_default-clause-step c = same_step c.args.place c.args.stores.now _ _
+    (unmade c.self.inside.graphs c.args.place _ (c.get_mut.ensures.value None) refl ∙ c.self.view_is) c.requires.step
 
 -- the graph that the place lends
-lent_here : (c : goal.After-self-2-1) → IsLent c.self.inside.graphs c.args.place c.deref_mut.result.now
-lent_here c = lent c.self.inside.graphs c.args.place (c.get_mut.ensures.value None) refl c.in-Some.is c.deref_mut.ensures.value
+lent_here : (c : goal.After-self-2-1) → IsLent c.args.self.now c.self.inside.graphs c.args.place c.deref_mut.result.now
+lent_here c = lent c.self.inside.graphs c.args.place c.self.view_is (c.get_mut.ensures.value None) c.in-Some.is c.deref_mut.ensures.value
 
 pub returns-clause-refused : goal.returns-clause-refused
-returns-clause-refused c = rw (← c.self.view_is)
-    (subst (λ (graph : Graph). result_err c.end.result ≡ end_refusal graph) (graph_lent (lent_here c)) c.end.ensures.refused)
+returns-clause-refused c = rw (← graph_lent (lent_here c)) c.end.ensures.refused
 
 pub returns-clause-depth : goal.returns-clause-depth
-returns-clause-depth c = rw (← c.self.view_is)
-    (subst (λ (graph : Graph). IfOk c.end.result (λ depth. depth ≡ (ended graph).depth)) (graph_lent (lent_here c))
-    (depth_left c.end.result c.deref_mut.result.now.graph c.end.new.self.graph c.end.ensures.depth c.end.ensures.ok))
+returns-clause-depth c = rw (← graph_lent (lent_here c))
+    (depth_left c.end.result c.deref_mut.result.now.graph c.end.new.self.graph c.end.ensures.depth c.end.ensures.ok)
 
 pub returns-clause-ok : goal.returns-clause-ok
-returns-clause-ok c = rw (← c.self.view_is) (put_so (lent_here c) c.end.result _ ended c.end.ensures.ok)
+returns-clause-ok c = put_so (lent_here c) c.end.result _ ended c.end.ensures.ok
 
 pub returns-clause-err : goal.returns-clause-err
-returns-clause-err c = rw (← c.self.view_is) (put_back (lent_here c) c.end.result _ c.end.ensures.err)
+returns-clause-err c = put_back (lent_here c) c.end.result _ c.end.ensures.err
 
 pub returns-clause-step : goal.returns-clause-step
-returns-clause-step c = rw (← c.self.view_is) (leaves_stayed (lent_here c) (rw (← c.self.view_is) at c.requires.place) _ _
-    c.end.ensures.step (rw (← c.self.view_is) at c.requires.step))
+returns-clause-step c = leaves_stayed (lent_here c) c.requires.place _ _ c.end.ensures.step c.requires.step

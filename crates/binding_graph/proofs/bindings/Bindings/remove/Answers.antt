@@ -1,24 +1,15 @@
-use Rattle.std.proofs.Common.{◌≡◌, ◌∙◌, IfOk, None, Some, ap, refl, subst, sym}
-use Rattle.property_store.specs.Store.{without}
-use Rattle.property_store.specs.Table.{store_at}
-use Rattle.binding_values.specs.Graph.{Graph, no_graph, settled_changes, settled_graph, without_object}
-use Rattle.binding_graph.specs.Inside.{pair_of, split}
-use Rattle.binding_graph.specs.Table.{Graphs, graph_at}
-use Rattle.binding_graph.proofs.PlaceLemmas.{IsLent, graph_lent, lent, none_there, others_kept, place_there, put_in_step, put_so, step_lent, with_pair}
-use Rattle.binding_graph.proofs.StepLemmas.{stands_elsewhere}
-use Rattle.shared_rows.proofs.ForCallers as column
-use Rattle.std.proofs.Common.{Option, false, is_some, not}
-use Rattle.binding_graph.proofs.StepLemmas.{removal_in_step}
-use Rattle.std.proofs.Common.{[], ap₂}
+use Rattle.std.proofs.Common.{◌≡◌, ◌∙◌, [], None, ap, ap₂, is_some, not, refl, sym}
 use Rattle.std.proofs.lemmas.Bool.{both_ways}
 use Rattle.std.proofs.lemmas.Result.{IfOk-weaker, on_ok_weaker}
-use Rattle.property_store.specs.Table.{StoreTable}
-use Rattle.binding_graph.specs.Table.{with_graph}
+use Rattle.shared_rows.proofs.ForCallers as column
+use Rattle.property_store.specs.Store.{without}
+use Rattle.property_store.specs.Table.{StoreTable, store_at}
+use Rattle.binding_values.specs.Graph.{no_graph, settled_changes, settled_graph, without_object}
+use Rattle.binding_graph.specs.Inside.{pair_of}
+use Rattle.binding_graph.specs.Table.{Graphs, graph_at, with_graph}
+use Rattle.binding_graph.proofs.PlaceLemmas.{IsLent, graph_lent, leaves_stored, lent, no_some, none_there, put_at, put_so, step_lent}
+use Rattle.binding_graph.proofs.StepLemmas.{removal_in_step}
 use Rattle.binding_graph.proofs.bindings.Bindings.remove.Goals as goal
-
-no_some : {T : Type 0} (found : Option T) → is_some found ≡ false → found ≡ None
-no_some None e = refl
-no_some (Some value) e = absurd (cc)
 
 -- where there is no graph, the object alone goes
 pub settle-requires-clause-step : goal.settle-requires-clause-step
@@ -54,36 +45,22 @@ unreachable-requires c = both_ways (is_some c.get.result.now)
 
 pub remove-requires-clause-step : goal.remove-requires-clause-step
 remove-requires-clause-step c = step_lent
-    (lent c.self.inside.graphs c.args.place (c.get_mut.ensures.value None) refl c.in-Some.is c.deref_mut.ensures.value)
-    _ (rw (← c.self.view_is) at c.requires.step)
+    (lent c.self.inside.graphs c.args.place c.self.view_is (c.get_mut.ensures.value None) c.in-Some.is c.deref_mut.ensures.value) _ c.requires.step
 
 -- the graph that the place lends
-lent_here : (c : goal.After-self-2-1) → IsLent c.self.inside.graphs c.args.place c.deref_mut.result.now
-lent_here c = lent c.self.inside.graphs c.args.place (c.get_mut.ensures.value None) refl c.in-Some.is c.deref_mut.ensures.value
+lent_here : (c : goal.After-self-2-1) → IsLent c.args.self.now c.self.inside.graphs c.args.place c.deref_mut.result.now
+lent_here c = lent c.self.inside.graphs c.args.place c.self.view_is (c.get_mut.ensures.value None) c.in-Some.is c.deref_mut.ensures.value
 
 pub returns-clause-told : goal.returns-clause-told
-returns-clause-told c =
-    rw (← c.self.view_is)
-    (subst (λ (graph : Graph). IfOk c.remove.result (λ told. told ≡ settled_changes (without c.args.object
-    (store_at c.args.stores.now.shelves c.args.place)) (without_object c.args.object graph) None)) (graph_lent (lent_here c)) c.remove.ensures.told)
+returns-clause-told c = rw (← graph_lent (lent_here c)) c.remove.ensures.told
 
 pub returns-clause-ok : goal.returns-clause-ok
-returns-clause-ok c = rw (← c.self.view_is)
-    (put_so (lent_here c) c.remove.result _ (λ graph. settled_graph (without c.args.object (store_at c.args.stores.now.shelves c.args.place))
-    (without_object c.args.object graph)) c.remove.ensures.ok)
+returns-clause-ok c = put_so (lent_here c) c.remove.result _ (λ graph. settled_graph (without c.args.object
+    (store_at c.args.stores.now.shelves c.args.place)) (without_object c.args.object graph)) c.remove.ensures.ok
 
 pub returns-clause-only : goal.returns-clause-only
-returns-clause-only c =
-    rw (← c.self.view_is)
-    (column.changes_with no_graph (split c.self.inside.graphs).graphs _ c.args.place c.remove.new.self.graph (rw (← c.self.view_is) at c.requires.places.0)
-    (with_pair c.self.inside.graphs c.args.place _))
+returns-clause-only c = column.changes_with no_graph c.args.self.now.graphs _ c.args.place c.remove.new.self.graph c.requires.places.0
+    (put_at (lent_here c) _ _ refl)
 
 pub returns-clause-step : goal.returns-clause-step
-returns-clause-step c = record {
-  step = put_in_step c.args.stores.now c.remove.new.stores c.self.inside.graphs c.args.place _ (place_there c.self.inside.graphs c.args.place (rw
-      (← c.self.view_is) at c.requires.places.0))
-      (stands_elsewhere c.args.stores.now c.remove.new.stores c.args.place (without c.args.object
-      (store_at c.args.stores.now.shelves c.args.place)) c.requires.places.1 c.remove.ensures.stores.shelves)
-      c.remove.ensures.stores.others c.remove.ensures.step (rw (← c.self.view_is) at c.requires.step);
-  others = rw (← c.self.view_is) (others_kept c.self.inside.graphs c.args.place _);
-}
+returns-clause-step c = leaves_stored (lent_here c) c.requires.places.0 _ _ c.requires.places.1 c.remove.ensures.stores c.remove.ensures.step c.requires.step

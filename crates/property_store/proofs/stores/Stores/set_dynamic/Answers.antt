@@ -28,19 +28,11 @@ returns-in_default-clause-ok c = store_unchanged c.self.invariant c.self.view_is
 pub invariant_of-self : goal.invariant_of-self
 invariant_of-self c = kept_beside (changed c) c.update.ensures.3.met.rest refl (set_kept (as_changed (changed c)) c.update.ensures.3.met c.requires.short)
 
-pub returns-clause-refused : goal.returns-clause-refused
-returns-clause-refused c = (dynamic_set (as_changed (changed c)) c.update.ensures.3.met).refused
-
-pub returns-clause-ok : goal.returns-clause-ok
-returns-clause-ok c = (dynamic_set (as_changed (changed c)) c.update.ensures.3.met).ok
-
-pub returns-clause-marks : goal.returns-clause-marks
-returns-clause-marks c = marks_beside (changed c) c.update.ensures.3.met.rest refl
-
-pub returns-clause-err : goal.returns-clause-err
-returns-clause-err c =
-    on_err_weaker c.update.result (λ same. stock_same same (marks_beside (changed c) c.update.ensures.3.met.rest refl))
-    (dynamic_set (as_changed (changed c)) c.update.ensures.3.met).err
+pub returns : goal.returns
+returns c =
+    let it = dynamic_set (as_changed (changed c)) c.update.ensures.3.met in
+    let marks = marks_beside (changed c) c.update.ensures.3.met.rest refl in
+    record { refused = it.refused; ok = it.ok; err = on_err_weaker c.update.result (λ same. stock_same same marks) it.err; marks = marks }
 
 pub find-requires : goal.find-requires
 find-requires c = grind (arith, common_steps)

@@ -23,16 +23,14 @@ invariant_of-self-in-First c = rw c.head_behind.ensures
     (one_left c.self.invariant c.self.view_is c.args.place c.requires c.in-First.at
     (sym (c.get.ensures None) ∙ c.in-First.is) c.unlink-link.result c.unlink-link.ensures.link c.unlink-link.new.rows c.unlink-link.ensures.rest).kept
 
-pub returns-in-First-clause-shelves : goal.returns-in-First-clause-shelves
-returns-in-First-clause-shelves c = (one_left c.self.invariant c.self.view_is c.args.place c.requires c.in-First.at
-    (sym (c.get.ensures None) ∙ c.in-First.is) c.unlink-link.result c.unlink-link.ensures.link c.unlink-link.new.rows c.unlink-link.ensures.rest).shelves
-
-pub returns-in-First-clause-taken : goal.returns-in-First-clause-taken
-returns-in-First-clause-taken c = rw c.head_behind.ensures
-    (one_taken c.self.invariant c.self.view_is c.args.place c.requires c.in-First.at
-    (sym (c.get.ensures None) ∙ c.in-First.is) c.unlink-link.result c.unlink-link.ensures.link c.unlink-link.new.rows c.unlink-link.ensures.rest)
-
-pub returns-in-First-clause-others : goal.returns-in-First-clause-others
-returns-in-First-clause-others c = rw c.head_behind.ensures
-    (one_left c.self.invariant c.self.view_is c.args.place c.requires c.in-First.at
-    (sym (c.get.ensures None) ∙ c.in-First.is) c.unlink-link.result c.unlink-link.ensures.link c.unlink-link.new.rows c.unlink-link.ensures.rest).others
+pub returns-in-First : goal.returns-in-First
+returns-in-First c =
+    let is = sym (c.get.ensures None) ∙ c.in-First.is in
+    let left = one_left c.self.invariant c.self.view_is c.args.place c.requires c.in-First.at is c.unlink-link.result c.unlink-link.ensures.link
+    c.unlink-link.new.rows c.unlink-link.ensures.rest in
+    record {
+      shelves = left.shelves;
+      taken = rw c.head_behind.ensures (one_taken c.self.invariant c.self.view_is c.args.place c.requires c.in-First.at is c.unlink-link.result
+          c.unlink-link.ensures.link c.unlink-link.new.rows c.unlink-link.ensures.rest);
+      others = rw c.head_behind.ensures left.others;
+    }

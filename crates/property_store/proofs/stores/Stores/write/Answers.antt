@@ -16,18 +16,17 @@ nothing_there : (c : goal.After-drop-value) → properties_of (store_at c.args.s
 nothing_there c = object_absent c.self.invariant c.self.view_is c.requires.place c.args.object
     (sym c.in_default.ensures.found)
 
-pub returns-in_default-clause-refused : goal.returns-in_default-clause-refused
-returns-in_default-clause-refused c = (nothing_written c.args.self.now.shelves c.args.place c.args.object c.args.value (nothing_there c) c.args.number).refused
-
-pub returns-in_default-clause-answer : goal.returns-in_default-clause-answer
-returns-in_default-clause-answer c = (nothing_written c.args.self.now.shelves c.args.place c.args.object c.args.value (nothing_there c) c.args.number).answer
-
-pub returns-in_default-clause-new : goal.returns-in_default-clause-new
-returns-in_default-clause-new c = (nothing_written c.args.self.now.shelves c.args.place c.args.object c.args.value (nothing_there c) c.args.number).new_is
-
-pub returns-in_default-clause-marks : goal.returns-in_default-clause-marks
-returns-in_default-clause-marks c = nothing_marked c.args.place c.args.object (store_at c.args.self.now.shelves c.args.place) c.args.self.now.marks
-    (nothing_there c) c.args.number c.args.value
+pub returns-in_default : goal.returns-in_default
+returns-in_default c =
+    let it = nothing_written c.args.self.now.shelves c.args.place c.args.object c.args.value (nothing_there c) c.args.number in
+    record {
+      refused = it.refused;
+      answer = it.answer;
+      new = it.new_is;
+      err = tt;
+      marks = nothing_marked c.args.place c.args.object (store_at c.args.self.now.shelves c.args.place) c.args.self.now.marks (nothing_there c) c.args.number
+          c.args.value;
+    }
 
 pub write_under-requires-clause-many : goal.write_under-requires-clause-many
 write_under-requires-clause-many c = each_many c.self.invariant c.args.place
@@ -48,17 +47,16 @@ refused c = search rules
 pub invariant_of-self : goal.invariant_of-self
 invariant_of-self c = stored_kept (refused_row c) (refused c) refl c.requires.short
 
-pub returns-in-Err-clause-refused : goal.returns-in-Err-clause-refused
-returns-in-Err-clause-refused c = (row_written (as_changed (refused_row c)) (refused c)).refused
-
-pub returns-in-Err-clause-new : goal.returns-in-Err-clause-new
-returns-in-Err-clause-new c = (row_written (as_changed (refused_row c)) (refused c)).new_is
-
-pub returns-in-Err-clause-err : goal.returns-in-Err-clause-err
-returns-in-Err-clause-err c = refused_same (refused_row c) (refused c) refl refl (row_written (as_changed (refused_row c)) (refused c)).err
-
-pub returns-in-Err-clause-marks : goal.returns-in-Err-clause-marks
-returns-in-Err-clause-marks c = stored_marks (refused_row c) (refused c) refl
+pub returns-in-Err : goal.returns-in-Err
+returns-in-Err c =
+    let it = row_written (as_changed (refused_row c)) (refused c) in
+    record {
+      refused = it.refused;
+      answer = tt;
+      new = it.new_is;
+      err = refused_same (refused_row c) (refused c) refl refl it.err;
+      marks = stored_marks (refused_row c) (refused c) refl;
+    }
 
 -- it is stored
 stored_row : (c : goal.After-set_first) → IsRowChanged c.self.inside.layouts c.self.inside.rows c.self.inside.heads c.write_under.new.rows c.set_first.new.heads
@@ -76,17 +74,10 @@ stored c = search rules
 pub invariant_of-self-2 : goal.invariant_of-self-2
 invariant_of-self-2 c = stored_kept (stored_row c) (stored c) refl c.requires.short
 
-pub returns-clause-refused : goal.returns-clause-refused
-returns-clause-refused c = (row_written (as_changed (stored_row c)) (stored c)).refused
-
-pub returns-clause-answer : goal.returns-clause-answer
-returns-clause-answer c = (row_written (as_changed (stored_row c)) (stored c)).answer
-
-pub returns-clause-new : goal.returns-clause-new
-returns-clause-new c = (row_written (as_changed (stored_row c)) (stored c)).new_is
-
-pub returns-clause-marks : goal.returns-clause-marks
-returns-clause-marks c = stored_marks (stored_row c) (stored c) refl
+pub returns : goal.returns
+returns c =
+    let it = row_written (as_changed (stored_row c)) (stored c) in
+    record { refused = it.refused; answer = it.answer; new = it.new_is; err = tt; marks = stored_marks (stored_row c) (stored c) refl }
 
 pub find-requires : goal.find-requires
 find-requires c = grind (arith, common_steps)

@@ -16,15 +16,16 @@ nothing_there : (c : goal.In_default) → properties_of (store_at c.args.self.no
 nothing_there c = object_absent c.self.invariant c.self.view_is c.requires.place c.args.object
     (sym c.in_default.ensures.found)
 
-pub returns-in_default-clause-answer : goal.returns-in_default-clause-answer
-returns-in_default-clause-answer c = (nothing_named c.args.self.now.shelves c.args.place c.args.object c.args.value (nothing_there c) c.args.name.now).answer
-
-pub returns-in_default-clause-new : goal.returns-in_default-clause-new
-returns-in_default-clause-new c = (nothing_named c.args.self.now.shelves c.args.place c.args.object c.args.value (nothing_there c) c.args.name.now).new_is
-
-pub returns-in_default-clause-marks : goal.returns-in_default-clause-marks
-returns-in_default-clause-marks c = no_name_marked c.args.place c.args.object (store_at c.args.self.now.shelves c.args.place) c.args.self.now.marks
-    (nothing_there c) c.args.name.now c.args.value
+pub returns-in_default : goal.returns-in_default
+returns-in_default c =
+    let it = nothing_named c.args.self.now.shelves c.args.place c.args.object c.args.value (nothing_there c) c.args.name.now in
+    record {
+      answer = it.answer;
+      new = it.new_is;
+      err = search rules;
+      marks = no_name_marked c.args.place c.args.object (store_at c.args.self.now.shelves c.args.place) c.args.self.now.marks (nothing_there c)
+          c.args.name.now c.args.value;
+    }
 
 pub update-requires-clause-callable : goal.update-requires-clause-callable
 update-requires-clause-callable c = λ lent under. under_many c.self.invariant c.args.place
@@ -45,20 +46,16 @@ refused c = search rules
 pub invariant_of-self : goal.invariant_of-self
 invariant_of-self c = named_kept (refused_row c) c.args.name.now c.args.value (Err c.in-Err.unwritten) (refused c) refl c.requires.short
 
-pub returns-in-Err-clause-answer : goal.returns-in-Err-clause-answer
-returns-in-Err-clause-answer c = (name_written (as_changed (refused_row c)) c.args.name.now c.args.value (head_at c.self.inside.heads c.args.place)
-    (Err c.in-Err.unwritten) (refused c)).answer
-
-pub returns-in-Err-clause-new : goal.returns-in-Err-clause-new
-returns-in-Err-clause-new c = (name_written (as_changed (refused_row c)) c.args.name.now c.args.value (head_at c.self.inside.heads c.args.place)
-    (Err c.in-Err.unwritten) (refused c)).new_is
-
-pub returns-in-Err-clause-err : goal.returns-in-Err-clause-err
-returns-in-Err-clause-err c = named_same (refused_row c) c.args.name.now c.args.value (Err c.in-Err.unwritten) (refused c) refl c.in-Err.unwritten refl
-    (name_written (as_changed (refused_row c)) c.args.name.now c.args.value (head_at c.self.inside.heads c.args.place) (Err c.in-Err.unwritten) (refused c)).err
-
-pub returns-in-Err-clause-marks : goal.returns-in-Err-clause-marks
-returns-in-Err-clause-marks c = named_marks (refused_row c) c.args.name.now c.args.value (Err c.in-Err.unwritten) (refused c) refl
+pub returns-in-Err : goal.returns-in-Err
+returns-in-Err c =
+    let it = name_written (as_changed (refused_row c)) c.args.name.now c.args.value (head_at c.self.inside.heads c.args.place) (Err c.in-Err.unwritten)
+    (refused c) in
+    record {
+      answer = it.answer;
+      new = it.new_is;
+      err = named_same (refused_row c) c.args.name.now c.args.value (Err c.in-Err.unwritten) (refused c) refl c.in-Err.unwritten refl it.err;
+      marks = named_marks (refused_row c) c.args.name.now c.args.value (Err c.in-Err.unwritten) (refused c) refl;
+    }
 
 -- it is stored
 stored_row : (c : goal.After-set_first) → IsRowChanged c.self.inside.layouts c.self.inside.rows c.self.inside.heads c.update.new.self c.set_first.new.heads
@@ -76,16 +73,16 @@ stored c = search rules
 pub invariant_of-self-2 : goal.invariant_of-self-2
 invariant_of-self-2 c = named_kept (stored_row c) c.args.name.now c.args.value (Ok c.in-Ok.stored) (stored c) refl c.requires.short
 
-pub returns-clause-answer : goal.returns-clause-answer
-returns-clause-answer c = (name_written (as_changed (stored_row c)) c.args.name.now c.args.value (head_at c.self.inside.heads c.args.place) (Ok c.in-Ok.stored)
-    (stored c)).answer
-
-pub returns-clause-new : goal.returns-clause-new
-returns-clause-new c = (name_written (as_changed (stored_row c)) c.args.name.now c.args.value (head_at c.self.inside.heads c.args.place) (Ok c.in-Ok.stored)
-    (stored c)).new_is
-
-pub returns-clause-marks : goal.returns-clause-marks
-returns-clause-marks c = named_marks (stored_row c) c.args.name.now c.args.value (Ok c.in-Ok.stored) (stored c) refl
+pub returns : goal.returns
+returns c =
+    let it = name_written (as_changed (stored_row c)) c.args.name.now c.args.value (head_at c.self.inside.heads c.args.place) (Ok c.in-Ok.stored)
+    (stored c) in
+    record {
+      answer = it.answer;
+      new = it.new_is;
+      err = tt;
+      marks = named_marks (stored_row c) c.args.name.now c.args.value (Ok c.in-Ok.stored) (stored c) refl;
+    }
 
 pub find-requires : goal.find-requires
 find-requires c = grind (arith, common_steps)
