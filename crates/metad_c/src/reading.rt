@@ -1,11 +1,11 @@
 //! Reading a line for a session that the host program names.
-ghost use Rattle.std.specs.Prelude.{◌≡◌, Err, IfErr, IfOk, Some};
+ghost use Rattle.std.specs.Prelude.{◌≡◌, Some};
 ghost use Rattle.serde_json.specs.Data.{object};
 ghost use Rattle.serde_json.specs.Read.{read};
 ghost use Rattle.std.specs.Option.{ok_or};
 ghost use Rattle.json_reading.specs.Members.{members_in};
 ghost use Rattle.session_model.specs.Asked.{tag};
-ghost use Rattle.wire_format.specs.Command.{Gives, given_by, json_in, not_a_command, unreadable};
+ghost use Rattle.wire_format.specs.Command.{Gives, given_by, not_a_command, unreadable};
 ghost use Rattle.metad_c.specs.Reading.{command_for, command_for_by};
 
 use json::Scratch;
@@ -14,7 +14,7 @@ use plain_types::{Code, Text};
 use session_model::Tagged;
 use std::alloc::Global;
 use wire_commands::command_in;
-use wire_format::{LINE_BYTES, LineFault, ReadError};
+use wire_format::{LineFault, ReadError, text_in};
 
 /// Reads a line as a command for this session. The line need not name a session, and one that it names is ignored.
 /// If the line is no command, its fault is reported for this session.
@@ -28,7 +28,7 @@ pub(crate) fn read_line_for(
     ensures { Gives tag result (command_for session.now line.now) }
 {
     let session = session.copy(alloc)?;
-    let Ok(text) = text_in(line) else {
+    let Some(text) = text_in(line) else {
         return Err(fault_of(session, Code::UnreadableLine));
     };
     let stop = match plain_members(alloc, text, scratch) {
@@ -39,20 +39,6 @@ pub(crate) fn read_line_for(
         Stop::NotJson => Err(fault_of(session, Code::UnreadableLine)),
         Stop::Memory => Err(ReadError::Memory),
         Stop::Form | Stop::Nested => read_tree_for(alloc, scratch, text, session),
-    }
-}
-
-/// The text of the line, unless it is too long or not UTF-8.
-fn text_in(line: &[u8]) -> Result<&str, ()>
-    ensures ok { IfOk result (λ text. json_in line.now ≡ ok_or (read text.now) unreadable) }
-    ensures err { IfErr result (λ none. json_in line.now ≡ Err unreadable) }
-{
-    if line.len() > LINE_BYTES {
-        return Err(());
-    }
-    match str::from_utf8(line) {
-        Ok(text) => Ok(text),
-        Err(_) => Err(()),
     }
 }
 

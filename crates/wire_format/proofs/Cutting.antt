@@ -1,6 +1,5 @@
 -- An input cut into lines, and the pieces that the lines are.
 use Rattle.std.proofs.Common.{◌≡◌, ◌<◌, ◌==◌, ℕ, suc, true, false, List, [], ◌∷◌, ◌++◌, length, map, Some, None, Ok, Err, refl, ap, arith}
-use Rattle.std.specs.List.{cons_option}
 use Rattle.std.proofs.lemmas.Bool.{false_from_ne_true, eqb-true, lt-leb}
 use Rattle.isolation.specs.Machine.{Tagged}
 use Rattle.isolation.specs.Pieces.{Given, Faulty}
@@ -8,7 +7,7 @@ use Rattle.session_model.specs.Asked.{Asked}
 use Rattle.wire_format.specs.declared.line.TheConstants.{LINE_BYTES}
 use Rattle.wire_format.specs.declared.fault.LineFault.{LineFault}
 use Rattle.wire_format.specs.Command.{command_of, json_in, is_blank, unreadable}
-use Rattle.wire_format.specs.Input.{NoEnd, in_front, whole_lines, bare, lines_of, piece_of, pieces_of}
+use Rattle.wire_format.specs.Input.{NoEnd, in_front, whole_lines, bare, lines_of, piece_of}
 
 no_end_first : (byte : ℕ) (line : List ℕ) → NoEnd (byte ∷ line) → (byte == 10) ≡ false
 no_end_first byte line whole = false_from_ne_true _ (λ e. whole 0 (omega arith) (eqb-true byte 10 e))
@@ -64,25 +63,7 @@ pub piece_of-faulty : (line : List ℕ) (fault : LineFault) → is_blank line �
 unfolding piece_of
 piece_of-faulty line fault more e = rw (more, e)
 
-pub piece_of-empty : piece_of [] ≡ None
-unfolding piece_of is_blank
-piece_of-empty = refl
-
 -- a line that is too long, whatever it holds
 pub piece_of-too_long : (line : List ℕ) → LINE_BYTES < length line → piece_of line ≡ Some (Faulty unreadable)
 unfolding piece_of is_blank command_of json_in
 piece_of-too_long line long = rw (lt-leb (length line) LINE_BYTES long)
-
--- the pieces of nothing, of a line and what stands behind it, and of a last line without a line feed, which may be empty
-pub pieces_of-empty : pieces_of [] ≡ []
-unfolding pieces_of
-pieces_of-empty = rw lines_of-empty
-
-pub pieces_of-line : (line rest : List ℕ) → NoEnd line → pieces_of (line ++ 10 ∷ rest) ≡ cons_option (piece_of line) (pieces_of rest)
-unfolding pieces_of
-pieces_of-line line rest whole = rw (lines_of-line line rest whole)
-
-pub pieces_of-last : (line : List ℕ) → NoEnd line → pieces_of line ≡ cons_option (piece_of line) []
-unfolding pieces_of
-pieces_of-last [] whole = rw (lines_of-empty, piece_of-empty)
-pieces_of-last (byte ∷ line) whole = rw (lines_of-last byte line whole)

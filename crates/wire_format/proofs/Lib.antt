@@ -7,5 +7,3 @@ pub mod Outputs
 pub mod LeftOutLines
 pub mod Sessions
 pub mod ForCallers
-pub mod Moved
-pub mod Failures

@@ -20,6 +20,10 @@ use Rattle.wire_format.proofs.Plain.{code_is_plain, session_is_plain, text_of_pl
 pub key_behind : (a b z v rest key : List ℕ) → b ≡ a ++ (key ++ v) → z ≡ b ++ rest → z ≡ a ++ (key ++ (v ++ rest))
 key_behind a b z v rest key e f = f ∙ (ap (λ l. l ++ rest) e ∙ (append_assoc a (key ++ v) rest ∙ ap (λ l. a ++ l) (append_assoc key v rest)))
 
+-- three keys with their values, and then the rest
+pub three_puts : (text a b c rest : List ℕ) → (((text ++ a) ++ b) ++ c) ++ rest ≡ text ++ (a ++ (b ++ (c ++ rest)))
+three_puts text a b c rest = simp append_assoc
+
 -- three texts put behind another
 pub three_behind : (a b c d x y z : List ℕ) → b ≡ a ++ x → c ≡ b ++ y → d ≡ c ++ z → d ≡ a ++ (x ++ (y ++ z))
 three_behind a b c d x y z e f g = rw (g, f, e) (simp append_assoc)

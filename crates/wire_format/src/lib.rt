@@ -26,7 +26,7 @@ pub use itoa::Buffer as Digits;
 pub use json::Scratch;
 pub use line::{LINE_BYTES, is_blank};
 pub use parts::{Parts, error_parts, line_parts};
-pub use reading::read_line;
+pub use reading::{read_line, text_in};
 pub use traits::{Failed, Sink, Source};
 pub use whole::write_all;
 pub use writing::{line_text, write_line};

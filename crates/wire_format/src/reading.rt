@@ -1,5 +1,5 @@
 //! Reading a line.
-ghost use Rattle.std.specs.Prelude.{◌≡◌, Err, IfErr, IfOk, option_map, codes};
+ghost use Rattle.std.specs.Prelude.{◌≡◌, Err, IfOk, MatchOption, option_map, codes};
 ghost use Rattle.serde_json.specs.Data.{object};
 ghost use Rattle.serde_json.specs.Read.{read};
 ghost use Rattle.std.specs.Option.{ok_or};
@@ -24,7 +24,9 @@ use wire_commands::command_in;
 pub fn read_line(alloc: Global, scratch: &mut Scratch, line: &[u8]) -> Result<Tagged, ReadError>
     ensures { Gives tag result (command_of line.now) }
 {
-    let text = text_in(line)?;
+    let Some(text) = text_in(line) else {
+        return Err(unreadable());
+    };
     let stop = match plain_members(alloc, text, scratch) {
         Ok(mut members) => return tagged_in(alloc, &mut members),
         Err(stop) => stop,
@@ -36,18 +38,18 @@ pub fn read_line(alloc: Global, scratch: &mut Scratch, line: &[u8]) -> Result<Ta
     }
 }
 
-/// The text that the line is.
+/// The text of the line, unless it is too long or not UTF-8.
 #[tactic(auto, unfolding(crate::specs::Command::json_in))]
-fn text_in(line: &[u8]) -> Result<&str, ReadError>
-    ensures ok { IfOk result (λ text. json_in line.now ≡ ok_or (read text.now) unreadable) }
-    ensures err { IfErr result (λ error. (error ≡ ReadError.Fault unreadable) × (json_in line.now ≡ Err unreadable)) }
+pub fn text_in(line: &[u8]) -> Option<&str>
+    ensures { MatchOption result (json_in line.now ≡ Err unreadable)
+        (λ text. json_in line.now ≡ ok_or (read text.now) unreadable) }
 {
     if line.len() > LINE_BYTES {
-        return Err(unreadable());
+        return None;
     }
     match str::from_utf8(line) {
-        Ok(text) => Ok(text),
-        Err(_) => Err(unreadable()),
+        Ok(text) => Some(text),
+        Err(_) => None,
     }
 }
 

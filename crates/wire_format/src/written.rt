@@ -1,5 +1,5 @@
 //! Values that are written as one piece of JSON, and the ways to write members and arrays of them.
-ghost use Rattle.std.specs.Prelude.{◌≡◌, ◌++◌, ℕ, List, OnOk, false, map, string_bytes};
+ghost use Rattle.std.specs.Prelude.{◌≡◌, ◌++◌, OnOk, false, map, string_bytes};
 ghost use Rattle.serde_json.specs.Data.{boolean, string};
 ghost use Rattle.serde_json.specs.View.{items_of};
 ghost use Rattle.serde_json.specs.Written.{compact_text, items_text};
@@ -33,10 +33,8 @@ pub(crate) fn put<T: Written>(
     key: &str,
     value: &T,
 ) -> Result<(), AllocError>
-    ensures text { OnOk result (string_bytes buffer.new
+    ensures { OnOk result (string_bytes buffer.new
         ≡ string_bytes buffer.old ++ (key.now ++ compact_text (T.json value.now))) }
-    ensures before { OnOk result ((rest : List ℕ) → string_bytes buffer.new ++ rest
-        ≡ string_bytes buffer.old ++ (key.now ++ (compact_text (T.json value.now) ++ rest))) }
 {
     buffer.push_str(key)?;
     value.push(alloc, buffer)

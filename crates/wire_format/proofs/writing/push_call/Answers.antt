@@ -20,5 +20,5 @@ returns c =
     ∙ ap (λ text. string_bytes c.push_args.new.buffer ++ (codes ",\"call\":" ++ (compact_text (string text) ++ codes ",\"object\":")))
     c.as_str.ensures in
     in_turn _ _ _ _ _ _ (codes "{\"args\":") _ (codes ",\"call\":") (compact_text (string c.args.call.now.method)) (codes ",\"object\":") _
-    (codes ",\"sender\":") _ _ args method c.in_ok-push.ensures c.in_ok-put.ensures.text c.in_ok-push_session.ensures
+    (codes ",\"sender\":") _ _ args method c.in_ok-push.ensures c.in_ok-put.ensures c.in_ok-push_session.ensures
     ∙ ap (λ line. string_bytes c.args.buffer.now ++ line) (sym (call_line c.args.call.now c.args.session.now))

@@ -4,5 +4,5 @@ use Rattle.wire_format.proofs.writing.push_error.Goals as goal
 
 pub returns : goal.returns
 returns c =
-    key_behind _ _ _ _ _ (codes "{\"error\":") c.in_ok-put.ensures.text c.in_ok-push_session.ensures
+    key_behind _ _ _ _ _ (codes "{\"error\":") c.in_ok-put.ensures c.in_ok-push_session.ensures
     ∙ ap (λ line. string_bytes c.args.buffer.now ++ line) (sym (error_line c.args.code c.args.session.now))

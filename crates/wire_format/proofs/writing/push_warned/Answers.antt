@@ -6,5 +6,5 @@ in_turn : (a b c d e k s w x y : List ℕ) → b ≡ a ++ k → c ≡ b ++ s →
 in_turn a b c d e k s w x y f g h i = rw (i, h, g, f) (simp append_assoc)
 
 pub returns : goal.returns
-returns g c = in_turn _ _ _ _ _ _ _ (codes ",\"warning\":") _ (codes "}\n") c.in_ok-push_str.ensures.bytes c.in_ok-push_text.ensures c.in_ok-put.ensures.text
+returns g c = in_turn _ _ _ _ _ _ _ (codes ",\"warning\":") _ (codes "}\n") c.in_ok-push_str.ensures.bytes c.in_ok-push_text.ensures c.in_ok-put.ensures
     c.in_ok-push_str-2.ensures.bytes

@@ -12,6 +12,6 @@ returns-in_ok-push_warned-in-None c =
 
 pub returns-in_ok-push_warned-in-Some : goal.returns-in_ok-push_warned-in-Some
 returns-in_ok-push_warned-in-Some c =
-    key_behind _ _ _ _ _ (codes "{\"object\":") c.in_ok-put-in-Some.ensures.text c.in_ok-push_warned-in-Some.ensures
+    key_behind _ _ _ _ _ (codes "{\"object\":") c.in_ok-put-in-Some.ensures c.in_ok-push_warned-in-Some.ensures
     ∙ ap (λ line. string_bytes c.args.buffer.now ++ line) (sym (object_warning_line c.args.code _ c.args.session.now)
     ∙ ap (λ object. text_of_line c.args.session.now (Warning c.args.code object)) (sym c.in-Some.is))

@@ -1,6 +1,7 @@
 use Rattle.serde_json.proofs.OnLiterals.{serde_json_on_literals}
+use Rattle.wire_format.proofs.LineTexts.{three_puts}
 use Rattle.wire_format.proofs.descriptions.DeclaredMethodWritten.push.Goals as goal
 
 pub returns : goal.returns
 unfolding serde_json_on_literals
-returns c = rw (c.in_ok-push_str.ensures.bytes, c.in_ok-put-3.ensures.before, c.in_ok-put-2.ensures.before, c.in_ok-put.ensures.before)
+returns c = rw (c.in_ok-push_str.ensures.bytes, c.in_ok-put-3.ensures, c.in_ok-put-2.ensures, c.in_ok-put.ensures, three_puts)

@@ -1,0 +1,9 @@
+use Rattle.serde_json.proofs.OnLiterals.{serde_json_on_literals}
+use Rattle.wire_format.proofs.LineTexts.{three_puts}
+use Rattle.wire_format.proofs.descriptions.StatusWritten.push.Goals as goal
+
+pub returns : goal.returns
+unfolding serde_json_on_literals
+returns c =
+    rw (c.in_ok-push_str.ensures.bytes, c.in_ok-put-9.ensures, c.in_ok-put-8.ensures, c.in_ok-put-7.ensures, c.in_ok-put-6.ensures)
+    (rw (c.in_ok-put-5.ensures, c.in_ok-put-4.ensures, c.in_ok-put-3.ensures, c.in_ok-put-2.ensures, c.in_ok-put.ensures, three_puts, three_puts, three_puts))
