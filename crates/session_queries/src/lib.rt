@@ -6,5 +6,6 @@ mod describing;
 mod descriptions;
 mod listing;
 mod queries;
+mod session_view;
 
 pub use queries::answer;

@@ -1,25 +1,22 @@
 //! The description of an object.
 ghost use Rattle.std.specs.Prelude.{◌≡◌, IfOk};
-ghost use Rattle.session_effects.specs.Setup.{settings_of};
 ghost use Rattle.session_model.specs.ObjectDescriptions.{object_description};
-ghost use Rattle.session_tables.specs.Tables.{IsPlaced, state_at};
+ghost use Rattle.session_queries.specs.Views.{its_settings, its_state};
 
 use crate::descriptions::classes::named_class;
+use crate::session_view::SessionView;
 use object_tree::Row;
-use session_effects::SessionContext;
 use session_model::ObjectDescription;
-use session_tables::Tables;
 use std::alloc::AllocError;
 
 /// Describes the object of this row.
 pub(crate) fn object_description(
-    caller: &SessionContext,
-    tables: &Tables,
+    session: SessionView,
     row: Row,
 ) -> Result<ObjectDescription, AllocError>
-    requires { IsPlaced tables.now caller.now.place }
-    ensures { IfOk result (λ described. described ≡ object_description (settings_of caller.now.setup.now) (state_at tables.now caller.now.place) row) }
+    ensures { IfOk result (λ described. described ≡ object_description (its_settings session.entry) (its_state session.entry) row) }
 {
+    let SessionView { caller, tables } = session;
     let place = caller.place;
     let ends = tables.connections.end_counts(place, row.number);
     Ok(ObjectDescription {

@@ -12,6 +12,6 @@ returns c =
     record {
       returns =
           behind_second _ _ c.in_ok-index.ensures.refusal
-          ∙ ap (λ index. Ok (a.Class (class_description c.args.caller.now.setup.now.classes index))) (sym c.in_ok-index.ensures.index)
+          ∙ ap (λ index. Ok (a.Class (class_description c.args.session.caller.now.setup.now.classes index))) (sym c.in_ok-index.ensures.index)
           ∙ ap (λ described. Ok (a.Class described)) (sym c.in_ok-described.ensures ∙ sym c.in_ok-new.ensures);
     }

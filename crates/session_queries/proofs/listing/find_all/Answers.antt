@@ -2,7 +2,7 @@ use Rattle.std.proofs.Common.{Ok, refl, sym, ap, filter, ◌∙◌, ◌&&◌}
 use Rattle.session_model.specs.declared.line.Answer.TheVariants as a
 use Rattle.object_tree.specs.Finding.{below_by_depth}
 use Rattle.session_model.specs.Trees.{has_title, is_of_class}
-use Rattle.session_tables.specs.Tables.{state_at}
+use Rattle.session_queries.specs.Views.{its_state}
 use Rattle.session_queries.proofs.ReadingLemmas.{behind_both, behind_first, behind_second, refused_first, refused_reading}
 use Rattle.session_queries.proofs.listing.find_all.Goals as goal
 
@@ -15,12 +15,12 @@ returns-in_err-base c = refused_reading _ _ _ c.in_err-base.field-0.0 _ c.from_r
 
 pub returns : goal.returns
 returns c =
-    let state = state_at c.args.tables.now c.args.caller.now.place in
+    let state = its_state c.args.session in
     record {
       returns =
           behind_both _ _ _ c.in_ok-check_object.ensures c.in_ok-base.ensures.refusal
           ∙ ap (λ base. Ok (a.Numbers (filter (λ number. has_title state c.args.title.now number
-          && is_of_class c.args.caller.now.setup.now.classes state base number) (below_by_depth state.forest.rows c.args.object))))
+          && is_of_class c.args.session.caller.now.setup.now.classes state base number) (below_by_depth state.forest.rows c.args.object))))
           (sym c.in_ok-base.ensures.index)
           ∙ ap (λ found. Ok (a.Numbers found)) (sym c.in_ok-found.ensures);
     }

@@ -13,13 +13,13 @@ returns-in_err-index c = refused_reading _ _ _ c.in_err-index.field-0.0 _ c.from
 
 pub unreachable-requires : goal.unreachable-requires
 unreachable-requires c =
-    let classes = c.args.caller.now.setup.now.classes in
+    let classes = c.args.session.caller.now.setup.now.classes in
     let there = class_index_there classes c.args.class.now c.in_ok-index.ensures.refusal in
     some_none _ (sym (sym (ap option_copied c.in_default.is) ∙ c.class_row.ensures.value ∙ ap (slice_get classes) c.in_ok-index.ensures.index ∙ there.1))
 
 pub returns : goal.returns
 returns c =
-    let classes = c.args.caller.now.setup.now.classes in
+    let classes = c.args.session.caller.now.setup.now.classes in
     record {
       returns =
           behind_second _ _ c.in_ok-index.ensures.refusal

@@ -1,15 +1,14 @@
 use Rattle.std.proofs.Common.{◌≡◌, ◌∙◌, ◌+◌, ◌++◌, ◌∷◌, [], suc, drop, sym, ap, ap₂, append_assoc, arith}
 use Rattle.class_table.specs.Lookup.{properties}
-use Rattle.session_effects.specs.Setup.{settings_of}
 use Rattle.session_model.specs.PropertyDescriptions.{declared_description, descriptions_from}
-use Rattle.session_tables.specs.Tables.{state_at}
+use Rattle.session_queries.specs.Views.{its_settings, its_state}
 use Rattle.session_queries.proofs.QueriesLemmas.{drop_at}
 use Rattle.session_queries.proofs.descriptions.properties.add_declared.Goals as goal
 
 pub properties-preserved : goal.properties-preserved
 properties-preserved c =
-    let settings = settings_of c.args.caller.now.setup.now in
-    let state = state_at c.args.tables.now c.args.caller.now.place in
+    let settings = its_settings c.args.session in
+    let state = its_state c.args.session in
     let row = c.args.row in
     let number = c.properties.number in
     let all = properties settings.classes row.class in
