@@ -1,12 +1,9 @@
 -- What the commands for bindings and groups come to.
 use Rattle.std.proofs.Common.{◌≡◌, ℕ, Bool, true, false, cond, List, [], ◌∷◌, Option, Some, None, Result, Ok, Err, IsErrAnd, refl, sym, ap, subst, ◌∙◌}
 use Rattle.std.specs.Option.{option_map_or, option_or}
-use Rattle.plain_types.specs.declared.code.Code.{Code}
+use Rattle.session_engine.proofs.Common.{Code, Fault, Refused, Answers, Data, reads_refusal, begun, in_state, Next, puts, Found, ◌>>=◌, Settings, State, Tables}
+use Rattle.session_engine.proofs.Common.{state_at, SessionContext, settings_of, told_items}
 use Rattle.plain_types.specs.declared.code.Code.TheVariants.{NoSuchObject}
-use Rattle.plain_types.specs.declared.fault.Fault.{Fault}
-use Rattle.plain_types.specs.declared.fault.Fault.TheVariants.{Refused}
-use Rattle.plain_types.specs.Answers.{Answers}
-use Rattle.serde_json.specs.Data.{Data}
 use Rattle.term_core.specs.Forms.{binding_term_of}
 use Rattle.term_core.specs.Term.{Term}
 use Rattle.term_evaluation.specs.declared.reading.Read.{Read}
@@ -16,20 +13,10 @@ use Rattle.property_store.specs.declared.property.Property.{Property}
 use Rattle.binding_values.specs.Graph as graph
 use Rattle.binding_values.specs.Graph.{is_open}
 use Rattle.binding_values.specs.Stored.{meant}
-use Rattle.session_model.specs.Binding.{Bound, asked_binding, bindable_property, reads_refusal, refusal_of}
+use Rattle.session_model.specs.Binding.{Bound, asked_binding, bindable_property, refusal_of}
 use Rattle.session_model.specs.Operations.{behind}
-use Rattle.session_model.specs.Execution.{begun, in_state}
-use Rattle.session_model.specs.Items.{Next, puts}
-use Rattle.session_model.specs.Methods.{Found, ◌>>=◌}
-use Rattle.session_model.specs.Settings.{Settings}
 use Rattle.session_model.specs.Showing.{changes, comes_to, showing}
-use Rattle.session_model.specs.State.{State}
 use Rattle.session_model.proofs.ForCallers.{tells}
-use Rattle.session_tables.specs.declared.tables.Tables.{Tables}
-use Rattle.session_tables.specs.Tables.{state_at}
-use Rattle.session_effects.specs.declared.session_context.SessionContext.{SessionContext}
-use Rattle.session_effects.specs.Setup.{settings_of}
-use Rattle.session_effects.specs.Writing.{told_items}
 use Rattle.session_engine.proofs.CommandsLemmas.{or_first, or_second}
 use Rattle.session_engine.proofs.ToldLemmas.{comes}
 

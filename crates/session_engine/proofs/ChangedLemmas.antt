@@ -8,17 +8,12 @@ use Rattle.std.proofs.lemmas.Bool.{cases_Bool, both_ways}
 use Rattle.std.proofs.lemmas.List.Elements.{All-cons, All-nil}
 use Rattle.std.proofs.lemmas.Bool.Decides.{nat_tests}
 use Rattle.std.proofs.lemmas.Slice.Eq.{bytes_eq-Decides}
-use Rattle.property_store.specs.Store.{fields_in}
-use Rattle.session_model.specs.declared.post.Post.{Post}
-use Rattle.session_model.specs.Fitting.{IsRightPost}
-use Rattle.session_tables.specs.declared.tables.Tables.{Tables}
-use Rattle.session_tables.specs.Reaching.{AreShaped, FailsBy, after_posts, takes_some}
-use Rattle.session_tables.specs.Session.{Session, fresh, failed_session}
-use Rattle.session_tables.specs.Tables.{ChangesOnly, session_at, with_session}
+use Rattle.session_engine.proofs.Common.{fields_in, Post, IsRightPost, Tables, after_posts, Session, fresh, failed_session, ChangesOnly, session_at}
+use Rattle.session_engine.proofs.Common.{EngineState, IsKept, IsWhole, place, seen_by_name, sessions, HasArrived, Fails}
+use Rattle.session_tables.specs.Reaching.{AreShaped, FailsBy, takes_some}
+use Rattle.session_tables.specs.Tables.{with_session}
 use Rattle.session_tables.proofs.ForCallers.{changes_session, session_unchanged, shaped_changed, session_there}
-use Rattle.session_engine.specs.Core.{EngineState, IsKept, IsWhole, place, seen_by_name, sessions}
-use Rattle.session_engine.specs.Items.{BeginsAnew, HasArrived}
-use Rattle.session_engine.specs.Sessions.{Fails}
+use Rattle.session_engine.specs.Items.{BeginsAnew}
 use Rattle.session_engine.proofs.EngineLemmas.{one_name, placed, sessions-place, sound_by_name}
 use Rattle.session_engine.proofs.SessionLemmas.{after_posts_state, kept_fresh, kept_gone, kept_after_posts}
 

@@ -2,63 +2,46 @@
 use Rattle.std.proofs.Common.{◌≡◌, ◌∷◌, ℕ, Bool, true, false, true≢false, List, Option, Some, None, Result, Ok, Err, IfOk, not, IsErrAnd, OnErr, OnOk}
 use Rattle.std.proofs.Common.{slice_get, refl, sym, ap, subst, ◌∙◌, ◌&&◌, inl, inr, ◌||◌, eqb, IsFalse, IsSome, OnSome, []}
 use Rattle.std.specs.Option.{option_or}
-use Rattle.class_table.specs.declared.class.Class.{Class}
 use Rattle.isolation.specs.Machine.{Effect}
 use Rattle.std.specs.Prelude.{if◌then◌else◌}
-use Rattle.plain_types.specs.declared.code.Code.{Code}
-use Rattle.plain_types.specs.declared.code.Code.TheVariants.{SessionFailed}
-use Rattle.plain_types.specs.declared.fault.Fault.{Fault}
-use Rattle.plain_types.specs.declared.fault.Fault.TheVariants.{Refused, Memory}
-use Rattle.plain_types.specs.Answers.{Answers, OnMemory, RefusedBy}
+use Rattle.session_engine.proofs.Common.{Class, Code, SessionFailed, Fault, Refused, Memory, Answers, Line, Post, Asked, asked, found_refusal, ended, replies}
+use Rattle.session_engine.proofs.Common.{unless, IsFittingAsked, Found, refusal, Settings, State, performs, Tables, Session, fresh, failed_session, ChangesOnly}
+use Rattle.session_engine.proofs.Common.{IsPlaced, session_at, state_at, ReceivesPosts, Reaches, after_posts, changes_same, state_with, SessionContext}
+use Rattle.session_engine.proofs.Common.{CommandOutput, Performs, its_effect, its_refusal, reply_after, IsPrefix, doing_at, fresh_output, front_same}
+use Rattle.session_engine.proofs.Common.{EngineState, IsWhole, engine_state, place, seen_by_name, sessions, states, IsStep, is_reset, is_shut, session_after}
+use Rattle.session_engine.proofs.Common.{session_does, session_refusal, settings_of}
+use Rattle.plain_types.specs.Answers.{OnMemory, RefusedBy}
 use Rattle.session_model.specs.declared.line.Answer.{Answer}
 use Rattle.session_model.specs.declared.line.Answer.TheVariants.{Truth}
-use Rattle.session_model.specs.declared.line.Line.{Line}
 use Rattle.session_model.specs.declared.line.Line.TheVariants.{Reply}
-use Rattle.session_model.specs.declared.post.Post.{Post}
 use Rattle.session_model.specs.declared.command.Command.{Command}
 use Rattle.session_model.specs.declared.command.Command.TheVariants as c
 use Rattle.session_model.specs.declared.query.Query.{Query}
-use Rattle.session_model.specs.Asked.{Ask, Asked, Reset, asked}
+use Rattle.session_model.specs.Asked.{Ask, Reset}
 use Rattle.session_model.specs.declared.operation.Operation.{Operation}
-use Rattle.session_model.specs.Operations.{operation_answer, operation_refusal, found_refusal, with_operation}
+use Rattle.session_model.specs.Operations.{operation_answer, operation_refusal, with_operation}
 use Rattle.session_model.specs.Signals.{does_found}
 use Rattle.session_model.specs.Execution as doing
-use Rattle.session_model.specs.Effects.{ended, replies, unless}
-use Rattle.session_model.specs.Fitting.{IsFittingAsked}
-use Rattle.session_model.specs.Methods.{Found}
 use Rattle.session_model.specs.Queries.{query_answer}
-use Rattle.session_model.specs.Refusing.{refusal}
-use Rattle.session_model.specs.Settings.{Settings}
-use Rattle.session_model.specs.State.{State, empty}
+use Rattle.session_model.specs.State.{empty}
 use Rattle.session_model.proofs.ForCallers.{performs_reset, query_passed, query_refused, query_replies, refusal_reset}
 use Rattle.session_model.specs.Thread as thread
-use Rattle.session_model.specs.Thread.{performs}
-use Rattle.session_tables.specs.declared.tables.Tables.{Tables}
 use Rattle.session_tables.specs.Refused.{OnRefused}
-use Rattle.session_tables.specs.Session.{Session, fresh, failed_session}
-use Rattle.session_tables.specs.Tables.{ChangesOnly, IsPlaced, failed_at, session_at, state_at, with_session, with_state}
-use Rattle.session_tables.specs.Reaching.{ReceivesPosts, Reaches, after_posts}
-use Rattle.session_tables.proofs.ForCallers.{changes_same, changes_twice, changes_with, session_there, state_with, changes_session, after_posts-none}
+use Rattle.session_tables.specs.Tables.{failed_at, with_session, with_state}
+use Rattle.session_tables.proofs.ForCallers.{changes_twice, changes_with, session_there, changes_session, after_posts-none}
 use Rattle.session_tables.proofs.ForCallers.{placed_shaped, session_unchanged, shaped_changed, shaped_twice}
-use Rattle.session_effects.specs.declared.session_context.SessionContext.{SessionContext}
-use Rattle.dispatch.specs.declared.command_output.CommandOutput.{CommandOutput}
-use Rattle.session_engine.specs.Commands.{Obeys, OthersHear, Performs, its_effect, its_refusal, reply_after, reply_lines}
+use Rattle.session_engine.specs.Commands.{Obeys, OthersHear, reply_lines}
 use Rattle.session_queries.specs.Reads.{Reads}
-use Rattle.dispatch.specs.Prefix.{IsPrefix}
-use Rattle.dispatch.specs.CommandOutput.{doing_at, fresh_output}
-use Rattle.dispatch.proofs.ForCallers.{front_none, front_same}
-use Rattle.session_engine.specs.Core.{EngineState, IsWhole, engine_state, place, seen_by_name, sessions, states}
+use Rattle.dispatch.proofs.ForCallers.{front_none}
 use Rattle.session_engine.specs.Returning.{IsAnswered, Returns, answer_lines, wants_memory}
-use Rattle.session_engine.specs.Sessions.{IsStep, is_reset, is_shut, session_after, session_does, session_refusal}
-use Rattle.session_effects.specs.Setup.{settings_of}
 use Rattle.session_engine.proofs.EngineLemmas.{named_at, sessions-place}
 use Rattle.session_engine.proofs.SessionLemmas.{does_fine, not_shut, refused_after}
 use Rattle.session_engine.proofs.StepLemmas.{Ended, GaveUp, Loud, Marks, Own, Quiet, Told, some_none_of, step_of, whole_after}
 
 -- what changes one session alone is not heard by the others
-pub others_changed : (classes : List Class) (from : List ℕ) (old new : Tables) (place : ℕ) → ChangesOnly place old new
+pub others_changed : {classes : List Class} {from : List ℕ} {old new : Tables} {place : ℕ} → ChangesOnly place old new
     → OthersHear classes from place [] old new false
-others_changed classes from old new place changes =
+others_changed {classes} {from} {old} {new} {place} changes =
     let unchanged : (at : ℕ) → IsFalse (eqb at place) → IsPlaced old at → session_at new at ≡ after_posts classes from [] (session_at old at) =
     λ at apart placed. session_unchanged old new place at changes apart ∙ sym (after_posts-none classes from (session_at old at)) in
     record {
@@ -69,9 +52,9 @@ others_changed classes from old new place changes =
     }
 
 -- what they have heard of nested calls
-others_reached : (classes : List Class) (from : List ℕ) (old new : Tables) (place : ℕ) (posts : List Post) (failing : Bool)
+others_reached : {classes : List Class} {from : List ℕ} {old new : Tables} {place : ℕ} {posts : List Post} {failing : Bool}
     → Reaches classes from place posts old new false failing → OthersHear classes from place posts old new failing
-others_reached classes from old new place posts failing reaches =
+others_reached reaches =
     record { shape = reaches.shape; hear = reaches.others; all = λ none. (reaches.all none).1; one = λ some. reaches.one refl some }
 
 -- also where the session fails then
@@ -93,12 +76,26 @@ or_first a b code e = sym (ap (λ a. option_or a b) e)
 pub or_second : (a b : Option Code) → None ≡ a → option_or a b ≡ b
 or_second a b e = sym (ap (λ a. option_or a b) e)
 
-module _ (caller : SessionContext) (asked : Asked) (old new : Tables) where
+-- a command that is not refused does what it performs
+passed_does : (caller : SessionContext) (asked : Asked) (old : Tables) → its_refusal caller asked old ≡ None
+    → thread.does (settings_of caller.setup.now) caller.name.now (state_at old caller.place) asked ≡ its_effect caller asked old
+unfolding thread.does
+passed_does caller asked old passed = ap (λ refusal. unless refusal (state_at old caller.place) (its_effect caller asked old)) passed
+
+-- the session is left so, and its mark stays
+left_as : (caller : SessionContext) (asked : Asked) (old new : Tables) (state : State) → (its_effect caller asked old).state ≡ state
+    → state_at new caller.place ≡ state → failed_at new caller.place ≡ failed_at old caller.place
+    → session_at new caller.place ≡ record { state = (its_effect caller asked old).state; failed = failed_at old caller.place }
+left_as caller asked old new state effect is mark =
+    let same : state_at new caller.place ≡ (its_effect caller asked old).state = is ∙ sym effect in
+    λ i. record { state = same i; failed = mark i }
+
+module _ {caller : SessionContext} {asked : Asked} {old new : Tables} where
   -- a command that is refused has changed nothing
-  pub stopped : {T : Type 0} (lines : T → List Line) (code : Code) (result : Result T Fault) → IsErrAnd result (λ fault. fault ≡ Refused code)
+  pub stopped : {T : Type 0} {lines : T → List Line} (code : Code) (result : Result T Fault) → IsErrAnd result (λ fault. fault ≡ Refused code)
       → its_refusal caller asked old ≡ Some code → new ≡ old → Performs caller asked old new false lines result
-  stopped lines code (Ok value) h refused same = absurd h
-  stopped lines code (Err fault) h refused same =
+  stopped code (Ok value) h refused same = absurd h
+  stopped {lines = lines} code (Err fault) h refused same =
       subst (λ fault. Performs caller asked old new false lines (Err fault)) (sym h)
       (record {
         returns = refused;
@@ -107,14 +104,14 @@ module _ (caller : SessionContext) (asked : Asked) (old new : Tables) where
         posted = tt;
         done = tt;
         refused = same;
-        others = others_changed caller.setup.now.classes caller.name.now old new caller.place (changes_same old new caller.place same);
+        others = others_changed (changes_same old new caller.place same);
       })
 
   -- where memory was wanted only its own session may have changed
-  pub starved : {T : Type 0} (lines : T → List Line) (result : Result T Fault) → IsErrAnd result (λ fault. fault ≡ Memory) → ChangesOnly caller.place old new
+  pub starved : {T : Type 0} {lines : T → List Line} (result : Result T Fault) → IsErrAnd result (λ fault. fault ≡ Memory) → ChangesOnly caller.place old new
       → Performs caller asked old new false lines result
-  starved lines (Ok value) h only = absurd h
-  starved lines (Err fault) h only =
+  starved (Ok value) h only = absurd h
+  starved {lines = lines} (Err fault) h only =
       subst (λ fault. Performs caller asked old new false lines (Err fault)) (sym h)
       (record {
         returns = tt;
@@ -123,79 +120,66 @@ module _ (caller : SessionContext) (asked : Asked) (old new : Tables) where
         posted = tt;
         done = tt;
         refused = tt;
-        others = others_changed caller.setup.now.classes caller.name.now old new caller.place only;
+        others = others_changed only;
       })
 
-  -- a command that is not refused does what it performs
-  passed_does : its_refusal caller asked old ≡ None → thread.does (settings_of caller.setup.now) caller.name.now (state_at old caller.place) asked
-      ≡ its_effect caller asked old
-  unfolding thread.does
-  passed_does passed = ap (λ refusal. unless refusal (state_at old caller.place) (its_effect caller asked old)) passed
-
   -- where memory was wanted in what it sets off, other sessions have heard the first of its posts
-  pub starved_last : {T : Type 0} (output : CommandOutput) (posts : List Post) (done : doing.Execution) (last : Line) (lines : T → List Line)
+  pub starved_last : {T : Type 0} (output : CommandOutput) (posts : List Post) (done : doing.Execution) (last : Line) {lines : T → List Line}
       (result : Result T Fault) → IsErrAnd result (λ fault. fault ≡ Memory) → its_refusal caller asked old ≡ None
       → its_effect caller asked old ≡ ended (doing.line_told done last) → IsPrefix posts done.posts
       → Reaches caller.setup.now.classes caller.name.now caller.place posts old new false output.failing
       → Performs caller asked old new output.failing lines result
   unfolding doing.line_told
-  starved_last output posts done last lines (Ok value) h passed effect front reaches = absurd h
-  starved_last output posts done last lines (Err fault) h passed effect front reaches =
+  starved_last output posts done last (Ok value) h passed effect front reaches = absurd h
+  starved_last output posts done last {lines} (Err fault) h passed effect front reaches =
       subst (λ fault. Performs caller asked old new output.failing lines (Err fault)) (sym h)
       (record {
         returns = tt;
         posts = posts;
-        front = subst (λ (effect : Effect State Line Post). IsPrefix posts effect.posts) (sym (passed_does passed ∙ effect)) front;
+        front = subst (λ (effect : Effect State Line Post). IsPrefix posts effect.posts) (sym (passed_does caller asked old passed ∙ effect)) front;
         posted = tt;
         done = tt;
         refused = tt;
-        others = others_reached caller.setup.now.classes caller.name.now old new caller.place posts output.failing reaches;
+        others = others_reached reaches;
       })
 
   -- a fault of a call that is refused by the rest of its refusal
-  pub made_fault : {T : Type 0} (lines : T → List Line) (rest : Option Code) (fault : Fault) (result : Result T Fault)
+  pub made_fault : {T : Type 0} {lines : T → List Line} {rest : Option Code} (fault : Fault) {result : Result T Fault}
       → IsErrAnd result (λ other. other ≡ fault) → its_refusal caller asked old ≡ rest
       → RefusedBy {T = ℕ} rest (Err fault) → OnRefused {T = ℕ} (Err fault) (new ≡ old) → ChangesOnly caller.place old new
       → Performs caller asked old new false lines result
-  made_fault lines rest (Refused code) result h is refused same only = stopped lines code result h (is ∙ refused) same
-  made_fault lines rest Memory result h is refused same only = starved lines result h only
-
-  -- the session is left so, and its mark stays
-  left_as : (state : State) → (its_effect caller asked old).state ≡ state → state_at new caller.place ≡ state
-      → failed_at new caller.place ≡ failed_at old caller.place
-      → session_at new caller.place ≡ record { state = (its_effect caller asked old).state; failed = failed_at old caller.place }
-  left_as state effect is mark =
-      ap (λ state. record { state = state; failed = failed_at new caller.place }) (is ∙ sym effect)
-      ∙ ap (λ failed. record { state = (its_effect caller asked old).state; failed = failed }) mark
+  made_fault (Refused code) {result} h is refused same only = stopped code result h (is ∙ refused) same
+  made_fault Memory {result} h is refused same only = starved result h only
 
   -- and else it replies
-  pub replied : (state : State) (answer : Answer) → IsPlaced old caller.place → its_refusal caller asked old ≡ None
+  pub replied : {state : State} {answer : Answer} → IsPlaced old caller.place → its_refusal caller asked old ≡ None
       → its_effect caller asked old ≡ replies state answer → new ≡ with_state old caller.place state
       → Performs caller asked old new false reply_lines (Ok answer)
-  replied state answer placed passed effect e = record {
+  replied {state} placed passed effect e = record {
     returns = (passed, ap (λ effect. effect.lines) effect);
     posts = [];
     front = tt;
     posted = sym (ap (λ effect. effect.posts) effect);
-    done = left_as state (ap (λ effect. effect.state) effect) (state_with old new caller.place state placed e) (ap (λ tables. failed_at tables caller.place) e);
+    done = left_as caller asked old new state (ap (λ effect. effect.state) effect) (state_with old new caller.place state placed e)
+        (ap (λ tables. failed_at tables caller.place) e);
     refused = tt;
-    others = others_changed caller.setup.now.classes caller.name.now old new caller.place (changes_with old new caller.place state placed e);
+    others = others_changed (changes_with old new caller.place state placed e);
   }
 
   -- so it does behind what was told by what it set off
-  pub replied_last : (output : CommandOutput) (answer : Answer) (posts : List Post) → its_refusal caller asked old ≡ None
+  pub replied_last : (output : CommandOutput) {answer : Answer} {posts : List Post} → its_refusal caller asked old ≡ None
       → its_effect caller asked old ≡ ended (doing.line_told (doing_at caller.place new output posts) (Reply answer))
       → Reaches caller.setup.now.classes caller.name.now caller.place posts old new false output.failing
       → Performs caller asked old new output.failing (reply_after output.lines) (Ok answer)
   unfolding doing.line_told
-  replied_last output answer posts passed effect reaches = record {
+  replied_last output {posts = posts} passed effect reaches = record {
     returns = (passed, ap (λ effect. effect.lines) effect);
     posts = posts;
     front = tt;
     posted = sym (ap (λ effect. effect.posts) effect);
-    done = left_as (state_at new caller.place) (ap (λ effect. effect.state) effect) refl reaches.own;
+    done = left_as caller asked old new (state_at new caller.place) (ap (λ effect. effect.state) effect) refl reaches.own;
     refused = tt;
-    others = others_reached caller.setup.now.classes caller.name.now old new caller.place posts output.failing reaches;
+    others = others_reached reaches;
   }
 
 -- where a command begins no session has failed by its posts
@@ -206,14 +190,12 @@ at_first_reaches caller old new before after posts fresh reaches =
     subst (λ (output : CommandOutput). Reaches caller.setup.now.classes caller.name.now caller.place posts old new output.failing after.failing) fresh reaches
 
 -- where what is looked for is not found
-pub found_fault : {T A : Type 0} (caller : SessionContext) (asked : Asked) (tables : Tables) (lines : T → List Line) (rest : Found A → Option Code)
-    (found : Found A) (fault : Fault) (result : Result T Fault) → IsErrAnd result (λ other. other ≡ fault)
+pub found_fault : {T A : Type 0} {caller : SessionContext} {asked : Asked} {tables : Tables} {lines : T → List Line} (rest : Found A → Option Code)
+    (found : Found A) (fault : Fault) {result : Result T Fault} → IsErrAnd result (λ other. other ≡ fault)
     → its_refusal caller asked tables ≡ rest found → ((code : Code) → rest (Err code) ≡ Some code) → Answers {T = A} (Err fault) found
     → Performs caller asked tables tables false lines result
-found_fault caller asked tables lines rest found (Refused code) result h is law why =
-    stopped caller asked tables tables lines code result h (is ∙ ap rest why ∙ law code) refl
-found_fault caller asked tables lines rest found Memory result h is law why =
-    starved caller asked tables tables lines result h (changes_same tables tables caller.place refl)
+found_fault rest found (Refused code) {result} h is law why = stopped code result h (is ∙ ap rest why ∙ law code) refl
+found_fault {caller = caller} {tables = tables} rest found Memory {result} h is law why = starved result h (changes_same tables tables caller.place refl)
 
 -- a fact of every fault holds of a refusal
 pub on_refused : {P : Type 0} (fault : Fault) → P → OnRefused {T = ℕ} (Err fault) P
@@ -221,7 +203,7 @@ on_refused (Refused code) h = h
 on_refused Memory h = tt
 
 -- a command does the operation that was found
-pub operation_performed : (caller : SessionContext) (asked : Asked) (found : Found Operation) (operation : Operation) (old new : Tables)
+pub operation_performed : {caller : SessionContext} {asked : Asked} {found : Found Operation} {operation : Operation} {old new : Tables}
     (result : Result Answer Fault) → IsPlaced old caller.place
     → its_refusal caller asked old ≡ found_refusal (state_at old caller.place) found
     → its_effect caller asked old ≡ does_found (state_at old caller.place) found → found ≡ Ok operation
@@ -229,14 +211,14 @@ pub operation_performed : (caller : SessionContext) (asked : Asked) (found : Fou
     → IfOk result (λ answer. answer ≡ operation_answer (state_at old caller.place) operation)
     → OnOk result (new ≡ with_state old caller.place (with_operation (state_at old caller.place) operation)) → OnErr result (new ≡ old)
     → Performs caller asked old new false reply_lines result
-operation_performed caller asked found operation old new (Ok answer) placed refusal effect is passed answers done same =
-    replied caller asked old new (with_operation (state_at old caller.place) operation) answer placed
+operation_performed {caller} {operation = operation} {old = old} (Ok answer) placed refusal effect is passed answers done same =
+    replied placed
     (refusal ∙ ap (found_refusal (state_at old caller.place)) is ∙ passed)
     (effect ∙ ap (does_found (state_at old caller.place)) is ∙ ap (replies (with_operation (state_at old caller.place) operation)) (sym answers)) done
-operation_performed caller asked found operation old new (Err (Refused code)) placed refusal effect is refused answers done same =
-    stopped caller asked old new reply_lines code (Err (Refused code)) refl (refusal ∙ ap (found_refusal (state_at old caller.place)) is ∙ refused) same
-operation_performed caller asked found operation old new (Err Memory) placed refusal effect is passed answers done same =
-    starved caller asked old new reply_lines (Err Memory) refl (changes_same old new caller.place same)
+operation_performed {caller} {old = old} (Err (Refused code)) placed refusal effect is refused answers done same =
+    stopped code (Err (Refused code)) refl (refusal ∙ ap (found_refusal (state_at old caller.place)) is ∙ refused) same
+operation_performed {caller} {old = old} {new} (Err Memory) placed refusal effect is passed answers done same =
+    starved (Err Memory) refl (changes_same old new caller.place same)
 
 -- a command that tells nothing before its reply
 pub silently : (caller : SessionContext) (asked : Asked) (old new : Tables) (output : CommandOutput) (result : Result Answer Fault)
@@ -262,10 +244,10 @@ replies_alone caller asked tables output result fresh returns = silently caller 
       posted = sym (ap (λ effect. effect.posts) effect);
       done = left_as caller asked tables tables (state_at tables caller.place) (ap (λ effect. effect.state) effect) refl refl;
       refused = tt;
-      others = others_changed caller.setup.now.classes caller.name.now tables tables caller.place (changes_same tables tables caller.place refl);
+      others = others_changed (changes_same tables tables caller.place refl);
     }
-    by (Err (Refused code)) refused = stopped caller asked tables tables reply_lines code (Err (Refused code)) refl refused refl
-    by (Err Memory) none = starved caller asked tables tables reply_lines (Err Memory) refl (changes_same tables tables caller.place refl)
+    by (Err (Refused code)) refused = stopped code (Err (Refused code)) refl refused refl
+    by (Err Memory) none = starved (Err Memory) refl (changes_same tables tables caller.place refl)
 
 -- so does a query
 pub reads : (caller : SessionContext) (query : Query) (tables : Tables) (output : CommandOutput) (result : Result Answer Fault)
@@ -286,10 +268,10 @@ reads caller query tables output result fresh read = replies_alone caller (Ask q
     by (Err Memory) read = tt
 
 -- one that is refused before it posts anything
-pub quietly : (caller : SessionContext) (asked : Asked) (old new : Tables) (output : CommandOutput) (lines : Answer → List Line) (result : Result Answer Fault)
+pub quietly : {caller : SessionContext} {asked : Asked} {old new : Tables} {output : CommandOutput} {lines : Answer → List Line} {result : Result Answer Fault}
     → output ≡ fresh_output caller.setup.now.turns
     → Performs caller asked old new false lines result → Performs caller asked old new output.failing lines result
-quietly caller asked old new output lines result fresh performed =
+quietly {caller} {asked} {old} {new} {lines = lines} {result = result} fresh performed =
     subst (λ (output : CommandOutput). Performs caller asked old new output.failing lines result) (sym fresh) performed
 
 -- every other command is no beginning anew
@@ -356,7 +338,7 @@ module _ (caller : SessionContext) (old : Tables) (placed : IsPlaced old caller.
     refused = tt;
     fails = tt;
     failing = false;
-    others = others_changed caller.setup.now.classes caller.name.now old new caller.place (changes_session old new caller.place fresh placed e);
+    others = others_changed (changes_session old new caller.place fresh placed e);
     mark = refl;
   }
 
@@ -374,8 +356,7 @@ module _ (caller : SessionContext) (old : Tables) (placed : IsPlaced old caller.
         refused = tt;
         fails = (ap (λ tables. session_at tables caller.place) f ∙ session_there middle caller.place failed_session still, open_to_reset);
         failing = false;
-        others = others_changed caller.setup.now.classes caller.name.now old new caller.place
-            (changes_twice old middle new caller.place first (changes_session middle new caller.place failed_session still f));
+        others = others_changed (changes_twice old middle new caller.place first (changes_session middle new caller.place failed_session still f));
         mark = refl;
       }
 
@@ -418,7 +399,7 @@ module _ (caller : SessionContext) (asked : Asked) (old new : Tables) where
     refused = same;
     fails = tt;
     failing = false;
-    others = others_changed caller.setup.now.classes caller.name.now old new caller.place (changes_same old new caller.place same);
+    others = others_changed (changes_same old new caller.place same);
     mark = refl;
   }
 

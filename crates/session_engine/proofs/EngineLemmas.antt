@@ -15,19 +15,16 @@ use Rattle.std.proofs.lemmas.List.Sums.{prefix_len-le-length}
 use Rattle.std.proofs.lemmas.List.Quantifiers.{position-Some}
 use Rattle.std.proofs.lemmas.Option.{slice_get-get_or}
 use Rattle.std.proofs.lemmas.Slice.Eq.{bytes_eq-Decides}
+use Rattle.session_engine.proofs.Common.{fields_in, AreSettings, Tables, Session, fresh, IsPlaced, session_at, session_past, EngineState, IsKept, IsWhole}
+use Rattle.session_engine.proofs.Common.{place, seen_by_name, sessions, AreSound}
 use Rattle.indexmap.specs.IndexSet.{insert_key}
 use Rattle.property_store.specs.declared.field.Field.{Field}
-use Rattle.property_store.specs.Store.{fields_in}
-use Rattle.session_model.specs.Fitting.{AreSettings}
 use Rattle.session_model.specs.State.{fields_of}
 use Rattle.session_model.specs.Thread.{Settings}
-use Rattle.session_tables.specs.declared.tables.Tables.{Tables}
-use Rattle.session_tables.specs.Session.{Session, fresh}
 use Rattle.session_tables.specs.Tables as tables
-use Rattle.session_tables.specs.Tables.{AreEven, AreSame, IsPlaced, session_at}
-use Rattle.session_tables.proofs.ForCallers.{even_opened, even_same, placed_by, session_opened, session_past, session_same}
-use Rattle.session_engine.specs.Core.{EngineState, IsKept, IsWhole, place, seen_by_name, sessions}
-use Rattle.session_engine.specs.Sessions.{AreSound, IsSoundSession}
+use Rattle.session_tables.specs.Tables.{AreEven, AreSame}
+use Rattle.session_tables.proofs.ForCallers.{even_opened, even_same, placed_by, session_opened, session_same}
+use Rattle.session_engine.specs.Sessions.{IsSoundSession}
 use Rattle.session_engine.proofs.SessionLemmas.{kept_fresh}
 
 -- where nothing has a place, nothing passes

@@ -12,32 +12,23 @@ use Rattle.session_model.specs.declared.line.Answer.TheVariants as a
 use Rattle.session_model.specs.declared.line.Line.TheVariants as line
 use Rattle.session_model.specs.declared.line.Spin.{Spin as Came}
 use Rattle.session_model.specs.Asked as asked
-use Rattle.session_model.specs.Effects.{ended}
 use Rattle.session_model.specs.Posting.{spin_of}
-use Rattle.session_model.specs.Agenda.{call_items, event_items, method_items}
-use Rattle.session_model.specs.Execution.{Execution, first_taken, line_told, turn_taken}
-use Rattle.session_model.specs.Items.{Item, Spin}
+use Rattle.session_model.specs.Agenda.{call_items, event_items}
+use Rattle.session_model.specs.Execution.{Execution, first_taken, turn_taken}
 use Rattle.session_model.specs.Methods.{method_at}
-use Rattle.session_model.specs.Run.{run}
-use Rattle.session_model.specs.Settings.{Settings}
-use Rattle.session_model.specs.State.{State, without_first}
+use Rattle.session_model.specs.State.{without_first}
 use Rattle.session_model.proofs.ForCallers as rule
-use Rattle.session_model.proofs.ForCallers.{at_end, by_change, by_step, in_parts, run_shrinks, spun_last}
-use Rattle.session_tables.specs.declared.tables.Tables.{Tables}
-use Rattle.session_tables.specs.Tables.{IsPlaced, state_at, with_state}
-use Rattle.session_tables.proofs.ForCallers.{state_with, reaches_twice}
-use Rattle.session_effects.specs.declared.session_context.SessionContext.{SessionContext}
-use Rattle.session_effects.specs.Setup.{settings_of}
-use Rattle.session_engine.specs.Commands.{Performs, its_effect, reply_after}
-use Rattle.dispatch.specs.declared.command_output.CommandOutput.{CommandOutput}
-use Rattle.dispatch.specs.CommandOutput.{doing_at, fresh_output, spent}
-use Rattle.dispatch.proofs.ForCallers.{spent_is, SoFar, here, reaches_none}
+use Rattle.session_model.proofs.ForCallers.{by_change, by_step, in_parts, run_shrinks, spun_last}
+use Rattle.session_tables.specs.Tables.{with_state}
+use Rattle.session_tables.proofs.ForCallers.{reaches_twice}
+use Rattle.dispatch.specs.CommandOutput.{spent}
+use Rattle.dispatch.proofs.ForCallers.{spent_is, SoFar, reaches_none}
 use Rattle.session_engine.proofs.CommandsLemmas.{at_first_reaches, replied_last}
-use Rattle.dispatch.specs.Agenda.{RunsItems}
-use Rattle.session_tables.specs.Reaching.{Reaches}
 use Rattle.session_effects.proofs.ForCallers.{keeps_with}
 use Rattle.std.proofs.lemmas.List.{append-nil}
-use Rattle.session_model.specs.declared.post.Post.{Post}
+use Rattle.session_engine.proofs.Common.{ended, method_items, line_told, Item, Spin, run, Settings, State, at_end, Tables, IsPlaced, state_at, state_with}
+use Rattle.session_engine.proofs.Common.{SessionContext, settings_of, Performs, its_effect, reply_after, CommandOutput, doing_at, fresh_output, here, RunsItems}
+use Rattle.session_engine.proofs.Common.{Reaches, Post}
 use Rattle.session_model.specs.Posting.{spin_after}
 
 -- the first of some events
@@ -192,7 +183,7 @@ performs_spun caller old new before after value spin fresh does is =
     let settings = settings_of caller.setup.now in
     let state = state_at old caller.place in
     let end = doing_at caller.place new after does.posts in
-    replied_last caller asked.Spin old new after (a.Spun spin) does.posts (rule.refusal_spin settings caller.name.now state)
+    replied_last after (rule.refusal_spin settings caller.name.now state)
     (spin_runs caller old new before fresh
     ∙ ap (λ (done : Execution). ended (line_told done (line.Reply (a.Spun (spin_of done))))) (does.runs [])
     ∙ ap (λ (spin : Came). ended (line_told end (line.Reply (a.Spun spin)))) (sym is))

@@ -7,13 +7,10 @@ use Rattle.std.proofs.lemmas.List.Quantifiers.{position-Some}
 use Rattle.std.proofs.lemmas.Option.{slice_get-get_or}
 use Rattle.std.specs.Option.{ok_or, option_and_then, option_map_or, option_or}
 use Rattle.std.specs.Result.{result_err, result_unwrap_or}
-use Rattle.plain_types.specs.declared.code.Code.{Code}
+use Rattle.session_engine.proofs.Common.{Code, Fault, Memory, Refused, Answers, Data, Kind, Line, Post, method_items, Asked, line_told, does_next, ended, Item}
+use Rattle.session_engine.proofs.Common.{Next, puts, Found, ◌>>=◌, run, Settings, State, at_end, Tables, state_at, SessionContext, CommandOutput, Performs}
+use Rattle.session_engine.proofs.Common.{its_effect, its_refusal, reply_after, settings_of, doing_at, fresh_output, IsPrefix, front_same}
 use Rattle.plain_types.specs.declared.code.Code.TheVariants.{BadSignature}
-use Rattle.plain_types.specs.declared.fault.Fault.{Fault}
-use Rattle.plain_types.specs.declared.fault.Fault.TheVariants.{Memory, Refused}
-use Rattle.plain_types.specs.Answers.{Answers}
-use Rattle.serde_json.specs.Data.{Data}
-use Rattle.signature_core.specs.declared.kind.Kind.{Kind}
 use Rattle.signature_core.specs.declared.signature.Signature.{Signature}
 use Rattle.signature_core.specs.Reading.{signature_of}
 use Rattle.variant_value.specs.declared.value.Value.{Value}
@@ -21,38 +18,23 @@ use Rattle.class_table.specs.declared.class.Method.{Method}
 use Rattle.class_table.specs.Lookup.{is_same, method_number, methods}
 use Rattle.event_queue.specs.declared.event.Priority.{Priority}
 use Rattle.session_model.specs.declared.line.Answer.TheVariants as a
-use Rattle.session_model.specs.declared.line.Line.{Line}
 use Rattle.session_model.specs.declared.line.Line.TheVariants as line
-use Rattle.session_model.specs.declared.post.Post.{Post}
 use Rattle.session_model.specs.Absence.{absence}
-use Rattle.session_model.specs.Agenda.{method_items, with_turn}
-use Rattle.session_model.specs.Asked.{Asked, Invoke}
-use Rattle.session_model.specs.Execution.{Execution, line_told, turn_taken, used_up}
-use Rattle.session_model.specs.Effects.{does_next, ended}
-use Rattle.session_model.specs.Items.{Emit, Item, Next, Run, puts}
-use Rattle.session_model.specs.Methods.{Found, ◌>>=◌, is_signal_at, kinds_at, method_at, methods_of, signature_in}
-use Rattle.session_model.specs.Run.{run}
-use Rattle.session_model.specs.Settings.{Settings}
+use Rattle.session_model.specs.Agenda.{with_turn}
+use Rattle.session_model.specs.Asked.{Invoke}
+use Rattle.session_model.specs.Execution.{Execution, turn_taken, used_up}
+use Rattle.session_model.specs.Items.{Emit, Run}
+use Rattle.session_model.specs.Methods.{is_signal_at, kinds_at, method_at, methods_of, signature_in}
 use Rattle.plain_types.specs.declared.connection_type.ConnectionType.{ConnectionType}
 use Rattle.session_model.specs.Posting.{is_queued, enqueue_refusal}
 use Rattle.session_model.specs.Refusing.{later_refusal, values_refusal}
 use Rattle.session_model.specs.Signals.{asked_method, asked_values, invoked, invoked_later, invokes, values_of}
-use Rattle.session_model.specs.State.{State}
-use Rattle.session_model.proofs.ForCallers.{at_end, performs_invoke, refusal_invoke, replies_last}
-use Rattle.session_tables.specs.declared.tables.Tables.{Tables}
+use Rattle.session_model.proofs.ForCallers.{performs_invoke, refusal_invoke, replies_last}
 use Rattle.session_tables.specs.Classes.{HasClass}
-use Rattle.session_tables.specs.Tables.{state_at}
 use Rattle.session_effects.specs.Methods.{number_named}
 use Rattle.session_effects.proofs.ForCallers.{methods_by_class}
-use Rattle.session_effects.specs.declared.session_context.SessionContext.{SessionContext}
-use Rattle.dispatch.specs.declared.command_output.CommandOutput.{CommandOutput}
-use Rattle.session_engine.specs.Commands.{Performs, its_effect, its_refusal, reply_after}
-use Rattle.session_effects.specs.Setup.{settings_of}
-use Rattle.dispatch.specs.CommandOutput.{doing_at, fresh_output}
 use Rattle.session_engine.proofs.CommandsLemmas.{at_first_reaches, or_second, replied_last, starved_last}
 use Rattle.dispatch.specs.Agenda.{RunsNext}
-use Rattle.dispatch.specs.Prefix.{IsPrefix}
-use Rattle.dispatch.proofs.ForCallers.{front_same}
 
 -- what a text names among the methods of an object's class
 pub record IsAsked (settings : Settings) (state : State) (target : ℕ) (text : List ℕ) (number : Option ℕ) : Type 0 where
@@ -198,10 +180,8 @@ module _ (caller : SessionContext) (object : ℕ) (text : List ℕ) (args : List
       → the_refusal ≡ option_or (values_refusal the_settings the_state object args found) (later_refusal the_state mode found)
   refusal_found found there named =
       refusal_invoke the_settings caller.name.now the_state object text args mode priority ∙ or_second _ _ there
-      ∙ ap (λ (signature : Found Signature). option_or (result_err signature)
-      (option_or (values_refusal the_settings the_state object args (asked_method the_settings the_state object text))
-      (later_refusal the_state mode (asked_method the_settings the_state object text)))) named.spelled
-      ∙ ap (λ (found : Option ℕ). option_or (values_refusal the_settings the_state object args found) (later_refusal the_state mode found)) named.asked
+      ∙ (λ i. option_or (result_err (named.spelled i))
+      (option_or (values_refusal the_settings the_state object args (named.asked i)) (later_refusal the_state mode (named.asked i))))
 
   -- where there is none it is not refused
   pub refusal_absent : None ≡ absence the_state object → IsAsked the_settings the_state object text None → the_refusal ≡ None
@@ -253,7 +233,7 @@ module _ (caller : SessionContext) (object : ℕ) (text : List ℕ) (args : List
       pub performs_invoked : {T E : Type 0} (value : T) → RunsNext {E = E} caller the_start old new before after (Ok value)
           → Performs caller the_call old new after.failing (reply_after after.lines) (Ok (a.Truth true))
       performs_invoked value does =
-          replied_last caller the_call old new after (a.Truth true) does.posts (refusal_now at_once)
+          replied_last after (refusal_now at_once)
           (invoke_runs ∙ ap (λ done. ended (line_told done (line.Reply (a.Truth true)))) (does.runs []))
           (at_first_reaches caller old new before after does.posts fresh does.reaches)
 
@@ -261,7 +241,7 @@ module _ (caller : SessionContext) (object : ℕ) (text : List ℕ) (args : List
       pub starved_invoked : {T E U : Type 0} (error : E) (lines : U → List Line) (result : Result U Fault) → IsErrAnd result (λ fault. fault ≡ Memory)
           → RunsNext {T = T} caller the_start old new before after (Err error) → Performs caller the_call old new after.failing lines result
       starved_invoked error lines result wanted does =
-          starved_last caller the_call old new after does.posts _ _ lines result wanted (refusal_now at_once) invoke_runs (does.front [])
+          starved_last after does.posts _ _ result wanted (refusal_now at_once) invoke_runs (does.front [])
           (at_first_reaches caller old new before after does.posts fresh does.reaches)
 
 -- a method that has a number is there

@@ -8,24 +8,17 @@ use Rattle.std.proofs.Math.Seq.{drop-cons, take-suc}
 use Rattle.std.proofs.lemmas.Bool.{cases_Bool, both_ways, cond-true}
 use Rattle.std.proofs.lemmas.List.{map-append, take-append-drop}
 use Rattle.std.proofs.lemmas.Slice.Eq.{bytes_eq-Decides}
+use Rattle.session_engine.proofs.Common.{all_arrive, Class, Line, Post, Asked, machine, ReceivesPosts, after_posts, Session, Coming, HasArrived, HasCome}
+use Rattle.session_engine.proofs.Common.{HaveCome, item_of, AreSound, IsStep, Sessions}
 use Rattle.isolation.specs.Alone as theory
 use Rattle.isolation.specs.Alone.{alone_after, alone_lines, alone_posts}
-use Rattle.isolation.specs.World.{all_arrive}
 use Rattle.isolation.proofs.ForCallers.{alone_after-append, alone_lines-append, alone_posts-append, after-other, after-own, all_arrive-append}
-use Rattle.class_table.specs.declared.class.Class.{Class}
-use Rattle.session_model.specs.declared.line.Line.{Line}
-use Rattle.session_model.specs.declared.post.Post.{Post}
-use Rattle.session_model.specs.Asked.{Asked}
-use Rattle.session_model.specs.Machine.{machine}
-use Rattle.session_model.specs.State.{State}
-use Rattle.session_model.specs.Thread.{Settings, arrive_all}
+use Rattle.session_model.specs.Thread.{arrive_all}
 use Rattle.session_model.proofs.ForCallers.{lawful}
-use Rattle.session_tables.specs.Reaching.{ReceivesPosts, after_posts}
-use Rattle.session_tables.specs.Session.{Session}
 use Rattle.session_engine.specs.declared.item.Item.{Item}
-use Rattle.session_engine.specs.Items.{Coming, HasArrived, HasAdded, HasCome, HaveCome, RunsAlone, SparesItsSession, all_lines, item_of}
+use Rattle.session_engine.specs.Items.{HasAdded, RunsAlone, SparesItsSession, all_lines}
 use Rattle.session_engine.proofs.SparedLemmas.{spared_items}
-use Rattle.session_engine.specs.Sessions.{AnotherFails, AreSound, IsStep, Sessions, given_by, states_of}
+use Rattle.session_engine.specs.Sessions.{AnotherFails, given_by, states_of}
 
 -- what was found after was found before
 found_before : (was now : Bool) → (IsTrue was → IsTrue now) → IsFalse now → IsFalse was
@@ -149,25 +142,20 @@ module _ (old middle new : Sessions) (name : List ℕ) (xs ys : List Coming) (be
       record {
         lines = λ found.
             ap (option_map (λ lines. before ++ lines)) (second.lines found)
-            ∙ ap (λ (settings : Settings). Some (before ++ all_lines (alone_lines (machine settings) name (states_of middle name) ys))) first.settings
-            ∙ ap (λ (state : State). Some (before ++ all_lines (alone_lines m name state ys))) (first.own (found_middle found))
-            ∙ ap (λ lines. Some (lines ++ all_lines (alone_lines m name (alone_after m name start xs) ys))) (some_is (first.lines (found_middle found)))
-            ∙ ap Some (sym (all_lines-append (alone_lines m name start xs) (alone_lines m name (alone_after m name start xs) ys)))
-            ∙ ap (λ lines. Some (all_lines lines)) (sym (alone_lines-append m name start xs ys));
+            ∙ (λ i. Some (some_is (first.lines (found_middle found)) i
+            ++ all_lines (alone_lines (machine (first.settings i)) name (first.own (found_middle found) i) ys)))
+            ∙ ap Some (sym (ap all_lines (alone_lines-append m name start xs ys)
+            ∙ all_lines-append (alone_lines m name start xs) (alone_lines m name (alone_after m name start xs) ys)));
         own = λ found.
             second.own found
-            ∙ ap (λ (settings : Settings). alone_after (machine settings) name (states_of middle name) ys) first.settings
-            ∙ ap (λ (state : State). alone_after m name state ys) (first.own (found_middle found))
+            ∙ (λ i. alone_after (machine (first.settings i)) name (first.own (found_middle found) i) ys)
             ∙ sym (alone_after-append m name start xs ys);
         others = λ found other elsewhere.
             second.others found other elsewhere
-            ∙ ap (λ (settings : Settings). all_arrive (machine settings) (states_of middle other) name
-            (alone_posts (machine settings) name (states_of middle name) ys)) first.settings
-            ∙ ap (λ (state : State). all_arrive m (states_of middle other) name (alone_posts m name state ys)) (first.own (found_middle found))
-            ∙ ap (λ (state : State). all_arrive m state name (alone_posts m name (alone_after m name start xs) ys))
-            (first.others (found_middle found) other elsewhere)
-            ∙ sym (all_arrive-append m (states_of old other) name (alone_posts m name start xs) (alone_posts m name (alone_after m name start xs) ys))
-            ∙ ap (all_arrive m (states_of old other) name) (sym (alone_posts-append m name start xs ys));
+            ∙ (λ i. all_arrive (machine (first.settings i)) (first.others (found_middle found) other elsewhere i) name
+            (alone_posts (machine (first.settings i)) name (first.own (found_middle found) i) ys))
+            ∙ sym (ap (all_arrive m (states_of old other) name) (alone_posts-append m name start xs ys)
+            ∙ all_arrive-append m (states_of old other) name (alone_posts m name start xs) (alone_posts m name (alone_after m name start xs) ys));
         settings = second.settings ∙ first.settings;
         stay = λ other elsewhere failed.
             let still = first.stay other elsewhere failed in

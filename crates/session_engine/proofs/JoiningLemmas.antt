@@ -9,13 +9,11 @@ use Rattle.std.proofs.lemmas.List.Folds.{list_any_at, list_any_none}
 use Rattle.std.proofs.lemmas.List.Quantifiers.{position-Some}
 use Rattle.std.proofs.lemmas.Slice.Eq.{bytes_eq-Decides}
 use Rattle.std.specs.Option.{option_map_or}
+use Rattle.session_engine.proofs.Common.{Session, fresh, session_at, state_at, session_past, EngineState, IsWhole, place, states}
 use Rattle.session_model.specs.State.{empty}
 use Rattle.session_model.specs.Thread.{joins_name}
 use Rattle.session_tables.specs.Joining.{AreJoiners}
-use Rattle.session_tables.specs.Session.{Session, fresh}
-use Rattle.session_tables.specs.Tables.{session_at, state_at}
-use Rattle.session_tables.proofs.ForCallers.{session_past}
-use Rattle.session_engine.specs.Core.{AreJoinersOf, EngineState, IsWhole, name_at, names_at, place, states}
+use Rattle.session_engine.specs.Core.{AreJoinersOf, name_at, names_at}
 use Rattle.session_engine.proofs.EngineLemmas.{position-None, sessions-place}
 
 -- tests that agree on each element find alike

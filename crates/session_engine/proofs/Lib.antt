@@ -1,3 +1,4 @@
+pub mod Common
 pub mod SessionLemmas
 pub mod EngineLemmas
 pub mod StepLemmas

@@ -4,46 +4,28 @@ use Rattle.std.specs.Prelude.{option_map}
 use Rattle.std.specs.Option.{option_map_or}
 use Rattle.std.specs.Result.{result_err}
 use Rattle.serde_json.specs.Data as d
-use Rattle.serde_json.specs.Data.{Data}
 use Rattle.serde_json.specs.Find.{as_null}
-use Rattle.plain_types.specs.declared.code.Code.{Code}
-use Rattle.plain_types.specs.declared.fault.Fault.{Fault}
-use Rattle.plain_types.specs.declared.fault.Fault.TheVariants.{Refused, Memory}
-use Rattle.signature_core.specs.declared.kind.Kind.{Kind}
 use Rattle.variant_value.specs.declared.value.Value.{Value}
 use Rattle.variant_value.specs.declared.value.Value.TheVariants as v
 use Rattle.variant_value.specs.Values.{inferred, value_of}
 use Rattle.property_store.specs.Store.{dynamic_refusal}
 use Rattle.session_model.specs.declared.line.Answer.TheVariants as a
-use Rattle.session_model.specs.declared.line.Line.{Line}
 use Rattle.session_model.specs.Absence.{absence}
-use Rattle.session_model.specs.Asked.{Asked, Set}
-use Rattle.session_model.specs.Execution.{begun}
-use Rattle.session_model.specs.Effects.{does_next}
-use Rattle.session_model.specs.Items.{Item}
-use Rattle.session_model.specs.Methods.{Found, ◌>>=◌}
+use Rattle.session_model.specs.Asked.{Set}
 use Rattle.session_model.specs.Properties.{is_declared}
-use Rattle.session_model.specs.State.{State}
 use Rattle.session_model.specs.Writing.{Declared, Dynamic, Nothing, DeclaredField, Removed, Writing, asked_place, asked_writing, declared, dynamic_writing}
 use Rattle.session_model.specs.Writing.{written}
-use Rattle.session_model.proofs.ForCallers.{refusal_set, set_written, at_end}
-use Rattle.session_tables.specs.declared.tables.Tables.{Tables}
+use Rattle.session_model.proofs.ForCallers.{refusal_set, set_written}
 use Rattle.session_tables.specs.Refused.{OnRefused}
-use Rattle.session_tables.specs.Tables.{ChangesOnly, IsPlaced, state_at}
 use Rattle.session_effects.specs.Actions.{KeepsOthers}
-use Rattle.session_effects.specs.declared.session_context.SessionContext.{SessionContext}
 use Rattle.session_effects.specs.declared.announcing.PendingAnnouncements.{PendingAnnouncements}
-use Rattle.session_effects.specs.Setup.{settings_of}
 use Rattle.session_effects.specs.Writing.{TriesToWrite, Writes, items_of}
-use Rattle.dispatch.specs.declared.command_output.CommandOutput.{CommandOutput}
-use Rattle.session_engine.specs.Commands.{Performs, its_effect, its_refusal, reply_after}
-use Rattle.dispatch.specs.CommandOutput.{doing_at, fresh_output}
 use Rattle.session_engine.proofs.CommandsLemmas.{or_second, starved, stopped}
 use Rattle.session_engine.proofs.ToldLemmas.{performs_told, starved_told}
-use Rattle.dispatch.specs.Agenda.{RunsItems}
-use Rattle.dispatch.proofs.ForCallers.{does_none}
-use Rattle.session_effects.proofs.ForCallers.{keeps_same}
 use Rattle.std.specs.declared.alloc.AllocError.{AllocError}
+use Rattle.session_engine.proofs.Common.{Data, Code, Fault, Refused, Memory, Kind, Line, Asked, begun, does_next, Item, Found, ◌>>=◌, State, at_end, Tables}
+use Rattle.session_engine.proofs.Common.{ChangesOnly, IsPlaced, state_at, SessionContext, settings_of, CommandOutput, Performs, its_effect, its_refusal}
+use Rattle.session_engine.proofs.Common.{reply_after, doing_at, fresh_output, RunsItems, does_none, keeps_same}
 
 pub is_null : (json : Data) → is_some (as_null json) ≡ true → json ≡ d.null
 is_null d.null h = refl
@@ -117,8 +99,8 @@ pub written_fault : {T U : Type 0} (caller : SessionContext) (asked : Asked) (ol
     → its_refusal caller asked old ≡ result_err wanted → TriesToWrite caller object wanted old tell new (Err fault) → OnRefused {T = U} (Err fault) (new ≡ old)
     → ChangesOnly caller.place old new → Performs caller asked old new false lines result
 written_fault caller asked old new lines object wanted tell (Refused code) result h is why same only =
-    stopped caller asked old new lines code result h (is ∙ ap result_err why) same
-written_fault caller asked old new lines object wanted tell Memory result h is why same only = starved caller asked old new lines result h only
+    stopped code result h (is ∙ ap result_err why) same
+written_fault caller asked old new lines object wanted tell Memory result h is why same only = starved result h only
 
 -- a command that writes what was found
 module _ (caller : SessionContext) (object : ℕ) (property : List ℕ) (json : Data) (old middle new : Tables) (before after : CommandOutput) (writing : Writing)

@@ -5,25 +5,17 @@ use Rattle.std.specs.Prelude.{if◌then◌else◌}
 use Rattle.std.proofs.lemmas.Bool.{and_parts, cond-false, cond_both}
 use Rattle.std.proofs.lemmas.List.{get_or_append_left}
 use Rattle.std.proofs.lemmas.List.Elements.{All-head, All-nil, All-tail}
-use Rattle.isolation.specs.World.{all_arrive}
-use Rattle.class_table.specs.declared.class.Class.{Class}
-use Rattle.plain_types.specs.declared.code.Code.{Code}
-use Rattle.plain_types.specs.declared.code.Code.TheVariants.{SessionFailed}
-use Rattle.session_model.specs.declared.post.Post.{Post}
-use Rattle.session_model.specs.Asked.{Asked, Reset}
-use Rattle.session_model.specs.Effects.{unless}
-use Rattle.session_model.specs.Fitting.{AreSettings, IsFitting, IsFittingAsked, IsRightPost}
-use Rattle.session_model.specs.Machine.{machine}
+use Rattle.session_engine.proofs.Common.{all_arrive, Class, Code, SessionFailed, Post, Asked, unless, AreSettings, IsFittingAsked, IsRightPost, machine, State}
+use Rattle.session_engine.proofs.Common.{performs, Session, fresh, failed_session, ReceivesPosts, after_posts, IsPrefix, IsKept, is_reset, is_shut}
+use Rattle.session_engine.proofs.Common.{session_after, session_does, session_refusal}
+use Rattle.session_model.specs.Asked.{Reset}
+use Rattle.session_model.specs.Fitting.{IsFitting}
 use Rattle.session_model.specs.Named.{AreNamed, IsNamedAsked}
 use Rattle.session_model.specs.Refusing.{refusal}
-use Rattle.session_model.specs.State.{IsDeclared, IsSound, State}
-use Rattle.session_model.specs.Thread.{Settings, arrive_all, arrives, does, performs}
+use Rattle.session_model.specs.State.{IsDeclared, IsSound}
+use Rattle.session_model.specs.Thread.{Settings, arrive_all, arrives, does}
 use Rattle.session_model.proofs.ForCallers.{arrive_all-is, keeps_declared, keeps_fitting, keeps_sound, keeps_named}
-use Rattle.session_tables.specs.Session.{Session, fresh, failed_session}
-use Rattle.session_tables.specs.Reaching.{ReceivesPosts, after_posts}
-use Rattle.dispatch.specs.Prefix.{IsPrefix}
-use Rattle.session_engine.specs.Core.{IsKept}
-use Rattle.session_engine.specs.Sessions.{IsSoundSession, is_reset, is_shut, session_after, session_does, session_refusal}
+use Rattle.session_engine.specs.Sessions.{IsSoundSession}
 
 some_none : {T : Type 0} (x : T) → Some x ≡ None → ⊥
 some_none x e = cc

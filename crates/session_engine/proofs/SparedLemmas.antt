@@ -3,24 +3,15 @@ use Rattle.std.proofs.Common.{◌≡◌, ◌⊎◌, inl, inr, ℕ, Bool, true, f
 use Rattle.std.proofs.Common.{subst, ◌∙◌}
 use Rattle.std.specs.Prelude.{bytes_eq, if◌then◌else◌}
 use Rattle.std.proofs.lemmas.Bool.{cond-true}
+use Rattle.session_engine.proofs.Common.{Class, SessionFailed, Line, Post, Asked, unless, machine, refusal, State, performs, ReceivesPosts, after_posts}
+use Rattle.session_engine.proofs.Common.{Session, Coming, HasArrived, HasCome, HaveCome, IsStep, Sessions, is_reset, is_shut, session_does}
 use Rattle.isolation.specs.Alone as theory
 use Rattle.isolation.specs.Alone.{alone_after, alone_lines, alone_posts}
 use Rattle.isolation.specs.Machine.{Effect}
-use Rattle.class_table.specs.declared.class.Class.{Class}
-use Rattle.plain_types.specs.declared.code.Code.TheVariants.{SessionFailed}
-use Rattle.session_model.specs.declared.line.Line.{Line}
-use Rattle.session_model.specs.declared.post.Post.{Post}
-use Rattle.session_model.specs.Asked.{Asked}
-use Rattle.session_model.specs.Effects.{unless}
-use Rattle.session_model.specs.Machine.{machine}
-use Rattle.session_model.specs.Refusing.{refusal}
-use Rattle.session_model.specs.State.{State}
-use Rattle.session_model.specs.Thread.{Settings, arrives, does, performs}
-use Rattle.session_tables.specs.Reaching.{ReceivesPosts, after_posts}
-use Rattle.session_tables.specs.Session.{Session}
+use Rattle.session_model.specs.Thread.{Settings, arrives, does}
 use Rattle.session_tables.proofs.ForCallers.{after_posts-append, after_posts-none}
-use Rattle.session_engine.specs.Items.{Coming, HasArrived, HasCome, HaveCome, SparesItsSession, all_lines}
-use Rattle.session_engine.specs.Sessions.{IsStep, Sessions, is_reset, is_shut, session_does, states_of}
+use Rattle.session_engine.specs.Items.{SparesItsSession, all_lines}
+use Rattle.session_engine.specs.Sessions.{states_of}
 
 -- what one item does to a session alone
 abbrev lines_of : Settings → List ℕ → State → Coming → List Line

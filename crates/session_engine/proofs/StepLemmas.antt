@@ -6,29 +6,21 @@ use Rattle.std.proofs.Math.Path.{fun_ext}
 use Rattle.std.specs.Option.{option_map_or}
 use Rattle.std.proofs.lemmas.Bool.{cases_Bool, both_ways}
 use Rattle.std.proofs.lemmas.Bool.Decides.{nat_tests}
-use Rattle.class_table.specs.declared.class.Class.{Class}
-use Rattle.property_store.specs.Store.{fields_in}
 use Rattle.std.proofs.lemmas.Slice.Eq.{bytes_eq-Decides}
-use Rattle.isolation.specs.World.{after, all_arrive}
+use Rattle.session_engine.proofs.Common.{Class, fields_in, all_arrive, Line, Asked, AreSettings, IsFittingAsked, IsRightPost, machine, Post, State, Session}
+use Rattle.session_engine.proofs.Common.{fresh, failed_session, ReceivesPosts, after_posts, IsPlaced, session_at, session_past, IsPrefix, front_same}
+use Rattle.session_engine.proofs.Common.{EngineState, IsKept, IsWhole, place, seen_by_name, sessions, states, Fails, IsStep, Sessions, session_after}
+use Rattle.session_engine.proofs.Common.{session_does, session_refusal}
+use Rattle.isolation.specs.World.{after}
 use Rattle.isolation.proofs.ForCallers.{after-other, after-own}
-use Rattle.session_model.specs.declared.line.Line.{Line}
-use Rattle.session_model.specs.Asked.{Asked}
-use Rattle.session_model.specs.Fitting.{AreSettings, IsFittingAsked, IsRightPost}
-use Rattle.session_model.specs.Machine.{machine}
 use Rattle.session_model.specs.Named.{AreNamed, IsNamedAsked}
-use Rattle.session_model.specs.declared.post.Post.{Post}
-use Rattle.session_model.specs.State.{State, fields_of}
+use Rattle.session_model.specs.State.{fields_of}
 use Rattle.session_model.specs.Thread.{Settings}
 use Rattle.session_model.proofs.ForCallers.{lawful, keeps_named}
-use Rattle.session_tables.specs.Session.{Session, fresh, failed_session}
-use Rattle.session_tables.specs.Reaching.{ReceivesPosts, after_posts}
-use Rattle.session_tables.specs.Tables.{AreEven, IsPlaced, session_at}
-use Rattle.session_tables.proofs.ForCallers.{after_posts_stranger, placed_by, session_past}
-use Rattle.dispatch.specs.Prefix.{IsPrefix}
-use Rattle.dispatch.proofs.ForCallers.{front_same}
+use Rattle.session_tables.specs.Tables.{AreEven}
+use Rattle.session_tables.proofs.ForCallers.{after_posts_stranger, placed_by}
 use Rattle.session_engine.specs.Commands.{OthersHear}
-use Rattle.session_engine.specs.Core.{EngineState, IsKept, IsWhole, place, seen_by_name, sessions, states}
-use Rattle.session_engine.specs.Sessions.{AllAreNamed, AnotherFails, Fails, IsStep, Sessions, given_by, session_after, session_does, session_refusal}
+use Rattle.session_engine.specs.Sessions.{AllAreNamed, AnotherFails, given_by}
 use Rattle.session_engine.proofs.EngineLemmas.{kept_by_name, one_name, placed, sessions-place, sound_by_name}
 use Rattle.session_engine.proofs.SessionLemmas.{does_fine, after_posts_state, kept_fresh, kept_gone, kept_after_posts, named_after, named_hears, not_shut}
 use Rattle.session_engine.proofs.SessionLemmas.{right_front, right_posts, sound_after}
@@ -255,8 +247,7 @@ module _ (old new : EngineState) (at : ℕ) (name : List ℕ) (asked : Asked) (t
       on_same : (told : Option (List Line)) → OnSome told (new.tables ≡ old.tables) → OnSome told (sessions new ≡ sessions old)
       on_same None same = tt
       on_same (Some lines) same = fun_ext (λ other.
-          ap (λ found. option_map_or (session_at new.tables) found fresh) (ap (position (bytes_eq other)) ended.names)
-          ∙ ap (λ tables. option_map_or (session_at tables) (place old other) fresh) same)
+          λ i. option_map_or (session_at (same i)) (position (bytes_eq other) (ended.names i)) fresh)
 
       another : failing ≡ true → AnotherFails (seen_by_name old) (seen_by_name new) name
       another some =

@@ -1,29 +1,15 @@
 -- A command that brings its session to another state, does what there is to do for it, and then replies.
 use Rattle.std.proofs.Common.{◌≡◌, false, List, [], None, Result, Ok, Err, IsErrAnd, refl, sym, ap, subst, ◌∙◌}
-use Rattle.plain_types.specs.declared.fault.Fault.{Fault}
-use Rattle.plain_types.specs.declared.fault.Fault.TheVariants.{Memory}
+use Rattle.session_engine.proofs.Common.{Fault, Memory, Line, Post, Asked, begun, in_state, line_told, does_next, ended, Item, Next, puts, run, Tables, Reaches}
+use Rattle.session_engine.proofs.Common.{IsPlaced, state_at, SessionContext, settings_of, CommandOutput, RunsItems, doing_at, fresh_output, Performs}
+use Rattle.session_engine.proofs.Common.{its_effect, its_refusal, reply_after}
 use Rattle.session_model.specs.declared.line.Answer.{Answer}
-use Rattle.session_model.specs.declared.line.Line.{Line}
 use Rattle.session_model.specs.declared.line.Line.TheVariants as line
-use Rattle.session_model.specs.declared.post.Post.{Post}
-use Rattle.session_model.specs.Asked.{Asked}
-use Rattle.session_model.specs.Execution.{begun, in_state, line_told}
-use Rattle.session_model.specs.Effects.{does_next, ended}
-use Rattle.session_model.specs.Items.{Item, Next, puts}
-use Rattle.session_model.specs.Run.{run}
 use Rattle.session_model.proofs.ForCallers.{replies_last}
-use Rattle.session_tables.specs.declared.tables.Tables.{Tables}
-use Rattle.session_tables.specs.Reaching.{Reaches}
-use Rattle.session_tables.specs.Tables.{IsPlaced, state_at}
 use Rattle.session_tables.proofs.ForCallers.{reaches_twice}
 use Rattle.session_effects.specs.Actions.{KeepsOthers}
-use Rattle.session_effects.specs.declared.session_context.SessionContext.{SessionContext}
-use Rattle.session_effects.specs.Setup.{settings_of}
-use Rattle.dispatch.specs.declared.command_output.CommandOutput.{CommandOutput}
-use Rattle.dispatch.specs.Agenda.{RunsItems}
-use Rattle.dispatch.specs.CommandOutput.{doing_at, fresh_output}
 use Rattle.dispatch.proofs.ForCallers.{reaches_none}
-use Rattle.session_engine.specs.Commands.{Performs, its_effect, its_refusal, reply_after, reply_once_told}
+use Rattle.session_engine.specs.Commands.{reply_once_told}
 use Rattle.session_engine.proofs.CommandsLemmas.{at_first_reaches, replied_last, starved_last}
 
 -- what there is to do, where the session has come from one state to another
@@ -54,13 +40,13 @@ module _ (caller : SessionContext) (asked : Asked) (old middle new : Tables) (be
 
   pub performs_told : {T E : Type 0} (value : T) → RunsItems {E = E} caller items middle new before after (Ok value)
       → Performs caller asked old new after.failing (reply_after after.lines) (Ok answer)
-  performs_told value does = replied_last caller asked old new after answer does.posts passed
+  performs_told value does = replied_last after passed
       (told_runs ∙ ap (λ doing. ended (line_told doing (line.Reply answer))) (does.runs [])) (told_reaches does.posts does.reaches)
 
   -- where memory was wanted, the first of its posts are made
   pub starved_told : {T E U : Type 0} (error : E) (lines : U → List Line) (result : Result U Fault) → IsErrAnd result (λ fault. fault ≡ Memory)
       → RunsItems {T = T} caller items middle new before after (Err error) → Performs caller asked old new after.failing lines result
-  starved_told error lines result wanted does = starved_last caller asked old new after does.posts _ _ lines result wanted passed told_runs (does.front [])
+  starved_told error lines result wanted does = starved_last after does.posts _ _ result wanted passed told_runs (does.front [])
       (told_reaches does.posts does.reaches)
 
   -- in both cases, where the result is the reply or that memory ran out

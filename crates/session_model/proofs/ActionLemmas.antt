@@ -2,26 +2,11 @@
 use Rattle.std.proofs.Common.{◌≡◌, ℕ, Bool, true, false, cond, List, [], ◌∷◌, Option, Some, None, Ok, Err, sym, ap, ◌∙◌}
 use Rattle.std.specs.Option.{option_map_or, option_or}
 use Rattle.std.specs.Result.{result_err}
-use Rattle.plain_types.specs.declared.code.Code.{Code}
-use Rattle.plain_types.specs.declared.code.Code.TheVariants.{NoSuchObject}
-use Rattle.signature_core.specs.declared.signature.Signature.{Signature}
-use Rattle.variant_value.specs.declared.value.Value.{Value}
-use Rattle.term_core.specs.declared.action.SingleAction.{SingleAction}
+use Rattle.session_model.proofs.Common.{Code, NoSuchObject, Signature, Value, SingleAction, Target, Acts, single_action, when, Term, Operation, is_there}
+use Rattle.session_model.proofs.Common.{act_operation, acts, chosen, emission, warns_or, with_found, step, operation_done, operation_refusal, found_refusal}
+use Rattle.session_model.proofs.Common.{Execution, Act, Emit, Next, Warn, puts, Found, Settings, object_of, truth_evaluated, Writing, written}
 use Rattle.term_core.specs.declared.action.SingleAction.TheVariants as e
-use Rattle.term_core.specs.declared.target.Target.{Target}
-use Rattle.term_core.specs.Act.{Acts, single_action, when}
-use Rattle.term_core.specs.Term.{Term}
-use Rattle.session_model.specs.declared.operation.Operation.{Operation}
-use Rattle.object_tree.specs.Rows.{is_there}
-use Rattle.session_model.specs.Acts.{act_operation, acts, chosen, emission, warns_or, with_found, writing}
-use Rattle.session_model.specs.Agenda.{step}
-use Rattle.session_model.specs.Operations.{operation_done, operation_refusal, found_refusal}
-use Rattle.session_model.specs.Execution.{Execution}
-use Rattle.session_model.specs.Items.{Act, Emit, Next, Warn, puts}
-use Rattle.session_model.specs.Methods.{Found}
-use Rattle.session_model.specs.Settings.{Settings}
-use Rattle.session_model.specs.Targets.{object_of, truth_evaluated}
-use Rattle.session_model.specs.Writing.{Writing, written}
+use Rattle.session_model.specs.Acts.{writing}
 
 module _ (settings : Settings) (self sender : ℕ) (args : List Value) (depth : ℕ) (doing : Execution) where
   -- what a single action comes to

@@ -7,23 +7,18 @@ use Rattle.std.specs.Option.{option_and_then, option_map_or}
 use Rattle.std.proofs.lemmas.Bool.{not-true}
 use Rattle.std.proofs.lemmas.Bool.Decides.{nat_tests}
 use Rattle.std.proofs.lemmas.List.Elements.{recursion_from_All, All-filter, filter_map-append, filter_passes}
-use Rattle.variant_value.specs.declared.value.Value.{Value}
-use Rattle.variant_value.specs.Values.{is_same}
-use Rattle.property_store.specs.declared.field.Field.{Field}
+use Rattle.session_model.proofs.Common.{Value, is_same, Field, Properties, Store, changed, properties_of, with_value, without_others, Term, Change, Property}
+use Rattle.session_model.proofs.Common.{Shown, before, has_turn, in_turn, is_same_error, notice, shown_now, warning, Cell, cell_in, cell_of, properties_in}
+use Rattle.session_model.proofs.Common.{all_shown_sound}
 use Rattle.property_store.specs.Store as store
-use Rattle.property_store.specs.Store.{Properties, Store, changed, properties_of, with_value, without}
-use Rattle.property_store.proofs.ForCallers.{without_others}
-use Rattle.term_core.specs.Term.{Term}
-use Rattle.binding_values.specs.declared.change.Change.{Change}
+use Rattle.property_store.specs.Store.{without}
 use Rattle.binding_values.specs.declared.change.ChangeKind.TheVariants as message
-use Rattle.property_store.specs.declared.property.Property.{Property}
-use Rattle.binding_values.specs.declared.shown.Shown.{Shown}
-use Rattle.binding_values.specs.Graph.{all_shown, before, changes, fresh, has_turn, in_turn, is_same_error, notice, shown_as, shown_at, shown_now, warning}
-use Rattle.binding_values.specs.Scene.{Cell, Outcome, choose, evaluated, plain}
+use Rattle.binding_values.specs.Graph.{all_shown, changes, fresh, shown_as, shown_at}
+use Rattle.binding_values.specs.Scene.{Outcome, choose, evaluated, plain}
 use Rattle.property_store.specs.Property.{is_property}
 use Rattle.binding_values.specs.Sorted.{IsRising}
-use Rattle.binding_values.specs.Stored.{cell_in, cell_of, properties_in, scene_of}
-use Rattle.binding_values.proofs.ForCallers.{plain_rule, property_eq, all_given, is_other, found_in_all, all_shown_sound, same_value}
+use Rattle.binding_values.specs.Stored.{scene_of}
+use Rattle.binding_values.proofs.ForCallers.{plain_rule, property_eq, all_given, is_other, found_in_all, same_value}
 use Rattle.session_model.proofs.BindingLemmas.{found_number, graph_sound_none}
 use Rattle.session_model.proofs.QuietLemmas.{all_in_turn, changed_one, found_changed, none_made, quiet, rows_of_now}
 use Rattle.session_model.proofs.FilterLemmas.{filter-none}

@@ -1,18 +1,14 @@
 -- What a post does to a session.
 use Rattle.std.proofs.Common.{◌≡◌, ℕ, Bool, true, false, cond, List, [], ◌∷◌, ◌++◌, All, refl}
 use Rattle.std.proofs.lemmas.List.Elements.{All-head, All-tail}
-use Rattle.class_table.specs.declared.class.Class.{Class}
+use Rattle.session_model.proofs.Common.{Class, Queue, has_room, with_mismatched, Row, Join, Post, joined_call, reached_by, State, arrives}
 use Rattle.event_queue.specs.declared.event.Event.TheVariants.{Call}
-use Rattle.event_queue.specs.Queue.{Queue, has_room, enqueued, with_lost, with_mismatched}
+use Rattle.event_queue.specs.Queue.{enqueued, with_lost}
 use Rattle.isolation.specs.World.{all_arrive}
-use Rattle.object_tree.specs.declared.row.Row.{Row}
-use Rattle.publish_board.specs.declared.join.Join.{Join}
 use Rattle.publish_board.specs.Rows.{listens}
-use Rattle.session_model.specs.declared.post.Post.{Post}
-use Rattle.session_model.specs.Arriving.{is_matched, joined_call, reached, reached_by, with_call}
+use Rattle.session_model.specs.Arriving.{is_matched, reached, with_call}
 use Rattle.session_model.specs.Machine.{machine}
-use Rattle.session_model.specs.State.{State}
-use Rattle.session_model.specs.Thread.{Settings, arrive_all, arrives}
+use Rattle.session_model.specs.Thread.{Settings, arrive_all}
 
 -- by each join a queue gets a call, or counts it as lost or mismatched, or stays as it was
 module _ (classes : List Class) (rows : List Row) (from : List ℕ) (post : Post) (P : Queue → Type 0)

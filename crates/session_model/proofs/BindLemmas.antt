@@ -1,31 +1,24 @@
 -- The rule of each command for bindings and groups: why it is refused, what it does where it is not, and what it
 -- keeps of a session.
-use Rattle.binding_values.specs.Graph.{begin_refusal, bind_refusal, end_refusal, is_bound, is_open}
-use Rattle.property_store.specs.declared.property.Property.{Property}
-use Rattle.serde_json.specs.Data.{Data}
+use Rattle.binding_values.specs.Graph.{end_refusal}
 use Rattle.std.proofs.Common.{Err, List, None, Ok, Some, [], ap, refl, true, ℕ, ◌∙◌, ◌≡◌}
 use Rattle.std.proofs.lemmas.Bool.{cond_both}
 use Rattle.std.proofs.lemmas.List.Elements.{All-nil}
 use Rattle.std.specs.List.{All}
 use Rattle.std.specs.Result.{result_err}
+use Rattle.session_model.proofs.Common.{begin_refusal, bind_refusal, is_bound, is_open, Property, Data, begun, does_next, IsRightPost, Item, Found, IsNamedItem}
+use Rattle.session_model.proofs.Common.{comes_to, showing, State, with_binding_taken, without_group}
 use Rattle.session_model.proofs.BindableLemmas.{may_be_bound}
 use Rattle.session_model.proofs.DeclaredLemmas.{declared_with_binding_taken}
 use Rattle.session_model.proofs.FittingToldLemmas.{ending_fits}
-use Rattle.session_model.proofs.KeepingLemmas.{Keeps, done, refused, replied, told, leaves_with}
-use Rattle.session_model.proofs.NamedLemmas.{named_beside, named_with_binding_taken, tells_named}
+use Rattle.session_model.proofs.KeepingLemmas.{Keeps, done, leaves_beside, leaves_with, refused, replied, told}
+use Rattle.session_model.proofs.NamedLemmas.{named_with_binding_taken, tells_named}
 use Rattle.session_model.proofs.ShowingLemmas.{ending, ending_stays, tells}
 use Rattle.session_model.proofs.StateLemmas.{whole_with_binding, whole_with_binding_taken, whole_with_group, whole_without_group}
 use Rattle.session_model.specs.Asked.{Begin, Bind, End, Unbind}
 use Rattle.session_model.specs.Binding.{Bound, asked_binding, asked_property, begins, binding_refusal, binds_found, ends, unbinds_found}
-use Rattle.session_model.specs.Execution.{begun}
-use Rattle.session_model.specs.Effects.{does_next}
-use Rattle.session_model.specs.Fitting.{IsRightPost}
-use Rattle.session_model.specs.Items.{Item}
-use Rattle.session_model.specs.Methods.{Found}
-use Rattle.session_model.specs.Named.{IsNamedItem}
 use Rattle.session_model.specs.Refusing.{refusal}
-use Rattle.session_model.specs.Showing.{comes_to, showing}
-use Rattle.session_model.specs.State.{State, with_binding, with_binding_taken, with_group, without_group}
+use Rattle.session_model.specs.State.{with_binding}
 use Rattle.session_model.specs.Thread.{Settings, performs}
 use Rattle.session_model.specs.declared.line.Answer.TheVariants as a
 use Rattle.binding_values.specs.Graph as graph
@@ -92,37 +85,31 @@ module _ (settings : Settings) (state : State) where
     where
       by : (found : Found Bound) → asked_binding state target property to ≡ found → binding_refusal state found ≡ None
           → Keeps settings state (Bind target property to) (binds_found settings state found)
-      by (Err code) is passed = refused settings state (Bind target property to) code
+      by (Err code) is passed = refused
       by (Ok bound) is passed =
           let its = may_be_bound state target property to bound is in
-          told settings state (Bind target property to) (with_binding state bound.at bound.term) (Some bound.at) (a.Truth true)
-          (leaves_with settings state (Bind target property to) _ _ _ _ _
-          (λ sound. whole_with_binding state bound.at bound.term its.bindable its.short passed sound.whole) (λ declared. declared)
-          (λ before. fits_own settings state before.fit)
-          (λ asked named. named_beside state named (with_binding state bound.at bound.term) refl refl) (λ plain test held. held))
+          told (with_binding state bound.at bound.term) (Some bound.at) (a.Truth true)
+          (leaves_beside (λ sound. whole_with_binding bound.at bound.term its.bindable its.short passed sound.whole) fits_own)
 
   pub unbind_keeps : (target : ℕ) (property : List ℕ) → Keeps settings state (Unbind target property)
       (unbinds_found settings state (asked_property state target property))
   unbind_keeps target property = by (asked_property state target property)
     where
       by : (found : Found Property) → Keeps settings state (Unbind target property) (unbinds_found settings state found)
-      by (Err code) = refused settings state (Unbind target property) code
-      by (Ok at) = told settings state (Unbind target property) (with_binding_taken state at) (Some at) (a.Truth (is_bound state.graph.bindings at))
-          (leaves_with settings state (Unbind target property) _ _ _ _ _ (λ sound. whole_with_binding_taken state at sound.whole)
-          (λ declared. declared_with_binding_taken settings.classes state declared at) (λ before. fits_own settings state before.fit)
+      by (Err code) = refused
+      by (Ok at) = told (with_binding_taken state at) (Some at) (a.Truth (is_bound state.graph.bindings at))
+          (leaves_with (λ sound. whole_with_binding_taken at sound.whole)
+          (λ declared. declared_with_binding_taken settings.classes state declared at) (λ before. fits_own before.fit)
           (λ asked named. named_with_binding_taken state named at) (λ plain test held. held))
 
   pub begin_keeps : begin_refusal state.graph ≡ None → Keeps settings state Begin (begins state)
-  begin_keeps passed = replied settings state Begin (with_group state) _ (leaves_with settings state Begin _ _ _ _ _
-      (λ sound. whole_with_group state passed sound.whole) (λ declared. declared) (λ before. fits_own settings state before.fit)
-      (λ asked named. named_beside state named (with_group state) refl refl) (λ plain test held. held))
+  begin_keeps passed = replied (leaves_beside (λ sound. whole_with_group passed sound.whole) fits_own)
 
   pub end_keeps : Keeps settings state End (ends settings state)
-  end_keeps = done settings state End (ending settings state) (a.Number after.graph.depth) (record {
+  end_keeps = done (ending settings state) (a.Number after.graph.depth) (record {
     none = ending_stays settings state;
-    leaves = leaves_with settings state End _ _ _ _ _ (λ sound. whole_without_group state sound.whole) (λ declared. declared)
-        (λ before. fits_own settings state before.fit) (λ asked named. named_beside state named after refl refl) (λ plain test held. held);
-    items = λ fits. ending_fits settings fits.are.table state fits.sound.whole (whole_without_group state fits.sound.whole) fits.declared;
+    leaves = leaves_beside (λ sound. whole_without_group sound.whole) fits_own;
+    items = λ fits. ending_fits settings fits.are.table state fits.sound.whole (whole_without_group fits.sound.whole) fits.declared;
     posts = All-nil IsRightPost;
     names = λ are is named. cond_both (is_open after.graph) [] changed (All IsNamedItem) (λ deep. All-nil IsNamedItem) (λ last. tells_named settings after 0 _);
   })

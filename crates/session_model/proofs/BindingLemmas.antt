@@ -7,24 +7,20 @@ use Rattle.std.proofs.lemmas.Bool.{leb-false, not-true}
 use Rattle.std.proofs.lemmas.Bool.Decides.{nat_tests}
 use Rattle.std.proofs.lemmas.List.{length-append}
 use Rattle.std.proofs.lemmas.List.Elements.{All-append, All-cons, All-filter, All-weaker, filter_passes}
-use Rattle.plain_types.specs.declared.code.Code.TheVariants.{Limit}
-use Rattle.term_core.specs.Forms.{is_within_limits}
-use Rattle.term_core.specs.Term.{Term}
-use Rattle.variant_value.specs.declared.value.Value.{Value}
-use Rattle.variant_value.specs.Values.{IsShort, converted}
-use Rattle.property_store.specs.declared.field.Field.{Field}
+use Rattle.session_model.proofs.Common.{Limit, is_within_limits, Term, Value, IsShort, converted, Field, AreSound, Properties, Store, changed, fitting}
+use Rattle.session_model.proofs.Common.{properties_of, with_value, changed_fields, without_others, Property, Graph, begin_refusal, bind_refusal, is_bound}
+use Rattle.session_model.proofs.Common.{is_open, unbound, properties_in, all_shown_sound}
 use Rattle.property_store.specs.Store as store
-use Rattle.property_store.specs.Store.{AreSound, Properties, Store, added, changed, field_at, fitting, properties_of, with_value, without}
-use Rattle.property_store.proofs.ForCallers.{converted_fits, with_value_sound, added_others, changed_fields, objects, without_others}
+use Rattle.property_store.specs.Store.{added, field_at, without}
+use Rattle.property_store.proofs.ForCallers.{converted_fits, with_value_sound, added_others, objects}
 use Rattle.binding_values.specs.declared.binding.Binding.{Binding}
-use Rattle.property_store.specs.declared.property.Property.{Property}
 use Rattle.binding_values.specs.Graph as graph
-use Rattle.binding_values.specs.Graph.{AreShown, Graph, begin_refusal, begun, bind_refusal, ended, is_bound, is_open, no_graph, unbound, without_object}
+use Rattle.binding_values.specs.Graph.{AreShown, begun, ended, no_graph, without_object}
 use Rattle.binding_values.specs.Binds.{with_binding}
 use Rattle.property_store.specs.Property.{is_property}
 use Rattle.binding_values.specs.Sorted.{is_before}
-use Rattle.binding_values.specs.Stored.{is_bindable, numbered, properties_in, properties_of_object}
-use Rattle.binding_values.proofs.ForCallers.{fewer_sound, with_limited, property_eq, never_before, not_behind, with_rising, all_shown_sound}
+use Rattle.binding_values.specs.Stored.{is_bindable, numbered, properties_of_object}
+use Rattle.binding_values.proofs.ForCallers.{fewer_sound, with_limited, property_eq, never_before, not_behind, with_rising}
 use Rattle.session_model.specs.State.{closed}
 
 -- the properties that an object declares, where it is there
@@ -211,9 +207,9 @@ graph_sound_none = record {
 nothing_shown : AreShown []
 nothing_shown = record { rising = λ i j default lt within. absurd (omega arith); fitting = λ index default within. absurd (omega arith) }
 
-pub graph_sound_bound : (g : Graph) (at : Property) (term : Term) → bind_refusal g at ≡ None → is_within_limits term ≡ true → graph.IsSound g
+pub graph_sound_bound : {g : Graph} (at : Property) (term : Term) → bind_refusal g at ≡ None → is_within_limits term ≡ true → graph.IsSound g
     → graph.IsSound (graph.bound g at term)
-graph_sound_bound g at term passed short sound = record {
+graph_sound_bound {g} at term passed short sound = record {
   bindings = record {
     few = with_few g new passed sound.bindings.few;
     rising = with_rising (λ (binding : Binding). binding.at) new g.bindings sound.bindings.rising;
@@ -226,20 +222,20 @@ graph_sound_bound g at term passed short sound = record {
     new : Binding
     new = record { at = at; expr = term }
 
-pub graph_sound_unbound : (g : Graph) (at : Property) → graph.IsSound g → graph.IsSound (unbound g at)
-graph_sound_unbound g at sound = record {
+pub graph_sound_unbound : {g : Graph} (at : Property) → graph.IsSound g → graph.IsSound (unbound g at)
+graph_sound_unbound {g} at sound = record {
   bindings = fewer_sound (λ (binding : Binding). not (is_property at binding.at)) g.bindings sound.bindings;
   last = sound.last;
   shallow = sound.shallow;
 }
 
-pub graph_sound_without : (g : Graph) (object : ℕ) → graph.IsSound g → graph.IsSound (without_object object g)
-graph_sound_without g object sound = record
+pub graph_sound_without : {g : Graph} (object : ℕ) → graph.IsSound g → graph.IsSound (without_object object g)
+graph_sound_without {g} object sound = record
     { bindings = fewer_sound (λ (binding : Binding). not (binding.at.object == object)) g.bindings sound.bindings; last = sound.last; shallow = sound.shallow }
 
 -- a group more is not too many where it was not refused
-pub graph_sound_begun : (s : Store) (g : Graph) → store.IsSound s → begin_refusal g ≡ None → graph.IsSound g → graph.IsSound (begun s g)
-graph_sound_begun s g stored passed sound = record { bindings = sound.bindings; last = kept (is_open g); shallow = by (nat_le 1000 g.depth) refl passed }
+pub graph_sound_begun : {s : Store} {g : Graph} → store.IsSound s → begin_refusal g ≡ None → graph.IsSound g → graph.IsSound (begun s g)
+graph_sound_begun {s} {g} stored passed sound = record { bindings = sound.bindings; last = kept (is_open g); shallow = by (nat_le 1000 g.depth) refl passed }
   where
     kept : (deep : Bool) → AreShown (cond deep g.last (graph.all_shown s g.bindings))
     kept true = sound.last
@@ -249,8 +245,8 @@ graph_sound_begun s g stored passed sound = record { bindings = sound.bindings; 
     by true e none = absurd (cc)
     by false e none = let less = leb-false 1000 g.depth e in omega (arith, less)
 
-pub graph_sound_ended : (g : Graph) → graph.IsSound g → graph.IsSound (closed (ended g))
-graph_sound_ended g sound = by (is_open (ended g))
+pub graph_sound_ended : {g : Graph} → graph.IsSound g → graph.IsSound (closed (ended g))
+graph_sound_ended {g} sound = by (is_open (ended g))
   where
     by : (deep : Bool) → graph.IsSound (cond deep (ended g) (record (ended g) { last = [] }))
     by true = record { bindings = sound.bindings; last = sound.last; shallow = omega (arith, sound.shallow) }

@@ -1,10 +1,8 @@
 -- An expression that is read as a binding's is within the limits.
 use Rattle.std.proofs.Common.{◌≡◌, Bool, true, false, cond, Ok, Err, refl, subst}
-use Rattle.plain_types.specs.declared.code.Code.TheVariants.{Limit}
-use Rattle.serde_json.specs.Data.{Data}
-use Rattle.term_core.specs.Forms.{binding_term_of, is_within_limits, term_in, within_limits}
+use Rattle.session_model.proofs.Common.{Limit, Data, is_within_limits, Term}
+use Rattle.term_core.specs.Forms.{binding_term_of, term_in, within_limits}
 use Rattle.term_core.specs.Json.{Read, ◌>>=◌}
-use Rattle.term_core.specs.Term.{Term}
 
 by_scope : (scope : _) (json : Data) (term : Term) → (term_in scope json >>= within_limits) ≡ Ok term → is_within_limits term ≡ true
 by_scope scope json term is = by (term_in scope json) is

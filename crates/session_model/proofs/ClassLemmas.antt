@@ -3,8 +3,8 @@ use Rattle.std.proofs.Common.{◌≡◌, ℕ, List, [], ◌∷◌, length, map, 
 use Rattle.std.specs.Option.{option_and_then, option_map, unwrap_or}
 use Rattle.std.proofs.lemmas.List.Quantifiers.{position-Some}
 use Rattle.std.proofs.lemmas.Option.{slice_get-get_or}
-use Rattle.class_table.specs.declared.class.Class.{Class}
-use Rattle.class_table.specs.Lookup.{inherited, method_text, methods, names, index_of, properties}
+use Rattle.session_model.proofs.Common.{Class, methods, properties}
+use Rattle.class_table.specs.Lookup.{inherited, method_text, names, index_of}
 use Rattle.session_model.specs.declared.meta.MetaObject.{MetaObject}
 use Rattle.session_model.specs.Classes.{class_name, described}
 

@@ -1,6 +1,6 @@
 -- What each command keeps of a session, and by that the laws of sessions.
-use Rattle.plain_types.specs.declared.code.Code.{Code}
 use Rattle.std.proofs.Common.{List, None, Option, Some, arith, refl, ℕ, ◌≡◌}
+use Rattle.session_model.proofs.Common.{Code, Asked, Settings, State}
 use Rattle.session_model.proofs.BindLemmas.{begin_keeps, bind_keeps, end_keeps, unbind_keeps}
 use Rattle.session_model.proofs.DeclaredLemmas.{item_declared, post_declared}
 use Rattle.session_model.proofs.EventLemmas.{do_keeps, spin_keeps}
@@ -13,14 +13,11 @@ use Rattle.session_model.proofs.PropertyLemmas.{set_keeps}
 use Rattle.session_model.proofs.SharingLemmas.{join_keeps, leave_keeps, publish_keeps, reset_keeps, unpublish_keeps}
 use Rattle.session_model.proofs.SignalLemmas.{connect_functor_keeps, connect_keeps, disconnect_keeps, disconnect_one_keeps, invoke_keeps}
 use Rattle.session_model.proofs.TreeLemmas.{delete_keeps, new_keeps}
-use Rattle.session_model.specs.Asked.{Ask, Asked, Begin, Bind, Connect, ConnectFunctor, Delete, Disconnect, DisconnectOne, Do, End, Invoke, Join, Leave, New}
+use Rattle.session_model.specs.Asked.{Ask, Begin, Bind, Connect, ConnectFunctor, Delete, Disconnect, DisconnectOne, Do, End, Invoke, Join, Leave, New}
 use Rattle.session_model.specs.Asked.{Publish, Reset, Set, Spin, Unbind, Unpublish}
-use Rattle.session_model.specs.Effects.{answers, unless}
+use Rattle.session_model.specs.Effects.{unless}
 use Rattle.session_model.specs.Laws.{KeepsDeclared, KeepsFitting, KeepsNamed, KeepsSound}
-use Rattle.session_model.specs.Queries.{query_answer}
 use Rattle.session_model.specs.Refusing.{refusal}
-use Rattle.session_model.specs.Settings.{Settings}
-use Rattle.session_model.specs.State.{State}
 use Rattle.session_model.specs.Thread.{does, performs}
 
 performed_keeps : (settings : Settings) (self : List ℕ) (state : State) (asked : Asked) → refusal settings self state asked ≡ None
@@ -46,8 +43,7 @@ performed_keeps settings self state (Bind target property to) passed = bind_keep
 performed_keeps settings self state (Unbind target property) passed = unbind_keeps settings state target property
 performed_keeps settings self state Begin passed = begin_keeps settings state passed
 performed_keeps settings self state End passed = end_keeps settings state
-performed_keeps settings self state (Ask query) passed = told_one settings state (Ask query) (answers state (query_answer settings state query)) refl
-    (stays settings state (Ask query))
+performed_keeps settings self state (Ask query) passed = told_one refl stays
 performed_keeps settings self state Reset passed = reset_keeps settings state
 
 -- a refused command leaves the session
@@ -58,7 +54,7 @@ command_keeps settings self state asked = by (refusal settings self state asked)
     by : (refusal : Option Code) → (refusal ≡ None → Keeps settings state asked (performs settings self state asked))
         → Keeps settings state asked (unless refusal state (performs settings self state asked))
     by None keeps = keeps refl
-    by (Some code) keeps = refused settings state asked code
+    by (Some code) keeps = refused
 
 pub keeps_sound : KeepsSound
 keeps_sound = record {

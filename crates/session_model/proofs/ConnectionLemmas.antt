@@ -9,16 +9,12 @@ use Rattle.std.proofs.lemmas.List.Elements.{All-head, All-push, All-tail, All-we
 use Rattle.std.proofs.lemmas.List.{length-append}
 use Rattle.std.proofs.lemmas.List.Folds.{list_any-append}
 use Rattle.std.proofs.lemmas.List.Kept.{AllPairs-cons}
-use Rattle.plain_types.specs.declared.code.Code.TheVariants.{ConnectedAlready, Limit, NumbersUsedUp}
-use Rattle.object_tree.specs.Rows.{is_there, numbers}
+use Rattle.session_model.proofs.Common.{Limit, is_there, numbers, Connection, NewConnection, IsRising, Rows, numbered, rising_head, rising_tail, IsTied, State}
+use Rattle.plain_types.specs.declared.code.Code.TheVariants.{ConnectedAlready, NumbersUsedUp}
 use Rattle.object_tree.proofs.ForCallers.{there_among}
-use Rattle.connection_list.specs.declared.connection.Connection.{Connection}
-use Rattle.connection_list.specs.declared.connection.NewConnection.{NewConnection}
 use Rattle.connection_list.specs.declared.limit.TheConstants.{CONNECTIONS}
 use Rattle.connection_list.specs.Ends.{same_ends}
-use Rattle.connection_list.specs.Rows.{IsRising, IsSound, Rows, connect_refusal, connected, no_rows, numbered}
-use Rattle.connection_list.proofs.ForCallers.{rising_head, rising_tail}
-use Rattle.session_model.specs.State.{IsTied, State}
+use Rattle.connection_list.specs.Rows.{IsSound, connect_refusal, connected, no_rows}
 
 pub sound_empty : IsSound no_rows
 sound_empty = record {
@@ -39,8 +35,8 @@ pub or_none : {A : Type 0} (first second : Option A) → option_or first second 
 or_none None second passed = (refl, passed)
 or_none (Some code) second passed = absurd (cc)
 
-pub allowed : (place : Rows) (new : NewConnection) (unique : Bool) → connect_refusal place new unique ≡ None → IsAllowed place
-allowed place new unique passed = by (unique && list_any (same_ends new) place.rows) passed
+pub allowed : {place : Rows} (new : NewConnection) (unique : Bool) → connect_refusal place new unique ≡ None → IsAllowed place
+allowed {place} new unique passed = by (unique && list_any (same_ends new) place.rows) passed
   where
     numbers' : (full : Bool) → nat_le (2 ^ 32 - 1) place.last_number ≡ full → cond full (Some NumbersUsedUp) None ≡ None → place.last_number < 2 ^ 32 - 1
     numbers' true is e = absurd (cc)
@@ -68,8 +64,8 @@ rising_push (row ∷ rows) last above rising =
     (rising_push rows last (All-tail (λ (row : Connection). row.number < last.number) row rows above) (rising_tail row rows rising))
 
 -- the connections stay sound with one more that is not refused
-pub sound_connected : (place : Rows) (new : NewConnection) → IsAllowed place → IsSound place → IsSound (connected place new)
-sound_connected place new is_allowed sound =
+pub sound_connected : {place : Rows} (new : NewConnection) → IsAllowed place → IsSound place → IsSound (connected place new)
+sound_connected {place} new is_allowed sound =
     let last : Connection = numbered (place.last_number + 1) new in
     record {
       rising = rising_push place.rows last (All-weaker (λ (row : Connection). row.number ≤ place.last_number)

@@ -1,10 +1,6 @@
 -- Each object keeps the properties that its class declares.
-use Rattle.binding_values.specs.Graph.{is_bound, unbound, value_in}
-use Rattle.class_table.specs.declared.class.Class.{Class}
-use Rattle.object_tree.specs.Changes.{added, changed}
-use Rattle.object_tree.specs.declared.row.Row.{Row}
-use Rattle.property_store.proofs.ForCallers.{added_found, added_others, changed_fields, without_others}
-use Rattle.property_store.specs.Store.{Properties, fitting, properties_of, with_value}
+use Rattle.object_tree.specs.Changes.{added}
+use Rattle.property_store.proofs.ForCallers.{added_found, added_others}
 use Rattle.property_store.specs.declared.property.Property.{Property as At}
 use Rattle.std.proofs.Common.{Bool, List, None, Option, Some, ap, arith, false, get_or, refl, ℕ, ◌+◌, ◌==◌, ◌∙◌, ◌≡◌, ◌≤◌}
 use Rattle.std.proofs.lemmas.Bool.{cond_both}
@@ -12,19 +8,12 @@ use Rattle.std.proofs.lemmas.Bool.Decides.{nat_tests}
 use Rattle.std.proofs.lemmas.List.Elements.{All-push, All-weaker}
 use Rattle.std.specs.List.{All}
 use Rattle.std.specs.Option.{option_map, option_map_or}
+use Rattle.session_model.proofs.Common.{is_bound, unbound, value_in, Class, Row, changed_fields, without_others, Properties, fitting, properties_of, with_value}
+use Rattle.session_model.proofs.Common.{step, with_operation, Execution, dying, Item, run, IsDeclared, State, fields_of, with_binding_taken, with_object}
+use Rattle.session_model.proofs.Common.{with_properties, without_object, Nothing, Writing, with_writing, Operation, Post, Value}
 use Rattle.session_model.proofs.RunLemmas.{run_keeps}
 use Rattle.session_model.proofs.StepLemmas.{HoldsOfStates, of_states, step_holds}
-use Rattle.session_model.specs.Agenda.{step}
-use Rattle.session_model.specs.Operations.{with_operation}
-use Rattle.session_model.specs.Execution.{Execution, dying}
-use Rattle.session_model.specs.Items.{Item}
-use Rattle.session_model.specs.Run.{run}
-use Rattle.session_model.specs.State.{IsDeclared, State, fields_of, with_binding_taken, with_object, with_properties, without_object}
 use Rattle.session_model.specs.Thread.{Settings, arrives}
-use Rattle.session_model.specs.Writing.{Nothing, Writing, with_writing}
-use Rattle.session_model.specs.declared.operation.Operation.{Operation}
-use Rattle.session_model.specs.declared.post.Post.{Post}
-use Rattle.variant_value.specs.declared.value.Value.{Value}
 use Rattle.session_model.specs.declared.operation.Operation.TheVariants as d
 use Rattle.property_store.specs.Store as stored
 use Rattle.session_model.proofs.ForestLemmas.{each_blocked, each_marked, each_removed, each_reparented}

@@ -1,13 +1,9 @@
 -- The rules by which an object is deleted: one for each way that it goes.
 use Rattle.std.proofs.Common.{◌≡◌, ℕ, true, false, [], ◌∷◌, None, refl}
 use Rattle.std.proofs.lemmas.Bool.{cond-false, cond-true}
-use Rattle.session_model.specs.declared.call.TheConstants.{DESTROYED}
-use Rattle.session_model.specs.Agenda.{delete_children, lives, lives_below, step}
-use Rattle.session_model.specs.Execution.{Execution, dying, severed}
-use Rattle.session_model.specs.Items.{Detach, Delete, Emit, Remove, DeleteChild, puts}
-use Rattle.session_model.specs.Settings.{Settings}
-use Rattle.session_model.specs.Showing.{comes_to}
-use Rattle.session_model.specs.State.{without_object}
+use Rattle.session_model.proofs.Common.{DESTROYED, delete_children, lives, step, Execution, dying, severed, Detach, Delete, Emit, Remove, DeleteChild, puts}
+use Rattle.session_model.proofs.Common.{Settings, comes_to, without_object}
+use Rattle.session_model.specs.Agenda.{lives_below}
 
 module _ (settings : Settings) (target depth : ℕ) (doing : Execution) where
   -- an object that is gone or dying is left alone

@@ -8,15 +8,10 @@ use Rattle.std.proofs.lemmas.List.Elements.{All-filter, All-from_recursion, All-
 use Rattle.std.proofs.lemmas.List.Kept.{AllPairs-filter}
 use Rattle.std.proofs.lemmas.List.Quantifiers.{all_pairs_push}
 use Rattle.std.proofs.lemmas.List.Sums.{count_by-le-length, length-filter}
-use Rattle.plain_types.specs.declared.code.Code.TheVariants.{DoesNotFit, Limit, NameTaken, OwnSession}
-use Rattle.signature_core.specs.declared.kind.Kind.{Kind}
-use Rattle.signature_core.specs.Kinds.{fits}
-use Rattle.object_tree.specs.Rows.{is_there, numbers}
-use Rattle.publish_board.specs.declared.join.Join.{Join}
-use Rattle.publish_board.specs.declared.publication.Publication.{Publication}
-use Rattle.publish_board.specs.Desk.{Desk, IsSound, join_refusal, with_join, left, no_desk, publish_refusal, published, unpublished, without_object}
+use Rattle.session_model.proofs.Common.{DoesNotFit, Limit, Kind, fits, is_there, numbers, Join, Publication, Desk, OfDesk, State}
+use Rattle.plain_types.specs.declared.code.Code.TheVariants.{NameTaken, OwnSession}
+use Rattle.publish_board.specs.Desk.{IsSound, join_refusal, with_join, left, no_desk, publish_refusal, published, unpublished, without_object}
 use Rattle.publish_board.specs.Rows.{has_name, is_join}
-use Rattle.session_model.specs.State.{OfDesk, State}
 use Rattle.session_model.proofs.ConnectionLemmas.{there_more, there_same, there_without}
 use Rattle.session_model.proofs.FilterLemmas.{all_left}
 
@@ -43,8 +38,8 @@ each_other name rows none = All-from_recursion (λ row. has_name name row ≡ fa
     by [] none = tt
     by (row ∷ rest) none = let parts = one (has_name name row) rest none in (parts.0, by rest parts.1)
 
-pub sound_published : (desk : Desk) (row : Publication) → publish_refusal desk row.name ≡ None → IsSound desk → IsSound (published desk row)
-sound_published desk row passed sound = by (list_any (has_name row.name) desk.publications) (nat_le 1024 (length desk.publications)) refl refl passed
+pub sound_published : {desk : Desk} (row : Publication) → publish_refusal desk row.name ≡ None → IsSound desk → IsSound (published desk row)
+sound_published {desk} row passed sound = by (list_any (has_name row.name) desk.publications) (nat_le 1024 (length desk.publications)) refl refl passed
   where
     by : (taken full : Bool) → list_any (has_name row.name) desk.publications ≡ taken → nat_le 1024 (length desk.publications) ≡ full
         → cond taken (Some NameTaken) (cond full (Some Limit) None) ≡ None → IsSound (published desk row)
@@ -58,16 +53,16 @@ sound_published desk row passed sound = by (list_any (has_name row.name) desk.pu
           distinct = all_pairs_push Apart desk.publications row sound.distinct (each_other row.name desk.publications is);
         }
 
-pub sound_unpublished : (desk : Desk) (name : List ℕ) → IsSound desk → IsSound (unpublished desk name)
-sound_unpublished desk name sound = record {
+pub sound_unpublished : {desk : Desk} (name : List ℕ) → IsSound desk → IsSound (unpublished desk name)
+sound_unpublished {desk} name sound = record {
   few_publications = fewer 1024 (λ row. not (has_name name row)) desk.publications sound.few_publications;
   few_joins = sound.few_joins;
   distinct = AllPairs-filter Apart (λ row. not (has_name name row)) desk.publications sound.distinct;
 }
 
-pub sound_joined : (own : List ℕ) (desk : Desk) (join : Join) (wanted : List Kind) → join_refusal own desk join wanted ≡ None → IsSound desk
+pub sound_joined : (own : List ℕ) {desk : Desk} (join : Join) (wanted : List Kind) → join_refusal own desk join wanted ≡ None → IsSound desk
     → IsSound (with_join desk join)
-sound_joined own desk join wanted passed sound = by (not (fits join.kinds wanted)) (bytes_eq join.from own) (nat_le 1024 (length desk.joins)) refl passed
+sound_joined own {desk} join wanted passed sound = by (not (fits join.kinds wanted)) (bytes_eq join.from own) (nat_le 1024 (length desk.joins)) refl passed
   where
     by : (unfit own' full : Bool) → nat_le 1024 (length desk.joins) ≡ full
         → cond unfit (Some DoesNotFit) (cond own' (Some OwnSession) (cond full (Some Limit) None)) ≡ None → IsSound (with_join desk join)
@@ -78,23 +73,23 @@ sound_joined own desk join wanted passed sound = by (not (fits join.kinds wanted
         let few : length desk.joins < 1024 = grind (arith, nat_tests, room) in
         record { few_publications = sound.few_publications; few_joins = omega (arith, few, length-append desk.joins (join ∷ [])); distinct = sound.distinct }
 
-pub sound_left : (desk : Desk) (from name : List ℕ) (object method : ℕ) → IsSound desk → IsSound (left desk from name object method)
-sound_left desk from name object method sound = record {
+pub sound_left : {desk : Desk} (from name : List ℕ) (object method : ℕ) → IsSound desk → IsSound (left desk from name object method)
+sound_left {desk} from name object method sound = record {
   few_publications = sound.few_publications;
   few_joins = fewer 1024 (λ join. not (is_join from name object method join)) desk.joins sound.few_joins;
   distinct = sound.distinct;
 }
 
-pub sound_withdrawn : (object : ℕ) (desk : Desk) → IsSound desk → IsSound (without_object object desk)
-sound_withdrawn object desk sound = record {
+pub sound_withdrawn : (object : ℕ) {desk : Desk} → IsSound desk → IsSound (without_object object desk)
+sound_withdrawn object {desk} sound = record {
   few_publications = fewer 1024 (λ row. not (row.object == object)) desk.publications sound.few_publications;
   few_joins = fewer 1024 (λ join. not (join.object == object)) desk.joins sound.few_joins;
   distinct = AllPairs-filter Apart (λ row. not (row.object == object)) desk.publications sound.distinct;
 }
 
 -- what holds of each object of a desk
-pub each_of : (P Q : ℕ → Type 0) → ((number : ℕ) → P number → Q number) → (desk : Desk) → OfDesk P desk → OfDesk Q desk
-each_of P Q weaker desk all = record {
+pub each_of : (P Q : ℕ → Type 0) → ((number : ℕ) → P number → Q number) → {desk : Desk} → OfDesk P desk → OfDesk Q desk
+each_of P Q weaker {desk} all = record {
   publications = All-weaker (λ (row : Publication). P row.object) (λ (row : Publication). Q row.object)
       (λ row. weaker row.object) desk.publications all.publications;
   joins = All-weaker (λ (join : Join). P join.object) (λ (join : Join). Q join.object) (λ join. weaker join.object) desk.joins all.joins;
@@ -128,28 +123,28 @@ module _ (P : ℕ → Type 0) (desk : Desk) (all : OfDesk P desk) where
   }
 
 -- each object of the desk that is left when one is taken out is another
-pub of_others : (P : ℕ → Type 0) (desk : Desk) (object : ℕ) → OfDesk P desk
+pub of_others : (P : ℕ → Type 0) {desk : Desk} (object : ℕ) → OfDesk P desk
     → OfDesk (λ number. P number × ((number == object) ≡ false)) (without_object object desk)
-of_others P desk object all = record {
+of_others P {desk} object all = record {
   publications = all_left (λ (row : Publication). P row.object) (λ (row : Publication). row.object == object) desk.publications all.publications;
   joins = all_left (λ (join : Join). P join.object) (λ (join : Join). join.object == object) desk.joins all.joins;
 }
 
 -- the objects stand still where the numbers of objects stay the same
-pub desk_same : (old new : State) → numbers new.forest.rows ≡ numbers old.forest.rows → (desk : Desk)
+pub desk_same : (old new : State) → numbers new.forest.rows ≡ numbers old.forest.rows → {desk : Desk}
     → OfDesk (λ number. is_there old.forest.rows number ≡ true) desk → OfDesk (λ number. is_there new.forest.rows number ≡ true) desk
-desk_same old new same desk = each_of _ _ (there_same old new same) desk
+desk_same old new same = each_of _ _ (there_same old new same)
 
 -- where one more number is there
-pub desk_more : (old new : State) (number : ℕ) → numbers new.forest.rows ≡ numbers old.forest.rows ++ number ∷ [] → (desk : Desk)
+pub desk_more : (old new : State) (number : ℕ) → numbers new.forest.rows ≡ numbers old.forest.rows ++ number ∷ [] → {desk : Desk}
     → OfDesk (λ number. is_there old.forest.rows number ≡ true) desk → OfDesk (λ number. is_there new.forest.rows number ≡ true) desk
-desk_more old new number more desk = each_of _ _ (there_more old new number more) desk
+desk_more old new number more = each_of _ _ (there_more old new number more)
 
 -- and where a number goes that is not named
-pub desk_without : (old new : State) (gone : ℕ) → numbers new.forest.rows ≡ filter (λ key. not (key == gone)) (numbers old.forest.rows) → (desk : Desk)
+pub desk_without : (old new : State) (gone : ℕ) → numbers new.forest.rows ≡ filter (λ key. not (key == gone)) (numbers old.forest.rows) → {desk : Desk}
     → OfDesk (λ number. (number == gone) ≡ false) desk
     → OfDesk (λ number. is_there old.forest.rows number ≡ true) desk → OfDesk (λ number. is_there new.forest.rows number ≡ true) desk
-desk_without old new gone fewer desk others there = record {
+desk_without old new gone fewer others there = record {
   publications = λ index default within. there_without old new gone fewer _ (others.publications index default within)
       (there.publications index default within);
   joins = λ index default within. there_without old new gone fewer _ (others.joins index default within) (there.joins index default within);

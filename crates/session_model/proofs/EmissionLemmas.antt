@@ -3,29 +3,13 @@ use Rattle.std.proofs.Common.{◌≡◌, ◌<◌, ◌≤◌, ◌+◌, ◌==◌, 
 use Rattle.std.specs.Option.{option_map_or}
 use Rattle.std.proofs.lemmas.Bool.{cond-false, cond-true}
 use Rattle.std.proofs.lemmas.Bool.Decides.{nat_tests}
-use Rattle.plain_types.specs.declared.code.Code.{Code}
-use Rattle.plain_types.specs.declared.code.Code.TheVariants.{Limit}
-use Rattle.variant_value.specs.declared.value.Value.{Value}
-use Rattle.term_core.specs.Act.{acts_of}
-use Rattle.class_table.specs.declared.class.Method.{Method}
-use Rattle.connection_list.specs.declared.connection.Connection.{Connection}
-use Rattle.object_tree.specs.declared.row.Row.{Row}
-use Rattle.object_tree.specs.Rows.{is_there, row_of}
-use Rattle.stored_slots.specs.declared.functor.Functor.{Functor}
+use Rattle.session_model.proofs.Common.{Code, Limit, Value, acts_of, Method, Connection, Row, is_there, row_of, Functor, Warning, acts, posts_of, BindingError}
+use Rattle.session_model.proofs.Common.{Property, call_line, called, calls_of, emitted, functor_ran, ran, step, with_turn, Execution, posting}
+use Rattle.session_model.proofs.Common.{single_shot_broken, line_told, turn_taken, used_up, Call, Emit, Run, RunFunctor, Warn, WarnOf, puts, functor_at}
+use Rattle.session_model.proofs.Common.{method_at, Settings}
 use Rattle.session_model.specs.declared.call.TheConstants.{NESTED_SIGNALS}
 use Rattle.session_model.specs.declared.line.Line.TheVariants as line
-use Rattle.session_model.specs.declared.line.Line.TheVariants.{Warning}
-use Rattle.session_model.specs.Acts.{acts}
-use Rattle.session_model.specs.Arriving.{posts_of}
-use Rattle.binding_values.specs.declared.property.BindingError.{BindingError}
-use Rattle.property_store.specs.declared.property.Property.{Property}
-use Rattle.session_model.specs.Agenda.{binding_line, call_line, callee_called, called, calls_of, connection_of, emitted, functor_ran, is_held_back, ran, step}
-use Rattle.session_model.specs.Agenda.{with_turn}
-use Rattle.session_model.specs.Execution.{Execution, posting, single_shot_broken, line_told, turn_taken, used_up}
-use Rattle.session_model.specs.Items.{Call, Emit, Run, RunFunctor, Warn, WarnOf, puts}
-use Rattle.session_model.specs.Functors.{functor_at}
-use Rattle.session_model.specs.Methods.{method_at}
-use Rattle.session_model.specs.Settings.{Settings}
+use Rattle.session_model.specs.Agenda.{binding_line, callee_called, connection_of, is_held_back}
 
 module _ (settings : Settings) (target signal : ℕ) (args : List Value) (depth : ℕ) (doing : Execution) where
   -- an object that has gone sends nothing

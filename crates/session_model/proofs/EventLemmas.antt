@@ -1,25 +1,19 @@
 -- The rules by which events are taken, one for each way that it goes; and the rule of each command for
 -- events: why it is refused, what it does where it is not, and what it keeps of a session.
-use Rattle.event_queue.specs.declared.event.Event.{Event}
 use Rattle.std.proofs.Common.{List, None, Ok, [], ap, arith, false, refl, subst, true, ℕ, ◌++◌, ◌<◌, ◌==◌, ◌∙◌, ◌∷◌, ◌≡◌}
 use Rattle.std.proofs.lemmas.Bool.{cond-false, cond-true}
 use Rattle.std.proofs.lemmas.Bool.Decides.{nat_tests}
 use Rattle.std.proofs.lemmas.List.Elements.{All-cons, All-nil}
+use Rattle.session_model.proofs.Common.{Event, event_items, step, operation_refusal, with_operation, Execution, begun, first_taken, used_up, replies}
+use Rattle.session_model.proofs.Common.{IsFittingOperation, IsFittingItem, IsRightPost, Spin, puts, IsNamedItem, does_found, State, Operation}
 use Rattle.session_model.proofs.KeepingLemmas.{Keeps, found_keeps, ran, stays}
-use Rattle.session_model.specs.Agenda.{event_items, spun, step}
+use Rattle.session_model.specs.Agenda.{spun}
 use Rattle.session_model.specs.Asked.{Do, Spin as spin}
-use Rattle.session_model.specs.Operations.{operation_answer, operation_refusal, with_operation}
-use Rattle.session_model.specs.Execution.{Execution, begun, first_taken, turn_taken, used_up}
-use Rattle.session_model.specs.Effects.{replies}
+use Rattle.session_model.specs.Operations.{operation_answer}
+use Rattle.session_model.specs.Execution.{turn_taken}
 use Rattle.session_model.specs.Events.{spins}
-use Rattle.session_model.specs.Fitting.{IsFittingOperation, IsFittingItem, IsRightPost}
-use Rattle.session_model.specs.Items.{Spin, puts}
-use Rattle.session_model.specs.Named.{IsNamedItem}
 use Rattle.session_model.specs.Refusing.{refusal}
-use Rattle.session_model.specs.Signals.{does_found}
-use Rattle.session_model.specs.State.{State}
 use Rattle.session_model.specs.Thread.{Settings, performs}
-use Rattle.session_model.specs.declared.operation.Operation.{Operation}
 use Rattle.session_model.specs.Items as to_do
 
 module _ (settings : Settings) (doing : Execution) where
@@ -62,9 +56,9 @@ module _ (settings : Settings) (self : List ℕ) (state : State) where
 
 module _ (settings : Settings) (state : State) where
   pub spin_keeps : Keeps settings state spin (spins settings state)
-  spin_keeps = ran settings state spin (Spin ∷ to_do.ReplySpun ∷ []) (begun settings state) (record {
+  spin_keeps = ran (Spin ∷ to_do.ReplySpun ∷ []) (begun settings state) (record {
     none = refl;
-    leaves = stays settings state spin;
+    leaves = stays;
     items = λ fits. All-cons (IsFittingItem settings state) Spin (to_do.ReplySpun ∷ []) tt
         (All-cons (IsFittingItem settings state) to_do.ReplySpun [] tt (All-nil (IsFittingItem settings state)));
     posts = All-nil IsRightPost;
@@ -72,5 +66,5 @@ module _ (settings : Settings) (state : State) where
   })
 
   pub do_keeps : (operation : Operation) → operation_refusal state operation ≡ None → Keeps settings state (Do operation) (does_found state (Ok operation))
-  do_keeps operation passed = found_keeps settings state (Do operation) (Ok operation) passed
+  do_keeps operation passed = found_keeps (Ok operation) passed
       (λ other is may. let same : operation ≡ other = cc in subst (IsFittingOperation settings state.forest.rows) same may)

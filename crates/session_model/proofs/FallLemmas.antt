@@ -3,36 +3,17 @@ use Rattle.std.proofs.Common.{◌≡◌, ◌<◌, ◌≤◌, ◌+◌, ◌*◌, �
 use Rattle.std.specs.Option.{option_map_or}
 use Rattle.std.proofs.Math.Nat.{add-mul, mul-le-mul_right}
 use Rattle.std.proofs.lemmas.Bool.{cond_both}
-use Rattle.plain_types.specs.declared.code.Code.TheVariants.{Limit}
-use Rattle.variant_value.specs.declared.value.Value.{Value}
-use Rattle.term_core.specs.Act.{Acts, acts_of, counts, single_action, when}
-use Rattle.class_table.specs.declared.class.Method.{Method}
-use Rattle.plain_types.specs.declared.callee.Callee.{Callee}
+use Rattle.session_model.proofs.Common.{Value, Acts, acts_of, counts, when, Method, Callee, Connection, calls, Event, QueuedCall}
+use Rattle.session_model.proofs.Common.{Property, children, after, with_state, acts, branch, posts_of, call_items, call_line}
+use Rattle.session_model.proofs.Common.{event_items, functor_line, method_items, queued, step, Execution, first_taken, in_state}
+use Rattle.session_model.proofs.Common.{line_told, turn_taken, posting, severed, stepped, Act, Call, Detach, Emit, Item}
+use Rattle.session_model.proofs.Common.{Next, Run, Spin, puts, method_at, Most, change_weight, weights, Settings, State, without_object}
+use Rattle.session_model.proofs.Common.{functor_state, comes_to, with_writing, written, written_property, object_of, Term}
 use Rattle.plain_types.specs.declared.callee.Callee.TheVariants as callee
-use Rattle.connection_list.specs.declared.connection.Connection.{Connection}
-use Rattle.connection_list.specs.Ends.{calls}
-use Rattle.event_queue.specs.declared.event.Event.{Event}
 use Rattle.event_queue.specs.declared.event.Event.TheVariants as event
-use Rattle.event_queue.specs.declared.event.QueuedCall.{QueuedCall}
-use Rattle.property_store.specs.declared.property.Property.{Property}
-use Rattle.object_tree.specs.Rows.{children}
-use Rattle.stored_slots.specs.declared.functor.Functor.{Functor}
-use Rattle.term_evaluation.specs.Stating.{after, with_state}
 use Rattle.term_evaluation.proofs.ForCallers.{state_counts}
-use Rattle.session_model.specs.declared.call.TheConstants.{DESTROYED}
-use Rattle.session_model.specs.Acts.{acts, branch}
-use Rattle.session_model.specs.Arriving.{posts_of}
-use Rattle.session_model.specs.Agenda.{call_items, call_line, called, calls_of, emitted, event_items, functor_line, delete_children}
-use Rattle.session_model.specs.Agenda.{method_items, queued, step}
-use Rattle.session_model.specs.Operations.{operation_done}
-use Rattle.session_model.specs.Execution.{Execution, dying, first_taken, in_state, line_told, turn_taken, used_up, posting, severed, stepped}
-use Rattle.session_model.specs.Items.{Act, Call, Detach, Delete, Emit, Remove, Item, DeleteChild, Next, Run, RunFunctor, Spin, Warn, puts}
-use Rattle.session_model.specs.Methods.{method_at}
-use Rattle.session_model.specs.Run.{Most, action_weight, change_weight, deletion_weight, most, turn_weight, weight, weights}
-use Rattle.session_model.specs.Settings.{Settings}
-use Rattle.session_model.specs.State.{State, without_object, functor_state}
-use Rattle.session_model.specs.Showing.{comes_to}
-use Rattle.session_model.specs.Writing.{with_writing, written, written_property}
+use Rattle.session_model.specs.Agenda.{calls_of, delete_children}
+use Rattle.session_model.specs.Run.{action_weight, deletion_weight, most, turn_weight, weight}
 use Rattle.session_model.proofs.ShowingLemmas.{told-weight}
 use Rattle.session_model.proofs.LivingLemmas.{few_children, filter-fewer, living_rows}
 use Rattle.session_model.proofs.WeightLemmas.{act-some, acts-weight, body-size, calls-weight, choice-weight, functor-size, delete_children-weight}
@@ -40,10 +21,7 @@ use Rattle.session_model.proofs.WeightLemmas.{weight-some, weights-append}
 use Rattle.session_model.proofs.ShrinkLemmas.{Shrinks, both, operation_shrinks, dying_less, dying_shrinks, first_taken-turns, gone_shrinks, queued_shrinks}
 use Rattle.session_model.proofs.ShrinkLemmas.{same, shot_shrinks, taken_shrinks, told_shrinks, turn_shrinks, turn_taken-less, used_up_shrinks}
 use Rattle.session_model.proofs.ShrinkLemmas.{written_shrinks, posting_shrinks, severed_shrinks, stepped_shrinks}
-use Rattle.session_model.proofs.StepLemmas.{Cases, IsCalled, functor_call, functor_now, in_call, method_call, method_now, step_cases}
-use Rattle.session_model.specs.Targets.{object_of}
-use Rattle.term_core.specs.declared.action.SingleAction.TheVariants as e
-use Rattle.term_core.specs.Term.{Term}
+use Rattle.session_model.proofs.StepLemmas.{Cases, IsCalled, functor_call, in_call, method_call, step_cases}
 
 abbrev pub total : Most → Execution → ℕ → ℕ
 total n doing items = doing.turns * turn_weight n + living_rows doing.state.forest.rows * deletion_weight n + items
@@ -84,45 +62,44 @@ module _ (settings : Settings) (doing : Execution) where
   Falls item next = FallsTo settings doing item next
 
   -- an item falls to lighter ones
-  lighter : (item : Item) (next : Next) → Shrinks doing next.doing → weights n next.items < weight n item → Falls item next
-  lighter item next shrinks less =
+  lighter : {item : Item} {next : Next} → Shrinks doing next.doing → weights n next.items < weight n item → Falls item next
+  lighter shrinks less =
       let turns = mul-le-mul_right (turn_weight n) shrinks.turns in
       let deletions = mul-le-mul_right (deletion_weight n) shrinks.living in
       record { shrinks = shrinks; lower = omega (arith, turns, deletions, less) }
 
   -- or to what a turn may come to, where one is taken
-  by_turn : (item : Item) (next : Next) → Shrinks doing next.doing → next.doing.turns + 1 ≤ doing.turns
+  by_turn : {item : Item} {next : Next} → Shrinks doing next.doing → next.doing.turns + 1 ≤ doing.turns
       → weights n next.items < weight n item + turn_weight n → Falls item next
-  by_turn item next shrinks taken less =
+  by_turn {next} shrinks taken less =
       let turns = mul-le-mul_right (turn_weight n) taken in
       let one = add-mul next.doing.turns 1 (turn_weight n) in
       let deletions = mul-le-mul_right (deletion_weight n) shrinks.living in
       record { shrinks = shrinks; lower = omega (arith, turns, one, deletions, less) }
 
   -- or to what a deletion may come to, where one more object is dying
-  by_deletion : (item : Item) (next : Next) → Shrinks doing next.doing
+  by_deletion : {item : Item} {next : Next} → Shrinks doing next.doing
       → living_rows next.doing.state.forest.rows + 1 ≤ living_rows doing.state.forest.rows
       → weights n next.items < weight n item + deletion_weight n → Falls item next
-  by_deletion item next shrinks fewer less =
+  by_deletion {next} shrinks fewer less =
       let deletions = mul-le-mul_right (deletion_weight n) fewer in
       let one = add-mul (living_rows next.doing.state.forest.rows) 1 (deletion_weight n) in
       let turns = mul-le-mul_right (turn_weight n) shrinks.turns in
       record { shrinks = shrinks; lower = omega (arith, turns, one, deletions, less) }
 
   -- nothing is put in front, and nothing grows
-  idle : (item : Item) (new : Execution) → Shrinks doing new → Falls item (puts [] new)
-  idle item new shrinks = let some = weight-some n item in lighter item (puts [] new) shrinks (omega (arith, some))
+  idle : {item : Item} {new : Execution} → Shrinks doing new → Falls item (puts [] new)
+  idle {item} shrinks = let some = weight-some n item in lighter shrinks (omega (arith, some))
 
   -- other items are put in front, and nothing changes
-  in_place_of : (item : Item) (items : List Item) → weights n items < weight n item → Falls item (puts items doing)
-  in_place_of item items = lighter item (puts items doing) (same doing)
+  in_place_of : {item : Item} {items : List Item} → weights n items < weight n item → Falls item (puts items doing)
+  in_place_of = lighter (same doing)
 
   -- another state falls to what tells of it
-  telling_falls : (item : Item) (depth : ℕ) (after : State) (written : Option Property) → Shrinks doing (in_state doing after)
+  telling_falls : {item : Item} (depth : ℕ) (after : State) (written : Option Property) → Shrinks doing (in_state doing after)
       → change_weight n < weight n item → Falls item (comes_to settings doing depth after written)
-  telling_falls item depth after written shrinks more =
-      let few = told-weight settings doing depth after written n shrinks.properties in
-      lighter item (comes_to settings doing depth after written) shrinks (omega (arith, few, more))
+  telling_falls depth after written shrinks more =
+      let few = told-weight settings doing depth after written n shrinks.properties in lighter shrinks (omega (arith, few, more))
 
   sends_fall : (target signal : ℕ) (args : List Value) (depth : ℕ) → Falls (Emit target signal args depth)
       (puts (calls_of doing target signal args depth) (posting doing (posts_of settings.classes doing.state target signal args)))
@@ -131,8 +108,7 @@ module _ (settings : Settings) (doing : Execution) where
       let rows = doing.state.connections.rows in
       let one = calls-weight n args depth (filter (calls target signal) rows) in
       let few = filter-fewer (calls target signal) rows in
-      lighter (Emit target signal args depth) (puts _ (posting doing (posts_of settings.classes doing.state target signal args)))
-      (posting_shrinks doing (posts_of settings.classes doing.state target signal args)) (omega (arith, one, few))
+      lighter (posting_shrinks doing (posts_of settings.classes doing.state target signal args)) (omega (arith, one, few))
 
   detaches_fall : (target depth : ℕ) → Falls (Detach target depth) (puts (delete_children doing target depth) (severed doing target))
   unfolding delete_children
@@ -140,27 +116,26 @@ module _ (settings : Settings) (doing : Execution) where
       let rows = doing.state.forest.rows in
       let two = delete_children-weight n target depth (children rows (Some target)) in
       let few = few_children rows (Some target) in
-      lighter (Detach target depth) (puts _ (severed doing target)) (severed_shrinks doing target) (omega (arith, two, few))
+      lighter (severed_shrinks doing target) (omega (arith, two, few))
 
   -- a body of at most as many actions as the longest falls to them
-  body_falls : (item : Item) (body : Acts) (args : List Value) (self sender depth : ℕ) (new : Execution) → Shrinks doing new → counts body ≤ n.actions
+  body_falls : {item : Item} {new : Execution} (body : Acts) (args : List Value) (self sender depth : ℕ) → Shrinks doing new → counts body ≤ n.actions
       → n.actions * action_weight n < weight n item → Falls item (puts (acts body args self sender depth) new)
-  body_falls item body args self sender depth new shrinks within less =
+  body_falls body args self sender depth shrinks within less =
       let its = acts-weight n body args self sender depth in
       let short = mul-le-mul_right (action_weight n) within in
-      lighter item (puts (acts body args self sender depth) new) shrinks (omega (arith, its, short, less))
+      lighter shrinks (omega (arith, its, short, less))
 
   chooses_falls : (test : Term) (held failed : Acts) (args : List Value) (self sender depth : ℕ) (truth : Bool)
       → Falls (Act (when test held failed) args self sender depth) (puts (acts (branch truth held failed) args self sender depth) doing)
   chooses_falls test held failed args self sender depth true =
       let its = acts-weight n held args self sender depth in
-      in_place_of (Act (when test held failed) args self sender depth) (acts held args self sender depth) (omega (arith, its, (choice-weight n held failed).0))
+      in_place_of (omega (arith, its, (choice-weight n held failed).0))
   chooses_falls test held failed args self sender depth false =
       let its = acts-weight n failed args self sender depth in
-      in_place_of (Act (when test held failed) args self sender depth) (acts failed args self sender depth)
-      (omega (arith, its, (choice-weight n held failed).1))
+      in_place_of (omega (arith, its, (choice-weight n held failed).1))
 
-  module _ (number : ℕ) (args : List Value) (depth : ℕ) (connection : Connection) (is : IsCalled number doing connection) where
+  module _ {number : ℕ} {connection : Connection} (is : IsCalled number doing connection) where
     abbrev new : Execution
     new = in_call doing connection
 
@@ -171,14 +146,14 @@ module _ (settings : Settings) (doing : Execution) where
     in_call-less = let less = turn_taken-less doing is.turn in let shot = shot_shrinks (turn_taken doing) connection in omega (arith, less, shot.turns)
 
     -- a connection's call falls to what its turn may come to, also where it is posted or lost
-    later_falls : (call : QueuedCall) → Falls (Call number args depth) (puts [] (queued new call))
+    later_falls : {args : List Value} {depth : ℕ} (call : QueuedCall) → Falls (Call number args depth) (puts [] (queued new call))
     later_falls call =
         let later = queued_shrinks new call in
-        by_turn (Call number args depth) (puts [] (queued new call)) (both doing new (queued new call) in_call_shrinks later)
+        by_turn (both doing new (queued new call) in_call_shrinks later)
         (omega (arith, in_call-less, later.turns)) (omega arith)
 
-    now_falls : (items : List Item) → weights n items < turn_weight n → Falls (Call number args depth) (puts items new)
-    now_falls items few = by_turn (Call number args depth) (puts items new) in_call_shrinks in_call-less (omega (arith, few))
+    now_falls : {args : List Value} {depth : ℕ} {items : List Item} → weights n items < turn_weight n → Falls (Call number args depth) (puts items new)
+    now_falls few = by_turn in_call_shrinks in_call-less (omega (arith, few))
 
   takes_falls : (first : Event) → (doing.turns == 0) ≡ false
       → Falls Spin (puts (event_items settings (turn_taken doing).state first ++ Spin ∷ []) (first_taken (turn_taken doing)))
@@ -189,56 +164,51 @@ module _ (settings : Settings) (doing : Execution) where
       let few = event_weight settings n taken.state first in
       let parts = weights-append n items (Spin ∷ []) in
       let less = turn_taken-less doing some in
-      by_turn Spin (puts (items ++ Spin ∷ []) (first_taken taken)) (taken_shrinks doing some) (omega (arith, less, turns)) (omega (arith, few, parts))
+      by_turn (taken_shrinks doing some) (omega (arith, less, turns)) (omega (arith, few, parts))
 
   fall_cases : Cases settings doing Falls
   fall_cases = record {
-    rests = λ item leaves. idle item doing (same doing);
-    tells = λ item said leaves. idle item (line_told doing said) (told_shrinks doing said);
-    uses_up = λ item leaves. idle item (used_up doing) (used_up_shrinks doing);
-    too_deep = λ target signal args depth. in_place_of (Emit target signal args depth) (Warn Limit (Some target) ∷ []) (omega arith);
+    rests = λ item leaves. idle (same doing);
+    tells = λ item said leaves. idle (told_shrinks doing said);
+    uses_up = λ item leaves. idle (used_up_shrinks doing);
+    too_deep = λ target signal args depth. in_place_of (omega arith);
     sends = λ target signal args depth row is. sends_fall target signal args depth;
-    callee_gone = λ number args depth connection is. idle (Call number args depth) (in_call doing connection) (in_call_shrinks number args depth connection is);
+    callee_gone = λ number args depth connection is. idle (in_call_shrinks is);
     calls_method = λ number args depth connection is index method to found. (
-      later_falls number args depth connection is (method_call connection index method args),
-      now_falls number args depth connection is (method_now connection index method args depth) (method_weight n _ _ _ _ _ _ method),
+      later_falls is (method_call connection index method args),
+      now_falls is (method_weight n _ _ _ _ _ _ method),
     );
     calls_functor = λ number args depth connection is index functor to found. (
-      later_falls number args depth connection is (functor_call connection index functor args),
-      now_falls number args depth connection is (functor_now connection index functor args depth) (omega arith),
+      later_falls is (functor_call connection index functor args),
+      now_falls is (omega arith),
     );
     runs = λ target index sender args depth method is.
         let size = body-size settings doing.state target index method is in
-        body_falls (Run target index sender args depth) (acts_of method.body.actions) args target sender (depth + 1)
-        (line_told doing (call_line method target sender args)) (told_shrinks doing (call_line method target sender args)) (omega (arith, size)) (omega arith);
+        body_falls (acts_of method.body.actions) args target sender (depth + 1) (told_shrinks doing (call_line method target sender args))
+        (omega (arith, size)) (omega arith);
     runs_functor = λ target index sender connection args depth functor is.
         let size = functor-size settings index functor is in
         let state = functor_state doing.state connection in
         let said = functor_line functor target sender args in
         let new = line_told doing said in
         let next = after functor.next state args in
-        body_falls (RunFunctor target index sender connection args depth) (acts_of (with_state state functor.body).actions) args target sender (depth + 1)
-        (stepped new connection next) (both doing new (stepped new connection next) (told_shrinks doing said) (stepped_shrinks new connection next))
+        body_falls (acts_of (with_state state functor.body).actions) args target sender (depth + 1)
+        (both doing new (stepped new connection next) (told_shrinks doing said) (stepped_shrinks new connection next))
         (omega (arith, size, state_counts functor.body state)) (omega arith);
     refused = λ action args self sender depth code.
-        let some = act-some n action in in_place_of (Act action args self sender depth) (Warn code (Some self) ∷ []) (omega (arith, some));
-    emits = λ of signal sent args self sender depth emitted is. in_place_of (Act (single_action (e.Emit of signal sent)) args self sender depth)
-        (Emit (object_of doing.state self sender of) emitted.0 emitted.1 depth ∷ []) (omega arith);
-    deletes = λ target args self sender depth. in_place_of (Act (single_action (e.Delete target)) args self sender depth)
-        (Delete (object_of doing.state self sender target) depth ∷ []) (omega arith);
+        let some = act-some n action in in_place_of (omega (arith, some));
+    emits = λ of signal sent args self sender depth emitted is. in_place_of (omega arith);
+    deletes = λ target args self sender depth. in_place_of (omega arith);
     writes = λ of property value args self sender depth given writing is.
         let target = object_of doing.state self sender of in
-        telling_falls (Act (single_action (e.Set of property value)) args self sender depth) depth (with_writing doing.state target writing)
+        telling_falls depth (with_writing doing.state target writing)
         (written_property target writing) (written_shrinks doing target writing) (omega arith);
-    does = λ plain args self sender depth operation is passed. idle (Act (single_action plain) args self sender depth) (operation_done doing operation)
-        (operation_shrinks doing operation passed);
+    does = λ plain args self sender depth operation is passed. idle (operation_shrinks doing operation passed);
     chooses = chooses_falls;
-    dies = λ target depth living. by_deletion (Delete target depth)
-        (puts (Emit target DESTROYED [] depth ∷ Detach target depth ∷ Remove target depth ∷ []) (dying doing target))
-        (dying_shrinks doing target living) (dying_less doing target living) (omega arith);
+    dies = λ target depth living. by_deletion (dying_shrinks doing target living) (dying_less doing target living) (omega arith);
     detaches = detaches_fall;
-    deletes_child = λ parent child depth. in_place_of (DeleteChild parent child depth) (Delete child depth ∷ []) (omega arith);
-    removes = λ target depth. telling_falls (Remove target depth) depth (without_object doing.state target) None (gone_shrinks doing target) (omega arith);
+    deletes_child = λ parent child depth. in_place_of (omega arith);
+    removes = λ target depth. telling_falls depth (without_object doing.state target) None (gone_shrinks doing target) (omega arith);
     takes = λ first later is some. takes_falls first some;
   }
 

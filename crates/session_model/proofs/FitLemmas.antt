@@ -2,26 +2,21 @@
 use Rattle.std.proofs.Common.{◌≡◌, ◌∙◌, ℕ, ℤ, Bool, true, false, cond, List, Option, Some, None, Ok, Err, length, nat_le, slice_get, refl, sym, ap, subst}
 use Rattle.std.specs.Option.{ok_or, option_and_then, option_map, option_map_or, option_or}
 use Rattle.std.proofs.lemmas.Bool.{leb-true}
+use Rattle.session_model.proofs.Common.{Data, Code, BadValue, Kind, Value, IsOfKind, IsShort, converted, Field, AreSound, Properties, properties_of}
+use Rattle.session_model.proofs.Common.{with_dynamic, with_value, without_dynamic, Found, ◌>>=◌, State, Declared, Dynamic, Nothing, Removed, Writing}
+use Rattle.session_model.proofs.Common.{acted_writing, asked_writing}
 use Rattle.serde_json.specs.Data as d
-use Rattle.serde_json.specs.Data.{Data}
 use Rattle.serde_json.specs.Find.{as_bool, as_integer, as_str}
-use Rattle.plain_types.specs.declared.code.Code.{Code}
-use Rattle.plain_types.specs.declared.code.Code.TheVariants.{BadValue, Limit}
-use Rattle.signature_core.specs.declared.kind.Kind.{Kind}
 use Rattle.signature_core.specs.declared.kind.Kind.TheVariants as k
-use Rattle.variant_value.specs.declared.value.Value.{Value}
 use Rattle.variant_value.specs.declared.value.Value.TheVariants as v
 use Rattle.variant_value.specs.declared.value.TheConstants.{TEXT_BYTES}
-use Rattle.variant_value.specs.Values.{IsOfKind, IsShort, converted, inferred, inferred_number, number_in, number_of, text_in, text_of, truth_in, value_of}
+use Rattle.variant_value.specs.Values.{inferred, inferred_number, number_in, number_of, text_in, text_of, truth_in, value_of}
 use Rattle.variant_value.specs.Values.{whole_number}
-use Rattle.property_store.specs.declared.field.Field.{Field}
-use Rattle.property_store.specs.Store.{AreSound, Properties, dynamic_refusal, field_number, properties_of, refusal_of_name, with_dynamic, with_value}
-use Rattle.property_store.specs.Store.{without_dynamic}
+use Rattle.property_store.specs.Store.{dynamic_refusal, field_number, refusal_of_name}
 use Rattle.property_store.proofs.ForCallers.{with_dynamic_sound, without_dynamic_sound, with_value_sound}
-use Rattle.session_model.specs.Methods.{Found, ◌>>=◌}
-use Rattle.session_model.specs.State.{State}
-use Rattle.session_model.specs.Writing.{Declared, Dynamic, Nothing, DeclaredField, Removed, Writing, acted_writing, asked_place, asked_writing, declared}
+use Rattle.session_model.specs.Writing.{DeclaredField, asked_place, declared}
 use Rattle.session_model.specs.Writing.{dynamic_writing, short}
+use Rattle.session_model.proofs.FoundLemmas.{if_found, then_found}
 
 -- what is written keeps the properties of an object sound
 abbrev pub IsFit : State → ℕ → Writing → Type 0
@@ -41,11 +36,9 @@ given P made value holds e = let same : made ≡ value = cc in subst P same hold
 
 -- a text that is taken as a value is not too long
 text_short : (text : List ℕ) (value : Value) → text_of text ≡ Ok value → IsOfKind k.Text value
-text_short text value e = by (nat_le (length text) TEXT_BYTES) refl e
-  where
-    by : (fits : Bool) → nat_le (length text) TEXT_BYTES ≡ fits → cond fits (Ok (v.Text text)) (Err Limit) ≡ Ok value → IsOfKind k.Text value
-    by true is e = given (IsOfKind k.Text) (v.Text text) value (refl, leb-true (length text) TEXT_BYTES is) e
-    by false is e = absurd (cc)
+text_short text value e =
+    let (fits, e) = if_found (nat_le (length text) TEXT_BYTES) _ _ e in
+    given (IsOfKind k.Text) (v.Text text) value (refl, leb-true (length text) TEXT_BYTES fits) e
 
 -- a number that is taken as a value is one of the kind, and no text
 record IsNumber (kind : Kind) (value : Value) : Type 0 where
@@ -158,14 +151,13 @@ module _ (state : State) (object : ℕ) (name : List ℕ) (Q : Writing → Type 
   placed_by : (place : DeclaredField) (found : Found Value) (writing : Writing) → declared state object name ≡ Some place
       → ((value : Value) → found ≡ Ok value → IsOfKind place.kind value)
       → (found >>= λ value. Ok (Declared place.number value)) ≡ Ok writing → Q writing
-  placed_by place (Err code) writing is kind e = absurd (cc)
-  placed_by place (Ok value) writing is kind e = let same : Declared place.number value ≡ writing = cc in subst Q same
-      (sets place value is (kind value refl))
+  placed_by place found writing is kind e =
+      let (value, read, e) = then_found found _ e in
+      let same : Declared place.number value ≡ writing = cc in subst Q same (sets place value is (kind value read))
 
   named_by : (found : Found Value) (writing : Writing) → ((value : Value) → found ≡ Ok value → IsShort value)
       → (found >>= dynamic_writing state object name) ≡ Ok writing → Q writing
-  named_by (Err code) writing short e = absurd (cc)
-  named_by (Ok value) writing short e = dynamic_by value writing (short value refl) e
+  named_by found writing short e = let (value, read, e) = then_found found _ e in dynamic_by value writing (short value read) e
 
   -- what a command writes
   pub asked_by : (json : Data) (writing : Writing) → asked_writing state object name json ≡ Ok writing → Q writing

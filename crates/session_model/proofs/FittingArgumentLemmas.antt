@@ -5,34 +5,28 @@ use Rattle.std.specs.List.{All, list_all}
 use Rattle.std.specs.Option.{ok_or, option_and_then, option_map, option_map_or}
 use Rattle.std.proofs.lemmas.Bool.{and_parts}
 use Rattle.std.proofs.lemmas.List.Elements.{All-cons, All-head, All-nil, All-tail}
-use Rattle.plain_types.specs.declared.code.Code.TheVariants.{BadValue, Limit, NoSuchObject, NoSuchProperty}
-use Rattle.serde_json.specs.Data.{Data}
-use Rattle.signature_core.specs.declared.kind.Kind.{Kind}
-use Rattle.signature_core.specs.Kinds.{fits}
+use Rattle.session_model.proofs.Common.{BadValue, Limit, NoSuchObject, Data, Kind, fits, Value, IsShort, converted, Target, is_within_limits, Term}
+use Rattle.session_model.proofs.Common.{AreSound, Properties, properties_of, is_there, AreArguments, Found, State, all_converted, all_evaluated}
+use Rattle.session_model.proofs.Common.{object_of}
+use Rattle.plain_types.specs.declared.code.Code.TheVariants.{NoSuchProperty}
 use Rattle.signature_core.proofs.ForCallers.{Decides-fits}
-use Rattle.variant_value.specs.declared.value.Value.{Value}
-use Rattle.variant_value.specs.Values.{IsOfKind, IsShort, converted, value_of}
-use Rattle.term_core.specs.declared.target.Target.{Target}
-use Rattle.term_core.specs.Forms.{is_within_limits}
-use Rattle.term_core.specs.Term.{Term}
+use Rattle.variant_value.specs.Values.{value_of}
 use Rattle.term_evaluation.specs.Evaluation.{eval_by}
 use Rattle.term_evaluation.specs.Outcomes.{Answer, own, refused}
 use Rattle.term_evaluation.proofs.ForCallers.{short_value}
 use Rattle.property_store.specs.declared.dynamic.Named.{Named}
 use Rattle.property_store.specs.Store as stored
-use Rattle.property_store.specs.Store.{AreSound, Properties, dynamic_value, field_number, properties_of}
-use Rattle.property_store.proofs.ForCallers.{converted_fits, found}
+use Rattle.property_store.specs.Store.{dynamic_value, field_number}
+use Rattle.property_store.proofs.ForCallers.{converted_fits}
 use Rattle.binding_values.specs.Graph as graph
 use Rattle.binding_values.proofs.ForCallers.{value_short}
-use Rattle.object_tree.specs.Rows.{is_there}
-use Rattle.stored_slots.specs.Functors.{AreArguments}
-use Rattle.session_model.specs.Methods.{Found, ◌>>=◌}
 use Rattle.session_model.specs.Showing.{named_value}
 use Rattle.session_model.specs.Signals.{values_of, with_value}
-use Rattle.session_model.specs.State.{State, shown}
-use Rattle.session_model.specs.Targets.{all_converted, all_evaluated, evaluated, outcome, object_of, reads}
+use Rattle.session_model.specs.State.{shown}
+use Rattle.session_model.specs.Targets.{evaluated, outcome, reads}
 use Rattle.session_model.proofs.FitLemmas.{read_kind}
 use Rattle.session_model.proofs.FilterLemmas.{of_found}
+use Rattle.session_model.proofs.FoundLemmas.{some_found, then_found}
 
 -- the first of them serve parameters that are the first
 front_arguments : (front rest : List Kind) (args : List Value) → AreArguments (front ++ rest) args → AreArguments front (take (length front) args)
@@ -68,19 +62,13 @@ converted_arguments [] [] new short e = let same : [] ≡ new = cc in subst (Are
 converted_arguments [] (value ∷ values) new short e = absurd (cc)
 converted_arguments (kind ∷ kinds) [] new short e = absurd (cc)
 converted_arguments (kind ∷ kinds) (value ∷ values) new short e =
-    first (converted kind value) refl (λ rest so. converted_arguments kinds values rest (All-tail IsShort value values short) so) e
-  where
-    others : (one : Value) → IsOfKind kind one → (found : Found (List Value)) → ((rest : List Value) → found ≡ Ok rest → AreArguments kinds rest)
-        → (found >>= λ rest. Ok (one ∷ rest)) ≡ Ok new → AreArguments (kind ∷ kinds) new
-    others one is (Err code) later e = absurd (cc)
-    others one is (Ok rest) later e =
-        let same : one ∷ rest ≡ new = cc in
-        subst (AreArguments (kind ∷ kinds)) same (is, later rest refl)
-
-    first : (one : Option Value) → converted kind value ≡ one → ((rest : List Value) → all_converted kinds values ≡ Ok rest → AreArguments kinds rest)
-        → (ok_or one BadValue >>= λ first. all_converted kinds values >>= λ rest. Ok (first ∷ rest)) ≡ Ok new → AreArguments (kind ∷ kinds) new
-    first None is later e = absurd (cc)
-    first (Some one) is later e = others one (converted_fits kind value one (All-head IsShort value values short) is) (all_converted kinds values) later e
+    let (one, is, e) = then_found (ok_or (converted kind value) BadValue) _ e in
+    let (rest, so, e) = then_found (all_converted kinds values) _ e in
+    let same : one ∷ rest ≡ new = cc in
+    subst (AreArguments (kind ∷ kinds)) same (
+      converted_fits kind value one (All-head IsShort value values short) (some_found (converted kind value) _ is),
+      converted_arguments kinds values rest (All-tail IsShort value values short) so,
+    )
 
 -- and values that are read
 pub read_arguments : (kinds : List Kind) (jsons : List Data) (values : List Value) → values_of kinds jsons ≡ Ok values → AreArguments kinds values
@@ -150,18 +138,8 @@ module _ (state : State) (properties : stored.IsSound state.store) (bound : grap
       → list_all is_within_limits terms ≡ true → all_evaluated state self sender args terms ≡ Ok values → All IsShort values
   all_evaluated_short self sender args [] values short limited e = let same : [] ≡ values = cc in subst (All IsShort) same (All-nil IsShort)
   all_evaluated_short self sender args (term ∷ terms) values short limited e =
-      first (evaluated state self sender args term) refl (λ rest so. all_evaluated_short self sender args terms rest short (and_parts _ _ limited).1 so) e
-    where
-      others : (one : Value) → IsShort one → (found : Found (List Value)) → ((rest : List Value) → found ≡ Ok rest → All IsShort rest)
-          → (found >>= λ values. Ok (one ∷ values)) ≡ Ok values → All IsShort values
-      others one is (Err code) later e = absurd (cc)
-      others one is (Ok rest) later e =
-          let same : one ∷ rest ≡ values = cc in
-          subst (All IsShort) same (All-cons IsShort one rest is (later rest refl))
-
-      first : (one : Found Value) → evaluated state self sender args term ≡ one
-          → ((rest : List Value) → all_evaluated state self sender args terms ≡ Ok rest → All IsShort rest)
-          → (one >>= λ value. all_evaluated state self sender args terms >>= λ values. Ok (value ∷ values)) ≡ Ok values → All IsShort values
-      first (Err code) is later e = absurd (cc)
-      first (Ok one) is later e = others one (evaluated_short self sender args term one short (and_parts _ _ limited).0 is)
-          (all_evaluated state self sender args terms) later e
+      let (one, is, e) = then_found (evaluated state self sender args term) _ e in
+      let (rest, so, e) = then_found (all_evaluated state self sender args terms) _ e in
+      let same : one ∷ rest ≡ values = cc in
+      subst (All IsShort) same (All-cons IsShort one rest (evaluated_short self sender args term one short (and_parts _ _ limited).0 is)
+      (all_evaluated_short self sender args terms rest short (and_parts _ _ limited).1 so))

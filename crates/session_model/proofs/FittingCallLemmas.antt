@@ -5,38 +5,23 @@ use Rattle.std.specs.List.{All}
 use Rattle.std.specs.Option.{option_map_or}
 use Rattle.std.proofs.lemmas.Bool.{and_parts, cond_both, eqb-true}
 use Rattle.std.proofs.lemmas.List.Elements.{All-append, All-cons, All-filter, All-head, All-map, All-nil, All-weaker, filter_passes}
-use Rattle.signature_core.specs.Kinds.{fits}
-use Rattle.variant_value.specs.declared.value.Value.{Value}
-use Rattle.class_table.specs.declared.class.Method.{Method}
-use Rattle.plain_types.specs.declared.callee.Callee.{Callee}
+use Rattle.session_model.proofs.Common.{fits, Value, Method, Callee, Connection, calls, IsRising, has_number, rising_head, rising_tail, Event, Row, Functor}
+use Rattle.session_model.proofs.Common.{AreArguments, call_items, event_items, method_items, queued, kinds_of, posts_of, Execution, first_taken, turn_taken}
+use Rattle.session_model.proofs.Common.{IsCall, IsConnected, IsFittingEvent, IsFittingItem, IsRightPost, MayBeConnected, functor_at, Call, Delete, Emit, Item}
+use Rattle.session_model.proofs.Common.{Run, RunFunctor, Spin, puts, method_at, methods_by, Settings, State, Kind, QueuedCall}
 use Rattle.plain_types.specs.declared.callee.Callee.TheVariants as callee
-use Rattle.connection_list.specs.declared.connection.Connection.{Connection}
-use Rattle.connection_list.specs.Ends.{calls}
 use Rattle.connection_list.specs.Rows as list
-use Rattle.connection_list.specs.Rows.{IsRising, has_number}
-use Rattle.connection_list.proofs.ForCallers.{rising_head, rising_tail}
-use Rattle.event_queue.specs.declared.event.Event.{Event}
 use Rattle.event_queue.specs.declared.event.Event.TheVariants as event
-use Rattle.object_tree.specs.declared.row.Row.{Row}
 use Rattle.publish_board.specs.Rows.{publishes}
-use Rattle.stored_slots.specs.declared.functor.Functor.{Functor}
-use Rattle.stored_slots.specs.Functors.{AreArguments}
-use Rattle.session_model.specs.Agenda.{call_items, calls_of, event_items, method_items, queued}
-use Rattle.session_model.specs.Arriving.{kinds_of, post_of, posts_of}
-use Rattle.session_model.specs.Execution.{Execution, first_taken, posting, turn_taken}
-use Rattle.session_model.specs.Fitting.{IsCall, IsCalledBy, IsConnected, IsFittingEvent, IsFittingItem, IsRightPost, MayBeConnected, kinds_called}
-use Rattle.session_model.specs.Functors.{functor_at}
-use Rattle.session_model.specs.Items.{Call, Delete, Emit, Item, Run, RunFunctor, Spin, puts}
-use Rattle.session_model.specs.Methods.{method_at, methods_by}
-use Rattle.session_model.specs.Settings.{Settings}
-use Rattle.session_model.specs.State.{State}
+use Rattle.session_model.specs.Agenda.{calls_of}
+use Rattle.session_model.specs.Arriving.{post_of}
+use Rattle.session_model.specs.Execution.{posting}
+use Rattle.session_model.specs.Fitting.{IsCalledBy, kinds_called}
 use Rattle.session_model.proofs.FittingArgumentLemmas.{fitting_arguments}
 use Rattle.session_model.proofs.FittingChangeLemmas.{Carries, Comes, first_carries, first_rows, no_item, one_item, posting_carries, queued_carries}
 use Rattle.session_model.proofs.FittingChangeLemmas.{shot_carries, shot_rows, turn_carries, turn_rows}
 use Rattle.session_model.proofs.FilterLemmas.{of_found, find-passes}
 use Rattle.session_model.proofs.StepLemmas.{IsCalled, functor_call, functor_now, in_call, method_call, method_now}
-use Rattle.signature_core.specs.declared.kind.Kind.{Kind}
-use Rattle.event_queue.specs.declared.event.QueuedCall.{QueuedCall}
 
 -- no other connection has this one's number
 abbrev IsOnly : List Connection → Connection → Type 0
@@ -119,7 +104,7 @@ module _ (settings : Settings) (doing : Execution) (on : Carries settings doing.
       → Comes settings rows (puts (calls_of doing target signal args depth) (posting doing (posts_of settings.classes doing.state target signal args)))
   unfolding calls_of posting
   sends_comes sound target signal args depth all = record {
-    carries = posting_carries settings rows doing on (posts_of settings.classes doing.state target signal args)
+    carries = posting_carries doing on (posts_of settings.classes doing.state target signal args)
         (posts_right settings doing.state target signal args all);
     items = calls_fit settings doing.state sound target signal args depth all;
   }
@@ -134,10 +119,10 @@ module _ (settings : Settings) (doing : Execution) (on : Carries settings doing.
     same = shot_rows (turn_taken doing) connection ∙ turn_rows doing
 
     in_call_carries : Carries settings rows new
-    in_call_carries = shot_carries settings rows (turn_taken doing) (turn_carries settings rows doing on) connection
+    in_call_carries = shot_carries (turn_taken doing) (turn_carries doing on) connection
 
     pub callee_gone_comes : Comes settings rows (puts [] new)
-    callee_gone_comes = no_item settings rows new in_call_carries
+    callee_gone_comes = no_item in_call_carries
 
     -- its callee is called with as many of the first arguments as it has parameters
     call_given : (to : Callee) → connection.callee ≡ to → (params : List Kind) → kinds_called settings rows connection.receiver to ≡ params
@@ -156,7 +141,7 @@ module _ (settings : Settings) (doing : Execution) (on : Carries settings doing.
         }
 
     later_comes : (call : QueuedCall) → IsFittingEvent settings rows (event.Call call) → Comes settings rows (puts [] (queued new call))
-    later_comes call its = no_item settings rows (queued new call) (queued_carries settings rows new in_call_carries call its)
+    later_comes call its = no_item (queued_carries new in_call_carries call its)
 
     pub method_comes : (index : ℕ) (method : Method) → connection.callee ≡ callee.Method index
         → method_at settings new.state connection.receiver index ≡ Some method
@@ -181,7 +166,7 @@ module _ (settings : Settings) (doing : Execution) (on : Carries settings doing.
     functor_comes index functor to found =
         let its = call_given (callee.Functor index) to functor.params (ap (λ found. option_map_or (λ (functor : Functor). functor.params) found []) found) in (
           later_comes (functor_call connection index functor args) its,
-          one_item settings rows new in_call_carries _ (record { callee = its.callee; arguments = its.arguments }),
+          one_item in_call_carries (record { callee = its.callee; arguments = its.arguments }),
         )
 
   -- what an event comes to fits
@@ -207,7 +192,7 @@ module _ (settings : Settings) (doing : Execution) (on : Carries settings doing.
   pub takes_comes : (first : Event) (later : List Event) → doing.state.queue.events ≡ first ∷ later
       → Comes settings rows (puts (event_items settings (turn_taken doing).state first ++ Spin ∷ []) (first_taken (turn_taken doing)))
   takes_comes first later is = record {
-    carries = first_carries settings rows some (turn_carries settings rows doing on);
+    carries = first_carries some (turn_carries doing on);
     items = All-append Fit' (event_items settings some.state first) (Spin ∷ [])
         (event_fits some.state (first_taken some).state (first_rows some) first
         (subst (λ rows. IsFittingEvent settings rows first) (sym (turn_rows doing)) its))

@@ -3,35 +3,17 @@ use Rattle.std.proofs.Common.{◌≡◌, ◌+◌, ◌==◌, ℕ, Bool, true, not
 use Rattle.std.specs.List.{All}
 use Rattle.std.proofs.lemmas.Bool.{cond_both}
 use Rattle.std.proofs.lemmas.List.Elements.{All-append, All-cons, All-filter, All-nil, All-push}
-use Rattle.plain_types.specs.declared.code.Code.TheVariants.{TurnsUsedUp}
-use Rattle.connection_list.specs.declared.connection.Connection.{Connection}
-use Rattle.connection_list.specs.Ends.{matches, touches}
-use Rattle.connection_list.specs.Rows.{Rows, has_number, numbered}
-use Rattle.event_queue.specs.declared.event.Event.{Event}
+use Rattle.session_model.proofs.Common.{TurnsUsedUp, Connection, matches, touches, Rows, has_number, numbered, Event, QueuedCall, Queue, has_room, Row, Join}
+use Rattle.session_model.proofs.Common.{Publication, all_stepped, Operation, Line, Warning, Post, queued, with_operation, Execution, in_state, IsConnected}
+use Rattle.session_model.proofs.Common.{IsFittingOperation, IsFittingEvent, IsFittingItem, IsJoined, IsPublished, IsRightPost, Item, Next, puts, Settings}
+use Rattle.session_model.proofs.Common.{State, with_event, without_connections, Nothing, Writing, with_writing, Desk}
 use Rattle.event_queue.specs.declared.event.Event.TheVariants as event
-use Rattle.event_queue.specs.declared.event.QueuedCall.{QueuedCall}
-use Rattle.event_queue.specs.Queue.{Queue, has_room}
-use Rattle.object_tree.specs.declared.row.Row.{Row}
-use Rattle.publish_board.specs.declared.join.Join.{Join}
-use Rattle.publish_board.specs.declared.publication.Publication.{Publication}
-use Rattle.connection_list.proofs.ForCallers.{all_stepped}
-use Rattle.session_model.specs.declared.operation.Operation.{Operation}
 use Rattle.session_model.specs.declared.operation.Operation.TheVariants as d
-use Rattle.session_model.specs.declared.line.Line.{Line}
-use Rattle.session_model.specs.declared.line.Line.TheVariants.{Warning}
-use Rattle.session_model.specs.declared.post.Post.{Post}
-use Rattle.session_model.specs.Agenda.{queued}
-use Rattle.session_model.specs.Operations.{operation_done, with_operation}
-use Rattle.session_model.specs.Execution.{Execution, dying, first_taken, in_state, lost, enqueued, posting, severed, single_shot_broken, line_told}
+use Rattle.session_model.specs.Operations.{operation_done}
+use Rattle.session_model.specs.Execution.{dying, first_taken, lost, enqueued, posting, severed, single_shot_broken, line_told}
 use Rattle.session_model.specs.Execution.{turn_taken, used_up, stepped}
-use Rattle.session_model.specs.Fitting.{IsConnected, IsFittingOperation, IsFittingEvent, IsFittingItem, IsJoined, IsPublished, IsRightPost}
-use Rattle.session_model.specs.Items.{Item, Next, puts}
-use Rattle.session_model.specs.Settings.{Settings}
-use Rattle.session_model.specs.State.{State, with_event, without_connections}
-use Rattle.session_model.specs.Writing.{Nothing, Writing, with_writing}
 use Rattle.session_model.proofs.FittingClassLemmas.{AllFit, Fits}
 use Rattle.session_model.proofs.QueueLemmas.{each_dropped, each_posted, each_taken}
-use Rattle.publish_board.specs.Desk.{Desk}
 
 module _ (settings : Settings) (rows : List Row) where
   -- what a session holds fits the objects of these rows, and what it has posted is right
@@ -47,6 +29,7 @@ module _ (settings : Settings) (rows : List Row) where
     pub carries : Carries next.doing
     pub items : All (IsFittingItem settings next.doing.state) next.items
 
+module _ {settings : Settings} {rows : List Row} where
   -- fewer connections fit
   pub fits_without : (state : State) (test : Connection → Bool) → Fits settings rows state → Fits settings rows (without_connections state test)
   fits_without state test fit = record {
@@ -81,30 +64,30 @@ module _ (settings : Settings) (rows : List Row) where
   fits_writing state object Nothing fit = fit
   fits_writing state object _ fit = fit
 
-  module _ (doing : Execution) (on : Carries doing) where
-    pub told_carries : (said : Line) → Carries (line_told doing said)
+  module _ (doing : Execution) (on : Carries settings rows doing) where
+    pub told_carries : (said : Line) → Carries settings rows (line_told doing said)
     unfolding line_told
     told_carries said = on
 
-    pub posting_carries : (more : List Post) → All IsRightPost more → Carries (posting doing more)
+    pub posting_carries : (more : List Post) → All IsRightPost more → Carries settings rows (posting doing more)
     unfolding posting
     posting_carries more right = record { fits = on.fits; posts = All-append IsRightPost doing.posts more on.posts right }
 
-    pub turn_carries : Carries (turn_taken doing)
+    pub turn_carries : Carries settings rows (turn_taken doing)
     unfolding turn_taken
     turn_carries = on
 
-    pub used_up_carries : Carries (used_up doing)
+    pub used_up_carries : Carries settings rows (used_up doing)
     unfolding used_up
-    used_up_carries = cond_both doing.spent doing (record doing { spent = true; lines = doing.lines ++ Warning TurnsUsedUp None ∷ [] }) Carries (λ spent. on)
-        (λ fresh. on)
+    used_up_carries = cond_both doing.spent doing (record doing { spent = true; lines = doing.lines ++ Warning TurnsUsedUp None ∷ [] })
+        (Carries settings rows) (λ spent. on) (λ fresh. on)
 
-    pub shot_carries : (row : Connection) → Carries (single_shot_broken doing row)
+    pub shot_carries : (row : Connection) → Carries settings rows (single_shot_broken doing row)
     unfolding single_shot_broken
-    shot_carries row = cond_both row.single (in_state doing (without_connections doing.state (has_number row.number))) doing Carries
+    shot_carries row = cond_both row.single (in_state doing (without_connections doing.state (has_number row.number))) doing (Carries settings rows)
         (λ single. record { fits = fits_without doing.state (has_number row.number) on.fits; posts = on.posts }) (λ lasting. on)
 
-    pub stepped_carries : (number next : ℕ) → Carries (stepped doing number next)
+    pub stepped_carries : (number next : ℕ) → Carries settings rows (stepped doing number next)
     unfolding stepped
     stepped_carries number next = record {
       fits = record {
@@ -118,22 +101,22 @@ module _ (settings : Settings) (rows : List Row) where
       posts = on.posts;
     }
 
-    posted_carries : (event : Event) → IsFittingEvent settings rows event → Carries (enqueued doing event)
+    posted_carries : (event : Event) → IsFittingEvent settings rows event → Carries settings rows (enqueued doing event)
     unfolding enqueued
     posted_carries event new = record { fits = fits_event doing.state event new on.fits; posts = on.posts }
 
-    lost_carries : Carries (lost doing)
+    lost_carries : Carries settings rows (lost doing)
     unfolding lost
     lost_carries = record {
       fits = record { events = on.fits.events; connections = on.fits.connections; publications = on.fits.publications; joins = on.fits.joins };
       posts = on.posts;
     }
 
-    pub queued_carries : (call : QueuedCall) → IsFittingEvent settings rows (event.Call call) → Carries (queued doing call)
-    queued_carries call new = cond_both (has_room doing.state.queue) (enqueued doing (event.Call call)) (lost doing) Carries
+    pub queued_carries : (call : QueuedCall) → IsFittingEvent settings rows (event.Call call) → Carries settings rows (queued doing call)
+    queued_carries call new = cond_both (has_room doing.state.queue) (enqueued doing (event.Call call)) (lost doing) (Carries settings rows)
         (λ room. posted_carries (event.Call call) new) (λ full. lost_carries)
 
-    pub first_carries : Carries (first_taken doing)
+    pub first_carries : Carries settings rows (first_taken doing)
     unfolding first_taken
     first_carries = record {
       fits = record {
@@ -145,15 +128,15 @@ module _ (settings : Settings) (rows : List Row) where
       posts = on.posts;
     }
 
-    pub done_carries : (operation : Operation) → IsFittingOperation settings rows operation → Carries (operation_done doing operation)
+    pub done_carries : (operation : Operation) → IsFittingOperation settings rows operation → Carries settings rows (operation_done doing operation)
     unfolding operation_done
     done_carries operation may = record { fits = fits_operation doing.state operation may on.fits; posts = on.posts }
 
-    pub dying_carries : (target : ℕ) → Carries (dying doing target)
+    pub dying_carries : (target : ℕ) → Carries settings rows (dying doing target)
     unfolding dying
     dying_carries target = on
 
-    pub severed_carries : (target : ℕ) → Carries (severed doing target)
+    pub severed_carries : (target : ℕ) → Carries settings rows (severed doing target)
     unfolding severed
     severed_carries target = record {
       fits = record {
@@ -166,16 +149,16 @@ module _ (settings : Settings) (rows : List Row) where
       posts = on.posts;
     }
 
-    -- nothing more is to be done, or one thing
-    pub no_item : Comes (puts [] doing)
-    no_item = record { carries = on; items = All-nil (IsFittingItem settings doing.state) }
+  -- nothing more is to be done, or one thing
+  pub no_item : {doing : Execution} → Carries settings rows doing → Comes settings rows (puts [] doing)
+  no_item {doing} on = record { carries = on; items = All-nil (IsFittingItem settings doing.state) }
 
-    pub one_item : (item : Item) → IsFittingItem settings doing.state item → Comes (puts (item ∷ []) doing)
-    one_item item fit = record {
-      carries = on;
-      items = All-cons (IsFittingItem settings doing.state) item [] fit
-          (All-nil (IsFittingItem settings doing.state));
-    }
+  pub one_item : {doing : Execution} {item : Item} → Carries settings rows doing → IsFittingItem settings doing.state item
+      → Comes settings rows (puts (item ∷ []) doing)
+  one_item {doing} {item} on fit = record {
+    carries = on;
+    items = All-cons (IsFittingItem settings doing.state) item [] fit (All-nil (IsFittingItem settings doing.state));
+  }
 
 -- a turn, and a single-shot connection that is broken, leave the objects
 pub turn_rows : (doing : Execution) → (turn_taken doing).state.forest.rows ≡ doing.state.forest.rows

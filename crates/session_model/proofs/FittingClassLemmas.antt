@@ -3,31 +3,17 @@ use Rattle.std.proofs.Common.{◌≡◌, ℕ, true, List, [], ◌++◌, Option, 
 use Rattle.std.specs.List.{All}
 use Rattle.std.specs.Option.{option_map, option_map_or, option_or}
 use Rattle.std.proofs.lemmas.List.Folds.{find-append}
-use Rattle.signature_core.specs.Kinds.{fits}
-use Rattle.variant_value.specs.declared.value.Value.{Value}
-use Rattle.class_table.specs.declared.class.Class.{Class}
-use Rattle.class_table.specs.declared.class.Method.{Method}
-use Rattle.class_table.specs.Lookup.{methods}
-use Rattle.plain_types.specs.declared.callee.Callee.{Callee}
+use Rattle.session_model.proofs.Common.{fits, Value, Class, Method, methods, Callee, Event, Queue, Row, Forest, is_there, row_of, Join, AreArguments, kinds_of}
+use Rattle.session_model.proofs.Common.{IsCall, IsConnected, IsFitting, IsFittingEvent, IsJoined, IsPublished, IsSent, MayBeConnected, is_signal_at, kinds_at}
+use Rattle.session_model.proofs.Common.{methods_by, Settings, IsWhole, OfDesk, State, Rows, Desk}
 use Rattle.plain_types.specs.declared.callee.Callee.TheVariants as callee
-use Rattle.event_queue.specs.declared.event.Event.{Event}
 use Rattle.event_queue.specs.declared.event.Event.TheVariants as event
-use Rattle.event_queue.specs.Queue.{Queue, object_of}
-use Rattle.object_tree.specs.declared.row.Row.{Row}
+use Rattle.event_queue.specs.Queue.{object_of}
 use Rattle.object_tree.specs.Forest as tree
-use Rattle.object_tree.specs.Forest.{Forest}
-use Rattle.object_tree.specs.Rows.{has_number, is_there, row_of}
+use Rattle.object_tree.specs.Rows.{has_number}
 use Rattle.object_tree.proofs.ForCallers.{at_place}
-use Rattle.publish_board.specs.declared.join.Join.{Join}
-use Rattle.stored_slots.specs.Functors.{AreArguments}
-use Rattle.session_model.specs.Arriving.{kinds_of}
-use Rattle.session_model.specs.Fitting.{IsCall, IsCallee, IsConnected, IsFitting, IsFittingEvent, IsJoined, IsPublished, IsSent, MayBeConnected, kinds_called}
-use Rattle.session_model.specs.Methods.{is_signal_at, kinds_at, methods_by}
-use Rattle.session_model.specs.Settings.{Settings}
-use Rattle.session_model.specs.State.{IsWhole, OfDesk, State}
+use Rattle.session_model.specs.Fitting.{IsCallee, kinds_called}
 use Rattle.session_model.proofs.ConnectionLemmas.{Ends}
-use Rattle.connection_list.specs.Rows.{Rows}
-use Rattle.publish_board.specs.Desk.{Desk}
 use Rattle.session_model.proofs.ForestLemmas.{of_row}
 
 -- the class of an object
@@ -119,17 +105,17 @@ abbrev pub Fits : Settings → List Row → State → Type 0
 Fits settings rows state = AllFit settings rows state.queue state.connections state.desk
 
 -- of its own rows
-pub fits_own : (settings : Settings) (state : State) → IsFitting settings state → Fits settings state.forest.rows state
-fits_own settings state fit = record { events = fit.events; connections = fit.connections; publications = fit.publications; joins = fit.joins }
+pub fits_own : {settings : Settings} {state : State} → IsFitting settings state → Fits settings state.forest.rows state
+fits_own fit = record { events = fit.events; connections = fit.connections; publications = fit.publications; joins = fit.joins }
 
 abbrev pub HaveClasses : Settings → List Row → Type 0
 HaveClasses settings rows = All (λ row. is_some (slice_get settings.classes row.class) ≡ true) rows
 
 -- it fits others where all objects that it names have the same classes there
-pub fits_moved : (settings : Settings) (old : List Row) (new : State) (S : ℕ → Type 0) → ((number : ℕ) → S number → SameClass old new.forest.rows number)
+pub fits_moved : {settings : Settings} (old : List Row) {new : State} (S : ℕ → Type 0) → ((number : ℕ) → S number → SameClass old new.forest.rows number)
     → All (λ event. S (object_of event)) new.queue.events → Ends S new.connections.rows → OfDesk S new.desk → HaveClasses settings new.forest.rows
     → Fits settings old new → IsFitting settings new
-fits_moved settings old new S same events ends desk classes fit = record {
+fits_moved {settings} old {new} S same events ends desk classes fit = record {
   objects = classes;
   events = λ index default within. event_moved settings old new.forest.rows _ (same _ (events index default within)) (fit.events index default within);
   connections = λ index default within. (let it = ends index default within in connected_moved settings old new.forest.rows _ _ _ _ (same _ it.sender)
@@ -140,8 +126,8 @@ fits_moved settings old new S same events ends desk classes fit = record {
 }
 
 -- each object of a session has the class that it has
-pub own_classes : (forest : Forest) → tree.IsSound forest → All (λ row. class_at forest.rows row.number ≡ Some row.class) forest.rows
-own_classes forest sound index default within =
+pub own_classes : {forest : Forest} → tree.IsSound forest → All (λ row. class_at forest.rows row.number ≡ Some row.class) forest.rows
+own_classes {forest} sound index default within =
     ap (option_map (λ (row : Row). row.class)) (at_place (λ row. row) _ forest.rows index default sound.numbers_rise within refl).0
 
 -- where each object has the class that it had, that is found
@@ -172,8 +158,8 @@ more_classes rows more number there = ap (option_map (λ (row : Row). row.class)
     by (Some row) e = refl
 
 -- a session as it was, but for its objects, properties and bindings, fits still
-pub fits_whole : (settings : Settings) (old : List Row) (new : State) → IsWhole new → All (λ row. class_at old row.number ≡ Some row.class) new.forest.rows
+pub fits_whole : {settings : Settings} (old : List Row) {new : State} → IsWhole new → All (λ row. class_at old row.number ≡ Some row.class) new.forest.rows
     → HaveClasses settings new.forest.rows → Fits settings old new → IsFitting settings new
-fits_whole settings old new whole kept classes fit =
-    fits_moved settings old new (λ number. is_there new.forest.rows number ≡ true) (kept_class old new.forest.rows kept) whole.meant
+fits_whole old {new} whole kept classes fit =
+    fits_moved old (λ number. is_there new.forest.rows number ≡ true) (kept_class old new.forest.rows kept) whole.meant
     (λ index default within. (let it = whole.ends index default within in record { sender = it.sender; receiver = it.receiver })) whole.named classes fit

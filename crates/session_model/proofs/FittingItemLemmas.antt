@@ -1,54 +1,37 @@
 -- Each item leaves a session that fits the classes and the functors, and what it comes to fits.
-use Rattle.std.proofs.Common.{◌≡◌, ◌+◌, ℕ, Bool, true, false, List, [], ◌∷◌, ◌++◌, Option, Some, None, Ok, Err, is_some, slice_get, refl, sym, ap, subst, ◌∙◌}
+use Rattle.std.proofs.Common.{◌≡◌, ◌+◌, ℕ, Bool, true, false, List, [], ◌∷◌, ◌++◌, Option, Some, None, Ok, is_some, slice_get, refl, sym, ap, subst, ◌∙◌}
 use Rattle.std.specs.List.{All, list_all}
 use Rattle.std.specs.Option.{option_map_or}
 use Rattle.std.proofs.lemmas.Bool.{and_parts}
 use Rattle.std.proofs.lemmas.List.Elements.{All-append, All-cons, All-head, All-map, All-nil, All-tail, All-weaker}
-use Rattle.signature_core.specs.declared.signature.Signature.{Signature}
-use Rattle.variant_value.specs.declared.value.Value.{Value}
-use Rattle.variant_value.specs.Values.{IsShort}
-use Rattle.term_core.specs.declared.action.SingleAction.{SingleAction}
+use Rattle.session_model.proofs.Common.{Signature, Value, IsShort, SingleAction, Acts, acts_of, more, nothing, is_within_limits, Term, Method, methods, Row}
+use Rattle.session_model.proofs.Common.{object_refusal, children, is_there, row_of, Functor, AreArguments, after, with_state, DESTROYED, Operation}
+use Rattle.session_model.proofs.Common.{absence, act_operation, acts, branch, emission, call_line, functor_line, functor_ran, ran, step, behind}
+use Rattle.session_model.proofs.Common.{Execution, severed, line_told, stepped, AreSettings, IsCall, IsFittingOperation, IsFittingItem, IsSent}
+use Rattle.session_model.proofs.Common.{functor_at, Act, Detach, Emit, Remove, Item, DeleteChild, Next, puts, ◌>>=◌}
+use Rattle.session_model.proofs.Common.{kinds_at, method_at, methods_by, methods_of, signal_with, Settings, comes_to, IsDeclared, IsWhole, State}
+use Rattle.session_model.proofs.Common.{without_object, functor_state, all_converted, all_evaluated, object_of, with_writing, written, written_property}
 use Rattle.term_core.specs.declared.action.SingleAction.TheVariants as e
-use Rattle.term_core.specs.Act.{Acts, acts_of, are_limited, more, nothing}
-use Rattle.term_core.specs.Forms.{is_within_limits}
-use Rattle.term_core.specs.Term.{Term}
-use Rattle.class_table.specs.declared.class.Method.{Method}
-use Rattle.class_table.specs.Lookup.{methods}
+use Rattle.term_core.specs.Act.{are_limited}
 use Rattle.plain_types.specs.declared.callee.Callee.TheVariants as callee
-use Rattle.object_tree.specs.declared.row.Row.{Row}
-use Rattle.object_tree.specs.Refusing.{object_refusal}
-use Rattle.object_tree.specs.Rows.{children, is_there, row_of}
-use Rattle.property_store.proofs.ForCallers.{found}
-use Rattle.stored_slots.specs.declared.functor.Functor.{Functor}
-use Rattle.stored_slots.specs.Functors.{AreArguments}
-use Rattle.term_evaluation.specs.Stating.{after, with_state}
-use Rattle.session_model.specs.declared.call.TheConstants.{DESTROYED}
-use Rattle.session_model.specs.declared.operation.Operation.{Operation}
 use Rattle.session_model.specs.declared.operation.Operation.TheVariants as d
-use Rattle.session_model.specs.Absence.{absence, named_absence}
-use Rattle.session_model.specs.Acts.{act_operation, acts, branch, connection, emission, pattern}
-use Rattle.session_model.specs.Agenda.{call_line, functor_line, functor_ran, delete_children, ran, step}
-use Rattle.session_model.specs.Operations.{behind, operation_done}
-use Rattle.session_model.specs.Execution.{Execution, dying, severed, line_told, stepped, used_up}
-use Rattle.session_model.specs.Fitting.{AreSettings, IsCall, IsFittingOperation, IsFittingItem, IsFittingUnderWay, IsSent}
-use Rattle.session_model.specs.Functors.{functor_at}
-use Rattle.session_model.specs.Items.{Act, Detach, Delete, Emit, Remove, Item, DeleteChild, Next, Warn, puts}
-use Rattle.session_model.specs.Methods.{Found, ◌>>=◌, is_signal_at, kinds_at, method_at, method_with, methods_by, methods_of, signal_with}
-use Rattle.session_model.specs.Settings.{Settings}
-use Rattle.session_model.specs.Showing.{comes_to}
-use Rattle.session_model.specs.State.{IsDeclared, IsWhole, State, without_object, functor_state}
-use Rattle.session_model.specs.Targets.{all_converted, all_evaluated, named_object_of, object_of}
-use Rattle.session_model.specs.Writing.{with_writing, written, written_property}
+use Rattle.session_model.specs.Absence.{named_absence}
+use Rattle.session_model.specs.Acts.{connection, pattern}
+use Rattle.session_model.specs.Agenda.{delete_children}
+use Rattle.session_model.specs.Execution.{dying}
+use Rattle.session_model.specs.Fitting.{IsFittingUnderWay}
+use Rattle.session_model.specs.Methods.{method_with}
+use Rattle.session_model.specs.Targets.{named_object_of}
 use Rattle.session_model.proofs.FittingArgumentLemmas.{all_evaluated_short, converted_arguments, short_arguments}
 use Rattle.session_model.proofs.FittingCallLemmas.{callee_gone_comes, functor_comes, method_comes, sends_comes, takes_comes}
 use Rattle.session_model.proofs.StepLemmas.{Cases, step_cases}
-use Rattle.plain_types.specs.declared.code.Code.TheVariants.{Limit}
 use Rattle.session_model.proofs.FittingChangeLemmas.{Carries, Comes, done_carries, dying_carries, fits_writing, no_item, one_item, severed_carries}
 use Rattle.session_model.proofs.FittingChangeLemmas.{told_carries, stepped_carries, used_up_carries}
 use Rattle.session_model.proofs.DeclaredLemmas.{item_declared}
 use Rattle.session_model.proofs.ForestLemmas.{each_marked, of_row}
+use Rattle.session_model.proofs.FoundLemmas.{found_past, then_found}
 use Rattle.session_model.proofs.ItemLemmas.{item_under_way}
-use Rattle.session_model.proofs.FittingFoundLemmas.{connection_fits, operation_fits, found_past, method_there, pattern_fits, signal_there}
+use Rattle.session_model.proofs.FittingFoundLemmas.{connection_fits, operation_fits, method_there, pattern_fits, signal_there}
 use Rattle.session_model.proofs.FittingClassLemmas.{Fits, HaveClasses, class_at, fits_own, fits_whole, has_method, own_classes}
 use Rattle.session_model.proofs.FittingTableLemmas.{destroyed, first_method, functor_limited, method_limited}
 use Rattle.session_model.proofs.FittingLaterLemmas.{classes_stay, item_stays}
@@ -99,7 +82,7 @@ module _ (settings : Settings) (are : AreSettings settings) where
         → (is_there rows target ≡ true → IsCall settings rows target (callee.Method index) args) → (method : Method)
         → method_at settings doing.state target index ≡ Some method → Comes settings rows (ran doing target sender args depth method)
     runs_comes target index sender args depth fit method is = record {
-      carries = told_carries settings rows doing on (call_line method target sender args);
+      carries = told_carries doing on (call_line method target sender args);
       items = acts_fit settings (line_told doing (call_line method target sender args)).state (acts_of method.body.actions) args target sender (depth + 1)
           (body_limited rows target index method is)
           (short_arguments _ args (fit (has_method settings.classes rows target index method is)).arguments);
@@ -113,7 +96,7 @@ module _ (settings : Settings) (are : AreSettings settings) where
         let state = functor_state doing.state connection in
         let next = after functor.next state args in
         record {
-          carries = stepped_carries settings rows new (told_carries settings rows doing on (functor_line functor target sender args)) connection next;
+          carries = stepped_carries new (told_carries doing on (functor_line functor target sender args)) connection next;
           items = acts_fit settings (stepped new connection next).state (acts_of (with_state state functor.body).actions) args target sender (depth + 1)
               (functor_limited settings are index state functor is) (short_arguments _ args fit.arguments);
         }
@@ -138,27 +121,17 @@ module _ (settings : Settings) (are : AreSettings settings) where
       -- a signal of an object's class is sent with values of its kinds
       emission_sent : All IsShort args → (of : ℕ) (signal : Signature) (sent : List Term) → list_all is_within_limits sent ≡ true → (emitted : ℕ × List Value)
           → emission settings doing.state self sender args of signal sent ≡ Ok emitted → IsSent settings rows of emitted.0 emitted.1
-      emission_sent short of signal sent limited emitted e = by (signal_with (methods_of settings doing.state of) signal) refl
-          (all_evaluated doing.state self sender args sent) refl e
-        where
-          third : (index : ℕ) (values : List Value) → is_signal_at (methods_of settings doing.state of) index ≡ true → All IsShort values
-              → (converted : Found (List Value)) → all_converted (kinds_at (methods_of settings doing.state of) index) values ≡ converted
-              → (converted >>= λ converted. Ok (index, converted)) ≡ Ok emitted → IsSent settings rows of emitted.0 emitted.1
-          third index values one other (Err code) is e = absurd (cc)
-          third index values one other (Ok converted) is e =
-              let same : (index, converted) ≡ emitted = cc in
-              subst (λ (emitted : ℕ × List Value). IsSent settings rows of emitted.0 emitted.1) same
-              (record { signal_there = one; arguments = converted_arguments (kinds_at (methods_of settings doing.state of) index) values converted other is })
-
-          by : (index : Found ℕ) → signal_with (methods_of settings doing.state of) signal ≡ index → (values : Found (List Value))
-              → all_evaluated doing.state self sender args sent ≡ values
-              → (index >>= λ index. values >>= λ values. all_converted (kinds_at (methods_of settings doing.state of) index) values >>=
-              λ converted. Ok (index, converted)) ≡ Ok emitted → IsSent settings rows of emitted.0 emitted.1
-          by (Err code) is values so e = absurd (cc)
-          by (Ok index) is (Err code) so e = absurd (cc)
-          by (Ok index) is (Ok values) so e =
-              third index values (signal_there (methods_of settings doing.state of) signal index is)
-              (all_evaluated_short doing.state whole.properties whole.graph self sender args sent values short limited so) _ refl e
+      emission_sent short of signal sent limited emitted e =
+          let methods = methods_of settings doing.state of in
+          let (index, is, e) = then_found (signal_with methods signal) _ e in
+          let (values, so, e) = then_found (all_evaluated doing.state self sender args sent) _ e in
+          let (converted, its, e) = then_found (all_converted (kinds_at methods index) values) _ e in
+          let same : (index, converted) ≡ emitted = cc in
+          subst (λ (emitted : ℕ × List Value). IsSent settings rows of emitted.0 emitted.1) same (record {
+            signal_there = signal_there methods signal index is;
+            arguments = converted_arguments (kinds_at methods index) values converted
+                (all_evaluated_short doing.state whole.properties whole.graph self sender args sent values short limited so) its;
+          })
 
       -- the operation of an action fits
       act_fits : (plain : SingleAction) (operation : Operation) → act_operation settings doing.state self sender plain ≡ Some (Ok operation)
@@ -193,7 +166,7 @@ module _ (settings : Settings) (are : AreSettings settings) where
         Comes settings rows (puts (Emit target DESTROYED [] depth ∷ Detach target depth ∷ Remove target depth ∷ []) (dying doing target))
     unfolding dying
     deleted classes target depth = record {
-      carries = dying_carries settings rows doing on target;
+      carries = dying_carries doing on target;
       items = All-cons Fit (Emit target DESTROYED [] depth) (Detach target depth ∷ Remove target depth ∷ [])
           (destroyed_sent (dying doing target).state.forest.rows
           (each_marked HasClass HasClass doing.state.forest target (λ class dying has. has) (λ number class dying apart has. has) classes) target)
@@ -209,7 +182,7 @@ module _ (settings : Settings) (are : AreSettings settings) where
     delete_children_come : (target depth : ℕ) → Comes settings rows (puts (delete_children doing target depth) (severed doing target))
     unfolding delete_children
     delete_children_come target depth = record {
-      carries = severed_carries settings rows doing on target;
+      carries = severed_carries doing on target;
       items = All-map (IsFittingItem settings (severed doing target).state) (λ child. DeleteChild target child depth) (children rows (Some target))
           (λ index default within. tt);
     }
@@ -221,10 +194,10 @@ module _ (settings : Settings) (are : AreSettings settings) where
 
     fit_cases : IsWhole doing.state → HaveClasses settings rows → Cases settings doing FitsAfter
     fit_cases whole classes = record {
-      rests = λ item leaves fit after declared. no_item settings rows doing on;
-      tells = λ item said leaves fit after declared. no_item settings rows (line_told doing said) (told_carries settings rows doing on said);
-      uses_up = λ item leaves fit after declared. no_item settings rows (used_up doing) (used_up_carries settings rows doing on);
-      too_deep = λ target signal args depth fit after declared. one_item settings rows doing on (Warn Limit (Some target)) tt;
+      rests = λ item leaves fit after declared. no_item on;
+      tells = λ item said leaves fit after declared. no_item (told_carries doing on said);
+      uses_up = λ item leaves fit after declared. no_item (used_up_carries doing on);
+      too_deep = λ target signal args depth fit after declared. one_item on tt;
       sends = λ target signal args depth row is fit after declared.
           sends_comes settings doing on whole.connections target signal args depth (fit (ap is_some is)).arguments;
       callee_gone = λ number args depth connection is fit after declared. callee_gone_comes settings doing on number args depth fit connection is;
@@ -239,25 +212,23 @@ module _ (settings : Settings) (are : AreSettings settings) where
       runs = λ target index sender args depth method is fit after declared. runs_comes target index sender args depth fit method is;
       runs_functor = λ target index sender connection args depth functor is fit after declared.
           runs_functor_comes target index sender connection args depth fit functor is;
-      refused = λ action args self sender depth code fit after declared. one_item settings rows doing on (Warn code (Some self)) tt;
+      refused = λ action args self sender depth code fit after declared. one_item on tt;
       emits = λ of signal sent args self sender depth emitted is fit after declared.
-          one_item settings rows doing on (Emit (object_of doing.state self sender of) emitted.0 emitted.1 depth)
-          (λ there. emission_sent whole self sender args fit.1 (object_of doing.state self sender of) signal sent fit.0 emitted is);
+          one_item on (λ there. emission_sent whole self sender args fit.1 (object_of doing.state self sender of) signal sent fit.0 emitted is);
       deletes = λ target args self sender depth fit after declared.
-          one_item settings rows doing on (Delete (object_of doing.state self sender target) depth) tt;
+          one_item on tt;
       writes = λ of property value args self sender depth given writing is fit after declared.
           let target = object_of doing.state self sender of in
           telling_comes whole depth (with_writing doing.state target writing) (written_property target writing)
-          (fits_writing settings rows doing.state target writing on.fits) after declared;
+          (fits_writing doing.state target writing on.fits) after declared;
       does = λ plain args self sender depth operation is passed fit after declared.
-          no_item settings rows (operation_done doing operation)
-          (done_carries settings rows doing on operation (act_fits whole self sender args plain operation is));
+          no_item (done_carries doing on operation (act_fits whole self sender args plain operation is));
       chooses = λ test held failed args self sender depth truth fit after declared.
           let both = (and_parts _ _ fit.0).1 in
           chooses_comes held failed args self sender depth truth (and_parts _ _ both).0 (and_parts _ _ both).1 fit.1;
       dies = λ target depth living fit after declared. deleted classes target depth;
       detaches = λ target depth fit after declared. delete_children_come target depth;
-      deletes_child = λ parent child depth fit after declared. one_item settings rows doing on (Delete child depth) tt;
+      deletes_child = λ parent child depth fit after declared. one_item on tt;
       removes = λ target depth fit after declared. telling_comes whole depth (without_object doing.state target) None on.fits after declared;
       takes = λ first later is some fit after declared. takes_comes settings doing on first later is;
     }
@@ -271,16 +242,16 @@ item_fits settings item agenda doing are under =
     let next = step settings item doing in
     let under_way = item_under_way settings item agenda doing under.under_way in
     let declared = item_declared settings item doing under.declared in
-    let on : Carries settings doing.state.forest.rows doing = record { fits = fits_own settings doing.state under.fitting; posts = under.posts } in
+    let on : Carries settings doing.state.forest.rows doing = record { fits = fits_own under.fitting; posts = under.posts } in
     let comes = step_cases settings doing (FitsAfter settings are doing on) (fit_cases settings are doing on before under.fitting.objects) item
     (All-head (IsFittingItem settings doing.state) item agenda under.items) under_way.whole declared in
     let kept = classes_stay (λ number class. class_at doing.state.forest.rows number ≡ Some class) settings item doing
-    (own_classes doing.state.forest before.forest) in
+    (own_classes before.forest) in
     let classes = classes_stay (λ number class. is_some (slice_get settings.classes class) ≡ true) settings item doing under.fitting.objects in
     record {
       under_way = under_way;
       declared = declared;
-      fitting = fits_whole settings doing.state.forest.rows next.doing.state under_way.whole kept classes comes.carries.fits;
+      fitting = fits_whole doing.state.forest.rows under_way.whole kept classes comes.carries.fits;
       items = All-append (IsFittingItem settings next.doing.state) next.items agenda comes.items
           (All-weaker (IsFittingItem settings doing.state) (IsFittingItem settings next.doing.state)
           (item_stays settings item doing under_way.whole kept) agenda (All-tail (IsFittingItem settings doing.state) item agenda under.items));

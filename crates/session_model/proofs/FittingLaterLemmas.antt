@@ -1,30 +1,16 @@
 -- While items are done objects keep their classes, and the numbers of connections are never given again.
-use Rattle.std.proofs.Common.{◌≡◌, ◌+◌, ◌≤◌, ℕ, Bool, true, not, List, [], Some, arith}
+use Rattle.std.proofs.Common.{◌≡◌, ◌+◌, ◌≤◌, ℕ, Bool, true, not, List, Some, arith}
 use Rattle.std.specs.List.{All}
 use Rattle.std.proofs.lemmas.List.Elements.{All-filter, All-push}
-use Rattle.variant_value.specs.declared.value.Value.{Value}
+use Rattle.session_model.proofs.Common.{Value, Connection, matches, touches, Rows, has_number, numbered, is_there, AreArguments, all_stepped, Operation, step}
+use Rattle.session_model.proofs.Common.{kinds_of, with_operation, Execution, dying, IsFittingItem, Act, Call, Emit, Item, Run, RunFunctor, Settings}
+use Rattle.session_model.proofs.Common.{IsWhole, State, without_connections, Nothing, Writing, with_writing, Row}
 use Rattle.plain_types.specs.declared.callee.Callee.TheVariants as callee
-use Rattle.connection_list.specs.declared.connection.Connection.{Connection}
-use Rattle.connection_list.specs.Ends.{matches, touches}
-use Rattle.connection_list.specs.Rows.{Rows, has_number, numbered}
-use Rattle.object_tree.specs.Rows.{is_there}
-use Rattle.stored_slots.specs.Functors.{AreArguments}
-use Rattle.connection_list.proofs.ForCallers.{all_stepped}
-use Rattle.session_model.specs.declared.operation.Operation.{Operation}
 use Rattle.session_model.specs.declared.operation.Operation.TheVariants as d
-use Rattle.session_model.specs.Agenda.{step}
-use Rattle.session_model.specs.Arriving.{kinds_of}
-use Rattle.session_model.specs.Operations.{with_operation}
-use Rattle.session_model.specs.Execution.{Execution, dying, stepped}
-use Rattle.session_model.specs.Fitting.{IsCalledBy, IsFittingItem}
-use Rattle.session_model.specs.Items.{Act, Call, Emit, Item, Run, RunFunctor}
-use Rattle.session_model.specs.Settings.{Settings}
-use Rattle.session_model.specs.State.{IsWhole, State, without_connections}
-use Rattle.session_model.specs.Writing.{Nothing, Writing, with_writing}
+use Rattle.session_model.specs.Fitting.{IsCalledBy}
 use Rattle.session_model.proofs.ForestLemmas.{OfEach, each_blocked, each_marked, each_removed, each_reparented}
 use Rattle.session_model.proofs.FittingClassLemmas.{SameClass, arguments_moved, call_moved, class_at, kept_class, sent_moved, was_there}
 use Rattle.session_model.proofs.StepLemmas.{HoldsOfStates, of_states, step_holds}
-use Rattle.object_tree.specs.declared.row.Row.{Row}
 
 module _ (G : ℕ → ℕ → Type 0) (number : ℕ) (Q : Connection → Type 0)
     (stateless : (row : Connection) (state : ℕ) → Q row → Q (record row { state = state })) where

@@ -1,17 +1,12 @@
 -- Before the first command, and after each post, what a session holds fits the classes and the functors.
-use Rattle.object_tree.specs.declared.row.Row.{Row}
 use Rattle.std.proofs.Common.{List, arith, ℕ}
 use Rattle.std.proofs.lemmas.Bool.{and_parts}
 use Rattle.std.specs.List.{All}
+use Rattle.session_model.proofs.Common.{Row, joined_call, kinds_of, IsFitting, IsFittingEvent, IsJoined, IsRightPost, Settings, State, empty, Post}
 use Rattle.session_model.proofs.ArrivingLemmas.{reached_by_keeps}
 use Rattle.session_model.proofs.FittingArgumentLemmas.{fitting_through}
 use Rattle.session_model.proofs.QueueLemmas.{each_posted}
-use Rattle.session_model.specs.Arriving.{joined_call, kinds_of}
-use Rattle.session_model.specs.Fitting.{IsFitting, IsFittingEvent, IsJoined, IsRightPost}
-use Rattle.session_model.specs.Settings.{Settings}
 use Rattle.session_model.specs.Thread.{arrives}
-use Rattle.session_model.specs.State.{State, empty}
-use Rattle.session_model.specs.declared.post.Post.{Post}
 use Rattle.event_queue.specs.declared.event.Event.TheVariants as event
 
 -- before the first command there is nothing that may not fit

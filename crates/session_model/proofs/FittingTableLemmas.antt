@@ -7,21 +7,16 @@ use Rattle.std.proofs.lemmas.Bool.{and_parts}
 use Rattle.std.proofs.lemmas.Bool.Decides.{nat_tests}
 use Rattle.std.proofs.lemmas.List.Elements.{All-append, All-nil, All-weaker}
 use Rattle.std.proofs.lemmas.Option.{slice_get-get_or, slice_get_past, slice_get_within}
+use Rattle.session_model.proofs.Common.{acts_of, counts, with_state, Class, Method, methods, properties, Functor, AreSettings, Settings}
 use Rattle.term_core.specs.declared.limits.TheConstants.{ACTIONS}
-use Rattle.term_core.specs.Act.{acts_of, are_limited, are_named, counts}
-use Rattle.term_evaluation.specs.Stating.{with_state}
+use Rattle.term_core.specs.Act.{are_limited, are_named}
 use Rattle.term_evaluation.proofs.ForCallers.{state_limits, state_named}
-use Rattle.class_table.specs.declared.class.Class.{Class}
-use Rattle.class_table.specs.declared.class.Method.{Method}
 use Rattle.class_table.specs.declared.class.Property.{Property}
 use Rattle.class_table.specs.Declaring.{q_object, signal_of}
-use Rattle.class_table.specs.Lookup.{inherited, methods, properties}
+use Rattle.class_table.specs.Lookup.{inherited}
 use Rattle.class_table.specs.Sound.{IsClassAt, IsMethod, IsTable, is_told}
 use Rattle.class_table.proofs.ForCallers.{of_class-none, told_behind}
-use Rattle.stored_slots.specs.declared.functor.Functor.{Functor}
 use Rattle.stored_slots.specs.Functors.{IsFunctor}
-use Rattle.session_model.specs.Fitting.{AreSettings}
-use Rattle.session_model.specs.Settings.{Settings}
 use Rattle.session_model.proofs.FilterLemmas.{of_slice}
 
 -- the first of a list stays the first

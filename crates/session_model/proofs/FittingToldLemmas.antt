@@ -7,40 +7,23 @@ use Rattle.std.proofs.lemmas.Bool.{and_parts, cond-false, cond_both}
 use Rattle.std.proofs.lemmas.List.{length-map}
 use Rattle.std.proofs.lemmas.List.Elements.{All-cons, All-head, All-nil, All-tail}
 use Rattle.std.proofs.lemmas.Option.{slice_get-get_or, slice_get-map, slice_get_within}
-use Rattle.signature_core.specs.declared.kind.Kind.{Kind}
+use Rattle.session_model.proofs.Common.{Kind, Value, IsOfKind, Method, methods, properties, Row, row_of, Field, AreSound, Properties, properties_of}
+use Rattle.session_model.proofs.Common.{Cell, cell_in, cell_of, Change, ChangeKind, Shown, is_open, all_shown_sound, AreArguments, Execution, IsFittingItem}
+use Rattle.session_model.proofs.Common.{IsSent, Emit, Item, is_signal_at, kinds_at, methods_by, Settings, changes, comes_to, showing, told_as, told_value}
+use Rattle.session_model.proofs.Common.{IsDeclared, IsWhole, State, fields_of, without_group}
 use Rattle.signature_core.proofs.ForCallers.{Decides-is_same_kind}
-use Rattle.variant_value.specs.declared.value.Value.{Value}
-use Rattle.variant_value.specs.Values.{IsOfKind, kind_of}
-use Rattle.class_table.specs.declared.class.Method.{Method}
+use Rattle.variant_value.specs.Values.{kind_of}
 use Rattle.class_table.specs.declared.class.Property.{Property}
 use Rattle.class_table.specs.Declaring.{tells as may_tell}
-use Rattle.class_table.specs.Lookup.{methods, properties}
 use Rattle.class_table.specs.Sound.{IsTable, is_told, is_told_by}
-use Rattle.object_tree.specs.declared.row.Row.{Row}
-use Rattle.object_tree.specs.Rows.{row_of}
-use Rattle.property_store.specs.declared.field.Field.{Field}
 use Rattle.property_store.specs.declared.property.Property.{Property as At}
 use Rattle.property_store.specs.Store as stored
-use Rattle.property_store.specs.Store.{AreSound, Properties, properties_of}
-use Rattle.property_store.proofs.ForCallers.{found}
-use Rattle.binding_values.specs.Scene.{Cell}
-use Rattle.binding_values.specs.Stored.{cell_in, cell_of}
-use Rattle.binding_values.specs.declared.change.Change.{Change}
-use Rattle.binding_values.specs.declared.change.ChangeKind.{ChangeKind}
 use Rattle.binding_values.specs.declared.change.ChangeKind.TheVariants as message
-use Rattle.binding_values.specs.declared.shown.Shown.{Shown}
 use Rattle.binding_values.specs.Fitting as graph_fitting
 use Rattle.binding_values.specs.Graph as graph
-use Rattle.binding_values.specs.Graph.{AreShown, is_open}
-use Rattle.binding_values.proofs.ForCallers.{all_shown_sound, changes_fit}
-use Rattle.stored_slots.specs.Functors.{AreArguments}
-use Rattle.session_model.specs.Execution.{Execution}
-use Rattle.session_model.specs.Fitting.{IsFittingItem, IsSent}
-use Rattle.session_model.specs.Items.{Emit, Item}
-use Rattle.session_model.specs.Methods.{is_signal_at, kinds_at, methods_by}
-use Rattle.session_model.specs.Settings.{Settings}
-use Rattle.session_model.specs.Showing.{changes, comes_to, showing, told_as, told_value}
-use Rattle.session_model.specs.State.{IsDeclared, IsWhole, State, field_of, fields_of, without_group}
+use Rattle.binding_values.specs.Graph.{AreShown}
+use Rattle.binding_values.proofs.ForCallers.{changes_fit}
+use Rattle.session_model.specs.State.{field_of}
 use Rattle.session_model.proofs.FittingTableLemmas.{each_property}
 use Rattle.session_model.proofs.ShowingLemmas.{ending, tells}
 use Rattle.session_model.proofs.FilterLemmas.{of_found, of_slice}

@@ -1,15 +1,14 @@
 -- What holds of each object after each change of a forest.
-use Rattle.std.proofs.Common.{◌≡◌, ◌+◌, ◌==◌, ℕ, Bool, true, false, not, cond, List, [], Option, Some, None, is_some, filter, get_or, refl, sym, ap, subst}
+use Rattle.std.proofs.Common.{◌≡◌, ◌+◌, ◌==◌, ℕ, Bool, true, false, not, cond, List, Option, Some, None, is_some, filter, get_or, refl, sym, ap, subst}
 use Rattle.std.specs.List.{All}
 use Rattle.std.specs.Option.{option_map_or}
 use Rattle.std.proofs.lemmas.Bool.{eqb-true, not-true}
 use Rattle.std.proofs.lemmas.List.Elements.{All-filter, All-map, All-push, All-weaker, filter_passes}
-use Rattle.plain_types.specs.declared.code.Code.TheVariants.{Dying, NoSuchObject}
-use Rattle.object_tree.specs.declared.row.Row.{Row}
-use Rattle.object_tree.specs.Forest.{Forest}
-use Rattle.object_tree.specs.Rows.{has_number, has_parent, is_there, row_of}
-use Rattle.object_tree.specs.Refusing.{keeps_parent, object_refusal}
-use Rattle.object_tree.specs.Changes.{added, changed, marked, moved, orphaned, removed, reparented, with_blocked}
+use Rattle.session_model.proofs.Common.{NoSuchObject, Row, Forest, is_there, row_of, object_refusal, orphaned}
+use Rattle.plain_types.specs.declared.code.Code.TheVariants.{Dying}
+use Rattle.object_tree.specs.Rows.{has_number, has_parent}
+use Rattle.object_tree.specs.Refusing.{keeps_parent}
+use Rattle.object_tree.specs.Changes.{added, changed, marked, moved, removed, reparented, with_blocked}
 use Rattle.session_model.proofs.FilterLemmas.{find-passes, of_found}
 
 -- what holds of each row after some are changed

@@ -2,28 +2,16 @@
 use Rattle.std.proofs.Common.{◌≡◌, ℕ, Bool, true, false, List, [], ◌∷◌, ◌++◌, Ok, Err, map, refl, sym, ap, ◌∙◌}
 use Rattle.std.specs.Option.{ok_or, option_or}
 use Rattle.std.specs.Result.{result_err}
-use Rattle.plain_types.specs.declared.code.Code.TheVariants.{BadValue}
-use Rattle.variant_value.specs.declared.value.Value.{Value}
+use Rattle.session_model.proofs.Common.{BadValue, Value, SingleAction, Acts, single_action, more, nothing, when, Term, absence, acts, chosen, warns_or}
+use Rattle.session_model.proofs.Common.{with_found, step, Execution, Act, Emit, Next, puts, Found, ◌>>=◌, kinds_at, methods_of, signal_with, run, Settings}
+use Rattle.session_model.proofs.Common.{State, all_converted, all_evaluated, object_of, truth_evaluated, acted_writing, written}
 use Rattle.variant_value.specs.Values.{truth_in}
-use Rattle.term_core.specs.declared.action.SingleAction.{SingleAction}
 use Rattle.term_core.specs.declared.action.SingleAction.TheVariants as e
 use Rattle.term_core.specs.Act as term
-use Rattle.term_core.specs.Act.{Acts, single_action, more, nothing, when}
-use Rattle.term_core.specs.Term.{Term}
 use Rattle.term_evaluation.specs.Unfolding.{unfolded, unfolded_acts, unfolded_effect, unfolded_term}
 use Rattle.term_evaluation.proofs.ForCallers.{in_place}
-use Rattle.session_model.specs.Absence.{absence}
-use Rattle.session_model.specs.Acts.{acts, chosen, warns_or, with_found}
-use Rattle.session_model.specs.Agenda.{step}
-use Rattle.session_model.specs.Execution.{Execution}
-use Rattle.session_model.specs.Items.{Act, Emit, Next, puts}
 use Rattle.session_model.specs.Laws.{ActsInPlace}
-use Rattle.session_model.specs.Methods.{Found, ◌>>=◌, kinds_at, methods_of, signal_with}
-use Rattle.session_model.specs.Run.{run}
-use Rattle.session_model.specs.Settings.{Settings}
-use Rattle.session_model.specs.State.{State}
-use Rattle.session_model.specs.Targets.{all_converted, all_evaluated, evaluated, object_of, outcome, reads, truth_evaluated}
-use Rattle.session_model.specs.Writing.{acted_writing, written}
+use Rattle.session_model.specs.Targets.{evaluated, outcome, reads}
 use Rattle.session_model.proofs.RunLemmas.{at_item, behind_nothing, in_parts}
 
 module _ (settings : Settings) (self sender : ℕ) (args : List Value) where

@@ -4,35 +4,17 @@ use Rattle.std.specs.List.{list_any}
 use Rattle.std.specs.Option.{option_map_or}
 use Rattle.std.proofs.lemmas.Bool.{cond_both}
 use Rattle.std.proofs.lemmas.List.Folds.{list_any-append}
-use Rattle.plain_types.specs.declared.code.Code.TheVariants.{Limit}
-use Rattle.variant_value.specs.declared.value.Value.{Value}
-use Rattle.term_core.specs.Act.{Acts, acts_of, single_action, more, nothing, when}
-use Rattle.class_table.specs.declared.class.Method.{Method}
-use Rattle.plain_types.specs.declared.callee.Callee.{Callee}
+use Rattle.session_model.proofs.Common.{Limit, Value, Acts, acts_of, single_action, more, nothing, when, Method, Callee, Connection, calls, has_number, Event}
+use Rattle.session_model.proofs.Common.{QueuedCall, Property, children, after, with_state, DESTROYED, acts, branch, posts_of, call_items, call_line}
+use Rattle.session_model.proofs.Common.{event_items, functor_line, method_items, queued, step, Execution, in_state}
+use Rattle.session_model.proofs.Common.{posting, line_told, severed, Act, Call, Detach, Delete, Emit, Item, DeleteChild, Next, Run, RunFunctor}
+use Rattle.session_model.proofs.Common.{Spin, Warn, puts, method_at, Settings, changes, comes_to, IsTied, State, without_connections, without_object}
+use Rattle.session_model.proofs.Common.{functor_state, with_writing, written, written_property, IsUnderWay, is_gone, object_of}
 use Rattle.plain_types.specs.declared.callee.Callee.TheVariants as callee
-use Rattle.connection_list.specs.declared.connection.Connection.{Connection}
-use Rattle.connection_list.specs.Ends.{calls}
-use Rattle.connection_list.specs.Rows.{has_number}
-use Rattle.event_queue.specs.declared.event.Event.{Event}
 use Rattle.event_queue.specs.declared.event.Event.TheVariants as event
-use Rattle.event_queue.specs.declared.event.QueuedCall.{QueuedCall}
-use Rattle.property_store.specs.declared.property.Property.{Property}
-use Rattle.object_tree.specs.Rows.{children}
-use Rattle.stored_slots.specs.declared.functor.Functor.{Functor}
-use Rattle.term_evaluation.specs.Stating.{after, with_state}
-use Rattle.session_model.specs.declared.call.TheConstants.{DESTROYED}
-use Rattle.session_model.specs.Acts.{acts, branch}
-use Rattle.session_model.specs.Arriving.{posts_of}
-use Rattle.session_model.specs.Agenda.{call_items, call_line, called, calls_of, emitted, event_items, functor_line, delete_children}
-use Rattle.session_model.specs.Agenda.{method_items, queued, step}
-use Rattle.session_model.specs.Execution.{Execution, dying, first_taken, in_state, posting, single_shot_broken, line_told, turn_taken, severed, stepped}
-use Rattle.session_model.specs.Items.{Act, Call, Detach, Delete, Emit, Remove, Item, DeleteChild, Next, Run, RunFunctor, Spin, Warn, puts}
-use Rattle.session_model.specs.Methods.{method_at}
-use Rattle.session_model.specs.Settings.{Settings}
-use Rattle.session_model.specs.Showing.{changes, comes_to}
-use Rattle.session_model.specs.State.{IsTied, State, without_connections, without_object, functor_state}
-use Rattle.session_model.specs.Writing.{with_writing, written, written_property}
-use Rattle.session_model.specs.UnderWay.{IsBrokenInTime, IsUnderWay, is_gone}
+use Rattle.session_model.specs.Agenda.{calls_of, delete_children}
+use Rattle.session_model.specs.Execution.{single_shot_broken, turn_taken}
+use Rattle.session_model.specs.UnderWay.{IsBrokenInTime}
 use Rattle.session_model.proofs.FilterLemmas.{of_found}
 use Rattle.session_model.proofs.UnderWayLemmas.{behind, detach_under, operation_under, dying_under, first_taken_under, gone_under, in_front, queued_under}
 use Rattle.session_model.proofs.UnderWayLemmas.{shot_under, told_under, turn_under, used_up_under, writing_under, posting_under, stepped_under}
@@ -40,7 +22,6 @@ use Rattle.session_model.proofs.ShowingLemmas.{tells_stay}
 use Rattle.session_model.proofs.FitLemmas.{acted_fit}
 use Rattle.session_model.proofs.StepLemmas.{Cases, IsCalled, functor_call, functor_now, in_call, leaves_ties, method_call, method_now, step_cases}
 use Rattle.term_core.specs.declared.action.SingleAction.TheVariants as e
-use Rattle.session_model.specs.Targets.{object_of}
 
 -- actions, calls, children and what is called let nothing go
 acts_stay : (body : Acts) (args : List Value) (self sender depth : ℕ) → list_any is_gone (acts body args self sender depth) ≡ false
@@ -96,33 +77,32 @@ module _ (settings : Settings) (doing : Execution) where
 
   -- where only items are put in front that let nothing go
   in_place_of : (item : Item) (items : List Item) → leaves_ties item ≡ true → list_any is_gone items ≡ false → KeepsUnderWay item (puts items doing)
-  in_place_of item items leaves stay agenda under = in_front items agenda doing.state stay (behind item agenda doing.state leaves under)
+  in_place_of item items leaves stay agenda under = in_front items stay (behind item leaves under)
 
   -- where another state is told of
   telling_kept : (depth : ℕ) (after : State) (written : Option Property) (agenda : List Item) → IsUnderWay agenda after
       → IsUnderWay ((comes_to settings doing depth after written).items ++ agenda) after
-  telling_kept depth after written agenda = in_front _ agenda after (tells_stay settings after depth (changes doing.state after written))
+  telling_kept depth after written agenda = in_front _ (tells_stay settings after depth (changes doing.state after written))
 
   sends_kept : (target signal : ℕ) (args : List Value) (depth : ℕ) → KeepsUnderWay (Emit target signal args depth)
       (puts (calls_of doing target signal args depth) (posting doing (posts_of settings.classes doing.state target signal args)))
   unfolding calls_of
-  sends_kept target signal args depth agenda under = in_front (calls_of doing target signal args depth) agenda
-      (posting doing (posts_of settings.classes doing.state target signal args)).state
+  sends_kept target signal args depth agenda under = in_front (calls_of doing target signal args depth)
       (each_stays (λ (row : Connection). Call row.number args depth) (λ row. refl) (filter (calls target signal) doing.state.connections.rows))
-      (posting_under agenda doing (behind (Emit target signal args depth) agenda doing.state refl under)
+      (posting_under agenda doing (behind (Emit target signal args depth) refl under)
       (posts_of settings.classes doing.state target signal args))
 
   detaches_kept : (target depth : ℕ) → KeepsUnderWay (Detach target depth) (puts (delete_children doing target depth) (severed doing target))
   unfolding delete_children
-  detaches_kept target depth agenda under = in_front (delete_children doing target depth) agenda (severed doing target).state
+  detaches_kept target depth agenda under = in_front (delete_children doing target depth)
       (each_stays (λ child. DeleteChild target child depth) (λ child. refl) (children doing.state.forest.rows (Some target)))
-      (detach_under target depth agenda doing under)
+      (detach_under target depth doing under)
 
   -- a connection that is called stands, so it is tied, and broken in time
   module _ (number : ℕ) (args : List Value) (depth : ℕ) (connection : Connection) (is : IsCalled number doing connection) (agenda : List Item)
       (under : IsUnderWay (Call number args depth ∷ agenda) doing.state) where
     rest : IsUnderWay agenda doing.state
-    rest = behind (Call number args depth) agenda doing.state refl under
+    rest = behind (Call number args depth) refl under
 
     in_call_under : IsUnderWay agenda (in_call doing connection).state
     in_call_under = shot_under agenda (turn_taken doing) (turn_under agenda doing rest) connection
@@ -134,13 +114,13 @@ module _ (settings : Settings) (doing : Execution) where
         (of_found (IsBrokenInTime agenda) (has_number number) doing.state.connections.rows connection is.found rest.in_time) same
 
     now_under : (items : List Item) → list_any is_gone items ≡ false → IsUnderWay (items ++ agenda) (in_call doing connection).state
-    now_under items stay = in_front items agenda (in_call doing connection).state stay in_call_under
+    now_under items stay = in_front items stay in_call_under
 
   kept : Cases settings doing KeepsUnderWay
   kept = record {
-    rests = λ item leaves agenda under. behind item agenda doing.state leaves under;
-    tells = λ item said leaves agenda under. told_under agenda doing (behind item agenda doing.state leaves under) said;
-    uses_up = λ item leaves agenda under. used_up_under agenda doing (behind item agenda doing.state leaves under);
+    rests = λ item leaves agenda under. behind item leaves under;
+    tells = λ item said leaves agenda under. told_under agenda doing (behind item leaves under) said;
+    uses_up = λ item leaves agenda under. used_up_under agenda doing (behind item leaves under);
     too_deep = λ target signal args depth. in_place_of (Emit target signal args depth) (Warn Limit (Some target) ∷ []) refl refl;
     sends = λ target signal args depth row is. sends_kept target signal args depth;
     callee_gone = in_call_under;
@@ -153,15 +133,15 @@ module _ (settings : Settings) (doing : Execution) where
       λ agenda under. now_under number args depth connection is agenda under (functor_now connection index functor args depth) refl,
     );
     runs = λ target index sender args depth method is agenda under.
-        in_front _ agenda (line_told doing (call_line method target sender args)).state
+        in_front _
         (acts_stay (acts_of method.body.actions) args target sender (depth + 1))
-        (told_under agenda doing (behind (Run target index sender args depth) agenda doing.state refl under) (call_line method target sender args));
+        (told_under agenda doing (behind (Run target index sender args depth) refl under) (call_line method target sender args));
     runs_functor = λ target index sender connection args depth functor is agenda under.
         let new = line_told doing (functor_line functor target sender args) in
         let its = functor_state doing.state connection in
         let next = after functor.next its args in
-        in_front _ agenda (stepped new connection next).state (acts_stay (acts_of (with_state its functor.body).actions) args target sender (depth + 1))
-        (stepped_under agenda new (told_under agenda doing (behind (RunFunctor target index sender connection args depth) agenda doing.state refl under)
+        in_front _ (acts_stay (acts_of (with_state its functor.body).actions) args target sender (depth + 1))
+        (stepped_under agenda new (told_under agenda doing (behind (RunFunctor target index sender connection args depth) refl under)
         (functor_line functor target sender args)) connection next);
     refused = λ action args self sender depth code. in_place_of (Act action args self sender depth) (Warn code (Some self) ∷ []) refl refl;
     emits = λ of signal sent args self sender depth emitted is. in_place_of (Act (single_action (e.Emit of signal sent)) args self sender depth)
@@ -171,21 +151,21 @@ module _ (settings : Settings) (doing : Execution) where
     writes = λ of property value args self sender depth given writing is agenda under.
         let target = object_of doing.state self sender of in
         telling_kept depth (with_writing doing.state target writing) (written_property target writing) agenda
-        (writing_under agenda doing (behind (Act (single_action (e.Set of property value)) args self sender depth) agenda doing.state refl under) target writing
+        (writing_under agenda doing (behind (Act (single_action (e.Set of property value)) args self sender depth) refl under) target writing
         (acted_fit doing.state target property given writing is));
     does = λ plain args self sender depth operation is passed agenda under.
-        operation_under agenda doing (behind (Act (single_action plain) args self sender depth) agenda doing.state refl under) operation passed;
+        operation_under agenda doing (behind (Act (single_action plain) args self sender depth) refl under) operation passed;
     chooses = λ test held failed args self sender depth truth. in_place_of (Act (when test held failed) args self sender depth) _ refl
         (branch_stays truth held failed args self sender depth);
     dies = λ target depth living agenda under.
-        in_front (Emit target DESTROYED [] depth ∷ []) (Detach target depth ∷ Remove target depth ∷ agenda) (dying doing target).state refl
-        (dying_under agenda doing (behind (Delete target depth) agenda doing.state refl under) target depth);
+        in_front (Emit target DESTROYED [] depth ∷ []) refl
+        (dying_under agenda doing (behind (Delete target depth) refl under) target depth);
     detaches = detaches_kept;
     deletes_child = λ parent child depth. in_place_of (DeleteChild parent child depth) (Delete child depth ∷ []) refl refl;
-    removes = λ target depth agenda under. telling_kept depth (without_object doing.state target) None agenda (gone_under target depth agenda doing under);
+    removes = λ target depth agenda under. telling_kept depth (without_object doing.state target) None agenda (gone_under target depth doing under);
     takes = λ first later is some agenda under.
-        in_front _ agenda (first_taken (turn_taken doing)).state (event_stays settings (turn_taken doing).state first)
-        (first_taken_under agenda (turn_taken doing) (turn_under agenda doing (behind Spin agenda doing.state refl under)));
+        in_front _ (event_stays settings (turn_taken doing).state first)
+        (first_taken_under agenda (turn_taken doing) (turn_under agenda doing (behind Spin refl under)));
   }
 
 pub item_under_way : (settings : Settings) (item : Item) (agenda : List Item) (doing : Execution) → IsUnderWay (item ∷ agenda) doing.state

@@ -1,26 +1,20 @@
 -- Only an accepted join makes a join, and a post of a session that no join names does nothing.
-use Rattle.class_table.specs.declared.class.Class.{Class}
-use Rattle.event_queue.specs.Queue.{Queue, with_mismatched}
 use Rattle.publish_board.specs.Desk.{join_refusal, names_session}
 use Rattle.publish_board.specs.Rows.{is_from}
-use Rattle.publish_board.specs.declared.join.Join.{Join}
-use Rattle.plain_types.specs.declared.code.Code.{Code}
 use Rattle.std.proofs.Common.{⊎_elim, Bool, Err, List, None, Ok, Option, Some, [], ap, arith, bytes_eq, cond, false, inl, inr, is_none, refl, sym, true, ℕ}
 use Rattle.std.proofs.Common.{◌&&◌, ◌||◌, ◌∙◌, ◌∷◌, ◌≡◌, ◌⊎◌}
 use Rattle.std.proofs.lemmas.Bool.{or_cases, or_right}
 use Rattle.std.proofs.lemmas.List.Folds.{list_any-append}
 use Rattle.std.specs.List.{list_any}
+use Rattle.session_model.proofs.Common.{Class, Queue, with_mismatched, Join, Code, joined_call, kinds_of, reached_by, Asked, Found, State, Post}
 use Rattle.session_model.proofs.CommandLemmas.{command_keeps}
 use Rattle.session_model.proofs.KeepingLemmas.{is_join_asked}
-use Rattle.session_model.specs.Arriving.{is_matched, joined_call, kinds_of, reached, reached_by, with_call}
-use Rattle.session_model.specs.Asked.{Asked, Join as AsksJoin}
+use Rattle.session_model.specs.Arriving.{is_matched, reached, with_call}
+use Rattle.session_model.specs.Asked.{Join as AsksJoin}
 use Rattle.session_model.specs.Effects.{unless}
-use Rattle.session_model.specs.Methods.{Found}
 use Rattle.session_model.specs.Refusing.{refusal}
 use Rattle.session_model.specs.Sharing.{asked_join, joining_refusal, joins_found}
-use Rattle.session_model.specs.State.{State}
 use Rattle.session_model.specs.Thread.{Settings, accepts_join, arrives, does, joins_name, performs}
-use Rattle.session_model.specs.declared.post.Post.{Post}
 use Rattle.session_model.proofs.SharingLemmas.{join_found}
 
 or-false : (a : Bool) → (a || false) ≡ a

@@ -2,11 +2,13 @@
 -- told of, items that are done to their end, and an operation.
 use Rattle.isolation.specs.Machine.{Effect}
 use Rattle.property_store.specs.declared.property.Property.{Property as At}
-use Rattle.publish_board.specs.declared.join.Join.{Join}
-use Rattle.plain_types.specs.declared.code.Code.{Code}
 use Rattle.std.proofs.Common.{Bool, Err, List, None, Ok, Option, Some, [], ap, false, is_some, refl, slice_get, subst, sym, true, ◌++◌, ◌||◌, ◌∷◌, ◌≡◌}
 use Rattle.std.proofs.lemmas.List.Elements.{All-append, All-cons, All-nil}
 use Rattle.std.specs.List.{All, list_any}
+use Rattle.session_model.proofs.Common.{Join, Code, Asked, operation_refusal, found_refusal, with_operation, Execution, begun, does_next, replies, AreSettings}
+use Rattle.session_model.proofs.Common.{IsFitting, IsFittingOperation, IsFittingItem, IsRightPost, Item, Next, Found, AreNamed, IsNamedItem, run, Settings}
+use Rattle.session_model.proofs.Common.{changes, comes_to, does_found, IsDeclared, IsSound, State, IsWhole, is_gone, Operation, Answer, Line, Post, Store}
+use Rattle.session_model.proofs.Common.{Graph, Rows, Queue, Desk}
 use Rattle.session_model.proofs.DeclaredLemmas.{operation_declared, run_declared}
 use Rattle.session_model.proofs.FittingChangeLemmas.{fits_operation}
 use Rattle.session_model.proofs.FittingClassLemmas.{class_at, fits_own, fits_whole, own_classes, AllFit}
@@ -14,34 +16,15 @@ use Rattle.session_model.proofs.FittingItemLemmas.{item_fits}
 use Rattle.session_model.proofs.FittingLaterLemmas.{operation_classes}
 use Rattle.session_model.proofs.FittingToldLemmas.{change_fits}
 use Rattle.session_model.proofs.LawLemmas.{operation_sound, keeps_under_way, replies_stay, run_sound}
-use Rattle.session_model.proofs.NamedLemmas.{operation_named, run_named, tells_named}
+use Rattle.session_model.proofs.NamedLemmas.{named_beside, operation_named, run_named, tells_named}
 use Rattle.session_model.proofs.RunLemmas.{run_keeps, run_shrinks}
 use Rattle.session_model.proofs.ShowingLemmas.{tells_stay}
-use Rattle.session_model.specs.Asked.{Asked, Join as AsksJoin}
-use Rattle.session_model.specs.Operations.{operation_answer, operation_refusal, found_refusal, with_operation}
-use Rattle.session_model.specs.Execution.{Execution, begun}
-use Rattle.session_model.specs.Effects.{does_next, ended, refuses, replies}
-use Rattle.session_model.specs.Fitting.{AreSettings, IsFitting, IsFittingAsked, IsFittingOperation, IsFittingItem, IsFittingUnderWay, IsRightPost}
-use Rattle.session_model.specs.Items.{Item, Next}
-use Rattle.session_model.specs.Methods.{Found}
-use Rattle.session_model.specs.Named.{AreNamed, IsNamedAsked, IsNamedItem}
-use Rattle.session_model.specs.Run.{run}
-use Rattle.session_model.specs.Settings.{Settings}
-use Rattle.session_model.specs.Showing.{changes, comes_to}
-use Rattle.session_model.specs.Signals.{does_found}
-use Rattle.session_model.specs.State.{IsDeclared, IsSound, State, IsWhole}
-use Rattle.session_model.specs.UnderWay.{is_gone}
-use Rattle.session_model.specs.declared.operation.Operation.{Operation}
-use Rattle.session_model.specs.declared.line.Answer.{Answer}
-use Rattle.session_model.specs.declared.line.Line.{Line}
-use Rattle.session_model.specs.declared.post.Post.{Post}
+use Rattle.session_model.specs.Asked.{Join as AsksJoin}
+use Rattle.session_model.specs.Effects.{ended, refuses}
+use Rattle.session_model.specs.Fitting.{IsFittingAsked, IsFittingUnderWay}
+use Rattle.session_model.specs.Named.{IsNamedAsked}
 use Rattle.session_model.specs.declared.operation.Operation.TheVariants as d
 use Rattle.session_model.specs.Items as to_do
-use Rattle.property_store.specs.Store.{Store}
-use Rattle.binding_values.specs.Graph.{Graph}
-use Rattle.connection_list.specs.Rows.{Rows}
-use Rattle.event_queue.specs.Queue.{Queue}
-use Rattle.publish_board.specs.Desk.{Desk}
 
 -- every join that is there was there before
 abbrev pub Falls : State → State → Type 0
@@ -81,7 +64,17 @@ pub record Begins (settings : Settings) (state : State) (asked : Asked) (agenda 
   pub posts : All IsRightPost doing.posts
   pub names : AreSettings settings → IsNamedAsked asked → AreNamed state → All IsNamedItem agenda
 
-module _ (settings : Settings) (state : State) (asked : Asked) where
+-- the objects stay, with other values, bindings, connections, events, publications and joins
+abbrev holding : State → Store → Graph → Rows → Queue → Desk → State
+holding state store graph connections queue desk =
+    record state { store = store; graph = graph; connections = connections; queue = queue; desk = desk }
+
+-- no operation makes a join
+operation_falls : (state : State) (operation : Operation) → Falls state (with_operation state operation)
+operation_falls state (d.Connect new unique) = λ test held. held
+operation_falls state _ = λ test held. held
+
+module _ {settings : Settings} {state : State} {asked : Asked} where
   -- the session stays as it is
   pub stays : Leaves settings state asked state
   stays = record {
@@ -92,19 +85,15 @@ module _ (settings : Settings) (state : State) (asked : Asked) where
     joins = λ plain test held. held;
   }
 
-  -- the objects stay, with other values, bindings, connections, events, publications and joins
-  abbrev holding : Store → Graph → Rows → Queue → Desk → State
-  holding store graph connections queue desk =
-      record state { store = store; graph = graph; connections = connections; queue = queue; desk = desk }
-
-  pub leaves_with : (store : Store) (graph : Graph) (connections : Rows) (queue : Queue) (desk : Desk)
-      → (IsSound state → IsWhole (holding store graph connections queue desk))
-      → (IsDeclared settings.classes state → IsDeclared settings.classes (holding store graph connections queue desk))
+  -- the objects stay
+  pub leaves_with : {store : Store} {graph : Graph} {connections : Rows} {queue : Queue} {desk : Desk}
+      → (IsSound state → IsWhole (holding state store graph connections queue desk))
+      → (IsDeclared settings.classes state → IsDeclared settings.classes (holding state store graph connections queue desk))
       → (FitsBefore settings state asked → AllFit settings state.forest.rows queue connections desk)
-      → (IsNamedAsked asked → AreNamed state → AreNamed (holding store graph connections queue desk))
-      → (is_join_asked asked ≡ false → Falls state (holding store graph connections queue desk))
-      → Leaves settings state asked (holding store graph connections queue desk)
-  leaves_with store graph connections queue desk whole declared fits named joins = record {
+      → (IsNamedAsked asked → AreNamed state → AreNamed (holding state store graph connections queue desk))
+      → (is_join_asked asked ≡ false → Falls state (holding state store graph connections queue desk))
+      → Leaves settings state asked (holding state store graph connections queue desk)
+  leaves_with whole declared fits named joins = record {
     sound = λ sound. record { whole = whole sound; living = sound.living };
     declared = λ sound. declared;
     fitting = λ before. (let fit = fits before in record
@@ -113,16 +102,24 @@ module _ (settings : Settings) (state : State) (asked : Asked) where
     joins = joins;
   }
 
-  pub told_one : (effect : Effect State Line Post) → effect.posts ≡ [] → Leaves settings state asked effect.state → Keeps settings state asked effect
-  told_one effect none leaves = record { leaves = leaves; posts = λ fits. subst (All IsRightPost) (sym none) (All-nil IsRightPost) }
+  -- and so do values, publications and joins
+  pub leaves_beside : {graph : Graph} {connections : Rows} {queue : Queue}
+      → (IsSound state → IsWhole (holding state state.store graph connections queue state.desk))
+      → (IsFitting settings state → AllFit settings state.forest.rows queue connections state.desk)
+      → Leaves settings state asked (holding state state.store graph connections queue state.desk)
+  leaves_beside whole fits = leaves_with whole (λ declared. declared) (λ before. fits before.fit)
+      (λ asked named. named_beside state named _ refl refl) (λ plain test held. held)
+
+  pub told_one : {effect : Effect State Line Post} → effect.posts ≡ [] → Leaves settings state asked effect.state → Keeps settings state asked effect
+  told_one none leaves = record { leaves = leaves; posts = λ fits. subst (All IsRightPost) (sym none) (All-nil IsRightPost) }
 
   -- it replies, and the session is another one
-  pub replied : (after : State) (answer : Answer) → Leaves settings state asked after → Keeps settings state asked (replies after answer)
-  replied after answer leaves = told_one (replies after answer) refl leaves
+  pub replied : {after : State} {answer : Answer} → Leaves settings state asked after → Keeps settings state asked (replies after answer)
+  replied leaves = told_one refl leaves
 
   -- it is refused
-  pub refused : (code : Code) → Keeps settings state asked (refuses state code)
-  refused code = told_one (refuses state code) refl stays
+  pub refused : {code : Code} → Keeps settings state asked (refuses state code)
+  refused = told_one refl stays
 
   -- an agenda is done to its end
   pub ran : (agenda : List Item) (doing : Execution) → Begins settings state asked agenda doing → Keeps settings state asked (ended (run settings agenda doing))
@@ -159,9 +156,9 @@ module _ (settings : Settings) (state : State) (asked : Asked) where
   })
 
   -- one item is done first, whatever was taken of the turns
-  pub one_begins : (item : Item) (doing : Execution) → doing.state ≡ state → doing.posts ≡ [] → is_gone item ≡ false
+  pub one_begins : {item : Item} {doing : Execution} → doing.state ≡ state → doing.posts ≡ [] → is_gone item ≡ false
       → (FitsBefore settings state asked → IsFittingItem settings state item) → IsNamedItem item → Begins settings state asked (item ∷ []) doing
-  one_begins item doing same none stays_there fits named = record {
+  one_begins {item} same none stays_there fits named = record {
     none = ap (λ b. b || false) stays_there;
     leaves = subst (Leaves settings state asked) (sym same) stays;
     items = λ before. subst (λ state. All (IsFittingItem settings state) (item ∷ [])) (sym same)
@@ -170,8 +167,8 @@ module _ (settings : Settings) (state : State) (asked : Asked) where
     names = λ are is names. All-cons IsNamedItem item [] named (All-nil IsNamedItem);
   }
 
-  pub nothing_begins : (doing : Execution) → doing.state ≡ state → doing.posts ≡ [] → Begins settings state asked [] doing
-  nothing_begins doing same none = record {
+  pub nothing_begins : {doing : Execution} → doing.state ≡ state → doing.posts ≡ [] → Begins settings state asked [] doing
+  nothing_begins {doing} same none = record {
     none = refl;
     leaves = subst (Leaves settings state asked) (sym same) stays;
     items = λ fits. All-nil (IsFittingItem settings doing.state);
@@ -192,28 +189,23 @@ module _ (settings : Settings) (state : State) (asked : Asked) where
   })
 
   -- an operation that fits is done
-  operation_falls : (operation : Operation) → Falls state (with_operation state operation)
-  operation_falls (d.Connect new unique) = λ test held. held
-  operation_falls _ = λ test held. held
-
   operation_leaves : (operation : Operation) → operation_refusal state operation ≡ None
       → (IsFittingAsked settings state asked → IsFittingOperation settings state.forest.rows operation)
       → Leaves settings state asked (with_operation state operation)
   operation_leaves operation passed may = record {
     sound = λ sound. operation_sound (begun settings state) operation passed sound;
     declared = λ sound declared. operation_declared settings.classes state declared operation;
-    fitting = λ fits. fits_whole settings state.forest.rows (with_operation state operation)
+    fitting = λ fits. fits_whole state.forest.rows
         (operation_sound (begun settings state) operation passed fits.sound).whole
-        (operation_classes (λ number class. class_at state.forest.rows number ≡ Some class) state operation (own_classes state.forest fits.sound.whole.forest))
+        (operation_classes (λ number class. class_at state.forest.rows number ≡ Some class) state operation (own_classes fits.sound.whole.forest))
         (operation_classes (λ number class. is_some (slice_get settings.classes class) ≡ true) state operation fits.fit.objects)
-        (fits_operation settings state.forest.rows state operation (may fits.may) (fits_own settings state fits.fit));
+        (fits_operation state operation (may fits.may) (fits_own fits.fit));
     named = λ are is named. operation_named (begun settings state) named operation;
-    joins = λ plain. operation_falls operation;
+    joins = λ plain. operation_falls state operation;
   }
 
   pub found_keeps : (found : Found Operation) → found_refusal state found ≡ None
       → ((operation : Operation) → found ≡ Ok operation → IsFittingAsked settings state asked → IsFittingOperation settings state.forest.rows operation)
       → Keeps settings state asked (does_found state found)
-  found_keeps (Err code) passed may = refused code
-  found_keeps (Ok operation) passed may = replied (with_operation state operation) (operation_answer state operation)
-      (operation_leaves operation passed (may operation refl))
+  found_keeps (Err code) passed may = refused
+  found_keeps (Ok operation) passed may = replied (operation_leaves operation passed (may operation refl))

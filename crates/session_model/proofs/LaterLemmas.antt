@@ -4,23 +4,13 @@ use Rattle.std.proofs.Common.{◌≡◌, ◌<◌, ◌≤◌, ◌+◌, ◌&&◌, 
 use Rattle.std.proofs.Common.{sym, ap, ap₂, subst, ◌∙◌, append_assoc, arith}
 use Rattle.std.proofs.lemmas.List.{append-nil, map-append}
 use Rattle.std.proofs.lemmas.List.Elements.{filter-append, All-append, All-cons, All-filter, All-nil, All-weaker}
-use Rattle.connection_list.specs.declared.connection.Connection.{Connection}
-use Rattle.connection_list.specs.declared.connection.NewConnection.{NewConnection}
+use Rattle.session_model.proofs.Common.{Connection, NewConnection, matches, touches, Rows, has_number, numbered, Operation, step, with_operation, Execution}
+use Rattle.session_model.proofs.Common.{Item, run, Settings, State, Nothing, Writing, with_writing}
 use Rattle.connection_list.specs.declared.pattern.Pattern.{Pattern}
 use Rattle.connection_list.specs.declared.pattern.Receiver.{Receiver}
-use Rattle.connection_list.specs.Ends.{allows, allows_receiver, matches, touches}
-use Rattle.connection_list.specs.Rows.{Rows, has_number, numbered}
+use Rattle.connection_list.specs.Ends.{allows, allows_receiver}
 use Rattle.connection_list.proofs.ForCallers.{IsUnseen, filter-changed, stepped-same, stepped_row}
-use Rattle.session_model.specs.declared.operation.Operation.{Operation}
 use Rattle.session_model.specs.declared.operation.Operation.TheVariants as d
-use Rattle.session_model.specs.Agenda.{step}
-use Rattle.session_model.specs.Operations.{with_operation}
-use Rattle.session_model.specs.Execution.{Execution}
-use Rattle.session_model.specs.Items.{Item}
-use Rattle.session_model.specs.Run.{run}
-use Rattle.session_model.specs.Settings.{Settings}
-use Rattle.session_model.specs.State.{State}
-use Rattle.session_model.specs.Writing.{Nothing, Writing, with_writing}
 use Rattle.session_model.proofs.FilterLemmas.{filter-all, filter-both}
 use Rattle.session_model.proofs.RunLemmas.{run_keeps}
 use Rattle.session_model.proofs.StepLemmas.{HoldsOfStates, of_states, step_holds}
@@ -36,8 +26,8 @@ pub record IsLater (old new : Rows) : Type 0 where
 above-nothing : (last : ℕ) → All (λ (row : Connection). last < row.number) []
 above-nothing last = All-nil (λ (row : Connection). last < row.number)
 
-pub later_same : (place : Rows) → IsLater place place
-later_same place = record {
+pub later_same : {place : Rows} → IsLater place place
+later_same {place} = record {
   left = λ row. true;
   added = [];
   rows = sym (filter-all place.rows) ∙ sym (append-nil (filter (λ row. true) place.rows));
@@ -45,9 +35,9 @@ later_same place = record {
   last = omega arith;
 }
 
-later_without : (test : Connection → Bool) (place : Rows) → IsLater place
+later_without : (test : Connection → Bool) {place : Rows} → IsLater place
     (record { rows = filter (λ row. not (test row)) place.rows; last_number = place.last_number })
-later_without test place = record {
+later_without test {place} = record {
   left = λ row. not (test row);
   added = [];
   rows = sym (append-nil (filter (λ row. not (test row)) place.rows));
@@ -55,9 +45,9 @@ later_without test place = record {
   last = omega arith;
 }
 
-later_linked : (place : Rows) (new : NewConnection) → IsLater place
+later_linked : {place : Rows} (new : NewConnection) → IsLater place
     (record { rows = place.rows ++ numbered (place.last_number + 1) new ∷ []; last_number = place.last_number + 1 })
-later_linked place new = record {
+later_linked {place} new = record {
   left = λ row. true;
   added = numbered (place.last_number + 1) new ∷ [];
   rows = ap (λ rows. rows ++ numbered (place.last_number + 1) new ∷ []) (sym (filter-all place.rows));
@@ -66,8 +56,8 @@ later_linked place new = record {
   last = omega arith;
 }
 
-pub later_both : (one two three : Rows) → IsLater one two → IsLater two three → IsLater one three
-later_both one two three first second = record {
+pub later_both : {one two three : Rows} → IsLater one two → IsLater two three → IsLater one three
+later_both {one} {two} first second = record {
   left = λ row. first.left row && second.left row;
   added = filter second.left first.added ++ second.added;
   rows =
@@ -94,7 +84,7 @@ bare_without : (test : Connection → Bool) → IsUnseen bare_row test → (plac
     → IsLater (bare place) (bare (record { rows = filter (λ row. not (test row)) place.rows; last_number = place.last_number }))
 bare_without test keeps place =
     subst (λ rows. IsLater (bare place) (record { rows = rows; last_number = place.last_number }))
-    (filter-changed bare_row (λ row. not (test row)) (λ row. ap not (keeps row)) place.rows) (later_without test (bare place))
+    (filter-changed bare_row (λ row. not (test row)) (λ row. ap not (keeps row)) place.rows) (later_without test)
 
 -- a pattern does not ask for them
 bare_matches : (pattern : Pattern) → IsUnseen bare_row (matches pattern)
@@ -108,7 +98,7 @@ bare_linked : (place : Rows) (new : NewConnection) → IsLater (bare place)
     (bare (record { rows = place.rows ++ numbered (place.last_number + 1) new ∷ []; last_number = place.last_number + 1 }))
 bare_linked place new =
     subst (λ rows. IsLater (bare place) (record { rows = rows; last_number = place.last_number + 1 }))
-    (sym (map-append bare_row place.rows (numbered (place.last_number + 1) new ∷ []))) (later_linked (bare place) new)
+    (sym (map-append bare_row place.rows (numbered (place.last_number + 1) new ∷ []))) (later_linked new)
 
 bare_stepped : (number next : ℕ) (rows : List Connection) → map bare_row (map (stepped_row number next) rows) ≡ map bare_row rows
 bare_stepped number next [] = refl
@@ -122,7 +112,7 @@ abbrev pub Later : Execution → Execution → Type 0
 Later old new = IsAfter old.state new.state
 
 unchanged : (state : State) → IsAfter state state
-unchanged state = later_same (bare state.connections)
+unchanged state = later_same
 
 operation_later : (state : State) (operation : Operation) → IsAfter state (with_operation state operation)
 operation_later state (d.Connect new unique) = bare_linked state.connections new
@@ -137,7 +127,7 @@ written_later state target _ = unchanged state
 holds : HoldsOfStates IsAfter
 holds = record {
   same = unchanged;
-  both = λ one two three. later_both (bare one.connections) (bare two.connections) (bare three.connections);
+  both = λ one two three. later_both;
   breaks = λ state number. bare_without (has_number number) (λ row. refl) state.connections;
   posts = λ state event. unchanged state;
   loses = unchanged;
@@ -158,5 +148,4 @@ module _ (settings : Settings) where
 
   pub run_later : (agenda : List Item) (doing : Execution) → Later doing (run settings agenda doing)
   run_later agenda doing = run_keeps settings (λ items new. Later doing new)
-      (λ item rest new before. later_both (bare doing.state.connections) (bare new.state.connections)
-      (bare (step settings item new).doing.state.connections) before (step_later item new)) agenda doing (unchanged doing.state)
+      (λ item rest new before. later_both before (step_later item new)) agenda doing (unchanged doing.state)

@@ -1,14 +1,11 @@
 -- Posts and items keep a session sound, and so does an agenda that is done to its end.
-use Rattle.class_table.specs.declared.class.Class.{Class}
-use Rattle.event_queue.specs.Queue.{Queue}
 use Rattle.event_queue.specs.declared.event.Event.TheVariants.{Call}
-use Rattle.object_tree.specs.Rows.{is_there}
-use Rattle.object_tree.specs.declared.row.Row.{Row}
-use Rattle.publish_board.specs.declared.join.Join.{Join}
 use Rattle.std.proofs.Common.{List, None, [], ap, arith, false, refl, sym, true, ℕ, ◌++◌, ◌||◌, ◌∙◌, ◌∷◌, ◌≡◌}
 use Rattle.std.proofs.lemmas.List.Elements.{All-weaker}
 use Rattle.std.proofs.lemmas.List.Folds.{list_any-append}
 use Rattle.std.specs.List.{All, list_any}
+use Rattle.session_model.proofs.Common.{Class, Queue, is_there, Row, Join, joined_call, operation_refusal, with_operation, Execution, Item, run}
+use Rattle.session_model.proofs.Common.{IsMeant, IsSound, State, empty, IsUnderWay, is_gone, Writing, with_writing, Operation, Answer, Post}
 use Rattle.session_model.proofs.ArrivingLemmas.{reached_by_keeps}
 use Rattle.session_model.proofs.FitLemmas.{IsFit}
 use Rattle.session_model.proofs.ItemLemmas.{item_under_way}
@@ -16,19 +13,9 @@ use Rattle.session_model.proofs.QueueLemmas.{each_posted, sound_lost, sound_mism
 use Rattle.session_model.proofs.RunLemmas.{run_keeps}
 use Rattle.session_model.proofs.StateLemmas.{whole_empty, whole_with_queue}
 use Rattle.session_model.proofs.UnderWayLemmas.{IsGoing, operation_under, none_goes, untied_staying, writing_under}
-use Rattle.session_model.specs.Arriving.{joined_call, reached_by}
-use Rattle.session_model.specs.Operations.{operation_done, operation_refusal, with_operation}
-use Rattle.session_model.specs.Execution.{Execution}
-use Rattle.session_model.specs.Items.{Item}
+use Rattle.session_model.specs.Operations.{operation_done}
 use Rattle.session_model.specs.Laws.{KeepsUnderWay}
-use Rattle.session_model.specs.Run.{run}
-use Rattle.session_model.specs.State.{IsMeant, IsSound, State, empty}
 use Rattle.session_model.specs.Thread.{Settings, arrives}
-use Rattle.session_model.specs.UnderWay.{IsUnderWay, is_gone}
-use Rattle.session_model.specs.Writing.{Writing, with_writing}
-use Rattle.session_model.specs.declared.operation.Operation.{Operation}
-use Rattle.session_model.specs.declared.line.Answer.{Answer}
-use Rattle.session_model.specs.declared.post.Post.{Post}
 use Rattle.event_queue.specs.Queue as events
 use Rattle.session_model.specs.Items as to_do
 
@@ -89,15 +76,15 @@ pub post_sound : (classes : List Class) (state : State) (from : List ℕ) (post 
 unfolding arrives
 post_sound classes state from post sound =
     let queue = reached_by_keeps classes state.forest.rows from post (λ (queue : Queue). events.IsSound queue × All (IsMeant state) queue.events)
-    (λ queue holds. (sound_mismatched queue holds.0, holds.1))
-    (λ queue holds. (sound_lost queue holds.0, holds.1))
+    (λ queue holds. (sound_mismatched holds.0, holds.1))
+    (λ queue holds. (sound_lost holds.0, holds.1))
     (λ (join : Join). is_there state.forest.rows join.object ≡ true)
     (λ queue join matched there holds. (
-      sound_posted queue (Call (joined_call classes state.forest.rows post.arguments join)) holds.0,
+      sound_posted (Call (joined_call classes state.forest.rows post.arguments join)) holds.0,
       each_posted (IsMeant state) queue (Call (joined_call classes state.forest.rows post.arguments join)) there holds.1,
     ))
     state.queue state.desk.joins sound.whole.named.joins (sound.whole.queue, sound.whole.meant) in
     record {
-      whole = whole_with_queue state (reached_by classes state.forest.rows from post state.queue state.desk.joins) queue.0 queue.1 sound.whole;
+      whole = whole_with_queue queue.0 queue.1 sound.whole;
       living = sound.living;
     }

@@ -1,3 +1,5 @@
+pub mod Common
+pub mod FoundLemmas
 pub mod BindingLemmas
 pub mod ShowingLemmas
 pub mod QuietLemmas

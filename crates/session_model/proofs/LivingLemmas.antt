@@ -4,11 +4,10 @@ use Rattle.std.proofs.Common.{⊎_elim, ltb, arith}
 use Rattle.std.specs.Option.{option_map_or}
 use Rattle.std.proofs.lemmas.List.{length-map}
 use Rattle.std.proofs.lemmas.Bool.{cases_Bool}
-use Rattle.object_tree.specs.declared.row.Row.{Row}
-use Rattle.object_tree.specs.Forest.{Forest}
-use Rattle.object_tree.specs.Rows.{has_number, has_parent, row_of, inserted, by_stamp, children}
+use Rattle.session_model.proofs.Common.{Row, Forest, row_of, orphaned}
+use Rattle.object_tree.specs.Rows.{has_number, has_parent, inserted, by_stamp, children}
 use Rattle.object_tree.specs.Refusing.{keeps_parent}
-use Rattle.object_tree.specs.Changes.{changed, moved, orphaned, reparented}
+use Rattle.object_tree.specs.Changes.{changed, moved, reparented}
 use Rattle.session_model.specs.Agenda.{is_living}
 
 abbrev pub living_rows : List Row → ℕ

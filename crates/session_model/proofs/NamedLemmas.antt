@@ -1,68 +1,39 @@
 -- What a session holds stays called by names, and what is still to be done sets only what has a name.
-use Rattle.binding_values.specs.Graph.{is_bound, value_in}
-use Rattle.binding_values.specs.declared.change.Change.{Change}
-use Rattle.binding_values.specs.declared.change.ChangeKind.{ChangeKind}
-use Rattle.class_table.specs.Lookup.{methods}
-use Rattle.class_table.specs.declared.class.Class.{Class}
-use Rattle.class_table.specs.declared.class.Method.{Method}
 use Rattle.class_table.specs.declared.class.Property.{Property}
-use Rattle.connection_list.specs.Ends.{calls, matches}
 use Rattle.connection_list.specs.Rows.{has_number as has_connection_number}
-use Rattle.connection_list.specs.declared.connection.Connection.{Connection}
-use Rattle.plain_types.specs.declared.callee.Callee.{Callee}
-use Rattle.event_queue.specs.Queue.{has_room}
-use Rattle.event_queue.specs.declared.event.Event.{Event}
-use Rattle.event_queue.specs.declared.event.QueuedCall.{QueuedCall}
-use Rattle.object_tree.specs.Rows.{children, row_of}
-use Rattle.object_tree.specs.declared.row.Row.{Row}
 use Rattle.plain_types.specs.Names.{is_name}
-use Rattle.property_store.specs.Store.{Properties, dynamic_number, fitting, fresh, with_dynamic, with_name, with_value, without_dynamic}
+use Rattle.property_store.specs.Store.{dynamic_number, fresh, with_name}
 use Rattle.property_store.specs.declared.dynamic.Named.{Named}
 use Rattle.property_store.specs.declared.property.Property.{Property as At}
-use Rattle.publish_board.specs.Desk.{Desk}
-use Rattle.publish_board.specs.declared.join.Join.{Join}
-use Rattle.publish_board.specs.declared.publication.Publication.{Publication}
-use Rattle.plain_types.specs.declared.code.Code.TheVariants.{Limit}
-use Rattle.serde_json.specs.Data.{Data}
 use Rattle.std.proofs.Common.{Bool, IsTrue, List, None, Ok, Option, Some, [], bytes_eq, cond, false, filter, nat_lt, not}
 use Rattle.std.proofs.Common.{refl, set, slice_get, subst, sym, true, ℕ, ◌++◌, ◌+◌, ◌==◌, ◌∷◌, ◌≡◌}
 use Rattle.std.proofs.lemmas.Bool.{and_parts, cond_both}
 use Rattle.std.proofs.lemmas.List.Elements.{All-append, All-cons, All-filter, All-head, All-map, All-nil, All-push, All-set, All-tail, All-weaker}
 use Rattle.std.specs.List.{All, cons_option}
 use Rattle.std.specs.Option.{option_and_then, option_map, option_map_or}
-use Rattle.stored_slots.specs.declared.functor.Functor.{Functor}
-use Rattle.term_core.specs.Act.{Acts, acts_of, are_named, nothing}
-use Rattle.term_evaluation.specs.Stating.{after, with_state}
+use Rattle.session_model.proofs.Common.{is_bound, value_in, Change, ChangeKind, methods, Class, Method, calls, matches, Connection, Callee, has_room, Event}
+use Rattle.session_model.proofs.Common.{QueuedCall, children, row_of, Row, Properties, fitting, with_dynamic, with_value, without_dynamic, Desk, Join}
+use Rattle.session_model.proofs.Common.{Publication, Limit, Data, Acts, acts_of, nothing, after, with_state, acts, branch, call_items, call_line}
+use Rattle.session_model.proofs.Common.{event_items, functor_line, method_items, queued, ran, step, posts_of, with_operation, Execution}
+use Rattle.session_model.proofs.Common.{in_state, AreSettings, Act, Call, Detach, Emit, Remove, Item, DeleteChild, Next, Run, RunFunctor, Warn, WarnOf, puts}
+use Rattle.session_model.proofs.Common.{method_at, AreNamed, IsNamedItem, run, Settings, changes, comes_to, told_as, told_value, State, empty, fields_of}
+use Rattle.session_model.proofs.Common.{functor_state, with_binding_taken, with_event, with_functor_state, with_lost, with_object, with_properties}
+use Rattle.session_model.proofs.Common.{without_connections, without_first, without_object, object_of, Declared, Dynamic, Nothing, Removed, Writing}
+use Rattle.session_model.proofs.Common.{acted_writing, asked_writing, with_writing, written, written_property, DESTROYED, Operation, Line, Post, Value}
+use Rattle.term_core.specs.Act.{are_named}
 use Rattle.session_model.proofs.FittingTableLemmas.{functor_named, method_named}
 use Rattle.session_model.proofs.RunLemmas.{run_keeps}
 use Rattle.session_model.proofs.ShowingLemmas.{tells}
-use Rattle.session_model.specs.Acts.{acts, branch}
 use Rattle.session_model.proofs.StepLemmas.{Cases, functor_call, in_call, method_call, step_cases}
-use Rattle.session_model.specs.Agenda.{call_items, call_line, called, calls_of, emitted, event_items, functor_line, delete_children}
-use Rattle.session_model.specs.Agenda.{method_items, queued, ran, step}
-use Rattle.session_model.specs.Arriving.{posts_of}
-use Rattle.session_model.specs.Operations.{operation_done, with_operation}
-use Rattle.session_model.specs.Execution.{Execution, dying, first_taken, in_state, line_told, lost, enqueued, posting, severed, single_shot_broken}
+use Rattle.session_model.specs.Agenda.{calls_of, delete_children}
+use Rattle.session_model.specs.Operations.{operation_done}
+use Rattle.session_model.specs.Execution.{dying, first_taken, line_told, lost, enqueued, posting, severed, single_shot_broken}
 use Rattle.session_model.specs.Execution.{stepped, turn_taken, used_up}
-use Rattle.session_model.specs.Fitting.{AreSettings}
-use Rattle.session_model.specs.Items.{Act, Call, Detach, Emit, Remove, Item, DeleteChild, Next, Run, RunFunctor, Warn, WarnOf, puts}
-use Rattle.session_model.specs.Methods.{method_at}
-use Rattle.session_model.specs.Named.{AreNamed, HasNames, IsNamedItem, IsNamedJoin, IsNamedPublication}
-use Rattle.session_model.specs.Run.{run}
-use Rattle.session_model.specs.Settings.{Settings}
-use Rattle.session_model.specs.Showing.{changes, comes_to, property_at, told_as, told_value}
-use Rattle.session_model.specs.State.{State, empty, fields_of, functor_state, with_binding_taken, with_blocking, with_connection, with_event}
-use Rattle.session_model.specs.State.{with_functor_state, with_lost, with_object, with_parent, with_properties, without_connections, without_first}
-use Rattle.session_model.specs.State.{without_object}
-use Rattle.session_model.specs.Targets.{object_of}
+use Rattle.session_model.specs.Named.{HasNames, IsNamedJoin, IsNamedPublication}
+use Rattle.session_model.specs.Showing.{property_at}
+use Rattle.session_model.specs.State.{with_blocking, with_connection}
+use Rattle.session_model.specs.State.{with_parent}
 use Rattle.session_model.specs.Thread.{arrives}
-use Rattle.session_model.specs.Writing.{Declared, Dynamic, Nothing, Removed, Writing, acted_writing, asked_writing}
-use Rattle.session_model.specs.Writing.{short, with_writing, written, written_property}
-use Rattle.session_model.specs.declared.call.TheConstants.{DESTROYED}
-use Rattle.session_model.specs.declared.operation.Operation.{Operation}
-use Rattle.session_model.specs.declared.line.Line.{Line}
-use Rattle.session_model.specs.declared.post.Post.{Post}
-use Rattle.variant_value.specs.declared.value.Value.{Value}
 use Rattle.term_core.specs.Act as act
 use Rattle.plain_types.specs.declared.callee.Callee.TheVariants as callee
 use Rattle.session_model.specs.declared.operation.Operation.TheVariants as d
@@ -260,9 +231,9 @@ tells_named settings after depth (change ∷ rest) = by change.told (tells_named
 abbrev pub LeavesNamed : Next → Type 0
 LeavesNamed next = All IsNamedItem next.items × AreNamed next.doing.state
 
-comes_to_named : (settings : Settings) (doing : Execution) (depth : ℕ) (after : State) (written : Option At) → AreNamed after
+comes_to_named : (settings : Settings) (doing : Execution) (depth : ℕ) {after : State} (written : Option At) → AreNamed after
     → LeavesNamed (comes_to settings doing depth after written)
-comes_to_named settings doing depth after written named = (tells_named settings after depth (changes doing.state after written), named)
+comes_to_named settings doing depth {after} written named = (tells_named settings after depth (changes doing.state after written), named)
 
 -- a session that has had no command
 pub empty_named : AreNamed empty
@@ -367,7 +338,7 @@ module _ (settings : Settings) (are : AreSettings settings) where
       deletes = λ target args self sender depth is. one (to_do.Delete (object_of doing.state self sender target) depth) tt;
       writes = λ of property value args self sender depth given writing found is.
           let target = object_of doing.state self sender of in
-          comes_to_named settings doing depth (with_writing doing.state target writing) (written_property target writing)
+          comes_to_named settings doing depth (written_property target writing)
           (named_with_writing doing.state named target writing (acted_named doing.state target property is given writing found));
       does = λ plain args self sender depth operation found passed is.
           none (operation_done doing operation) (operation_done_named doing named operation);
@@ -381,7 +352,7 @@ module _ (settings : Settings) (are : AreSettings settings) where
       detaches = λ target depth is. detaches_named target depth;
       deletes_child = λ parent child depth is. one (to_do.Delete child depth) tt;
       removes = λ target depth is.
-          comes_to_named settings doing depth (without_object doing.state target) None (named_without_object doing.state named target);
+          comes_to_named settings doing depth None (named_without_object doing.state named target);
       takes = λ first later events some is. (
         All-append IsNamedItem (event_items settings (turn_taken doing).state first) (to_do.Spin ∷ [])
             (event_items_named (turn_taken doing).state first) (one to_do.Spin tt).0,

@@ -8,16 +8,10 @@ use Rattle.std.proofs.lemmas.Bool.Decides.{nat_tests}
 use Rattle.std.proofs.lemmas.List.{append-nil}
 use Rattle.std.proofs.lemmas.List.Elements.{filter-append, recursion_from_All}
 use Rattle.std.proofs.lemmas.List.Folds.{list_any-append}
-use Rattle.variant_value.specs.declared.value.Value.{Value}
-use Rattle.connection_list.specs.declared.connection.Connection.{Connection}
-use Rattle.connection_list.specs.Ends.{calls}
-use Rattle.connection_list.specs.Rows.{IsSound, Rows, has_number, is_next}
+use Rattle.session_model.proofs.Common.{Value, Connection, calls, Rows, has_number, Execution, Call, Item, run, Settings}
+use Rattle.connection_list.specs.Rows.{IsSound, is_next}
 use Rattle.connection_list.proofs.ForCallers.{filter-changed, find-changed, sound_changed}
 use Rattle.session_model.specs.Agenda.{calls_of}
-use Rattle.session_model.specs.Execution.{Execution}
-use Rattle.session_model.specs.Items.{Call, Item}
-use Rattle.session_model.specs.Run.{run}
-use Rattle.session_model.specs.Settings.{Settings}
 use Rattle.session_model.proofs.EmissionLemmas.{call_broken}
 use Rattle.session_model.proofs.LaterLemmas.{IsLater, Later, bare, bare_row, run_later}
 use Rattle.session_model.proofs.RunLemmas.{after_first, at_end, by_change}

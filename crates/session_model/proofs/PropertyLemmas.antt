@@ -1,26 +1,20 @@
 -- The rule of the command that writes a property: why it is refused, what it does where it is not, and what it
 -- keeps of a session.
-use Rattle.serde_json.specs.Data.{Data}
 use Rattle.std.proofs.Common.{Err, List, Ok, ap, refl, ℕ, ◌∙◌, ◌≡◌}
 use Rattle.std.specs.Option.{option_or}
 use Rattle.std.specs.Result.{result_err}
+use Rattle.session_model.proofs.Common.{Data, absence, begun, does_next, IsFitting, Found, State, Nothing, Writing, asked_writing, with_writing, written}
+use Rattle.session_model.proofs.Common.{written_property}
 use Rattle.session_model.proofs.DeclaredLemmas.{declared_with_writing}
 use Rattle.session_model.proofs.FitLemmas.{asked_fit}
 use Rattle.session_model.proofs.KeepingLemmas.{Keeps, refused, told}
 use Rattle.session_model.proofs.LawLemmas.{writing_sound}
 use Rattle.session_model.proofs.NamedLemmas.{asked_named, named_with_writing}
 use Rattle.session_model.proofs.ShrinkLemmas.{written_shrinks}
-use Rattle.session_model.specs.Absence.{absence}
 use Rattle.session_model.specs.Asked.{Set}
-use Rattle.session_model.specs.Execution.{begun}
-use Rattle.session_model.specs.Effects.{does_next}
-use Rattle.session_model.specs.Fitting.{IsFitting}
-use Rattle.session_model.specs.Methods.{Found}
 use Rattle.session_model.specs.Properties.{is_declared, sets}
 use Rattle.session_model.specs.Refusing.{refusal}
-use Rattle.session_model.specs.State.{State}
 use Rattle.session_model.specs.Thread.{Settings, performs}
-use Rattle.session_model.specs.Writing.{Nothing, Writing, asked_writing, with_writing, written, written_property}
 use Rattle.session_model.specs.declared.line.Answer.TheVariants as a
 
 module _ (settings : Settings) (self : List ℕ) (state : State) where
@@ -53,8 +47,8 @@ module _ (settings : Settings) (state : State) where
     where
       by : (found : Found Writing) → asked_writing state target property value ≡ found
           → Keeps settings state (Set target property value) (sets settings state target found)
-      by (Err code) is = refused settings state (Set target property value) code
-      by (Ok writing) is = told settings state (Set target property value) (with_writing state target writing) (written_property target writing)
+      by (Err code) is = refused
+      by (Ok writing) is = told (with_writing state target writing) (written_property target writing)
           (a.Truth (is_declared writing)) (record {
             sound = λ sound. writing_sound (begun settings state) target writing (asked_fit state target property value writing is) sound;
             declared = λ sound declared. declared_with_writing settings.classes state declared target writing;

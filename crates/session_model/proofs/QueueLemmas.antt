@@ -4,20 +4,18 @@ use Rattle.std.proofs.lemmas.Bool.Decides.{nat_tests}
 use Rattle.std.proofs.lemmas.List.Elements.{All-drop, All-filter, All-weaker}
 use Rattle.std.proofs.lemmas.List.{length-drop}
 use Rattle.std.proofs.lemmas.List.Sums.{count_by-le-length, length-filter}
-use Rattle.object_tree.specs.Rows.{numbers}
-use Rattle.event_queue.specs.declared.event.Event.{Event}
+use Rattle.session_model.proofs.Common.{numbers, Event, Queue, has_room, with_mismatched, IsMeant, State}
 use Rattle.event_queue.specs.declared.table.TheConstants.{EVENTS}
-use Rattle.event_queue.specs.Queue.{IsSound, Queue, dropped, empty_queue, has_room, object_of, others, placed, enqueued, taken, with_lost, with_mismatched}
+use Rattle.event_queue.specs.Queue.{IsSound, dropped, empty_queue, object_of, others, placed, enqueued, taken, with_lost}
 use Rattle.event_queue.proofs.PlacedLemmas.{All_placed, length_placed}
-use Rattle.session_model.specs.State.{IsMeant, State}
 use Rattle.session_model.proofs.ConnectionLemmas.{there_more, there_same, there_without}
 
 -- a queue stays sound in each change
 pub sound_none : IsSound empty_queue
 sound_none = record { few = omega arith; lost = omega arith; mismatched = omega arith }
 
-pub sound_posted : (queue : Queue) (event : Event) → IsSound queue → IsSound (enqueued queue event)
-sound_posted queue event sound = by (has_room queue) refl
+pub sound_posted : {queue : Queue} (event : Event) → IsSound queue → IsSound (enqueued queue event)
+sound_posted {queue} event sound = by (has_room queue) refl
   where
     by : (room : Bool) → has_room queue ≡ room → IsSound (cond room (record queue { events = placed event queue.events }) queue)
     by true is =
@@ -25,11 +23,11 @@ sound_posted queue event sound = by (has_room queue) refl
         record { few = omega (arith, room, length_placed event queue.events); lost = sound.lost; mismatched = sound.mismatched }
     by false is = sound
 
-pub sound_taken : (queue : Queue) → IsSound queue → IsSound (taken queue)
-sound_taken queue sound = record { few = omega (arith, sound.few, length-drop 1 queue.events); lost = sound.lost; mismatched = sound.mismatched }
+pub sound_taken : {queue : Queue} → IsSound queue → IsSound (taken queue)
+sound_taken {queue} sound = record { few = omega (arith, sound.few, length-drop 1 queue.events); lost = sound.lost; mismatched = sound.mismatched }
 
-pub sound_dropped : (object : ℕ) (queue : Queue) → IsSound queue → IsSound (dropped object queue)
-sound_dropped object queue sound =
+pub sound_dropped : (object : ℕ) {queue : Queue} → IsSound queue → IsSound (dropped object queue)
+sound_dropped object {queue} sound =
     let kept = λ (event : Event). not (object_of event == object) in
     record {
       few = omega (arith, sound.few, length-filter kept queue.events, count_by-le-length kept queue.events);
@@ -37,11 +35,11 @@ sound_dropped object queue sound =
       mismatched = sound.mismatched;
     }
 
-pub sound_lost : (queue : Queue) → IsSound queue → IsSound (with_lost queue)
-sound_lost queue sound = record { few = sound.few; lost = omega arith; mismatched = sound.mismatched }
+pub sound_lost : {queue : Queue} → IsSound queue → IsSound (with_lost queue)
+sound_lost sound = record { few = sound.few; lost = omega arith; mismatched = sound.mismatched }
 
-pub sound_mismatched : (queue : Queue) → IsSound queue → IsSound (with_mismatched queue)
-sound_mismatched queue sound = record { few = sound.few; lost = sound.lost; mismatched = omega arith }
+pub sound_mismatched : {queue : Queue} → IsSound queue → IsSound (with_mismatched queue)
+sound_mismatched sound = record { few = sound.few; lost = sound.lost; mismatched = omega arith }
 
 -- what holds of every event, and of one more, holds when that is posted
 pub each_posted : (P : Event → Type 0) (queue : Queue) (event : Event) → P event → All P queue.events → All P (enqueued queue event).events

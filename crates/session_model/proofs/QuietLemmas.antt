@@ -3,21 +3,15 @@ use Rattle.std.proofs.Common.{◌≡◌, ◌∙◌, ◌==◌, ℕ, suc, Bool, tr
 use Rattle.std.proofs.Common.{is_some, option_map, slice_get, refl, sym, ap, arith, if◌then◌else◌}
 use Rattle.std.specs.Option.{option_and_then, option_map_or}
 use Rattle.std.proofs.lemmas.List.Elements.{All-append, All-filter}
-use Rattle.variant_value.specs.Values.{is_same}
-use Rattle.property_store.specs.declared.field.Field.{Field}
-use Rattle.property_store.specs.Store.{Properties, Store, changed, default_of, properties_of}
-use Rattle.property_store.proofs.ForCallers.{changed_fields}
-use Rattle.term_core.specs.declared.target.Target.{Target}
+use Rattle.session_model.proofs.Common.{is_same, Field, Properties, Store, changed, properties_of, changed_fields, Target, Change, BindingError, Property}
+use Rattle.session_model.proofs.Common.{Shown, before, has_turn, in_turn, is_same_error, notice, shown_now, warning, Cell, cell_in, cell_of, properties_in}
+use Rattle.property_store.specs.Store.{default_of}
 use Rattle.binding_values.specs.declared.binding.Binding.{Binding}
-use Rattle.binding_values.specs.declared.change.Change.{Change}
 use Rattle.binding_values.specs.declared.change.ChangeKind.TheVariants as message
-use Rattle.binding_values.specs.declared.property.BindingError.{BindingError}
 use Rattle.binding_values.specs.declared.property.BindingError.TheVariants.{BindingLoop, EvaluationError}
-use Rattle.property_store.specs.declared.property.Property.{Property}
-use Rattle.binding_values.specs.declared.shown.Shown.{Shown}
-use Rattle.binding_values.specs.Graph.{all_shown, before, changes, has_turn, in_turn, is_same_error, notice, shown_as, shown_now, warning}
-use Rattle.binding_values.specs.Scene.{Cell, plain}
-use Rattle.binding_values.specs.Stored.{bindable_number, cell_in, cell_of, fields_at, meant, properties_in}
+use Rattle.binding_values.specs.Graph.{all_shown, changes, shown_as}
+use Rattle.binding_values.specs.Scene.{plain}
+use Rattle.binding_values.specs.Stored.{bindable_number, fields_at, meant}
 use Rattle.binding_values.proofs.ForCallers.{all_given, found_in_all, shown_of, same_value}
 use Rattle.session_model.proofs.BindingLemmas.{properties_changed}
 

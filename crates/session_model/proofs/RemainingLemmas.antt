@@ -5,10 +5,8 @@ use Rattle.std.specs.List.{AllByRecursion, list_any}
 use Rattle.std.proofs.lemmas.Bool.{and_left, and_right, cases_Bool, ne_eqb}
 use Rattle.std.proofs.lemmas.Bool.Decides.{nat_tests}
 use Rattle.std.proofs.lemmas.List.Elements.{recursion_from_All}
-use Rattle.connection_list.specs.declared.connection.Connection.{Connection}
-use Rattle.connection_list.specs.Ends.{calls}
-use Rattle.connection_list.specs.Rows.{IsRising, has_number, is_next}
-use Rattle.connection_list.proofs.ForCallers.{rising_head, rising_tail}
+use Rattle.session_model.proofs.Common.{Connection, calls, IsRising, has_number, rising_head, rising_tail}
+use Rattle.connection_list.specs.Rows.{is_next}
 use Rattle.session_model.proofs.FilterLemmas.{filter-alike}
 
 -- no connection above a number has it

@@ -2,11 +2,8 @@
 use Rattle.std.proofs.Common.{◌≡◌, ◌<◌, ◌≤◌, ℕ, zero, suc, List, [], ◌∷◌, ◌++◌, refl, sym, ap, ◌∙◌, append_assoc, arith}
 use Rattle.std.proofs.Math.Nat.{mul-le-mul_left}
 use Rattle.std.proofs.lemmas.List.{append-nil}
-use Rattle.session_model.specs.Agenda.{step}
-use Rattle.session_model.specs.Execution.{Execution}
-use Rattle.session_model.specs.Items.{Item, Next, puts}
-use Rattle.session_model.specs.Run.{Most, RunsToItsEnd, deletion_weight, enough, living, most, run, steps, turn_weight, weights}
-use Rattle.session_model.specs.Settings.{Settings}
+use Rattle.session_model.proofs.Common.{step, Execution, Item, Next, puts, Most, weights, Settings}
+use Rattle.session_model.specs.Run.{RunsToItsEnd, deletion_weight, enough, living, most, run, steps, turn_weight}
 use Rattle.session_model.proofs.FallLemmas.{FallsTo, falls, total}
 use Rattle.session_model.proofs.ShrinkLemmas.{Shrinks, both, same}
 use Rattle.session_model.proofs.LivingLemmas.{living_rows}
@@ -19,8 +16,8 @@ bounded settings old new shrinks = record { connections = shrinks.connections; o
 -- with lower bounds less is enough
 total-more : (m n : Most) (doing : Execution) (items : ℕ) → IsAtMost m n → total m doing items ≤ total n doing items
 total-more m n doing items less =
-    let bodies = body-more m n less in
-    let change = change-more m n less in
+    let bodies = body-more less in
+    let change = change-more less in
     let turn : turn_weight m ≤ turn_weight n = omega (arith, bodies, less.connections) in
     let deletion : deletion_weight m ≤ deletion_weight n = omega (arith, change, less.objects, less.connections) in
     let turns = mul-le-mul_left doing.turns turn in
@@ -45,7 +42,7 @@ enough-falls settings item agenda doing = by (step settings item doing).items (s
     by items new fall =
         let is_less = bounded settings doing new fall.shrinks in
         let less = total-more (most settings new) (most settings doing) new (weights (most settings new) (items ++ agenda)) is_less in
-        let lighter = weights-more (most settings new) (most settings doing) (items ++ agenda) is_less in
+        let lighter = weights-more (items ++ agenda) is_less in
         let parts = weights-append (most settings doing) items agenda in
         omega (arith, enough-total settings (items ++ agenda) new, enough-total settings (item ∷ agenda) doing, less, lighter, parts, fall.lower)
 

@@ -1,15 +1,9 @@
 -- The rule of each command for publications and joins, and of the one that begins anew: why it is refused,
 -- what it does where it is not, and what it keeps of a session.
-use Rattle.object_tree.specs.Rows.{is_there}
-use Rattle.object_tree.specs.declared.row.Row.{Row}
-use Rattle.publish_board.specs.Desk.{Desk, left, published, unpublished, with_join}
+use Rattle.publish_board.specs.Desk.{left, published, unpublished, with_join}
 use Rattle.publish_board.specs.Rows.{has_name, is_join}
-use Rattle.publish_board.specs.declared.join.Join.{Join}
-use Rattle.publish_board.specs.declared.publication.Publication.{Publication}
-use Rattle.signature_core.specs.declared.kind.Kind.{Kind}
-use Rattle.plain_types.specs.declared.code.Code.{Code}
-use Rattle.plain_types.specs.declared.code.Code.TheVariants.{BadSignature, DoesNotFit, NoSuchObject}
-use Rattle.signature_core.specs.Kinds.{fits, kind_named}
+use Rattle.plain_types.specs.declared.code.Code.TheVariants.{BadSignature}
+use Rattle.signature_core.specs.Kinds.{kind_named}
 use Rattle.std.proofs.Common.{Bool, Err, List, None, Ok, Option, Some, [], ap, arith, cond, false, is_some, length, nat_le, not, refl, slice_get, subst, suc}
 use Rattle.std.proofs.Common.{sym, true, ℕ, ◌∷◌, ◌≡◌, ◌≤◌}
 use Rattle.std.proofs.lemmas.Bool.Decides.{nat_tests}
@@ -17,25 +11,24 @@ use Rattle.std.proofs.lemmas.List.Elements.{All-filter, All-push}
 use Rattle.std.specs.List.{All}
 use Rattle.std.specs.Option.{ok_or}
 use Rattle.std.specs.Result.{result_err}
+use Rattle.session_model.proofs.Common.{is_there, Row, Desk, Join, Publication, Kind, Code, DoesNotFit, NoSuchObject, fits, kinds_of, Asked, behind, replies}
+use Rattle.session_model.proofs.Common.{IsFitting, IsJoined, IsPublished, Found, method_named, methods_of, signal_named, AreNamed, IsSound, OfDesk}
+use Rattle.session_model.proofs.Common.{State, empty}
 use Rattle.session_model.proofs.DeskLemmas.{fewer_pass, of_joined, of_left, of_published, of_unpublished, sound_joined, sound_left, sound_published}
 use Rattle.session_model.proofs.DeskLemmas.{sound_unpublished}
 use Rattle.session_model.proofs.FittingFoundLemmas.{named_method_there, named_signal_there}
 use Rattle.session_model.proofs.FittingPostLemmas.{first_fits}
+use Rattle.session_model.proofs.FoundLemmas.{if_found, then_found}
 use Rattle.session_model.proofs.KeepingLemmas.{Falls, Keeps, Leaves, is_join_asked, refused, replied, leaves_with}
 use Rattle.session_model.proofs.LawLemmas.{empty_sound}
 use Rattle.session_model.proofs.NamedLemmas.{empty_named}
 use Rattle.session_model.proofs.StateLemmas.{whole_with_desk}
-use Rattle.session_model.specs.Arriving.{kinds_of}
-use Rattle.session_model.specs.Asked.{Asked, Join as AsksJoin, Leave, Publish, Reset, Unpublish}
-use Rattle.session_model.specs.Operations.{behind}
-use Rattle.session_model.specs.Effects.{replies}
-use Rattle.session_model.specs.Fitting.{IsFitting, IsJoined, IsPublished}
-use Rattle.session_model.specs.Methods.{Found, method_named, methods_of, signal_named, ◌>>=◌}
-use Rattle.session_model.specs.Named.{AreNamed, IsNamedAsked, IsNamedJoin, IsNamedPublication}
+use Rattle.session_model.specs.Asked.{Join as AsksJoin, Leave, Publish, Reset, Unpublish}
+use Rattle.session_model.specs.Named.{IsNamedAsked, IsNamedJoin, IsNamedPublication}
 use Rattle.session_model.specs.Refusing.{refusal}
 use Rattle.session_model.specs.Sharing.{asked_join, asked_kinds, asked_listener, asked_publication, joining_refusal, joins_found, kinds_named, leaves}
 use Rattle.session_model.specs.Sharing.{publication_refusal, publishes_found, unpublishes}
-use Rattle.session_model.specs.State.{IsSound, OfDesk, State, empty, with_desk}
+use Rattle.session_model.specs.State.{with_desk}
 use Rattle.session_model.specs.Thread.{Settings, performs}
 use Rattle.session_model.specs.declared.line.Answer.TheVariants as a
 use Rattle.publish_board.specs.Desk as board
@@ -92,24 +85,17 @@ module _ (settings : Settings) (self : List ℕ) (state : State) where
 -- each text names one kind, and no more are taken than a signature may have
 kinds_counted : (texts : List (List ℕ)) (kinds : List Kind) → kinds_named texts ≡ Ok kinds → length kinds ≡ length texts
 kinds_counted [] kinds e = let same : [] ≡ kinds = cc in ap length (sym same)
-kinds_counted (text ∷ texts) kinds e = by (kind_named text) (kinds_named texts) (kinds_counted texts) e
-  where
-    by : (one : Option Kind) (rest : Found (List Kind)) → ((others : List Kind) → rest ≡ Ok others → length others ≡ length texts)
-        → (ok_or one BadSignature >>= λ kind. rest >>= λ kinds. Ok (kind ∷ kinds)) ≡ Ok kinds → length kinds ≡ length (text ∷ texts)
-    by None rest counted e = absurd (cc)
-    by (Some kind) (Err code) counted e = absurd (cc)
-    by (Some kind) (Ok others) counted e =
-        let same : kind ∷ others ≡ kinds = cc in
-        subst (λ (kinds : List Kind). length kinds ≡ length (text ∷ texts)) same (ap suc (counted others refl))
+kinds_counted (text ∷ texts) kinds e =
+    let (kind, is, e) = then_found (ok_or (kind_named text) BadSignature) _ e in
+    let (others, so, e) = then_found (kinds_named texts) _ e in
+    let same : kind ∷ others ≡ kinds = cc in
+    subst (λ (kinds : List Kind). length kinds ≡ length (text ∷ texts)) same (ap suc (kinds_counted texts others so))
 
 few_kinds : (texts : List (List ℕ)) (kinds : List Kind) → asked_kinds texts ≡ Ok kinds → length kinds ≤ 10
-few_kinds texts kinds e = by (nat_le (length texts) 10) refl e
-  where
-    by : (few : Bool) → nat_le (length texts) 10 ≡ few → cond few (kinds_named texts) (Err BadSignature) ≡ Ok kinds → length kinds ≤ 10
-    by false is e = absurd (cc)
-    by true is e =
-        let within : length texts ≤ 10 = grind (arith, nat_tests, is) in
-        omega (arith, within, kinds_counted texts kinds e)
+few_kinds texts kinds e =
+    let (few, e) = if_found (nat_le (length texts) 10) _ _ e in
+    let within : length texts ≤ 10 = grind (arith, nat_tests, few) in
+    omega (arith, within, kinds_counted texts kinds e)
 
 -- what was looked for behind an object is found where that is there
 found_behind : {A : Type 0} (there : Bool) (found : Found A) (value : A) → behind (cond there None (Some NoSuchObject)) found ≡ Ok value
@@ -131,12 +117,9 @@ module _ (settings : Settings) (state : State) (target : ℕ) where
   publication_found : (signal name : List ℕ) (row : Publication) → asked_publication settings state target signal name ≡ Ok row
       → FoundPublication signal name row
   publication_found signal name row is =
-      let parts = found_behind (is_there state.forest.rows target) _ row is in by (signal_named (methods_of settings state target) signal) refl parts.0 parts.1
-    where
-      by : (found : Found ℕ) → signal_named (methods_of settings state target) signal ≡ found → is_there state.forest.rows target ≡ true
-          → (found >>= λ index. Ok (publication_of name index)) ≡ Ok row → FoundPublication signal name row
-      by (Err code) named there e = absurd (cc)
-      by (Ok index) named there e = record { index = index; there = there; named = named; is = cc }
+      let (there, found) = found_behind (is_there state.forest.rows target) _ row is in
+      let (index, named, e) = then_found (signal_named (methods_of settings state target) signal) _ found in
+      record { index = index; there = there; named = named; is = cc }
 
   -- and a join that was found calls a method of one
   abbrev pub join_of : List ℕ → List ℕ → List Kind → ℕ → Join
@@ -153,28 +136,22 @@ module _ (settings : Settings) (state : State) (target : ℕ) where
   pub join_found : (from name : List ℕ) (types : List (List ℕ)) (method : List ℕ) (join : Join)
       → asked_join settings state from name types target method ≡ Ok join → FoundJoin from name types method join
   join_found from name types method join is =
-      let parts = found_behind (is_there state.forest.rows target) _ join is in
-      by (asked_kinds types) refl (method_named (methods_of settings state target) method) refl parts.0 parts.1
-    where
-      by : (kinds : Found (List Kind)) → asked_kinds types ≡ kinds → (found : Found ℕ) → method_named (methods_of settings state target) method ≡ found
-          → is_there state.forest.rows target ≡ true → (kinds >>= λ kinds. found >>= λ index. Ok (join_of from name kinds index)) ≡ Ok join
-          → FoundJoin from name types method join
-      by (Err code) so found named there e = absurd (cc)
-      by (Ok kinds) so (Err code) named there e = absurd (cc)
-      by (Ok kinds) so (Ok index) named there e =
-          record { kinds = kinds; index = index; there = there; kinds_named = so; named = named; is = cc }
+      let (there, found) = found_behind (is_there state.forest.rows target) _ join is in
+      let (kinds, so, e) = then_found (asked_kinds types) _ found in
+      let (index, named, e) = then_found (method_named (methods_of settings state target) method) _ e in
+      record { kinds = kinds; index = index; there = there; kinds_named = so; named = named; is = cc }
 
 module _ (settings : Settings) (state : State) where
   abbrev rows : List Row
   rows = state.forest.rows
 
   -- another desk, each of whose objects stands
-  desk_leaves : (asked : Asked) (desk : Desk) → (IsSound state → board.IsSound desk × OfDesk (λ number. is_there rows number ≡ true) desk)
+  desk_leaves : {asked : Asked} {desk : Desk} → (IsSound state → board.IsSound desk × OfDesk (λ number. is_there rows number ≡ true) desk)
       → (IsFitting settings state → All (IsPublished settings rows) desk.publications × All (IsJoined settings rows) desk.joins)
       → (IsNamedAsked asked → AreNamed state → All IsNamedPublication desk.publications × All IsNamedJoin desk.joins)
       → (is_join_asked asked ≡ false → Falls state (with_desk state desk)) → Leaves settings state asked (with_desk state desk)
-  desk_leaves asked desk sound fits named falls = leaves_with settings state asked state.store state.graph state.connections state.queue desk
-      (λ its. whole_with_desk state desk (sound its).0 (sound its).1 its.whole) (λ declared. declared)
+  desk_leaves sound fits named falls = leaves_with
+      (λ its. whole_with_desk (sound its).0 (sound its).1 its.whole) (λ declared. declared)
       (λ before. (let fit = before.fit in record
       { events = fit.events; connections = fit.connections; publications = (fits fit).0; joins = (fits fit).1 }))
       (λ is its. record { store = its.store; publications = (named is its).0; joins = (named is its).1 }) falls
@@ -186,11 +163,10 @@ module _ (settings : Settings) (state : State) where
     where
       by : (found : Found Publication) → asked_publication settings state target signal name ≡ found → publication_refusal state found ≡ None
           → Keeps settings state (Publish target signal name) (publishes_found state found)
-      by (Err code) is passed = refused settings state (Publish target signal name) code
-      by (Ok row) is passed = replied settings state (Publish target signal name) _ (a.Truth true)
-          (desk_leaves (Publish target signal name) (published state.desk row)
+      by (Err code) is passed = refused
+      by (Ok row) is passed = replied (desk_leaves
           (λ sound. (
-            sound_published state.desk row passed sound.whole.desk,
+            sound_published row passed sound.whole.desk,
             of_published _ state.desk sound.whole.named row (subst (λ (row : Publication). is_there rows row.object ≡ true) its.is its.there),
           ))
           (λ fit. (
@@ -209,8 +185,8 @@ module _ (settings : Settings) (state : State) where
           its = publication_found settings state target signal name row is
 
   pub unpublish_keeps : (name : List ℕ) → Keeps settings state (Unpublish name) (unpublishes state name)
-  unpublish_keeps name = replied settings state (Unpublish name) _ _ (desk_leaves (Unpublish name) (unpublished state.desk name)
-      (λ sound. (sound_unpublished state.desk name sound.whole.desk, of_unpublished _ state.desk sound.whole.named name))
+  unpublish_keeps name = replied (desk_leaves
+      (λ sound. (sound_unpublished name sound.whole.desk, of_unpublished _ state.desk sound.whole.named name))
       (λ fit. (All-filter (λ row. not (has_name name row)) (IsPublished settings rows) state.desk.publications fit.publications, fit.joins))
       (λ is named. (All-filter (λ row. not (has_name name row)) IsNamedPublication state.desk.publications named.publications, named.joins))
       (λ plain test held. held))
@@ -223,11 +199,10 @@ module _ (settings : Settings) (state : State) where
     where
       by : (found : Found Join) → asked_join settings state from name types target method ≡ found → joining_refusal settings self state found ≡ None
           → Keeps settings state (AsksJoin from name types target method) (joins_found state found)
-      by (Err code) is passed = refused settings state (AsksJoin from name types target method) code
-      by (Ok join) is passed = replied settings state (AsksJoin from name types target method) _ (a.Truth true)
-          (desk_leaves (AsksJoin from name types target method) (with_join state.desk join)
+      by (Err code) is passed = refused
+      by (Ok join) is passed = replied (desk_leaves
           (λ sound. (
-            sound_joined self state.desk join _ passed sound.whole.desk,
+            sound_joined self join _ passed sound.whole.desk,
             of_joined _ state.desk sound.whole.named join (subst (λ (join : Join). is_there rows join.object ≡ true) its.is its.there),
           ))
           (λ fit. (
@@ -262,16 +237,15 @@ module _ (settings : Settings) (state : State) where
   leave_keeps from name target method = by (asked_listener settings state target method)
     where
       by : (found : Found ℕ) → Keeps settings state (Leave from name target method) (leaves state from name target found)
-      by (Err code) = refused settings state (Leave from name target method) code
-      by (Ok index) = replied settings state (Leave from name target method) _ _
-          (desk_leaves (Leave from name target method) (left state.desk from name target index)
-          (λ sound. (sound_left state.desk from name target index sound.whole.desk, of_left _ state.desk sound.whole.named from name target index))
+      by (Err code) = refused
+      by (Ok index) = replied (desk_leaves
+          (λ sound. (sound_left from name target index sound.whole.desk, of_left _ state.desk sound.whole.named from name target index))
           (λ fit. (fit.publications, All-filter (λ join. not (is_join from name target index join)) (IsJoined settings rows) state.desk.joins fit.joins))
           (λ is named. (named.publications, All-filter (λ join. not (is_join from name target index join)) IsNamedJoin state.desk.joins named.joins))
           (λ plain test held. fewer_pass test (λ join. not (is_join from name target index join)) state.desk.joins held))
 
   pub reset_keeps : Keeps settings state Reset (replies empty (a.Truth true))
-  reset_keeps = replied settings state Reset empty (a.Truth true) (record {
+  reset_keeps = replied (record {
     sound = λ sound. empty_sound;
     declared = λ sound declared index default within. absurd (omega arith);
     fitting = λ fits. first_fits settings;

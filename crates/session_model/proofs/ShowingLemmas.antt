@@ -8,25 +8,14 @@ use Rattle.std.proofs.lemmas.Bool.{cond_both}
 use Rattle.std.proofs.lemmas.List.{length-append}
 use Rattle.std.proofs.lemmas.List.Elements.{filter_map-append}
 use Rattle.std.proofs.lemmas.List.Filters.{length-filter_both}
-use Rattle.variant_value.specs.declared.value.Value.{Value}
-use Rattle.variant_value.specs.Values.{is_same}
-use Rattle.binding_values.specs.declared.change.Change.{Change}
-use Rattle.binding_values.specs.declared.change.ChangeKind.{ChangeKind}
+use Rattle.session_model.proofs.Common.{Value, is_same, Change, ChangeKind, BindingError, Shown, before, has_turn, in_turn, is_open, is_same_error, notice}
+use Rattle.session_model.proofs.Common.{shown_now, warning, properties_in, Execution, begun, in_state, Emit, Item, Next, puts, Most, change_weight, weights}
+use Rattle.session_model.proofs.Common.{Settings, changes, comes_to, showing, told_as, told_value, State, without_group, is_gone}
 use Rattle.binding_values.specs.declared.change.ChangeKind.TheVariants as message
-use Rattle.binding_values.specs.declared.property.BindingError.{BindingError}
 use Rattle.property_store.specs.declared.property.Property.{Property as At}
-use Rattle.binding_values.specs.declared.shown.Shown.{Shown}
 use Rattle.binding_values.specs.Graph as graph
-use Rattle.binding_values.specs.Graph.{before, has_turn, in_turn, is_open, is_same_error, notice, shown_now, warning}
-use Rattle.binding_values.specs.Stored.{properties_in}
 use Rattle.class_table.specs.declared.class.Property.{Property}
-use Rattle.session_model.specs.Execution.{Execution, begun, in_state}
-use Rattle.session_model.specs.Items.{Emit, Item, Next, puts}
-use Rattle.session_model.specs.Run.{Most, change_weight, weights}
-use Rattle.session_model.specs.Settings.{Settings}
-use Rattle.session_model.specs.Showing.{changes, comes_to, property_at, showing, told_as, told_value}
-use Rattle.session_model.specs.State.{State, without_group}
-use Rattle.session_model.specs.UnderWay.{is_gone}
+use Rattle.session_model.specs.Showing.{property_at}
 use Rattle.session_model.proofs.WeightLemmas.{weights-append}
 
 -- what is told of several changes

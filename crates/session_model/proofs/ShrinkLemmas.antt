@@ -2,35 +2,20 @@
 use Rattle.std.proofs.Common.{◌≡◌, ◌≤◌, ◌+◌, ◌-◌, ◌==◌, ℕ, Bool, true, false, not, cond, List, [], ◌∷◌, ◌++◌, length, filter, max, None, refl, arith}
 use Rattle.std.proofs.lemmas.List.{length-append, length-map}
 use Rattle.std.proofs.lemmas.Bool.{cond_both, eqb-false}
-use Rattle.plain_types.specs.declared.code.Code.TheVariants.{TurnsUsedUp}
-use Rattle.connection_list.specs.declared.connection.Connection.{Connection}
 use Rattle.connection_list.specs.declared.limit.TheConstants.{CONNECTIONS}
-use Rattle.connection_list.specs.Ends.{matches, touches}
-use Rattle.connection_list.specs.Rows.{has_number, numbered}
 use Rattle.connection_list.proofs.ForCallers.{stepped_row}
 use Rattle.object_tree.specs.Rows.{has_number as has_object}
-use Rattle.object_tree.specs.declared.row.Row.{Row}
-use Rattle.object_tree.specs.Refusing.{object_refusal}
-use Rattle.object_tree.specs.Changes.{marked, orphaned, removed, with_blocked}
-use Rattle.event_queue.specs.declared.event.Event.{Event}
+use Rattle.object_tree.specs.Changes.{marked, removed, with_blocked}
 use Rattle.event_queue.specs.declared.event.Event.TheVariants as event
-use Rattle.event_queue.specs.declared.event.QueuedCall.{QueuedCall}
-use Rattle.event_queue.specs.Queue.{has_room}
-use Rattle.session_model.specs.declared.line.Line.{Line}
-use Rattle.session_model.specs.declared.line.Line.TheVariants.{Warning}
 use Rattle.std.specs.List.{list_any}
-use Rattle.publish_board.specs.declared.join.Join.{Join}
-use Rattle.session_model.specs.declared.post.Post.{Post}
-use Rattle.session_model.specs.Agenda.{lives, queued}
-use Rattle.session_model.specs.declared.operation.Operation.{Operation}
+use Rattle.session_model.proofs.Common.{TurnsUsedUp, Connection, matches, touches, has_number, numbered, Row, object_refusal, orphaned, Event, QueuedCall}
+use Rattle.session_model.proofs.Common.{has_room, Line, Warning, Join, Post, lives, queued, Operation, operation_refusal, Execution, in_state, properties_in}
+use Rattle.session_model.proofs.Common.{with_dynamic, with_value, without_dynamic, without_connections, without_object, Declared, Dynamic, Nothing, Removed}
+use Rattle.session_model.proofs.Common.{Writing, with_writing}
 use Rattle.session_model.specs.declared.operation.Operation.TheVariants as d
-use Rattle.session_model.specs.Operations.{operation_done, operation_refusal}
-use Rattle.session_model.specs.Execution.{Execution, dying, first_taken, in_state, lost, enqueued, single_shot_broken, stepped, line_told, turn_taken, used_up}
+use Rattle.session_model.specs.Operations.{operation_done}
+use Rattle.session_model.specs.Execution.{dying, first_taken, lost, enqueued, single_shot_broken, stepped, line_told, turn_taken, used_up}
 use Rattle.session_model.specs.Execution.{posting, severed}
-use Rattle.binding_values.specs.Stored.{properties_in}
-use Rattle.property_store.specs.Store.{with_dynamic, with_value, without_dynamic}
-use Rattle.session_model.specs.State.{without_connections, without_object}
-use Rattle.session_model.specs.Writing.{Declared, Dynamic, Nothing, Removed, Writing, with_writing}
 use Rattle.session_model.proofs.BindingLemmas.{fewer_without, many_changed}
 use Rattle.session_model.proofs.ConnectionLemmas.{allowed, or_none}
 use Rattle.session_model.proofs.DeskLemmas.{fewer_pass}
@@ -220,7 +205,7 @@ pub operation_shrinks : (doing : Execution) (operation : Operation) → operatio
 unfolding operation_done with_blocked
 operation_shrinks doing (d.Connect new unique) passed =
     let all = or_none (object_refusal doing.state.forest.rows new.sender) _ passed in
-    let its = allowed doing.state.connections new unique (or_none (object_refusal doing.state.forest.rows new.receiver) _ all.1).1 in
+    let its = allowed new unique (or_none (object_refusal doing.state.forest.rows new.receiver) _ all.1).1 in
     connections_less (bounds doing) _
     (omega (arith, its.room, length-append doing.state.connections.rows (numbered (doing.state.connections.last_number + 1) new ∷ [])))
 operation_shrinks doing (d.Disconnect pattern) passed =

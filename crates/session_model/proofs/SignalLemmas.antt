@@ -1,49 +1,34 @@
 -- The rule of each command for signals and slots: why it is refused, what it does where it is not, and what it
 -- keeps of a session.
 use Rattle.class_table.specs.Lookup.{method_number}
-use Rattle.connection_list.specs.Rows.{has_number}
-use Rattle.connection_list.specs.declared.connection.NewConnection.{NewConnection}
 use Rattle.plain_types.specs.declared.connection_type.ConnectionType.{ConnectionType}
 use Rattle.event_queue.specs.declared.event.Priority.{Priority}
-use Rattle.object_tree.specs.Refusing.{object_refusal}
-use Rattle.object_tree.specs.Rows.{is_there}
-use Rattle.object_tree.specs.declared.row.Row.{Row}
-use Rattle.plain_types.specs.declared.code.Code.TheVariants.{NoSuchObject, UniqueFunctor}
-use Rattle.serde_json.specs.Data.{Data}
+use Rattle.plain_types.specs.declared.code.Code.TheVariants.{UniqueFunctor}
 use Rattle.signature_core.specs.Reading.{signature_of}
-use Rattle.signature_core.specs.declared.signature.Signature.{Signature}
 use Rattle.std.proofs.Common.{Bool, Err, List, None, Ok, Option, Some, [], ap, cond, false, is_some, refl, slice_get, subst, true, ℕ, ◌==◌, ◌∙◌, ◌∷◌, ◌≡◌}
 use Rattle.std.proofs.lemmas.Bool.{cond_both}
 use Rattle.std.specs.Option.{option_and_then, option_or}
 use Rattle.std.specs.Result.{result_err, result_unwrap_or}
-use Rattle.stored_slots.specs.Functors.{AreArguments}
+use Rattle.session_model.proofs.Common.{has_number, NewConnection, object_refusal, is_there, Row, NoSuchObject, Data, Signature, AreArguments, absence}
+use Rattle.session_model.proofs.Common.{with_turn, kinds_of, Asked, found_refusal, Execution, begun, does_next, replies, IsCall, IsFittingOperation, Run, puts}
+use Rattle.session_model.proofs.Common.{Found, is_signal_at, method_named, methods_of, signal_named, ◌>>=◌, does_found, State}
+use Rattle.session_model.proofs.Common.{Operation, Answer, Value}
 use Rattle.session_model.proofs.ConnectionLemmas.{or_none}
 use Rattle.session_model.proofs.FittingArgumentLemmas.{read_arguments}
-use Rattle.session_model.proofs.FittingFoundLemmas.{connection_fits, operation_fits, found_past, functor_connection_fits, functor_there, named_method_there}
+use Rattle.session_model.proofs.FittingFoundLemmas.{connection_fits, operation_fits, functor_connection_fits, functor_there, named_method_there}
+use Rattle.session_model.proofs.FoundLemmas.{found_past}
 use Rattle.session_model.proofs.FittingFoundLemmas.{named_signal_there, numbered_there, pattern_fits}
-use Rattle.session_model.proofs.KeepingLemmas.{Keeps, done, found_keeps, nothing_begins, one_begins, replied, stays, leaves_with}
-use Rattle.session_model.proofs.NamedLemmas.{named_beside}
+use Rattle.session_model.proofs.KeepingLemmas.{Keeps, done, found_keeps, leaves_beside, nothing_begins, one_begins, replied, stays}
 use Rattle.session_model.proofs.StateLemmas.{whole_with_event, whole_without_connections}
-use Rattle.session_model.specs.Absence.{absence}
-use Rattle.session_model.specs.Agenda.{with_turn}
-use Rattle.session_model.specs.Arriving.{kinds_of}
-use Rattle.session_model.specs.Asked.{Asked, Connect, ConnectFunctor, Disconnect, DisconnectOne, Invoke}
-use Rattle.session_model.specs.Operations.{found_refusal}
-use Rattle.session_model.specs.Execution.{Execution, begun, turn_taken, used_up}
-use Rattle.session_model.specs.Effects.{does_next, replies}
-use Rattle.session_model.specs.Fitting.{IsCall, IsFittingOperation}
+use Rattle.session_model.specs.Asked.{Connect, ConnectFunctor, Disconnect, DisconnectOne, Invoke}
+use Rattle.session_model.specs.Execution.{turn_taken, used_up}
 use Rattle.session_model.specs.Functors.{functor_named}
-use Rattle.session_model.specs.Items.{Run, puts}
-use Rattle.session_model.specs.Methods.{Found, is_signal_at, method_named, methods_of, signal_named, signature_in, ◌>>=◌}
+use Rattle.session_model.specs.Methods.{signature_in}
 use Rattle.session_model.specs.Posting.{is_queued}
 use Rattle.session_model.specs.Refusing.{later_refusal, refusal, values_refusal}
 use Rattle.session_model.specs.Signals.{asked_connect, asked_connect_functor, asked_connection, asked_disconnect, asked_functor_connection, asked_method}
-use Rattle.session_model.specs.Signals.{asked_pattern, asked_values, disconnects_one, does_found, invoked, invoked_later, invokes}
-use Rattle.session_model.specs.State.{State, with_event, without_connections}
+use Rattle.session_model.specs.Signals.{asked_pattern, asked_values, disconnects_one, invoked, invoked_later, invokes}
 use Rattle.session_model.specs.Thread.{Settings, performs}
-use Rattle.session_model.specs.declared.operation.Operation.{Operation}
-use Rattle.session_model.specs.declared.line.Answer.{Answer}
-use Rattle.variant_value.specs.declared.value.Value.{Value}
 use Rattle.session_model.specs.declared.line.Answer.TheVariants as a
 use Rattle.plain_types.specs.declared.callee.Callee.TheVariants as callee
 use Rattle.session_model.specs.declared.operation.Operation.TheVariants as d
@@ -144,7 +129,7 @@ module _ (settings : Settings) (state : State) where
     pub connect_keeps : found_refusal state (asked_connect settings state sender signal receiver method mode unique single) ≡ None
         → Keeps settings state (Connect sender signal receiver method mode unique single)
         (does_found state (asked_connect settings state sender signal receiver method mode unique single))
-    connect_keeps passed = found_keeps settings state (Connect sender signal receiver method mode unique single) _ passed (λ operation e may.
+    connect_keeps passed = found_keeps _ passed (λ operation e may.
         operation_fits settings rows (asked_connection settings state sender signal receiver method mode single) unique
         (connection_fits settings state sender (signal_named (methods_of settings state sender) signal)
         (named_signal_there (methods_of settings state sender) signal)
@@ -154,7 +139,7 @@ module _ (settings : Settings) (state : State) where
     pub connect_functor_keeps : found_refusal state (asked_connect_functor settings state sender signal receiver method mode unique single) ≡ None
         → Keeps settings state (ConnectFunctor sender signal receiver method mode unique single)
         (does_found state (asked_connect_functor settings state sender signal receiver method mode unique single))
-    connect_functor_keeps passed = found_keeps settings state (ConnectFunctor sender signal receiver method mode unique single) _ passed (λ operation e may.
+    connect_functor_keeps passed = found_keeps _ passed (λ operation e may.
         by operation unique (asked_functor_connection settings state sender signal receiver method mode single)
         (functor_connection_fits settings state sender (signal_named (methods_of settings state sender) signal)
         (named_signal_there (methods_of settings state sender) signal)
@@ -169,16 +154,15 @@ module _ (settings : Settings) (state : State) where
         by operation false (Ok new) fits e = let same : d.Connect new false ≡ operation = cc in subst (IsFittingOperation settings rows) same (fits new refl)
 
   pub disconnect_one_keeps : (connection : ℕ) → Keeps settings state (DisconnectOne connection) (disconnects_one state connection)
-  disconnect_one_keeps connection = replied settings state (DisconnectOne connection) (without_connections state (has_number connection)) _
-      (leaves_with settings state (DisconnectOne connection) _ _ _ _ _ (λ sound. whole_without_connections state (has_number connection) sound.whole)
-      (λ declared. declared) (λ before. fits_without settings rows state (has_number connection) (fits_own settings state before.fit))
-      (λ asked named. named_beside state named (without_connections state (has_number connection)) refl refl) (λ plain test held. held))
+  disconnect_one_keeps connection = replied
+      (leaves_beside (λ sound. whole_without_connections (has_number connection) sound.whole)
+      (λ fit. fits_without state (has_number connection) (fits_own fit)))
 
   pub disconnect_keeps : (sender : ℕ) (signal : Option (List ℕ)) (receiver : Option ℕ) (method : Option (List ℕ))
       → found_refusal state (asked_disconnect settings state sender signal receiver method) ≡ None
       → Keeps settings state (Disconnect sender signal receiver method) (does_found state (asked_disconnect settings state sender signal receiver method))
   disconnect_keeps sender signal receiver method passed =
-      found_keeps settings state (Disconnect sender signal receiver method) _ passed
+      found_keeps _ passed
       (λ operation e may. pattern_fits settings rows _ _ (asked_pattern settings state sender signal receiver method) operation e)
 
   -- a method is called with the values that are given, at once or by an event
@@ -193,22 +177,19 @@ module _ (settings : Settings) (state : State) where
           let slot = Run target index 0 values 0 in
           cond_both (is_signal_at (methods_of settings state target) index) (puts (signal ∷ []) doing) (with_turn doing (puts (slot ∷ [])))
           (λ next. Keeps settings state asked (does_next settings next answer))
-          (λ is. done settings state asked (puts (signal ∷ []) doing) answer
-          (one_begins settings state asked signal doing refl refl refl (λ fits there. record { signal_there = is; arguments = call.arguments }) tt))
+          (λ is. done (puts (signal ∷ []) doing) answer
+          (one_begins refl refl refl (λ fits there. record { signal_there = is; arguments = call.arguments }) tt))
           (λ is. cond_both (doing.turns == 0) (puts [] (used_up doing)) (puts (slot ∷ []) (turn_taken doing))
           (λ next. Keeps settings state asked (does_next settings next answer))
-          (λ none. done settings state asked (puts [] (used_up doing)) answer
-          (nothing_begins settings state asked (used_up doing) (used_up_state doing) (used_up_posts doing)))
-          (λ some. done settings state asked (puts (slot ∷ []) (turn_taken doing)) answer
-          (one_begins settings state asked slot (turn_taken doing) (turn_state doing) (turn_posts doing) refl (λ fits there. call) tt)))
+          (λ none. done (puts [] (used_up doing)) answer
+          (nothing_begins (used_up_state doing) (used_up_posts doing)))
+          (λ some. done (puts (slot ∷ []) (turn_taken doing)) answer
+          (one_begins (turn_state doing) (turn_posts doing) refl (λ fits there. call) tt)))
 
       later : is_there rows target ≡ true → Keeps settings state (Invoke target method args mode priority) (invoked_later state target index values priority)
       later there =
           let it = event.Call (record { object = target; callee = callee.Method index; sender = 0; connection = 0; priority = priority; args = values }) in
-          replied settings state (Invoke target method args mode priority) (with_event state it) (a.Truth true)
-          (leaves_with settings state (Invoke target method args mode priority) _ _ _ _ _ (λ sound. whole_with_event state it there sound.whole)
-          (λ declared. declared) (λ before. fits_event settings rows state it call (fits_own settings state before.fit))
-          (λ asked named. named_beside state named (with_event state it) refl refl) (λ plain test held. held))
+          replied (leaves_beside (λ sound. whole_with_event it there sound.whole) (λ fit. fits_event state it call (fits_own fit)))
 
     pub invoke_keeps : option_or (absence state target)
         (option_or (result_err (signature_in method))
@@ -227,8 +208,7 @@ module _ (settings : Settings) (state : State) where
 
         by : (index : Option ℕ) → asked_method settings state target method ≡ index → values_refusal settings state target args index ≡ None
             → Keeps settings state (Invoke target method args mode priority) (invokes settings state target args mode priority index)
-        by None is fit = replied settings state (Invoke target method args mode priority) state (a.Truth false)
-            (stays settings state (Invoke target method args mode priority))
+        by None is fit = replied stays
         by (Some index) is fit =
             let values = result_unwrap_or (asked_values settings state target index args) [] in
             cond_both (is_queued mode) (invoked_later state target index values priority)

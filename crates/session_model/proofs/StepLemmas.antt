@@ -2,60 +2,34 @@
 use Rattle.std.proofs.Common.{◌≡◌, ◌+◌, ◌==◌, ℕ, Bool, true, false, List, [], ◌∷◌, ◌++◌, Option, Some, None, Ok, Err, length, nat_le, refl, take}
 use Rattle.std.proofs.Common.{if◌then◌else◌}
 use Rattle.std.proofs.lemmas.Bool.{cond_both}
-use Rattle.variant_value.specs.declared.value.Value.{Value}
-use Rattle.term_core.specs.Act.{Acts, single_action, when}
-use Rattle.term_evaluation.specs.Stating.{after}
-use Rattle.class_table.specs.declared.class.Method.{Method}
-use Rattle.plain_types.specs.declared.callee.Callee.{Callee}
 use Rattle.plain_types.specs.declared.callee.Callee.TheVariants as callee
-use Rattle.connection_list.specs.declared.connection.Connection.{Connection}
-use Rattle.event_queue.specs.declared.event.Event.{Event}
 use Rattle.event_queue.specs.declared.event.Event.TheVariants as event
-use Rattle.event_queue.specs.declared.event.QueuedCall.{QueuedCall}
-use Rattle.event_queue.specs.Queue.{has_room}
-use Rattle.object_tree.specs.declared.row.Row.{Row}
-use Rattle.object_tree.specs.Rows.{row_of}
-use Rattle.stored_slots.specs.declared.functor.Functor.{Functor}
-use Rattle.session_model.specs.declared.call.TheConstants.{DESTROYED, NESTED_SIGNALS}
-use Rattle.session_model.specs.declared.operation.Operation.{Operation}
+use Rattle.session_model.specs.declared.call.TheConstants.{NESTED_SIGNALS}
 use Rattle.session_model.specs.declared.line.Answer.TheVariants as a
-use Rattle.session_model.specs.declared.line.Line.{Line}
 use Rattle.session_model.specs.declared.line.Line.TheVariants as line
-use Rattle.session_model.specs.declared.post.Post.{Post}
-use Rattle.session_model.specs.Arriving.{posts_of}
-use Rattle.session_model.specs.Agenda.{binding_line, call_line, callee_called, called, calls_of, connection_of, emitted, event_items, functor_called}
-use Rattle.session_model.specs.Agenda.{functor_line, functor_ran, is_held_back, lives, lives_below, method_called, queued, ran, spun, step, with_turn}
-use Rattle.session_model.specs.Execution.{Execution, dying, first_taken, in_state, lost, enqueued, posting, single_shot_broken, stepped, line_told}
+use Rattle.session_model.specs.Agenda.{binding_line, callee_called, connection_of, functor_called}
+use Rattle.session_model.specs.Agenda.{is_held_back, lives_below, method_called, spun}
+use Rattle.session_model.specs.Execution.{dying, first_taken, lost, enqueued, posting, single_shot_broken, stepped, line_told}
 use Rattle.session_model.specs.Execution.{turn_taken, used_up, severed}
-use Rattle.session_model.specs.Items.{Act, Call, Detach, Delete, Emit, Remove, Item, DeleteChild, Next, Reply, ReplySpun, Run, RunFunctor, Spin, Warn, WarnOf}
-use Rattle.session_model.specs.Items.{puts}
-use Rattle.session_model.specs.Functors.{functor_at}
+use Rattle.session_model.specs.Items.{Reply, ReplySpun}
 use Rattle.session_model.specs.Posting.{is_queued, spin_of}
-use Rattle.session_model.specs.Settings.{Settings}
-use Rattle.session_model.specs.State.{functor_state, without_object}
-use Rattle.plain_types.specs.declared.code.Code.{Code}
-use Rattle.plain_types.specs.declared.code.Code.TheVariants.{Limit, NoSuchObject, TurnsUsedUp}
 use Rattle.std.specs.Option.{option_map_or, option_or, unwrap_or}
 use Rattle.std.specs.Result.{result_err}
-use Rattle.signature_core.specs.declared.signature.Signature.{Signature}
-use Rattle.term_core.specs.declared.action.SingleAction.{SingleAction}
+use Rattle.session_model.proofs.Common.{Value, Acts, single_action, when, after, Method, Callee, Connection, Event, QueuedCall, has_room, Row, row_of, Functor}
+use Rattle.session_model.proofs.Common.{DESTROYED, Operation, Line, Post, posts_of, call_line, called, calls_of, emitted, event_items, functor_line}
+use Rattle.session_model.proofs.Common.{functor_ran, lives, queued, ran, step, with_turn, Execution, in_state, Act, Call, Detach, Delete, Emit, Remove, Item}
+use Rattle.session_model.proofs.Common.{DeleteChild, Next, Run, RunFunctor, Spin, Warn, WarnOf, puts, functor_at, Settings, functor_state, without_object, Code}
+use Rattle.session_model.proofs.Common.{Limit, NoSuchObject, TurnsUsedUp, Signature, SingleAction, Target, Term, object_refusal, absence, act_operation, acts}
+use Rattle.session_model.proofs.Common.{branch, chosen, emission, warns_or, with_found, delete_children, method_items, found_refusal, operation_refusal}
+use Rattle.session_model.proofs.Common.{with_operation, Found, method_at, ◌>>=◌, comes_to, evaluated, object_of, truth_evaluated, Writing, acted_writing}
+use Rattle.session_model.proofs.Common.{with_writing, written, has_number, marked, State, with_event, with_functor_state, with_lost, without_connections}
+use Rattle.session_model.proofs.Common.{without_first, Warning}
 use Rattle.term_core.specs.declared.action.SingleAction.TheVariants as e
-use Rattle.term_core.specs.declared.target.Target.{Target}
 use Rattle.term_core.specs.Act as term
-use Rattle.term_core.specs.Term.{Term}
-use Rattle.object_tree.specs.Refusing.{object_refusal}
-use Rattle.session_model.specs.Absence.{absence}
-use Rattle.session_model.specs.Acts.{act_operation, act_refusal, acted, acts, branch, chosen, emission, warns_or, with_found}
-use Rattle.session_model.specs.Agenda.{delete_children, method_items, queued_call}
-use Rattle.session_model.specs.Operations.{found_refusal, operation_done, operation_refusal, with_operation}
-use Rattle.session_model.specs.Methods.{Found, method_at, ◌>>=◌}
-use Rattle.session_model.specs.Showing.{comes_to}
-use Rattle.session_model.specs.Targets.{evaluated, object_of, truth_evaluated}
-use Rattle.session_model.specs.Writing.{Writing, acted_writing, with_writing, written}
-use Rattle.connection_list.specs.Rows.{has_number}
-use Rattle.object_tree.specs.Changes.{marked}
-use Rattle.session_model.specs.State.{State, with_event, with_functor_state, with_lost, without_connections, without_first, without_ties}
-use Rattle.session_model.specs.declared.line.Line.TheVariants.{Warning}
+use Rattle.session_model.specs.Acts.{act_refusal, acted}
+use Rattle.session_model.specs.Agenda.{queued_call}
+use Rattle.session_model.specs.Operations.{operation_done}
+use Rattle.session_model.specs.State.{without_ties}
 
 -- an item that neither removes an object nor breaks what ties it to others
 abbrev pub leaves_ties : Item → Bool

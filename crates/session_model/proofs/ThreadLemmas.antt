@@ -1,21 +1,17 @@
 -- What a command comes to; and the rule of queries.
 use Rattle.std.proofs.Common.{◌≡◌, ◌∙◌, ℕ, List, [], ◌∷◌, Some, None, Ok, Err, refl, ap}
 use Rattle.std.specs.Result.{result_err}
-use Rattle.plain_types.specs.declared.code.Code.{Code}
-use Rattle.session_model.specs.declared.line.Answer.{Answer}
+use Rattle.session_model.proofs.Common.{Code, Answer, begun, line_told, does_next, replies, Next, Spin, run, State}
 use Rattle.session_model.specs.declared.line.Answer.TheVariants as a
 use Rattle.session_model.specs.declared.line.Line.TheVariants as line
 use Rattle.session_model.specs.declared.query.Query.{Query}
 use Rattle.session_model.specs.Asked.{Ask}
-use Rattle.session_model.specs.Execution.{begun, line_told}
-use Rattle.session_model.specs.Effects.{answers, does_next, ended, replies}
+use Rattle.session_model.specs.Effects.{answers, ended}
 use Rattle.session_model.specs.Events.{spins}
-use Rattle.session_model.specs.Items.{Next, Reply, ReplySpun, Spin}
+use Rattle.session_model.specs.Items.{Reply, ReplySpun}
 use Rattle.session_model.specs.Posting.{spin_of}
 use Rattle.session_model.specs.Queries.{query_answer}
 use Rattle.session_model.specs.Refusing.{refusal}
-use Rattle.session_model.specs.Run.{run}
-use Rattle.session_model.specs.State.{State}
 use Rattle.session_model.specs.Thread.{Settings, performs}
 use Rattle.session_model.proofs.RunLemmas.{by_change, in_parts}
 

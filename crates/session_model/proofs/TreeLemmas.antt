@@ -2,14 +2,13 @@
 -- what it keeps of a session.
 use Rattle.class_table.specs.Lookup.{index_of}
 use Rattle.object_tree.specs.Changes.{added}
-use Rattle.object_tree.specs.Rows.{is_there}
-use Rattle.object_tree.specs.declared.row.Row.{Row}
 use Rattle.object_tree.specs.Refusing.{add_refusal, parent_refusal}
 use Rattle.property_store.proofs.ForCallers.{position_some}
 use Rattle.plain_types.specs.declared.code.Code.TheVariants.{NoSuchClass}
 use Rattle.std.proofs.Common.{List, None, Option, Some, [], cond, false, is_some, refl, slice_get, true, ℕ, ◌∷◌, ◌≡◌}
 use Rattle.std.proofs.lemmas.List.Elements.{All-push}
 use Rattle.std.specs.Option.{option_or, unwrap_or}
+use Rattle.session_model.proofs.Common.{is_there, Row, absence, Asked, begun, IsFitting, puts, State, with_object}
 use Rattle.session_model.proofs.ConnectionLemmas.{or_none}
 use Rattle.session_model.proofs.DeclaredLemmas.{declared_with_object}
 use Rattle.session_model.proofs.ForestLemmas.{each_added}
@@ -18,14 +17,9 @@ use Rattle.session_model.proofs.FittingFoundLemmas.{there_within}
 use Rattle.session_model.proofs.KeepingLemmas.{FitsBefore, Keeps, done, one_begins, replied}
 use Rattle.session_model.proofs.NamedLemmas.{named_with_object}
 use Rattle.session_model.proofs.StateLemmas.{whole_with_object}
-use Rattle.session_model.specs.Absence.{absence}
-use Rattle.session_model.specs.Asked.{Asked, Delete, New}
+use Rattle.session_model.specs.Asked.{Delete, New}
 use Rattle.session_model.specs.Classes.{class_index, class_refusal}
-use Rattle.session_model.specs.Execution.{begun}
-use Rattle.session_model.specs.Fitting.{IsFitting}
-use Rattle.session_model.specs.Items.{puts}
 use Rattle.session_model.specs.Refusing.{refusal}
-use Rattle.session_model.specs.State.{State, with_object}
 use Rattle.session_model.specs.Thread.{Settings, performs}
 use Rattle.session_model.specs.Trees.{deletes, makes}
 use Rattle.session_model.specs.declared.line.Answer.TheVariants as a
@@ -57,7 +51,7 @@ module _ (settings : Settings) (state : State) where
   made_fits asked parent class its fits =
       let rows = state.forest.rows in
       let fit = fits.fit in
-      fits_moved settings rows (with_object settings.classes state parent class) (λ number. is_there rows number ≡ true) (more_classes rows _)
+      fits_moved rows (λ number. is_there rows number ≡ true) (more_classes rows _)
       fits.sound.whole.meant (λ index default within.
       (let it = fits.sound.whole.ends index default within in record { sender = it.sender; receiver = it.receiver })) fits.sound.whole.named
       (All-push (λ (row : Row). is_some (slice_get settings.classes row.class) ≡ true) rows _ fit.objects its)
@@ -66,9 +60,9 @@ module _ (settings : Settings) (state : State) where
   pub new_keeps : (class : List ℕ) (parent : Option ℕ) → option_or (parent_refusal state.forest.rows parent)
       (option_or (class_refusal settings.classes class) (add_refusal state.forest parent)) ≡ None
       → Keeps settings state (New class parent) (makes settings.classes state class parent)
-  new_keeps class parent passed = replied settings state (New class parent) after _ (record {
+  new_keeps class parent passed = replied (record {
     sound = λ sound. record {
-      whole = whole_with_object settings.classes state parent _ allowed.1 sound.whole;
+      whole = whole_with_object settings.classes parent _ allowed.1 sound.whole;
       living = each_added (λ number class dying. dying ≡ false) state.forest parent _ refl sound.living;
     };
     declared = λ sound declared. declared_with_object settings.classes state declared parent _ sound.whole.forest.numbers_given;
@@ -92,5 +86,5 @@ module _ (settings : Settings) (state : State) where
           by (Some index) is e = there_within settings.classes index (position_some _ settings.classes index is).1
 
   pub delete_keeps : (target : ℕ) → Keeps settings state (Delete target) (deletes settings state target)
-  delete_keeps target = done settings state (Delete target) (puts (to_do.Delete target 0 ∷ []) (begun settings state)) (a.Truth true)
-      (one_begins settings state (Delete target) (to_do.Delete target 0) (begun settings state) refl refl refl (λ fits. tt) tt)
+  delete_keeps target = done (puts (to_do.Delete target 0 ∷ []) (begun settings state)) (a.Truth true)
+      (one_begins refl refl refl (λ fits. tt) tt)

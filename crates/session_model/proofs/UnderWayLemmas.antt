@@ -5,30 +5,18 @@ use Rattle.std.specs.List.{All, list_any}
 use Rattle.std.proofs.lemmas.Bool.{cond_both, or_left, or_right}
 use Rattle.std.proofs.lemmas.List.Elements.{All-filter, All-push, All-weaker}
 use Rattle.std.proofs.lemmas.List.Folds.{list_any-append}
-use Rattle.plain_types.specs.declared.code.Code.TheVariants.{TurnsUsedUp}
-use Rattle.connection_list.specs.declared.connection.Connection.{Connection}
-use Rattle.connection_list.specs.Ends.{matches, touches}
-use Rattle.connection_list.specs.Rows.{has_number, numbered}
-use Rattle.connection_list.proofs.ForCallers.{all_stepped}
-use Rattle.event_queue.specs.declared.event.Event.{Event}
+use Rattle.session_model.proofs.Common.{TurnsUsedUp, Connection, matches, touches, has_number, numbered, all_stepped, Event, QueuedCall, Queue, has_room}
+use Rattle.session_model.proofs.Common.{object_refusal, is_there, Line, Warning, Post, queued, Operation, operation_refusal, Execution, in_state, Detach}
+use Rattle.session_model.proofs.Common.{Remove, Item, IsTied, IsWhole, State, without_connections, without_object, Nothing, Writing, with_writing, IsUnderWay}
+use Rattle.session_model.proofs.Common.{is_gone}
 use Rattle.event_queue.specs.declared.event.Event.TheVariants as event
-use Rattle.event_queue.specs.declared.event.QueuedCall.{QueuedCall}
-use Rattle.event_queue.specs.Queue.{Queue, has_room, object_of}
-use Rattle.object_tree.specs.Refusing.{object_refusal}
-use Rattle.object_tree.specs.Rows.{is_there}
-use Rattle.session_model.specs.declared.line.Line.{Line}
-use Rattle.session_model.specs.declared.line.Line.TheVariants.{Warning}
-use Rattle.session_model.specs.declared.post.Post.{Post}
-use Rattle.session_model.specs.Agenda.{queued}
-use Rattle.session_model.specs.declared.operation.Operation.{Operation}
+use Rattle.event_queue.specs.Queue.{object_of}
 use Rattle.session_model.specs.declared.operation.Operation.TheVariants as d
-use Rattle.session_model.specs.Operations.{operation_done, operation_refusal}
-use Rattle.session_model.specs.Execution.{Execution, dying, first_taken, in_state, lost, enqueued, single_shot_broken, stepped, line_told, turn_taken}
+use Rattle.session_model.specs.Operations.{operation_done}
+use Rattle.session_model.specs.Execution.{dying, first_taken, lost, enqueued, single_shot_broken, stepped, line_told, turn_taken}
 use Rattle.session_model.specs.Execution.{used_up, posting, severed}
-use Rattle.session_model.specs.Items.{Detach, Remove, Item}
-use Rattle.session_model.specs.State.{IsTied, IsWhole, State, without_connections, without_events, without_object}
-use Rattle.session_model.specs.Writing.{Nothing, Writing, with_writing}
-use Rattle.session_model.specs.UnderWay.{IsBrokenInTime, IsForgottenInTime, IsUnderWay, is_gone, is_untied_first, lets_go, unties}
+use Rattle.session_model.specs.State.{without_events}
+use Rattle.session_model.specs.UnderWay.{IsBrokenInTime, IsForgottenInTime, is_untied_first, lets_go, unties}
 use Rattle.session_model.proofs.ConnectionLemmas.{OfEnds, allowed, or_none}
 use Rattle.session_model.proofs.ForestLemmas.{Stands, each_blocked, each_marked, each_removed, each_reparented, of_row, stands_living}
 use Rattle.session_model.proofs.QueueLemmas.{each_posted, each_taken}
@@ -94,15 +82,16 @@ still_forgotten : (one other : List Item) → ((number : ℕ) → is_untied_firs
     → All (IsForgottenInTime one) events → All (IsForgottenInTime other) events
 still_forgotten one other so events = All-weaker (IsForgottenInTime one) (IsForgottenInTime other) (λ event. so (object_of event)) events
 
-pub in_front : (items agenda : List Item) (state : State) → list_any is_gone items ≡ false → IsUnderWay agenda state → IsUnderWay (items ++ agenda) state
-in_front items agenda state none under = record {
+pub in_front : (items : List Item) {agenda : List Item} {state : State} → list_any is_gone items ≡ false → IsUnderWay agenda state
+    → IsUnderWay (items ++ agenda) state
+in_front items {agenda} {state} none under = record {
   whole = under.whole;
   going = All-weaker (λ row. IsGoing agenda row.number row.class row.dying) (λ row. IsGoing (items ++ agenda) row.number row.class row.dying)
       (λ row is. list_any-append (lets_go row.number) items agenda ∙ ap (λ b. b || list_any (lets_go row.number) agenda) (none_goes row.number items none) ∙ is)
       state.forest.rows under.going;
   in_time = in_time agenda (items ++ agenda) (λ number. untied_behind number items agenda none) state.connections.rows under.in_time;
   forgotten = still_forgotten agenda (items ++ agenda) (λ number. untied_behind number items agenda none) state.queue.events under.forgotten;
-  withdrawn = each_of _ _ (λ number. untied_behind number items agenda none) state.desk under.withdrawn;
+  withdrawn = each_of _ _ (λ number. untied_behind number items agenda none) under.withdrawn;
 }
 
 -- an item may be done that neither lets an object go nor breaks its connections
@@ -111,14 +100,14 @@ goes_and_unties number (Detach target depth) e = absurd (cc)
 goes_and_unties number (Remove target depth) e = absurd (cc)
 goes_and_unties number _ e = (refl, refl)
 
-pub behind : (item : Item) (agenda : List Item) (state : State) → leaves_ties item ≡ true → IsUnderWay (item ∷ agenda) state → IsUnderWay agenda state
-behind item agenda state leaves under = record {
+pub behind : (item : Item) {agenda : List Item} {state : State} → leaves_ties item ≡ true → IsUnderWay (item ∷ agenda) state → IsUnderWay agenda state
+behind item {agenda} {state} leaves under = record {
   whole = under.whole;
   going = All-weaker (λ row. IsGoing (item ∷ agenda) row.number row.class row.dying) (λ row. IsGoing agenda row.number row.class row.dying)
       (λ row is. ap (λ b. b || list_any (lets_go row.number) agenda) (sym (goes_and_unties row.number item leaves).0) ∙ is) state.forest.rows under.going;
   in_time = in_time (item ∷ agenda) agenda rest state.connections.rows under.in_time;
   forgotten = still_forgotten (item ∷ agenda) agenda rest state.queue.events under.forgotten;
-  withdrawn = each_of _ _ rest state.desk under.withdrawn;
+  withdrawn = each_of _ _ rest under.withdrawn;
 }
   where
     rest : (number : ℕ) → is_untied_first (item ∷ agenda) number ≡ true → is_untied_first agenda number ≡ true
@@ -146,7 +135,7 @@ module _ (agenda : List Item) (doing : Execution) (under : IsUnderWay agenda doi
   -- connections may be broken
   without_under : (test : Connection → Bool) → IsUnderWay agenda (without_connections doing.state test)
   without_under test = record {
-    whole = whole_without_connections doing.state test under.whole;
+    whole = whole_without_connections test under.whole;
     going = under.going;
     in_time = All-filter (λ row. not (test row)) (IsBrokenInTime agenda) doing.state.connections.rows under.in_time;
     forgotten = under.forgotten;
@@ -157,7 +146,7 @@ module _ (agenda : List Item) (doing : Execution) (under : IsUnderWay agenda doi
   pub stepped_under : (number next : ℕ) → IsUnderWay agenda (stepped doing number next).state
   unfolding stepped
   stepped_under number next = record {
-    whole = whole_with_functor_state doing.state number next under.whole;
+    whole = whole_with_functor_state number next under.whole;
     going = under.going;
     in_time = all_stepped number next (IsBrokenInTime agenda)
         (λ row h. record { sender = h.sender; receiver = h.receiver }) doing.state.connections.rows under.in_time;
@@ -185,7 +174,7 @@ module _ (agenda : List Item) (doing : Execution) (under : IsUnderWay agenda doi
   posted_under : (event : Event) → is_there doing.state.forest.rows (object_of event) ≡ true → is_untied_first agenda (object_of event) ≡ true
       → IsUnderWay agenda (enqueued doing event).state
   unfolding enqueued
-  posted_under event there untied = queue_under _ (whole_with_event doing.state event there under.whole)
+  posted_under event there untied = queue_under _ (whole_with_event event there under.whole)
       (each_posted (IsForgottenInTime agenda) doing.state.queue event untied under.forgotten)
 
   -- as for one that lives
@@ -196,7 +185,7 @@ module _ (agenda : List Item) (doing : Execution) (under : IsUnderWay agenda doi
 
   pub lost_under : IsUnderWay agenda (lost doing).state
   unfolding lost
-  lost_under = queue_under _ (whole_with_lost doing.state under.whole) under.forgotten
+  lost_under = queue_under _ (whole_with_lost under.whole) under.forgotten
 
   -- a connection that stands has a receiver for which a call may be posted, also when the connection is
   -- broken before
@@ -209,11 +198,11 @@ module _ (agenda : List Item) (doing : Execution) (under : IsUnderWay agenda doi
 
   pub first_taken_under : IsUnderWay agenda (first_taken doing).state
   unfolding first_taken
-  first_taken_under = queue_under _ (whole_without_first doing.state under.whole) (each_taken (IsForgottenInTime agenda) doing.state.queue under.forgotten)
+  first_taken_under = queue_under _ (whole_without_first under.whole) (each_taken (IsForgottenInTime agenda) doing.state.queue under.forgotten)
 
   -- properties may be written, which leaves all else
   pub writing_under : (target : ℕ) (writing : Writing) → IsFit doing.state target writing → IsUnderWay agenda (with_writing doing.state target writing)
-  writing_under target writing fit = by writing (whole_with_writing doing.state target writing fit under.whole)
+  writing_under target writing fit = by writing (whole_with_writing target writing fit under.whole)
     where
       by : (writing : Writing) → IsWhole (with_writing doing.state target writing) → IsUnderWay agenda (with_writing doing.state target writing)
       by Nothing whole = under
@@ -227,7 +216,7 @@ module _ (agenda : List Item) (doing : Execution) (under : IsUnderWay agenda doi
       let one = stands_living doing.state.forest.rows new.sender both.0 in
       let other = stands_living doing.state.forest.rows new.receiver rest.0 in
       record {
-        whole = whole_with_connection doing.state new (allowed doing.state.connections new unique rest.1) one.there other.there under.whole;
+        whole = whole_with_connection new (allowed new unique rest.1) one.there other.there under.whole;
         going = under.going;
         in_time = All-push (IsBrokenInTime agenda) doing.state.connections.rows (numbered (doing.state.connections.last_number + 1) new) under.in_time
             (record { sender = staying new.sender one; receiver = staying new.receiver other });
@@ -236,7 +225,7 @@ module _ (agenda : List Item) (doing : Execution) (under : IsUnderWay agenda doi
       }
   operation_under (d.Disconnect pattern) passed = without_under (matches pattern)
   operation_under (d.SetParent target parent) passed = record {
-    whole = whole_with_parent doing.state target parent passed under.whole;
+    whole = whole_with_parent target parent passed under.whole;
     going = each_reparented (IsGoing agenda) doing.state.forest target parent under.going;
     in_time = under.in_time;
     forgotten = under.forgotten;
@@ -244,7 +233,7 @@ module _ (agenda : List Item) (doing : Execution) (under : IsUnderWay agenda doi
   }
   operation_under (d.DeleteLater target) passed = meant_under (event.Deletion target) (or_none (object_refusal doing.state.forest.rows target) _ passed).0
   operation_under (d.Block target on) passed = record {
-    whole = whole_with_blocking doing.state target on under.whole;
+    whole = whole_with_blocking target on under.whole;
     going = each_blocked (IsGoing agenda) doing.state.forest target on under.going;
     in_time = under.in_time;
     forgotten = under.forgotten;
@@ -255,13 +244,13 @@ module _ (agenda : List Item) (doing : Execution) (under : IsUnderWay agenda doi
   pub dying_under : (target depth : ℕ) → IsUnderWay (Detach target depth ∷ Remove target depth ∷ agenda) (dying doing target).state
   unfolding dying
   dying_under target depth = record {
-    whole = whole_with_dying doing.state target under.whole;
+    whole = whole_with_dying target under.whole;
     going = each_marked (IsGoing agenda) (IsGoing (Detach target depth ∷ Remove target depth ∷ agenda)) doing.state.forest target
         (λ class dying is. or_left (target == target) _ (nat_eq_equiv.refl target))
         (λ number class dying other is. ap (λ b. b || list_any (lets_go number) agenda) (nat_eq_equiv.symm target number ∙ other) ∙ is) under.going;
     in_time = in_time agenda (Detach target depth ∷ Remove target depth ∷ agenda) first doing.state.connections.rows under.in_time;
     forgotten = still_forgotten agenda (Detach target depth ∷ Remove target depth ∷ agenda) first doing.state.queue.events under.forgotten;
-    withdrawn = each_of _ _ first doing.state.desk under.withdrawn;
+    withdrawn = each_of _ _ first under.withdrawn;
   }
     where
       first : (number : ℕ) → is_untied_first agenda number ≡ true → ((target == number) || (not (target == number) && is_untied_first agenda number)) ≡ true
@@ -272,22 +261,22 @@ module _ (agenda : List Item) (doing : Execution) (under : IsUnderWay agenda doi
           by false = untied
 
 -- what is left when nothing ties an object to others needs its Detach no more
-pub detach_under : (target depth : ℕ) (agenda : List Item) (doing : Execution) → IsUnderWay (Detach target depth ∷ agenda) doing.state
+pub detach_under : (target depth : ℕ) {agenda : List Item} (doing : Execution) → IsUnderWay (Detach target depth ∷ agenda) doing.state
     → IsUnderWay agenda (severed doing target).state
 unfolding severed
-detach_under target depth agenda doing under =
+detach_under target depth {agenda} doing under =
     let loose = without_connections doing.state (touches target) in
     let unnamed = without_events loose target in
     record {
-      whole = whole_without_rows_of unnamed target (whole_without_events loose target (whole_without_connections doing.state (touches target) under.whole));
+      whole = whole_without_rows_of target (whole_without_events target (whole_without_connections (touches target) under.whole));
       going = under.going;
       in_time = All-weaker (λ row. IsBrokenInTime (Detach target depth ∷ agenda) row × (touches target row ≡ false)) (IsBrokenInTime agenda) one _
           (all_left (IsBrokenInTime (Detach target depth ∷ agenda)) (touches target) doing.state.connections.rows under.in_time);
       forgotten = All-weaker (λ event. IsForgottenInTime (Detach target depth ∷ agenda) event × ((object_of event == target) ≡ false))
           (IsForgottenInTime agenda) (λ event held. other (object_of event) held.1 held.0) _
           (all_left (IsForgottenInTime (Detach target depth ∷ agenda)) (λ event. object_of event == target) doing.state.queue.events under.forgotten);
-      withdrawn = each_of _ _ (λ number held. other number held.1 held.0) _
-          (of_others (λ number. is_untied_first (Detach target depth ∷ agenda) number ≡ true) doing.state.desk target under.withdrawn);
+      withdrawn = each_of _ _ (λ number held. other number held.1 held.0)
+          (of_others (λ number. is_untied_first (Detach target depth ∷ agenda) number ≡ true) target under.withdrawn);
     }
   where
     other : (number : ℕ) → (number == target) ≡ false → is_untied_first (Detach target depth ∷ agenda) number ≡ true → is_untied_first agenda number ≡ true
@@ -300,22 +289,22 @@ detach_under target depth agenda doing under =
     }
 
 -- what stays when an object goes needs its Remove no more
-pub gone_under : (target depth : ℕ) (agenda : List Item) (doing : Execution) → IsUnderWay (Remove target depth ∷ agenda) doing.state
+pub gone_under : (target depth : ℕ) {agenda : List Item} (doing : Execution) → IsUnderWay (Remove target depth ∷ agenda) doing.state
     → IsUnderWay agenda (without_object doing.state target)
-gone_under target depth agenda doing under = record {
-  whole = whole_without_object doing.state target
+gone_under target depth {agenda} doing under = record {
+  whole = whole_without_object target
       (All-weaker (IsBrokenInTime (Remove target depth ∷ agenda)) (OfEnds (λ end. (end == target) ≡ false))
       (λ row broken. record { sender = (parts row.sender broken.sender).0; receiver = (parts row.receiver broken.receiver).0 }) doing.state.connections.rows
       under.in_time)
       (All-weaker (IsForgottenInTime (Remove target depth ∷ agenda)) (λ event. (object_of event == target) ≡ false)
       (λ event untied. (parts (object_of event) untied).0) doing.state.queue.events under.forgotten)
-      (each_of _ _ (λ number untied. (parts number untied).0) doing.state.desk under.withdrawn)
+      (each_of _ _ (λ number untied. (parts number untied).0) under.withdrawn)
       under.whole;
   going = each_removed (IsGoing (Remove target depth ∷ agenda)) (IsGoing agenda) doing.state.forest target
       (λ number class dying apart is. ap (λ b. b || list_any (lets_go number) agenda) (sym (nat_eq_equiv.symm target number ∙ apart)) ∙ is) under.going;
   in_time = in_time (Remove target depth ∷ agenda) agenda (λ number untied. (parts number untied).1) doing.state.connections.rows under.in_time;
   forgotten = still_forgotten (Remove target depth ∷ agenda) agenda (λ number untied. (parts number untied).1) doing.state.queue.events under.forgotten;
-  withdrawn = each_of _ _ (λ number untied. (parts number untied).1) doing.state.desk under.withdrawn;
+  withdrawn = each_of _ _ (λ number untied. (parts number untied).1) under.withdrawn;
 }
   where
     parts : (number : ℕ) → (not (target == number) && is_untied_first agenda number) ≡ true

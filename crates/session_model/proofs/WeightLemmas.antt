@@ -6,24 +6,14 @@ use Rattle.std.specs.Option.{option_map_or}
 use Rattle.std.proofs.Math.Nat.{add-mul, mul-le-mul_left, mul-le-mul_right}
 use Rattle.std.proofs.lemmas.List.Elements.{All-append, All-cons, All-head, All-nil, All-tail, All-weaker}
 use Rattle.std.proofs.lemmas.List.Sorted.{All-permutation, IsPermutation-reverse}
-use Rattle.variant_value.specs.declared.value.Value.{Value}
+use Rattle.session_model.proofs.Common.{Value, Acts, acts_of, counts, single_action, more, nothing, when, Class, Method, methods, Connection, Row, row_of}
+use Rattle.session_model.proofs.Common.{Functor, acts, functor_at, Act, Call, Detach, Emit, Remove, Item, DeleteChild, Run, RunFunctor, method_at, methods_of}
+use Rattle.session_model.proofs.Common.{Most, change_weight, weights, Settings, State}
 use Rattle.term_core.specs.Act as term
-use Rattle.term_core.specs.Act.{Acts, acts_of, count, counts, single_action, more, nothing, when}
-use Rattle.class_table.specs.declared.class.Class.{Class}
-use Rattle.class_table.specs.declared.class.Method.{Method}
-use Rattle.class_table.specs.Lookup.{gathered, methods}
-use Rattle.connection_list.specs.declared.connection.Connection.{Connection}
+use Rattle.term_core.specs.Act.{count}
+use Rattle.class_table.specs.Lookup.{gathered}
 use Rattle.object_tree.specs.Lines.{greatest}
-use Rattle.object_tree.specs.declared.row.Row.{Row}
-use Rattle.object_tree.specs.Rows.{row_of}
-use Rattle.stored_slots.specs.declared.functor.Functor.{Functor}
-use Rattle.session_model.specs.Acts.{acts}
-use Rattle.session_model.specs.Functors.{functor_at}
-use Rattle.session_model.specs.Items.{Act, Call, Detach, Emit, Remove, Item, DeleteChild, Run, RunFunctor}
-use Rattle.session_model.specs.Methods.{method_at, methods_of}
-use Rattle.session_model.specs.Run.{Most, action_weight, change_weight, longest_body, longest_functor, weight, weights}
-use Rattle.session_model.specs.Settings.{Settings}
-use Rattle.session_model.specs.State.{State}
+use Rattle.session_model.specs.Run.{action_weight, longest_body, longest_functor, weight}
 use Rattle.session_model.proofs.FilterLemmas.{of_slice}
 
 -- no more connections, objects and properties, and bodies that are as long
@@ -34,35 +24,35 @@ pub record IsAtMost (one other : Most) : Type 0 where
   pub actions : one.actions ≡ other.actions
 
 -- where there is no more a change weighs no more, nor does an action, nor a body
-pub change-more : (m n : Most) → IsAtMost m n → change_weight m ≤ change_weight n
-change-more m n less =
+pub change-more : {m n : Most} → IsAtMost m n → change_weight m ≤ change_weight n
+change-more {m} {n} less =
     let above : m.connections + 3 ≤ n.connections + 3 = omega (arith, less.connections) in
     let wider = mul-le-mul_left m.properties above in
     let longer = mul-le-mul_right (n.connections + 3) less.properties in
     omega (arith, wider, longer)
 
-pub action-more : (m n : Most) → IsAtMost m n → action_weight m ≤ action_weight n
-action-more m n less = let change = change-more m n less in omega (arith, change, less.connections)
+pub action-more : {m n : Most} → IsAtMost m n → action_weight m ≤ action_weight n
+action-more less = let change = change-more less in omega (arith, change, less.connections)
 
-pub body-more : (m n : Most) → IsAtMost m n → m.actions * action_weight m ≤ n.actions * action_weight n
-body-more m n less =
-    let longer = mul-le-mul_left m.actions (action-more m n less) in
+pub body-more : {m n : Most} → IsAtMost m n → m.actions * action_weight m ≤ n.actions * action_weight n
+body-more {m} {n} less =
+    let longer = mul-le-mul_left m.actions (action-more less) in
     let same : m.actions * action_weight n ≡ n.actions * action_weight n = ap (λ k. k * action_weight n) less.actions in
     omega (arith, longer, same)
 
 -- nor does an item
-weight-more : (m n : Most) (item : Item) → IsAtMost m n → weight m item ≤ weight n item
-weight-more m n (Emit target signal args depth) less = omega (arith, less.connections)
-weight-more m n (Run target method sender args depth) less = let body = body-more m n less in omega (arith, body)
-weight-more m n (RunFunctor target functor sender connection args depth) less = let body = body-more m n less in omega (arith, body)
-weight-more m n (Act action args self sender depth) less = mul-le-mul_left (count action) (action-more m n less)
-weight-more m n (Detach target depth) less = omega (arith, less.objects)
-weight-more m n (Remove target depth) less = let change = change-more m n less in omega (arith, change)
-weight-more m n _ less = omega arith
+weight-more : {m n : Most} (item : Item) → IsAtMost m n → weight m item ≤ weight n item
+weight-more (Emit target signal args depth) less = omega (arith, less.connections)
+weight-more (Run target method sender args depth) less = let body = body-more less in omega (arith, body)
+weight-more (RunFunctor target functor sender connection args depth) less = let body = body-more less in omega (arith, body)
+weight-more (Act action args self sender depth) less = mul-le-mul_left (count action) (action-more less)
+weight-more (Detach target depth) less = omega (arith, less.objects)
+weight-more (Remove target depth) less = let change = change-more less in omega (arith, change)
+weight-more _ less = omega arith
 
-pub weights-more : (m n : Most) (agenda : List Item) → IsAtMost m n → weights m agenda ≤ weights n agenda
-weights-more m n [] less = omega arith
-weights-more m n (item ∷ agenda) less = let first = weight-more m n item less in let rest = weights-more m n agenda less in
+pub weights-more : {m n : Most} (agenda : List Item) → IsAtMost m n → weights m agenda ≤ weights n agenda
+weights-more [] less = omega arith
+weights-more {m} {n} (item ∷ agenda) less = let first = weight-more item less in let rest = weights-more agenda less in
     omega (arith, first, rest)
 
 pub weights-append : (n : Most) (a b : List Item) → weights n (a ++ b) ≡ weights n a + weights n b

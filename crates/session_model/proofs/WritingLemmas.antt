@@ -1,16 +1,10 @@
 -- The rules by which properties are written: one for each way that it goes.
 use Rattle.std.proofs.Common.{◌≡◌, ◌∙◌, ℕ, Bool, true, false, cond, List, [], None, Option, refl, ap}
-use Rattle.variant_value.specs.declared.value.Value.{Value}
-use Rattle.property_store.specs.Store.{with_dynamic, without_dynamic}
+use Rattle.session_model.proofs.Common.{Value, with_dynamic, without_dynamic, is_open, Execution, in_state, Next, puts, Settings, changes, showing, State}
+use Rattle.session_model.proofs.Common.{Dynamic, Nothing, Removed, Writing, with_writing, written}
 use Rattle.property_store.specs.declared.property.Property.{Property as At}
 use Rattle.binding_values.specs.Graph as graph
-use Rattle.binding_values.specs.Graph.{is_open}
-use Rattle.session_model.specs.Execution.{Execution, in_state}
-use Rattle.session_model.specs.Items.{Next, puts}
-use Rattle.session_model.specs.Settings.{Settings}
-use Rattle.session_model.specs.Showing.{changes, comes_to as comes_to_state, showing}
-use Rattle.session_model.specs.State.{State}
-use Rattle.session_model.specs.Writing.{Dynamic, Nothing, Removed, Writing, with_writing, written}
+use Rattle.session_model.specs.Showing.{comes_to as comes_to_state}
 use Rattle.session_model.proofs.QuietLemmas.{nothing_changed, showing_same}
 use Rattle.session_model.proofs.ShowingLemmas.{tells}
 

@@ -25,7 +25,7 @@ use Rattle.class_table.specs.declared.class.Class.{Class}
 use Rattle.signature_core.specs.declared.kind.Kind.{Kind}
 use Rattle.publish_board.specs.declared.join.Join.{Join}
 use Rattle.publish_board.specs.declared.publication.Publication.{Publication}
-use Rattle.publish_board.specs.Desk.{no_desk}
+use Rattle.publish_board.specs.Desk.{listens_to, no_desk}
 use Rattle.publish_board.specs.Rows.{listens, publishes}
 use Rattle.publish_board.specs.Table.{desk_at}
 use Rattle.session_model.specs.declared.post.Post.{Post}
@@ -36,8 +36,8 @@ use Rattle.session_tables.specs.Session.{Session, failed_session}
 use Rattle.session_tables.specs.Tables.{ChangesOnly, IsPlaced, failed_at, session_at, state_at, with_session}
 use Rattle.session_tables.specs.Reaching.{ReceivesPosts, Reaches, ReachesBy, after_posts, only_at, takes, takes_some}
 use Rattle.session_tables.proofs.TablesLemmas.{changes_same, changes_twice, session_there}
-use Rattle.session_tables.proofs.ReachingLemmas.{after_posts-none, placed_shaped, reached_past, reaches_by_twice, reaches_changed, session_unchanged}
-use Rattle.session_tables.proofs.ReachingLemmas.{shaped_changed}
+use Rattle.session_tables.proofs.ReachingLemmas.{after_post_unheard, after_posts-none, placed_shaped, reached_past, reaches_by_twice, reaches_changed}
+use Rattle.session_tables.proofs.ReachingLemmas.{session_unchanged, shaped_changed}
 
 module _ (classes : List Class) (rows : List Row) (from : List ℕ) (post : Post) where
   -- the next join of a session is done
@@ -48,8 +48,7 @@ module _ (classes : List Class) (rows : List Row) (from : List ℕ) (post : Post
       → reached_by classes rows from post (queue_at new at) (drop (i + 1) joins) ≡ whole
   arrive_next now new at i joins join whole placed within is e before =
       ap (λ queue. reached_by classes rows from post queue (drop (i + 1) joins))
-      (ap (λ table. queue_at table at) e ∙ column.with_there empty_queue now at _ placed)
-      ∙ ap (λ join. reached_by classes rows from post (reached classes rows from post (queue_at now at) join) (drop (i + 1) joins)) is
+      (ap (λ table. queue_at table at) e ∙ column.with_there empty_queue now at _ placed ∙ ap (reached classes rows from post (queue_at now at)) is)
       ∙ ap (reached_by classes rows from post (queue_at now at)) (sym (drop_more joins i join within))
       ∙ before
 
@@ -78,8 +77,7 @@ module _ (p : Join → Bool) where
   count_rest joins i join passes within is e =
       ap (count_by p) (drop_more joins i join within)
       ∙ sum_by-cons (λ join. cond (p join) 1 0) (get_or joins i join) (drop (i + 1) joins)
-      ∙ ap (λ join. cond (p join) 1 0 + count_by p (drop (i + 1) joins)) (sym is)
-      ∙ ap (λ passes. cond passes 1 0 + count_by p (drop (i + 1) joins)) e
+      ∙ ap (λ passes. cond passes 1 0 + count_by p (drop (i + 1) joins)) (ap p (sym is) ∙ e)
 
   -- where as many pass as there are, each does
   pub all_pass : (joins : List Join) → length joins ≤ count_by p joins → (i : ℕ) (join : Join) → i < length joins → p (get_or joins i join) ≡ true
@@ -342,6 +340,22 @@ posts_row found rows i target signal kinds args row sent e within is passes =
     by : (sent : Bool) → publishes target signal row ≡ sent → posts_by target signal kinds args (row ∷ []) ≡ cond sent (post_of kinds args row ∷ []) []
     by true e = ap (map (post_of kinds args)) (cond-true (publishes target signal row) (row ∷ []) [] e)
     by false e = ap (map (post_of kinds args)) (cond-false (publishes target signal row) (row ∷ []) [] e)
+
+-- where the publication is of a signal that is sent, the posts of the signal are the one for it
+pub posts_sent : (found rows : List Publication) (i target signal : ℕ) (kinds : List Kind) (args : List Value) (row : Publication) → found ≡ rows
+    → i < length rows → row ≡ get_or found i row → publishes target signal row ≡ true
+    → option_map_or (λ row. post_of kinds args row ∷ []) (slice_get rows i) []
+    ≡ option_map_or (λ row. posts_by target signal kinds args (row ∷ [])) (slice_get rows i) []
+posts_sent found rows i target signal kinds args row e within is sent =
+    post_row found rows i kinds args row e within is ∙ sym (posts_row found rows i target signal kinds args row true e within is sent)
+
+-- a session in which no join listens to it does not hear its post
+pub post_unheard : (classes : List Class) (from : List ℕ) (found rows : List Publication) (i : ℕ) (kinds : List Kind) (args : List Value) (row : Publication)
+    (session : Session) → found ≡ rows → i < length rows → row ≡ get_or found i row → listens_to from row.name session.state.desk ≡ false
+    → after_posts classes from (option_map_or (λ row. post_of kinds args row ∷ []) (slice_get rows i) []) session ≡ session
+post_unheard classes from found rows i kinds args row session e within is unheard =
+    ap (λ posts. after_posts classes from posts session) (post_row found rows i kinds args row e within is)
+    ∙ after_post_unheard classes from (post_of kinds args row) session unheard
 
 pub on_ok : {T E P : Type 0} (result : Result T E) → result_is_err result ≡ false → OnOk result P → P
 on_ok (Ok value) e h = h

@@ -210,7 +210,7 @@ after_posts_stranger classes from posts session unnamed = by session.failed refl
     by : (failed : Bool) → session.failed ≡ failed → cond failed session (record { state = arrive_all classes session.state from posts; failed = false })
         ≡ session
     by true e = refl
-    by false e = ap (λ state. record { state = state; failed = false }) (all posts) ∙ ap (λ failed. record { state = session.state; failed = failed }) (sym e)
+    by false e = λ i. record { state = all posts i; failed = sym e i }
 
 -- a join that does not listen is passed over
 pub reached_past : (classes : List Class) (rows : List Row) (from : List ℕ) (post : Post) (queue : Queue) (join : Join) → listens from post.name join ≡ false

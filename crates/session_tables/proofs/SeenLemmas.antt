@@ -35,10 +35,8 @@ bindings_seen bindings place change = closed_bound (graph_at bindings.graphs pla
 pub told_closed : (store : Store) (graph : Graph) (other : Store) (after : Graph) (written : Option Property)
     → told_of store (closed graph) other (closed after) written ≡ told_of store graph other after written
 told_closed store graph other after written =
-    ap (λ depth. let opened : Graph = record { bindings = (closed after).bindings; last = []; depth = depth } in cond (is_open opened) []
-    (changes (all_shown store (closed graph).bindings) (all_shown other (closed after).bindings) written)) (closed_depth after)
-    ∙ (ap (λ bindings. cond (is_open after) [] (changes (all_shown store bindings) (all_shown other (closed after).bindings) written)) (closed_bindings graph)
-    ∙ ap (λ bindings. cond (is_open after) [] (changes (all_shown store graph.bindings) (all_shown other bindings) written)) (closed_bindings after))
+    λ i. let opened : Graph = record { bindings = []; last = []; depth = closed_depth after i } in
+    cond (is_open opened) [] (changes (all_shown store (closed_bindings graph i)) (all_shown other (closed_bindings after i)) written)
 
 -- a place with another store and another graph
 pub changes_bound : (old new : BoundShelves) (place : ℕ) (store : Store) (graph : Graph) → IsPlace old.shelves.table place → IsPlace old.graphs place
@@ -54,9 +52,8 @@ module _ (stores new : StoreTable) (bindings after : Graphs) (place : ℕ) where
   pub put_seen : (store : Store) (graph other : Graph) → new ≡ with_store stores place store → after.graphs ≡ with_graph bindings.graphs place graph
       → closed graph ≡ other → seen_of new after ≡ with_bound (seen_of stores bindings) place store other
   put_seen store graph other first second is =
-      ap (λ shelves. let made : BoundShelves = record { shelves = shelves; graphs = all_closed after.graphs } in made) first
-      ∙ ap (λ graphs. let made : BoundShelves = record { shelves = with_store stores place store; graphs = graphs } in made)
-      (ap all_closed second ∙ (seen_put bindings.graphs place graph ∙ ap (with_graph (all_closed bindings.graphs) place) is))
+      let graphs = ap all_closed second ∙ (seen_put bindings.graphs place graph ∙ ap (with_graph (all_closed bindings.graphs) place) is) in
+      λ i. record { shelves = first i; graphs = graphs i }
 
   -- what is told of two states, as it is seen
   pub told_seen : (written : Option Property) → told_at place (seen_of stores bindings) (seen_of new after) written
@@ -70,9 +67,7 @@ module _ (stores new : StoreTable) (bindings after : Graphs) (place : ℕ) where
 
   -- where contracts see no change
   pub seen_alike : new ≡ stores → all_closed after.graphs ≡ all_closed bindings.graphs → seen_of new after ≡ seen_of stores bindings
-  seen_alike first second =
-      ap (λ shelves. let made : BoundShelves = record { shelves = shelves; graphs = all_closed after.graphs } in made) first
-      ∙ ap (λ graphs. let made : BoundShelves = record { shelves = stores; graphs = graphs } in made) second
+  seen_alike first second = λ i. record { shelves = first i; graphs = second i }
 
   module _ (shelf : IsPlace stores.table place) (there : IsPlace bindings.graphs place) where
     pub put_told : (store : Store) (change : List Binding → List Binding) (written : Option Property) → new ≡ with_store stores place store

@@ -1,5 +1,5 @@
 -- Tables with another session at a place.
-use Rattle.std.proofs.Common.{◌≡◌, ◌<◌, ◌≤◌, ℕ, Bool, false, [], length, get_or, refl, sym, ap, ◌∙◌, arith}
+use Rattle.std.proofs.Common.{◌≡◌, ◌<◌, ◌≤◌, ℕ, Bool, false, [], length, get_or, sym, ap, ◌∙◌, arith}
 use Rattle.std.proofs.lemmas.Grind.{common_steps}
 use Rattle.std.proofs.lemmas.List.{get_or_past}
 use Rattle.shared_rows.specs.Table.{Table}
@@ -29,23 +29,15 @@ made forest store graph connections queue desk failed = record
 -- equal columns make equal tables
 pub columns : (old new : Tables) → new.forests ≡ old.forests → new.stores ≡ old.stores → new.connections ≡ old.connections → new.queues ≡ old.queues
     → new.desks ≡ old.desks → new.failed ≡ old.failed → new ≡ old
-columns old new a b c d f e =
-    ap (λ forests. of_columns forests new.stores new.connections new.queues new.desks new.failed) a
-    ∙ ap (λ stores. of_columns old.forests stores new.connections new.queues new.desks new.failed) b
-    ∙ ap (λ connections. of_columns old.forests old.stores connections new.queues new.desks new.failed) c
-    ∙ ap (λ queues. of_columns old.forests old.stores old.connections queues new.desks new.failed) d
-    ∙ ap (λ desks. of_columns old.forests old.stores old.connections old.queues desks new.failed) f
-    ∙ ap (λ failed. of_columns old.forests old.stores old.connections old.queues old.desks failed) e
+columns old new forests stores connections queues desks failed =
+    λ i. of_columns (forests i) (stores i) (connections i) (queues i) (desks i) (failed i)
 
 -- equal parts make equal sessions
 pub session_of : {a b : Forest} {c d : Store} {m n : Graph} {e f : Rows} {g h : Queue} {k l : Desk} {i j : Bool} → a ≡ b → c ≡ d → m ≡ n → e ≡ f → g ≡ h → k ≡ l
     → i ≡ j
     → made a c m e g k i ≡ made b d n f h l j
-session_of {a} {b} {c} {d} {m} {n} {e} {f} {g} {h} {k} {l} {i} {j} forest store graph connections queue desk failed =
-    ap (λ forest. made forest c m e g k i) forest ∙ ap (λ store. made b store m e g k i) store ∙ ap (λ graph. made b d graph e g k i) graph
-    ∙ ap (λ connections. made b d n connections g k i) connections ∙ ap (λ queue. made b d n f queue k i) queue
-    ∙ ap (λ desk. made b d n f h desk i) desk
-    ∙ ap (λ failed. made b d n f h l failed) failed
+session_of forest store graph connections queue desk failed =
+    λ i. made (forest i) (store i) (graph i) (connections i) (queue i) (desk i) (failed i)
 
 -- with another session at a place, it stands there
 pub session_there : (tables : Tables) (place : ℕ) (session : Session) → IsPlaced tables place → session_at (with_session tables place session) place ≡ session

@@ -1,9 +1,7 @@
 use Rattle.std.proofs.Common.{◌≡◌, ◌∷◌, ◌+◌, drop, ap, sym, subst, ◌∙◌, Ok, arith}
 use Rattle.std.proofs.lemmas.List.{drop_more}
-use Rattle.plain_types.specs.Answers.{Answers}
-use Rattle.session_model.specs.Binding.{reads_refusal}
+use Rattle.session_engine.proofs.Common.{Answers, reads_refusal, state_at}
 use Rattle.session_model.specs.Operations.{behind}
-use Rattle.session_tables.specs.Tables.{state_at}
 use Rattle.session_engine.proofs.BindingsLemmas.{read_passed, read_refused}
 use Rattle.session_engine.proofs.bindings.check_reads.Goals as goal
 

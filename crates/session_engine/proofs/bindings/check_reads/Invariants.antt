@@ -1,7 +1,6 @@
 use Rattle.std.proofs.Common.{◌≡◌, drop}
+use Rattle.session_engine.proofs.Common.{reads_refusal, state_at}
 use Rattle.term_evaluation.specs.Reading.{reads_of}
-use Rattle.session_model.specs.Binding.{reads_refusal}
-use Rattle.session_tables.specs.Tables.{state_at}
 use Rattle.session_engine.proofs.bindings.check_reads.Given as goal
 
 -- those that were looked at are not refused

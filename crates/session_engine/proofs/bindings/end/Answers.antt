@@ -1,21 +1,17 @@
 use Rattle.std.proofs.Common.{ap, sym, ◌∙◌}
+use Rattle.session_engine.proofs.Common.{does_next, State, state_at, state_with, settings_of, told_items}
 use Rattle.session_model.specs.declared.line.Answer.TheVariants as a
 use Rattle.session_model.specs.Asked.{End}
-use Rattle.session_model.specs.Effects.{does_next}
-use Rattle.session_model.specs.State.{State, without_group}
+use Rattle.session_model.specs.State.{without_group}
 use Rattle.session_model.proofs.ForCallers.{performs_end, refusal_end}
-use Rattle.session_tables.specs.Tables.{state_at}
-use Rattle.session_tables.proofs.ForCallers.{state_with}
-use Rattle.session_effects.specs.Setup.{settings_of}
-use Rattle.session_effects.specs.Writing.{told_items}
 use Rattle.session_engine.proofs.BindingsLemmas.{comes_at_end, group_ends}
 use Rattle.session_engine.proofs.CommandsLemmas.{made_fault, quietly}
 use Rattle.session_engine.proofs.ToldLemmas.{told_performs}
 use Rattle.session_engine.proofs.bindings.end.Goals as goal
 
 pub returns-in_err-left : goal.returns-in_err-left
-returns-in_err-left g c = quietly _ _ _ _ _ _ _ c.requires.fresh
-    (made_fault _ _ _ _ _ _ c.in_err-left.field-0.0 _ c.from_residual.ensures.1
+returns-in_err-left g c = quietly c.requires.fresh
+    (made_fault c.in_err-left.field-0.0 c.from_residual.ensures.1
     (refusal_end _ _ _) c.in_err-left.ensures.refusal c.in_err-left.ensures.refused c.end.ensures.keeps.only)
 
 pub returns : goal.returns

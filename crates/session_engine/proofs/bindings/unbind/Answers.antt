@@ -1,24 +1,20 @@
 use Rattle.std.proofs.Common.{Some, refl, ap, sym, ◌∙◌}
 use Rattle.std.specs.Result.{result_err}
+use Rattle.session_engine.proofs.Common.{does_next, state_at, state_with, settings_of, told_items}
 use Rattle.session_model.specs.declared.line.Answer.TheVariants as a
 use Rattle.session_model.specs.Asked.{Unbind}
-use Rattle.session_model.specs.Effects.{does_next}
 use Rattle.session_model.proofs.ForCallers.{refusal_unbind, unbind_done}
-use Rattle.session_tables.specs.Tables.{state_at}
-use Rattle.session_tables.proofs.ForCallers.{state_with}
-use Rattle.session_effects.specs.Setup.{settings_of}
-use Rattle.session_effects.specs.Writing.{told_items}
 use Rattle.session_engine.proofs.BindingsLemmas.{comes_found}
 use Rattle.session_engine.proofs.CommandsLemmas.{quietly, starved, stopped}
 use Rattle.session_engine.proofs.ToldLemmas.{told_performs}
 use Rattle.session_engine.proofs.bindings.unbind.Goals as goal
 
 pub returns-in_err-at : goal.returns-in_err-at
-returns-in_err-at g c = quietly _ _ _ _ _ _ _ c.requires.fresh (stopped _ _ _ _ _ c.in_err-at.field-0.0 _ c.from_residual.ensures.1
+returns-in_err-at g c = quietly c.requires.fresh (stopped c.in_err-at.field-0.0 _ c.from_residual.ensures.1
     (refusal_unbind _ _ _ _ _ ∙ ap result_err (sym (rw c.as_str.ensures at c.in_err-at.ensures))) refl)
 
 pub returns-in_err-changes : goal.returns-in_err-changes
-returns-in_err-changes g c = quietly _ _ _ _ _ _ _ c.requires.fresh (starved _ _ _ _ _ _ c.from_residual-in_err-changes.ensures.1 c.unbind.ensures.keeps.only)
+returns-in_err-changes g c = quietly c.requires.fresh (starved _ c.from_residual-in_err-changes.ensures.1 c.unbind.ensures.keeps.only)
 
 pub returns : goal.returns
 returns g c =

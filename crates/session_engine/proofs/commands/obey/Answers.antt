@@ -1,6 +1,5 @@
 use Rattle.std.proofs.Common.{Err, Ok, sym, subst, ◌∙◌, refl, ap}
-use Rattle.plain_types.specs.declared.fault.Fault.TheVariants.{Memory}
-use Rattle.session_model.specs.Asked.{asked}
+use Rattle.session_engine.proofs.Common.{Memory, asked}
 use Rattle.session_engine.specs.Commands.{KnowsProperties, Obeys}
 use Rattle.session_engine.proofs.CommandsLemmas.{not_reset, obeys_failed, obeys_refusing, obeys_replied, obeys_wanting}
 use Rattle.session_engine.proofs.commands.obey.Goals as goal

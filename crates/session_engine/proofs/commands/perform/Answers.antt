@@ -1,6 +1,5 @@
 use Rattle.std.proofs.Common.{subst, sym}
-use Rattle.session_model.specs.Asked.{asked}
-use Rattle.session_engine.specs.Commands.{Performs, reply_after}
+use Rattle.session_engine.proofs.Common.{asked, Performs, reply_after}
 use Rattle.session_engine.proofs.CommandsLemmas.{reads}
 use Rattle.session_engine.proofs.commands.perform.Goals as goal
 

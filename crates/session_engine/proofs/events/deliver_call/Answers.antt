@@ -1,7 +1,6 @@
 use Rattle.std.proofs.Common.{refl}
-use Rattle.session_effects.specs.Setup.{settings_of}
-use Rattle.session_effects.proofs.ForCallers.{keeps_same}
-use Rattle.dispatch.proofs.ForCallers.{does_by, does_none}
+use Rattle.session_engine.proofs.Common.{settings_of, keeps_same, does_none}
+use Rattle.dispatch.proofs.ForCallers.{does_by}
 use Rattle.session_engine.proofs.EventsLemmas.{calls_functor, calls_method, calls_none}
 use Rattle.session_engine.proofs.events.deliver_call.Goals as goal
 

@@ -1,13 +1,10 @@
 use Rattle.std.proofs.Common.{[], ◌∷◌, ap, refl, sym, arith}
 use Rattle.event_queue.specs.declared.table.Counts.{Counts}
 use Rattle.session_model.specs.Agenda.{event_items}
-use Rattle.session_model.specs.Items.{Spin}
-use Rattle.session_tables.specs.Tables.{state_at}
-use Rattle.session_effects.specs.Setup.{settings_of}
-use Rattle.session_effects.proofs.ForCallers.{keeps_same, keeps_with, placed_kept}
-use Rattle.dispatch.specs.CommandOutput.{doing_at}
-use Rattle.dispatch.proofs.ForCallers.{OnOk-map, does_none, far_end, far_last, far_next, far_none, far_wanting, here, placed_reached, part_front}
+use Rattle.session_effects.proofs.ForCallers.{keeps_with, placed_kept}
+use Rattle.dispatch.proofs.ForCallers.{OnOk-map, far_end, far_last, far_next, far_none, far_wanting, placed_reached, part_front}
 use Rattle.std.proofs.lemmas.Grind.{common_steps}
+use Rattle.session_engine.proofs.Common.{Spin, state_at, settings_of, keeps_same, doing_at, does_none, here}
 use Rattle.session_engine.proofs.EventsLemmas.{event_taken, few_taken, spin_ends, spin_goes_on, spin_spent, turns_left, with_event_taken}
 use Rattle.session_engine.proofs.events.take_events.Goals as goal
 

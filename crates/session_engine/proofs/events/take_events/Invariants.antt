@@ -1,7 +1,6 @@
 use Rattle.std.proofs.Common.{◌<◌, ◌+◌, ◌^◌, ◌∷◌, []}
-use Rattle.session_model.specs.Items.{Spin}
-use Rattle.session_tables.specs.Tables.{IsPlaced}
-use Rattle.dispatch.proofs.ForCallers.{SoFar, here}
+use Rattle.session_engine.proofs.Common.{Spin, IsPlaced, here}
+use Rattle.dispatch.proofs.ForCallers.{SoFar}
 use Rattle.session_engine.proofs.events.take_events.Given as goal
 
 -- so far events were taken, each with a turn, and those that are left are still to be taken

@@ -1,21 +1,18 @@
 use Rattle.std.proofs.Common.{None, Some, Ok, map, refl, sym, ap, ◌∙◌}
 use Rattle.std.specs.Option.{option_copied, option_or}
 use Rattle.std.specs.Result.{result_err}
-use Rattle.serde_json.specs.View.{view}
+use Rattle.session_engine.proofs.Common.{view, state_at, changes_same, settings_of}
 use Rattle.session_model.specs.Refusing.{later_refusal, values_refusal}
 use Rattle.session_model.specs.Signals.{asked_method, asked_values}
 use Rattle.session_model.proofs.ForCallers.{invoke_none, refusal_invoke}
-use Rattle.session_tables.specs.Tables.{state_at}
-use Rattle.session_tables.proofs.ForCallers.{changes_same}
-use Rattle.session_effects.specs.Setup.{settings_of}
 use Rattle.session_engine.proofs.CommandsLemmas.{found_fault, made_fault, quietly, on_refused, or_first, or_second, replied, replies_alone, silently, stopped}
 use Rattle.session_engine.proofs.InvocationLemmas.{is_invoked, kinds_are, method_is, method_there, named_in, performs_invoked, posts_invoked, refusal_absent}
 use Rattle.session_engine.proofs.InvocationLemmas.{refusal_found, refusal_later, starved_invoked, unread}
 use Rattle.session_engine.proofs.invocation.invoke.Goals as goal
 
 pub returns-in_err-class : goal.returns-in_err-class
-returns-in_err-class g c = quietly _ _ _ _ _ _ _ c.requires.fresh
-    (stopped _ _ _ _ _ c.in_err-class.field-0.0 _ c.from_residual.ensures.1
+returns-in_err-class g c = quietly c.requires.fresh
+    (stopped c.in_err-class.field-0.0 _ c.from_residual.ensures.1
     (refusal_invoke _ _ _ _ _ _ _ _ ∙ or_first _ _ _ c.in_err-class.ensures.refusal) refl)
 
 pub returns-in_err-index : goal.returns-in_err-index
@@ -23,9 +20,9 @@ returns-in_err-index g c =
     let settings = settings_of c.args.actor.now.caller.setup.now in
     let state = state_at c.args.tables.now c.args.actor.now.caller.place in
     let asked = asked_method settings state c.args.object c.args.method.now in
-    quietly _ _ _ _ _ _ _ c.requires.fresh (found_fault _ _ _ _
+    quietly c.requires.fresh (found_fault
     (λ found. option_or (result_err found) (option_or (values_refusal settings state c.args.object (map view c.args.args.now) asked)
-    (later_refusal state c.args.mode asked))) _ c.in_err-index.field-0.0 _
+    (later_refusal state c.args.mode asked))) _ c.in_err-index.field-0.0
     c.from_residual-in_err-index.ensures.1 (refusal_invoke _ _ _ _ _ _ _ _ ∙ or_second _ _ c.in_ok-class.ensures.refusal) (λ code. refl)
     (unread _ c.args.method.now _ c.in_err-index.ensures))
 
@@ -47,8 +44,8 @@ returns-in_err-values g c =
     let state = state_at c.args.tables.now caller.place in
     let has = method_is settings state c.args.object c.in_ok-class.class c.in-Some.index c.in-Some-method_row.row.now c.in_ok-class.ensures.class
     c.in-Some-method_row.ensures.value in
-    quietly _ _ _ _ _ _ _ c.requires.fresh (found_fault _ _ _ _ (λ given. option_or (result_err given) (later_refusal state c.args.mode (Some c.in-Some.index)))
-    (asked_values settings state c.args.object c.in-Some.index (map view c.args.args.now)) c.in_err-values.field-0.0 _
+    quietly c.requires.fresh (found_fault (λ given. option_or (result_err given) (later_refusal state c.args.mode (Some c.in-Some.index)))
+    (asked_values settings state c.args.object c.in-Some.index (map view c.args.args.now)) c.in_err-values.field-0.0
     c.from_residual-in_err-values.ensures.1
     (refusal_found caller c.args.object c.args.method.now (map view c.args.args.now) c.args.mode c.args.priority c.args.tables.now (Some c.in-Some.index)
     c.in_ok-class.ensures.refusal (named_in settings state c.args.object c.in_ok-class.class c.args.method.now (Some c.in-Some.index)
@@ -61,7 +58,7 @@ returns-in_err-enqueue g c =
     let it = is_invoked c.args.actor.now.caller c.args.object c.args.method.now (map view c.args.args.now) c.args.tables.now c.in_ok-class.class
     c.in-Some.index _ c.in-Some-method_row.row.now _ c.in_ok-values.values c.in_ok-class.ensures.refusal c.in_ok-class.ensures.class
     c.in_ok-index.ensures c.in-Some.is c.in-Some-method_row.ensures.value c.as_slice-kinds.ensures c.in_ok-values.ensures in
-    quietly _ _ _ _ _ _ _ c.requires.fresh (made_fault _ _ _ _ _ _ c.in_err-enqueue.field-0.0 _ c.from_residual-in_err-enqueue.ensures.1
+    quietly c.requires.fresh (made_fault c.in_err-enqueue.field-0.0 c.from_residual-in_err-enqueue.ensures.1
     (refusal_later _ _ _ _ c.args.mode c.args.priority _ it (sym c.if-is_queued.ensures))
     c.in_err-enqueue.ensures.refusal (on_refused _ c.in_err-enqueue.ensures.err) (changes_same _ _ _ c.in_err-enqueue.ensures.err))
 
@@ -71,7 +68,7 @@ returns-then-is_queued g c =
     c.in-Some.index _ c.in-Some-method_row.row.now _ c.in_ok-values.values c.in_ok-class.ensures.refusal c.in_ok-class.ensures.class
     c.in_ok-index.ensures c.in-Some.is c.in-Some-method_row.ensures.value c.as_slice-kinds.ensures c.in_ok-values.ensures in
     silently _ _ _ _ _ _ c.requires.fresh
-    (replied _ _ _ _ _ _ c.requires.placed
+    (replied c.requires.placed
     (refusal_later _ _ _ _ c.args.mode c.args.priority _ it (sym c.if-is_queued.ensures) ∙ c.in_ok-enqueue.ensures.refusal)
     (posts_invoked _ _ _ _ c.args.mode c.args.priority _ it (sym c.if-is_queued.ensures))
     (rw c.as_slice-values.ensures at c.in_ok-enqueue.ensures.ok))

@@ -1,8 +1,5 @@
 use Rattle.std.proofs.Common.{refl, arith, ◌∙◌}
-use Rattle.session_effects.specs.Setup.{settings_of}
-use Rattle.session_effects.proofs.ForCallers.{keeps_same}
-use Rattle.session_model.specs.Agenda.{method_items}
-use Rattle.dispatch.specs.CommandOutput.{doing_at}
+use Rattle.session_engine.proofs.Common.{settings_of, keeps_same, method_items, doing_at}
 use Rattle.dispatch.proofs.ForCallers.{spent_is, OnOk-map, does_after, does_by, next_none}
 use Rattle.session_engine.proofs.InvocationLemmas.{now_front, now_run, now_sent, now_spent}
 use Rattle.session_engine.proofs.invocation.run.Goals as goal

@@ -1,9 +1,9 @@
-use Rattle.std.proofs.Common.{Ok, refl}
+use Rattle.std.proofs.Common.{refl}
+use Rattle.session_engine.proofs.Common.{performs_do, refusal_do}
 use Rattle.session_model.specs.declared.operation.Operation.TheVariants.{Block}
-use Rattle.session_model.proofs.ForCallers.{performs_do, refusal_do}
 use Rattle.session_engine.proofs.CommandsLemmas.{operation_performed}
 use Rattle.session_engine.proofs.operations.block.Goals as goal
 
 pub returns : goal.returns
-returns c = operation_performed _ _ (Ok (Block c.args.object c.args.on)) (Block c.args.object c.args.on) _ _ _ c.requires (refusal_do _ _ _ _)
+returns c = operation_performed {operation = Block c.args.object c.args.on} _ c.requires (refusal_do _ _ _ _)
     (performs_do _ _ _ _) refl c.do_operation.ensures.refusal c.do_operation.ensures.answer c.do_operation.ensures.ok c.do_operation.ensures.err

@@ -1,29 +1,24 @@
 use Rattle.std.proofs.Common.{Ok, true, false, refl, sym, ap, ◌∙◌}
 use Rattle.std.specs.Result.{result_err}
-use Rattle.serde_json.specs.View.{view}
-use Rattle.session_model.specs.Execution.{in_state}
-use Rattle.session_model.specs.Methods.{◌>>=◌}
+use Rattle.session_engine.proofs.Common.{view, in_state, ◌>>=◌, state_at, settings_of, keeps_same}
 use Rattle.session_model.specs.Writing.{Declared, Nothing, dynamic_writing}
 use Rattle.session_model.proofs.ForCallers.{refusal_set, nothing_written}
-use Rattle.session_tables.specs.Tables.{state_at}
 use Rattle.session_effects.specs.declared.announcing.PendingAnnouncements.TheVariants as news
-use Rattle.session_effects.specs.Setup.{settings_of}
-use Rattle.session_effects.proofs.ForCallers.{keeps_same}
 use Rattle.session_engine.proofs.CommandsLemmas.{found_fault, or_first, or_second, quietly, starved, stopped}
 use Rattle.session_engine.proofs.PropertiesLemmas.{asked_dynamic, asked_nothing, asked_value, dynamic_undeclared, performs_written, place_is, starved_written}
 use Rattle.session_engine.proofs.PropertiesLemmas.{tells_none, written_fault}
 use Rattle.session_engine.proofs.properties.set.Goals as goal
 
 pub returns-in_err-class : goal.returns-in_err-class
-returns-in_err-class g c = quietly _ _ _ _ _ _ _ c.requires.fresh
-    (stopped _ _ _ _ _ c.in_err-class.field-0.0 _ c.from_residual.ensures.1 (refusal_set _ _ _ _ _ _ ∙ or_first _ _ _ c.in_err-class.ensures.refusal) refl)
+returns-in_err-class g c = quietly c.requires.fresh
+    (stopped c.in_err-class.field-0.0 _ c.from_residual.ensures.1 (refusal_set _ _ _ _ _ _ ∙ or_first _ _ _ c.in_err-class.ensures.refusal) refl)
 
 -- a dynamic property: what is no value is refused, and then one too many
 pub returns-in_err-value : goal.returns-in_err-value
 returns-in_err-value g c =
     let state = state_at c.args.tables.now c.args.actor.now.caller.place in
-    quietly _ _ _ _ _ _ _ c.requires.fresh (found_fault _ _ _ _
-    (λ found. result_err (found >>= dynamic_writing state c.args.object c.args.property.now)) _ c.in_err-value.field-0.0 _
+    quietly c.requires.fresh (found_fault
+    (λ found. result_err (found >>= dynamic_writing state c.args.object c.args.property.now)) _ c.in_err-value.field-0.0
     c.from_residual-in_err-value.ensures.1
     (refusal_set _ _ _ _ _ _ ∙ or_second _ _ c.in_ok-class.ensures.refusal
     ∙ ap result_err (asked_dynamic state c.args.object c.args.property.now (view c.args.value.now) (rw c.as_str.ensures at c.in_default.ensures)))
@@ -32,7 +27,7 @@ returns-in_err-value g c =
 pub returns-in_err-write_dynamic : goal.returns-in_err-write_dynamic
 returns-in_err-write_dynamic g c =
     let state = state_at c.args.tables.now c.args.actor.now.caller.place in
-    quietly _ _ _ _ _ _ _ c.requires.fresh (written_fault {U = Unit {0}} c.args.actor.now.caller _ c.args.tables.now c.write_dynamic.new.tables _ c.args.object
+    quietly c.requires.fresh (written_fault {U = Unit {0}} c.args.actor.now.caller _ c.args.tables.now c.write_dynamic.new.tables _ c.args.object
     _ (λ done. news.Nothing) c.in_err-write_dynamic.field-0.0 _ c.from_residual-in_err-write_dynamic.ensures.1
     (refusal_set _ _ _ _ _ _ ∙ or_second _ _ c.in_ok-class.ensures.refusal
     ∙ ap result_err (asked_dynamic state c.args.object c.args.property.now (view c.args.value.now) (rw c.as_str.ensures at c.in_default.ensures)
@@ -69,8 +64,8 @@ returns-then-is_null g c =
 pub returns-in_err-value-2 : goal.returns-in_err-value-2
 returns-in_err-value-2 g c =
     let state = state_at c.args.tables.now c.args.actor.now.caller.place in
-    quietly _ _ _ _ _ _ _ c.requires.fresh (found_fault _ _ _ _
-    (λ found. result_err (found >>= λ value. Ok (Declared c.in-Some.number value))) _ c.in_err-value-2.field-0.0 _ c.from_residual-in_err-value-2.ensures.1
+    quietly c.requires.fresh (found_fault
+    (λ found. result_err (found >>= λ value. Ok (Declared c.in-Some.number value))) _ c.in_err-value-2.field-0.0 c.from_residual-in_err-value-2.ensures.1
     (refusal_set _ _ _ _ _ _ ∙ or_second _ _ c.in_ok-class.ensures.refusal
     ∙ ap result_err (asked_value state c.args.object c.args.property.now (view c.args.value.now) _
     (place_is (c.in-Some.number, c.in-Some.kind) _ (rw c.as_str.ensures at c.in-Some.ensures)) (sym c.if-is_null.ensures)))
@@ -78,7 +73,7 @@ returns-in_err-value-2 g c =
 
 -- what it tells of may want memory that is not there
 pub returns-in_err-news : goal.returns-in_err-news
-returns-in_err-news g c = quietly _ _ _ _ _ _ _ c.requires.fresh (starved _ _ _ _ _ _ c.from_residual-in_err-news.ensures.1 c.write_declared.ensures.keeps.only)
+returns-in_err-news g c = quietly c.requires.fresh (starved _ c.from_residual-in_err-news.ensures.1 c.write_declared.ensures.keeps.only)
 
 pub returns-in_err-notify : goal.returns-in_err-notify
 returns-in_err-notify g c =

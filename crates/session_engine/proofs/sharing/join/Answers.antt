@@ -1,16 +1,10 @@
 use Rattle.std.proofs.Common.{◌≡◌, ℕ, List, Ok, refl, ap, sym, ◌∙◌}
-use Rattle.signature_core.specs.declared.kind.Kind.{Kind}
+use Rattle.session_engine.proofs.Common.{Kind, Found, ◌>>=◌, Settings, State, settings_of, state_at, changes_same, behind_first, behind_second}
 use Rattle.publish_board.specs.declared.join.Join.{Join}
 use Rattle.publish_board.specs.Desk.{join_refusal}
-use Rattle.session_model.specs.Methods.{Found, ◌>>=◌, method_named, methods_of}
-use Rattle.session_model.specs.Settings.{Settings}
-use Rattle.session_model.specs.State.{State}
+use Rattle.session_model.specs.Methods.{method_named, methods_of}
 use Rattle.session_model.specs.Sharing.{joining_refusal, joins_found}
 use Rattle.session_model.proofs.ForCallers.{performs_join, refusal_join}
-use Rattle.session_effects.specs.Setup.{settings_of}
-use Rattle.session_tables.specs.Tables.{state_at}
-use Rattle.session_tables.proofs.ForCallers.{changes_same}
-use Rattle.session_queries.proofs.ForCallers.{behind_first, behind_second}
 use Rattle.session_engine.proofs.CommandsLemmas.{found_fault, made_fault, on_refused, replied, starved, stopped}
 use Rattle.session_engine.proofs.sharing.join.Goals as goal
 
@@ -30,15 +24,13 @@ all_found : (settings : Settings) (state : State) (from name : List ℕ) (target
     → name_copy ≡ name
     → with_kinds settings state from name target method found
     ≡ Ok (record { from = from_copy; name = name_copy; kinds = kinds; object = target; method = index })
-unfolding with_kinds with_method
+unfolding with_kinds
 all_found settings state from name target method found kinds index from_copy name_copy its_kinds its_method from_is name_is =
-    ap (with_kinds settings state from name target method) its_kinds
-    ∙ ap (with_method from name kinds target) its_method
-    ∙ ap (λ from. Ok (record { from = from; name = name; kinds = kinds; object = target; method = index })) (sym from_is)
-    ∙ ap (λ name. Ok (record { from = from_copy; name = name; kinds = kinds; object = target; method = index })) (sym name_is)
+    λ i. its_kinds i >>= λ kinds. its_method i >>=
+    λ index. Ok (record { from = sym from_is i; name = sym name_is i; kinds = kinds; object = target; method = index })
 
 pub returns-in_err-check_object : goal.returns-in_err-check_object
-returns-in_err-check_object c = stopped _ _ _ _ _ c.in_err-check_object.field-0.0 _ c.from_residual.ensures.1
+returns-in_err-check_object c = stopped c.in_err-check_object.field-0.0 _ c.from_residual.ensures.1
     (refusal_join _ _ _ _ _ _ _ _ ∙ ap (joining_refusal (settings_of c.args.caller.now.setup.now) c.args.caller.now.name.now
     (state_at c.args.tables.now c.args.caller.now.place)) (behind_first _ _ _ c.in_err-check_object.ensures)) refl
 
@@ -48,8 +40,8 @@ returns-in_err-kinds c =
     let settings = settings_of c.args.caller.now.setup.now in
     let state = state_at c.args.tables.now c.args.caller.now.place in
     let refused = joining_refusal settings c.args.caller.now.name.now state in
-    found_fault _ _ _ _ (λ found. refused (with_kinds settings state c.args.from.now c.args.name.now c.args.object c.args.method.now found)) _
-    c.in_err-kinds.field-0.0 _ c.from_residual-in_err-kinds.ensures.1
+    found_fault (λ found. refused (with_kinds settings state c.args.from.now c.args.name.now c.args.object c.args.method.now found)) _
+    c.in_err-kinds.field-0.0 c.from_residual-in_err-kinds.ensures.1
     (refusal_join _ _ _ _ _ _ _ _ ∙ ap refused (behind_second _ _ c.in_ok-check_object.ensures)) (λ code. refl) c.in_err-kinds.ensures
 
 pub returns-in_err-method : goal.returns-in_err-method
@@ -58,17 +50,17 @@ returns-in_err-method c =
     let settings = settings_of c.args.caller.now.setup.now in
     let state = state_at c.args.tables.now c.args.caller.now.place in
     let refused = joining_refusal settings c.args.caller.now.name.now state in
-    found_fault _ _ _ _ (λ found. refused (with_method c.args.from.now c.args.name.now c.in_ok-kinds.kinds c.args.object found)) _ c.in_err-method.field-0.0 _
+    found_fault (λ found. refused (with_method c.args.from.now c.args.name.now c.in_ok-kinds.kinds c.args.object found)) _ c.in_err-method.field-0.0
     c.from_residual-in_err-method.ensures.1
     (refusal_join _ _ _ _ _ _ _ _ ∙ ap refused
     (behind_second _ _ c.in_ok-check_object.ensures ∙ ap (with_kinds settings state c.args.from.now c.args.name.now c.args.object c.args.method.now)
     c.in_ok-kinds.ensures)) (λ code. refl) c.in_err-method.ensures
 
 pub returns-in_err-copy : goal.returns-in_err-copy
-returns-in_err-copy c = starved _ _ _ _ _ _ c.from_residual-in_err-copy.ensures.1 (changes_same _ _ _ refl)
+returns-in_err-copy c = starved _ c.from_residual-in_err-copy.ensures.1 (changes_same _ _ _ refl)
 
 pub returns-in_err-copy-2 : goal.returns-in_err-copy-2
-returns-in_err-copy-2 c = starved _ _ _ _ _ _ c.from_residual-in_err-copy-2.ensures.1 (changes_same _ _ _ refl)
+returns-in_err-copy-2 c = starved _ c.from_residual-in_err-copy-2.ensures.1 (changes_same _ _ _ refl)
 
 pub returns-in_err-join : goal.returns-in_err-join
 unfolding with_kinds with_method
@@ -77,7 +69,7 @@ returns-in_err-join c =
     let state = state_at c.args.tables.now c.args.caller.now.place in
     let found = behind_second _ _ c.in_ok-check_object.ensures ∙ all_found settings state c.args.from.now c.args.name.now c.args.object c.args.method.now
     _ _ _ _ _ c.in_ok-kinds.ensures c.in_ok-method.ensures c.in_ok-copy.ensures c.in_ok-copy-2.ensures in
-    made_fault _ _ _ _ _ _ c.in_err-join.field-0.0 _ c.from_residual-in_err-join.ensures.1
+    made_fault c.in_err-join.field-0.0 c.from_residual-in_err-join.ensures.1
     (refusal_join _ _ _ _ _ _ _ _ ∙ ap (joining_refusal settings c.args.caller.now.name.now state) found
     ∙ ap (join_refusal c.args.caller.now.name.now state.desk (record
     { from = c.in_ok-copy.field-0; name = c.in_ok-copy-2.field-0; kinds = c.in_ok-kinds.kinds; object = c.args.object; method = c.in_ok-method.method }))
@@ -91,7 +83,7 @@ returns c =
     let state = state_at c.args.tables.now c.args.caller.now.place in
     let found = behind_second _ _ c.in_ok-check_object.ensures ∙ all_found settings state c.args.from.now c.args.name.now c.args.object c.args.method.now
     _ _ _ _ _ c.in_ok-kinds.ensures c.in_ok-method.ensures c.in_ok-copy.ensures c.in_ok-copy-2.ensures in
-    replied _ _ _ _ _ _ c.requires (refusal_join _ _ _ _ _ _ _ _ ∙ ap (joining_refusal settings c.args.caller.now.name.now state) found
+    replied c.requires (refusal_join _ _ _ _ _ _ _ _ ∙ ap (joining_refusal settings c.args.caller.now.name.now state) found
     ∙ ap (join_refusal c.args.caller.now.name.now state.desk (record
     { from = c.in_ok-copy.field-0; name = c.in_ok-copy-2.field-0; kinds = c.in_ok-kinds.kinds; object = c.args.object; method = c.in_ok-method.method }))
     (sym c.kinds_at-wanted.ensures) ∙ c.in_ok-join.ensures.refusal)

@@ -3,4 +3,4 @@ use Rattle.session_engine.proofs.CommandsLemmas.{replied}
 use Rattle.session_engine.proofs.sharing.reset.Goals as goal
 
 pub returns : goal.returns
-returns c = replied _ _ _ _ _ _ c.requires (refusal_reset _ _ _) (performs_reset _ _ _) c.clear.ensures
+returns c = replied c.requires (refusal_reset _ _ _) (performs_reset _ _ _) c.clear.ensures

@@ -1,16 +1,16 @@
 use Rattle.std.proofs.Common.{[], ◌∷◌, true, sym, refl, ◌∙◌}
+use Rattle.session_engine.proofs.Common.{keeps_same}
 use Rattle.session_model.specs.declared.line.Answer.TheVariants as a
 use Rattle.session_model.specs.Asked as asked
 use Rattle.session_model.specs.Items.{Delete}
 use Rattle.session_model.proofs.ForCallers.{performs_delete, refusal_delete}
-use Rattle.session_effects.proofs.ForCallers.{keeps_same}
 use Rattle.session_engine.proofs.CommandsLemmas.{quietly, stopped}
 use Rattle.session_engine.proofs.ToldLemmas.{comes, performs_told, starved_told}
 use Rattle.session_engine.proofs.trees.delete_object.Goals as goal
 
 pub returns-in_err-check_object : goal.returns-in_err-check_object
-returns-in_err-check_object g c = quietly _ _ _ _ _ _ _ c.requires.fresh
-    (stopped _ _ _ _ _ c.in_err-check_object.field-0.0 _ c.from_residual.ensures.1 (refusal_delete _ _ _ _ ∙ sym c.in_err-check_object.ensures) refl)
+returns-in_err-check_object g c = quietly c.requires.fresh
+    (stopped c.in_err-check_object.field-0.0 _ c.from_residual.ensures.1 (refusal_delete _ _ _ _ ∙ sym c.in_err-check_object.ensures) refl)
 
 pub returns-in_err-delete : goal.returns-in_err-delete
 returns-in_err-delete g c =

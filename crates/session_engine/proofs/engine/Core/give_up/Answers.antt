@@ -1,6 +1,5 @@
 use Rattle.std.proofs.Common.{ap, subst, true, ◌∙◌}
-use Rattle.session_engine.specs.Core.{EngineState, engine_state, place, seen_by_name}
-use Rattle.session_engine.specs.Sessions.{Fails}
+use Rattle.session_engine.proofs.Common.{EngineState, engine_state, place, seen_by_name, Fails}
 use Rattle.session_engine.proofs.ChangedLemmas.{fails_now, whole_failed}
 use Rattle.session_engine.proofs.engine.Core.give_up.Goals as goal
 

@@ -1,6 +1,6 @@
 use Rattle.std.proofs.Common.{subst}
-use Rattle.session_engine.specs.Core.{EngineState, seen_by_name}
-use Rattle.session_engine.specs.Sessions.{AreSound, AreWell}
+use Rattle.session_engine.proofs.Common.{EngineState, seen_by_name, AreSound}
+use Rattle.session_engine.specs.Sessions.{AreWell}
 use Rattle.session_engine.proofs.EngineLemmas.{kept_by_name, sound_by_name}
 use Rattle.session_engine.proofs.engine.Core.law_sound.Goals as goal
 

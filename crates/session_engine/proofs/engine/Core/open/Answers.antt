@@ -1,6 +1,7 @@
 use Rattle.std.proofs.lemmas.Grind.{common_steps}
 use Rattle.std.proofs.Common.{arith, ◌≡◌, ◌++◌, ◌∷◌, [], Some, true, sym, ap, subst, ◌∙◌}
-use Rattle.session_engine.specs.Core.{IsWhole, engine_state, place, sessions, settings}
+use Rattle.session_engine.proofs.Common.{IsWhole, engine_state, place, sessions}
+use Rattle.session_engine.specs.Core.{settings}
 use Rattle.session_engine.proofs.EngineLemmas.{entered_place, entered_sessions, entered_whole, insert_key-new, sessions-same, sound_still, whole_marked}
 use Rattle.session_engine.proofs.EngineLemmas.{whole_same}
 use Rattle.session_engine.proofs.engine.Core.open.Goals as goal

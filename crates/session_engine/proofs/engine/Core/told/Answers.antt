@@ -1,8 +1,6 @@
 use Rattle.std.proofs.Common.{Some, ap, position, sym, subst, ◌∙◌}
 use Rattle.std.specs.Prelude.{bytes_eq}
-use Rattle.session_model.specs.Asked.{asked}
-use Rattle.session_engine.specs.Core.{seen_by_name}
-use Rattle.session_engine.specs.Sessions.{IsStep}
+use Rattle.session_engine.proofs.Common.{asked, seen_by_name, IsStep}
 use Rattle.session_engine.proofs.StepLemmas.{step_fails}
 use Rattle.session_engine.proofs.engine.Core.told.Goals as goal
 

@@ -1,10 +1,8 @@
 use Rattle.std.proofs.Common.{◌+◌, ◌++◌, suc, List, Some, None, drop, position, map, take, refl, sym, ap, subst, ◌∙◌, arith}
 use Rattle.std.specs.Prelude.{bytes_eq}
 use Rattle.std.proofs.lemmas.List.{take_all}
-use Rattle.session_engine.specs.Core.{EngineState, seen_by_name}
-use Rattle.session_engine.specs.Items.{Coming, HaveCome, RunsAlone, item_of}
-use Rattle.session_engine.specs.Sessions.{AreSound}
-use Rattle.session_engine.specs.Engine.{seen_engine}
+use Rattle.session_engine.proofs.Common.{EngineState, seen_by_name, Coming, HaveCome, item_of, AreSound, seen_engine}
+use Rattle.session_engine.specs.Items.{RunsAlone}
 use Rattle.session_engine.proofs.EngineLemmas.{sound_by_name}
 use Rattle.session_engine.proofs.ItemsLemmas.{come_last, come_more, items_more, items_split, none_of_err, runs_alone}
 use Rattle.session_engine.proofs.engine.Engine.alone.Goals as goal

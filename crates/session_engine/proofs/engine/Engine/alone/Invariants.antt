@@ -1,6 +1,6 @@
 use Rattle.std.proofs.Common.{◌≡◌, ℕ, List, Some, map, take}
-use Rattle.session_engine.specs.Core.{KeepsPlaces, place, seen_by_name}
-use Rattle.session_engine.specs.Items.{HaveCome, item_of}
+use Rattle.session_engine.proofs.Common.{place, seen_by_name, HaveCome, item_of}
+use Rattle.session_engine.specs.Core.{KeepsPlaces}
 use Rattle.session_engine.proofs.engine.Engine.alone.Given as goal
 
 abbrev pub invariant-items : goal.invariant-items

@@ -1,8 +1,6 @@
 use Rattle.std.proofs.Common.{ap, sym, subst, refl, true, ◌∙◌}
 use Rattle.std.specs.Result.{result_ok}
-use Rattle.session_engine.specs.Core.{EngineState, engine_state, place, seen_by_name}
-use Rattle.session_engine.specs.Items.{HasArrived}
-use Rattle.session_engine.specs.Engine.{seen_engine}
+use Rattle.session_engine.proofs.Common.{EngineState, engine_state, place, seen_by_name, HasArrived, seen_engine}
 use Rattle.session_engine.proofs.ChangedLemmas.{has_arrived, on_err, on_err_found, on_ok, on_ok_failed, whole_arrived}
 use Rattle.session_engine.proofs.engine.Engine.arrive.Goals as goal
 

@@ -1,8 +1,7 @@
 use Rattle.std.proofs.Common.{◌∙◌, None, ap, position, sym, subst}
 use Rattle.std.specs.Prelude.{OnOk, bytes_eq}
-use Rattle.session_model.specs.Asked.{asked}
-use Rattle.session_engine.specs.Core.{seen_by_name}
-use Rattle.session_engine.specs.Items.{HasAdded, HasCome, item_of}
+use Rattle.session_engine.proofs.Common.{asked, seen_by_name, HasCome, item_of}
+use Rattle.session_engine.specs.Items.{HasAdded}
 use Rattle.session_engine.proofs.ItemsLemmas.{arrival_comes}
 use Rattle.session_engine.proofs.StepLemmas.{step_fails}
 use Rattle.session_engine.proofs.engine.Engine.come.Goals as goal

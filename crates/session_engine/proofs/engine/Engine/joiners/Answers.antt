@@ -1,7 +1,7 @@
 use Rattle.std.proofs.Common.{ap, subst}
 use Rattle.std.specs.Prelude.{IfOk}
-use Rattle.session_engine.specs.Core.{AreJoinersOf, EngineState}
-use Rattle.session_engine.specs.Engine.{seen_engine}
+use Rattle.session_engine.proofs.Common.{EngineState, seen_engine}
+use Rattle.session_engine.specs.Core.{AreJoinersOf}
 use Rattle.session_engine.proofs.JoiningLemmas.{if_joiners}
 use Rattle.session_engine.proofs.engine.Engine.joiners.Goals as goal
 

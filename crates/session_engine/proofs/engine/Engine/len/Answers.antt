@@ -1,6 +1,6 @@
 use Rattle.std.proofs.Common.{ap, ◌≡◌, ◌<◌, ℕ, Some, length, subst}
-use Rattle.session_engine.specs.Core.{EngineState, name_at, names, place}
-use Rattle.session_engine.specs.Engine.{seen_engine}
+use Rattle.session_engine.proofs.Common.{EngineState, place, seen_engine}
+use Rattle.session_engine.specs.Core.{name_at, names}
 use Rattle.session_engine.proofs.engine.Engine.len.Goals as goal
 
 pub returns-clause-named : goal.returns-clause-named

@@ -1,7 +1,6 @@
 use Rattle.std.proofs.Common.{ap, subst, ◌∙◌}
-use Rattle.session_engine.specs.Core.{EngineState, engine_state, place, seen_by_name}
+use Rattle.session_engine.proofs.Common.{EngineState, engine_state, place, seen_by_name, seen_engine}
 use Rattle.session_engine.specs.Items.{BeginsAnew}
-use Rattle.session_engine.specs.Engine.{seen_engine}
 use Rattle.session_engine.proofs.ChangedLemmas.{begins_anew, whole_anew}
 use Rattle.session_engine.proofs.engine.Engine.reset.Goals as goal
 

@@ -1,14 +1,13 @@
-use Rattle.std.proofs.Common.{◌≡◌, ◌≤◌, ◌<◌, ◌+◌, ◌-◌, ℕ, true, false, eqb, length, ap, sym, subst, ◌∙◌, IsFalse, arith}
+use Rattle.std.proofs.Common.{◌≡◌, ◌≤◌, ◌<◌, ◌+◌, ◌-◌, ℕ, false, eqb, length, ap, sym, subst, ◌∙◌, IsFalse, arith}
 use Rattle.std.proofs.lemmas.Bool.Decides.{nat_tests}
 use Rattle.shared_rows.specs.Table.{IsPlace}
 use Rattle.publish_board.specs.Desk.{listens_to}
 use Rattle.publish_board.specs.Table.{IsFirstWith, desk_at}
 use Rattle.session_model.specs.State.{State}
-use Rattle.session_model.specs.Arriving.{post_of}
-use Rattle.session_tables.specs.Reaching.{Reaches, ReachesBy, after_posts, only_at, post_at}
+use Rattle.session_tables.specs.Reaching.{Reaches, ReachesBy, only_at, post_at}
 use Rattle.session_tables.specs.Tables.{session_at}
-use Rattle.session_tables.proofs.PostLemmas.{heard_row, post_row, posts_row, reaches_all, reaches_next, reaches_strangers}
-use Rattle.session_tables.proofs.ReachingLemmas.{after_post_unheard, placed_shaped, session_unchanged}
+use Rattle.session_tables.proofs.PostLemmas.{heard_row, post_unheard, posts_sent, reaches_all, reaches_next, reaches_strangers}
+use Rattle.session_tables.proofs.ReachingLemmas.{placed_shaped, session_unchanged}
 use Rattle.session_tables.proofs.tables.Tables.post_by.Goals as goal
 
 pub joiners-smaller : goal.joiners-smaller
@@ -48,9 +47,6 @@ joiners-preserved c =
     let posts = post_at (desk_at old.desks place) c.args.index kinds args in
     let its = c.index-publications-index-in-joiners.result in
     let alike = ap (λ (state : State). state.desk.publications) c.joiners.invariant.own in
-    let mine = post_row c.publications-in-joiners.result.now (desk_at old.desks place).publications c.args.index kinds args its
-    (c.publications-in-joiners.ensures ∙ alike)
-    c.requires.within c.index-publications-index-in-joiners.is in
     let first : IsFirstWith (listens_to from its.name) now.desks least at = c.in-Some.ensures.next in
     let there = first.is_place in
     let up = first.from_least in
@@ -59,8 +55,9 @@ joiners-preserved c =
     record {
       reaches = reaches_next classes from place posts at old now new c.args.failing c.joiners.failing c.reach-failing.result c.requires.placed
           (reaches_strangers classes from place posts least at old now c.args.failing c.joiners.failing up c.joiners.invariant.rest
-          (λ other from_least under placed. subst (λ posts. after_posts classes from posts (session_at now other) ≡ session_at now other) (sym mine)
-          (after_post_unheard classes from (post_of kinds args its) (session_at now other) (first.before other from_least under)))
+          (λ other from_least under placed. post_unheard classes from c.publications-in-joiners.result.now (desk_at old.desks place).publications c.args.index
+          kinds args its (session_at now other) (c.publications-in-joiners.ensures ∙ alike) c.requires.within c.index-publications-index-in-joiners.is
+          (first.before other from_least under))
           c.joiners.invariant.reaches)
           (subst (λ desk. ReachesBy classes from place (only_at at (post_at desk c.args.index kinds args)) now new c.joiners.failing c.reach-failing.result)
           (ap (λ (state : State). state.desk) c.joiners.invariant.own) c.reach-failing.ensures.reaches);
@@ -88,21 +85,17 @@ returns-in_default-clause-reaches c =
     let places = shape.places in
     let its = c.index-publications-index-in-joiners.result in
     let alike = ap (λ (state : State). state.desk.publications) c.joiners.invariant.own in
-    let mine = post_row c.publications-in-joiners.result.now (desk_at old.desks place).publications c.args.index kinds args its
-    (c.publications-in-joiners.ensures ∙ alike)
-    c.requires.within c.index-publications-index-in-joiners.is in
     let none : (other : ℕ) → c.joiners.least ≤ other → IsPlace now.desks other
     → IsFalse (listens_to from its.name (desk_at now.desks other)) = c.in_default.ensures.next in
-    let one = post_row c.publications.result.now (desk_at old.desks place).publications c.args.index kinds args row c.publications.ensures c.requires.within
-    c.index-publications-index.is in
-    let sent = posts_row c.publications.result.now (desk_at old.desks place).publications c.args.index c.args.sending.now.object c.args.sending.now.signal kinds
-    args row true c.publications.ensures c.requires.within c.index-publications-index.is (sym c.publishes.ensures ∙ c.if-not-publishes.false) in
-    subst (λ posts. Reaches classes from place posts old now c.args.failing c.joiners.failing) (one ∙ sym sent)
+    subst (λ posts. Reaches classes from place posts old now c.args.failing c.joiners.failing)
+    (posts_sent c.publications.result.now (desk_at old.desks place).publications c.args.index c.args.sending.now.object c.args.sending.now.signal kinds
+    args row c.publications.ensures c.requires.within c.index-publications-index.is (sym c.publishes.ensures ∙ c.if-not-publishes.false))
     (reaches_all classes from place posts end old now c.args.failing c.joiners.failing (omega arith)
     (reaches_strangers classes from place posts c.joiners.least end old now c.args.failing c.joiners.failing
     (omega (arith, within, places)) c.joiners.invariant.rest
-    (λ other up under placed. subst (λ posts. after_posts classes from posts (session_at now other) ≡ session_at now other) (sym mine)
-    (after_post_unheard classes from (post_of kinds args its) (session_at now other) (none other up (placed_shaped old now other shape placed).5)))
+    (λ other up under placed. post_unheard classes from c.publications-in-joiners.result.now (desk_at old.desks place).publications c.args.index kinds args its
+    (session_at now other) (c.publications-in-joiners.ensures ∙ alike) c.requires.within c.index-publications-index-in-joiners.is
+    (none other up (placed_shaped old now other shape placed).5))
     c.joiners.invariant.reaches))
 
 pub returns-after-joiners-clause-reaches : goal.returns-after-joiners-clause-reaches
@@ -118,9 +111,7 @@ returns-after-joiners-clause-reaches c =
     let posts = post_at (desk_at old.desks place) c.args.index kinds args in
     let past = c.joiners-test.false in
     let count = c.len-count.ensures in
-    let one = post_row c.publications.result.now (desk_at old.desks place).publications c.args.index kinds args row c.publications.ensures c.requires.within
-    c.index-publications-index.is in
-    let sent = posts_row c.publications.result.now (desk_at old.desks place).publications c.args.index c.args.sending.now.object c.args.sending.now.signal kinds
-    args row true c.publications.ensures c.requires.within c.index-publications-index.is (sym c.publishes.ensures ∙ c.if-not-publishes.false) in
-    subst (λ posts. Reaches classes from place posts old now c.args.failing c.joiners.failing) (one ∙ sym sent)
+    subst (λ posts. Reaches classes from place posts old now c.args.failing c.joiners.failing)
+    (posts_sent c.publications.result.now (desk_at old.desks place).publications c.args.index c.args.sending.now.object c.args.sending.now.signal kinds
+    args row c.publications.ensures c.requires.within c.index-publications-index.is (sym c.publishes.ensures ∙ c.if-not-publishes.false))
     (reaches_all classes from place posts c.joiners.least old now c.args.failing c.joiners.failing (omega (arith, past, count)) c.joiners.invariant.reaches)
