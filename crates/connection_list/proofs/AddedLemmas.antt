@@ -38,7 +38,7 @@ has_place place new unique none = by (unique && list_any (same_ends new) place.r
     by true full used full_is used_is none = absurd (cc)
     by false true used full_is used_is none = absurd (cc)
     by false false true full_is used_is none = absurd (cc)
-    by false false false full_is used_is none = record { few = grind (arith, nat_tests, full_is); fits = grind (arith, nat_tests, used_is) }
+    by false false false full_is used_is none = record { few = grind (arith, nat_tests); fits = grind (arith, nat_tests) }
 
 -- the same connections are found
 pub same_kept : (rows : List (Keyed Connection)) (old new : Routes) → AreSame old new → IsPlaceKept rows old → IsPlaceKept rows new
@@ -60,7 +60,7 @@ vacant_apart rows key apart vacant k default within same =
 module _ (rows : List (Keyed Connection)) (old new : Routes) (key : ℕ) (row : Connection) (kept : IsPlaceKept rows old) (has : HasPlace (place_of rows old))
     (number : row.number ≡ old.last_number + 1) where
   above_all : All (λ keyed. keyed.row.number < row.number) rows
-  above_all k default within = omega (arith, number, all_keyed (λ r. r.number ≤ old.last_number) rows kept.sound.given k default within)
+  above_all k default within = omega (arith, all_keyed (λ r. r.number ≤ old.last_number) rows kept.sound.given k default within)
 
   mapped : map (λ keyed. keyed.row) (added rows key row) ≡ map (λ keyed. keyed.row) rows ++ row ∷ []
   mapped = map-append (λ (keyed : Keyed Connection). keyed.row) rows (record { key = key; row = row } ∷ [])
@@ -69,14 +69,14 @@ module _ (rows : List (Keyed Connection)) (old new : Routes) (key : ℕ) (row : 
       → IsPlaceKept (added rows key row) new
   added_kept vacant short last routed =
       let list : List Connection = map (λ keyed. keyed.row) rows in
-      let given : All (λ r. r.number ≤ new.last_number) list = λ k d within. omega (arith, last, number, kept.sound.given k d within) in
+      let given : All (λ r. r.number ≤ new.last_number) list = λ k d within. omega (arith, kept.sound.given k d within) in
       record {
         sound = rw mapped (record {
           rising = all_pairs_push (λ earlier later. earlier.number < later.number) list row kept.sound.rising
-              (λ k d within. omega (arith, number, kept.sound.given k d within));
-          from_one = All-push (λ r. 1 ≤ r.number) list row kept.sound.from_one (omega (arith, number));
-          given = All-push (λ r. r.number ≤ new.last_number) list row given (omega (arith, last));
-          fits = omega (arith, last, number, has.fits);
+              (λ k d within. omega (arith, kept.sound.given k d within));
+          from_one = All-push (λ r. 1 ≤ r.number) list row kept.sound.from_one (omega arith);
+          given = All-push (λ r. r.number ≤ new.last_number) list row given (omega arith);
+          fits = omega (arith, has.fits);
           few = omega (arith, has.few, length_push list row);
         });
         apart = all_pairs_push (λ earlier later. earlier.key ≢ later.key) rows (record { key = key; row = row }) kept.apart

@@ -45,26 +45,26 @@ module _ (link_of : Keyed Connection → Link) where
       → (new ≡ with_link link_cmp old (link_of row)) ⊎ ((object ≢ (link_of row).object) × (new ≡ old)) → IsLinkedAt link_of (rows ++ row ∷ []) object new
   linked_push rows row object {old} {new} linked change = are_linked (rows ++ row ∷ []) object new
       (λ r there is. ⊎_elim
-      (λ (stood : Contains rows r).
+      (λ stood.
       let before = link_there rows object linked r stood is in
       ⊎_elim
-      (λ (here : new ≡ with_link link_cmp old (link_of row)). rw here (with_others link_total link_same old (link_of row) (link_of r) before))
-      (λ (elsewhere : (object ≢ (link_of row).object) × (new ≡ old)). rw elsewhere.1 before)
+      (λ here. rw here (with_others link_total link_same old (link_of row) (link_of r) before))
+      (λ elsewhere. rw elsewhere.1 before)
       change)
-      (λ (last : row ≡ r). ⊎_elim
-      (λ (here : new ≡ with_link link_cmp old (link_of row)).
+      (λ last. ⊎_elim
+      (λ here.
       rw here (subst (λ k. Contains (with_link link_cmp old (link_of row)) (link_of k)) last (with_itself link_total link_same old (link_of row))))
-      (λ (elsewhere : (object ≢ (link_of row).object) × (new ≡ old)). absurd (elsewhere.0 (sym is ∙ ap (λ k. (link_of k).object) (sym last))))
+      (λ elsewhere. absurd (elsewhere.0 (sym is ∙ ap (λ k. (link_of k).object) (sym last))))
       change)
       (Contains-push_cases rows row r there))
       (λ link there is.
       let from : Contains old link → (r : Keyed Connection) × Contains (rows ++ row ∷ []) r × (link_of r ≡ link) = λ stood.
       let r = row_there rows object linked link stood is in (r.0, Contains-append_left rows (row ∷ []) r.0 r.1, r.2) in
       ⊎_elim
-      (λ (here : new ≡ with_link link_cmp old (link_of row)). ⊎_elim from
-      (λ (last : link_of row ≡ link). (row, Contains-push rows row, last))
+      (λ here. ⊎_elim from
+      (λ last. (row, Contains-push rows row, last))
       (with_cases link_total link_same old (link_of row) link (rw here at there)))
-      (λ (elsewhere : (object ≢ (link_of row).object) × (new ≡ old)). from (rw elsewhere.1 at there))
+      (λ elsewhere. from (rw elsewhere.1 at there))
       change)
 
   -- rows go that have one link, with that link
@@ -76,19 +76,19 @@ module _ (link_of : Keyed Connection → Link) where
       let kept = contains_from keep rows row there in
       let before = link_there rows object linked row kept.0 is in
       ⊎_elim
-      (λ (here : new ≡ without_link link_cmp old gone). rw here (without_others link_total link_same old gone (link_of row) before
+      (λ here. rw here (without_others link_total link_same old gone (link_of row) before
       (All-contains (λ r. keep r ≡ true → link_of r ≢ gone) rows row stay kept.0 kept.1)))
-      (λ (elsewhere : (object ≢ gone.object) × (new ≡ old)). rw elsewhere.1 before)
+      (λ elsewhere. rw elsewhere.1 before)
       change)
       (λ link there is.
       let left : Contains old link × (link ≢ gone) = ⊎_elim
-      (λ (here : new ≡ without_link link_cmp old gone). without_from link_total link_same old gone link (rw here at there))
-      (λ (elsewhere : (object ≢ gone.object) × (new ≡ old)). (rw elsewhere.1 at there, λ same. elsewhere.0 (sym is ∙ ap (λ (l : Link). l.object) same)))
+      (λ here. without_from link_total link_same old gone link (rw here at there))
+      (λ elsewhere. (rw elsewhere.1 at there, λ same. elsewhere.0 (sym is ∙ ap (λ (l : Link). l.object) same)))
       change in
       let row = row_there rows object linked link left.0 is in
       ⊎_elim
-      (λ (keeps : keep row.0 ≡ true). (row.0, contains_kept keep rows row.0 row.1 keeps, row.2))
-      (λ (goes : keep row.0 ≡ false). absurd (left.1 (sym row.2 ∙ All-contains (λ r. keep r ≡ false → link_of r ≡ gone) rows row.0 go row.1 goes)))
+      (λ keeps. (row.0, contains_kept keep rows row.0 row.1 keeps, row.2))
+      (λ goes. absurd (left.1 (sym row.2 ∙ All-contains (λ r. keep r ≡ false → link_of r ≡ gone) rows row.0 go row.1 goes)))
       (cases_Bool (keep row.0)))
 
   -- the links of an object are the same
@@ -135,12 +135,12 @@ module _ {old : Bucketed} {few : Linked Link} {many : List (Linked Link)} (view_
   changes_many change here after within is changed =
       subst (λ before. Changes change owner before (record { few = few; many = set many number after })) view_is
       (λ object. ⊎_elim
-      (λ (same : bucket_number object ≡ number). inl
+      (λ same. inl
       (ap (λ n. (get_or (set many number after) n few).links) same
       ∙ (ap (λ (l : Linked Link). l.links) (get_or-set_same many number after few within)
       ∙ (changed ∙ (ap (λ (l : Linked Link). change l.links) (is ∙ get_or_default many number here few within)
       ∙ ap (λ n. change (get_or many n few).links) (sym same))))))
-      (λ (differ : bucket_number object ≢ number). inr (
+      (λ differ. inr (
         λ same. differ (ap bucket_number same ∙ sym number_is),
         ap (λ (l : Linked Link). l.links) (get_or-set_other many number (bucket_number object) after few differ),
       ))
@@ -151,11 +151,11 @@ module _ {old : Bucketed} {few : Linked Link} {many : List (Linked Link)} (view_
   changes_few change after past changed =
       subst (λ before. Changes change owner before (record { few = after; many = many })) view_is
       (λ object. ⊎_elim
-      (λ (inside : bucket_number object < length many). inr (
-        λ same. absurd (omega (arith, inside, past, number_is, ap bucket_number same)),
+      (λ inside. inr (
+        λ same. absurd (omega (arith, inside, ap bucket_number same)),
         ap (λ (l : Linked Link). l.links) (get_or_default many (bucket_number object) after few inside),
       ))
-      (λ (outside : length many ≤ bucket_number object). inl
+      (λ outside. inl
       (ap (λ (l : Linked Link). l.links) (get_or_past many (bucket_number object) after outside)
       ∙ (changed ∙ ap (λ (l : Linked Link). change l.links) (sym (get_or_past many (bucket_number object) few outside)))))
       (cases_lt (bucket_number object) (length many)))
@@ -181,16 +181,16 @@ pub record AreHeld (links : List Link) (at : ℕ) (many : List (Linked Link)) : 
 
 pub held_all : (links : List Link) (at : ℕ) (many : List (Linked Link)) → length links ≤ at → AreHeld links at many → AreDivided links many
 held_all links at many all held object default =
-    let within : bucket_number object < length many = omega (arith, held.size, mod_below object BUCKETS (omega arith)) in
+    let within : bucket_number object < length many = omega (arith, mod_below object BUCKETS (omega arith)) in
     let same : get_or many (bucket_number object) blank ≡ get_or many (bucket_number object) default =
     get_or_default many (bucket_number object) blank default within in
     record {
       kept = λ link there is.
           let here : Contains (get_or many (bucket_number link.object) blank).links link =
           subst (λ (l : Link). Contains (get_or many (bucket_number l.object) blank).links l) there.2
-          (held.kept there.0 link (omega (arith, all, there.1)) there.1) in
+          (held.kept there.0 link (omega arith) there.1) in
           subst (λ (b : Linked Link). Contains b.links link) same (subst (λ o. Contains (get_or many (bucket_number o) blank).links link) is here);
-      from = λ link there. held.from (bucket_number object) (omega (arith, within, held.size)) link
+      from = λ link there. held.from (bucket_number object) (omega arith) link
           (subst (λ (b : Linked Link). Contains b.links link) (sym same) there);
     }
 
@@ -198,7 +198,7 @@ module _ {links : List Link} {at : ℕ} {many : List (Linked Link)} (held : AreH
     (is : (default : Link) → link ≡ get_or links at default) {number : ℕ} (number_is : number ≡ bucket_number link.object) (bound : number < BUCKETS)
     (here after : Linked Link) (here_is : here ≡ get_or many number here) (changed : after.links ≡ with_link link_cmp here.links link) where
   inside : number < length many
-  inside = omega (arith, bound, held.size)
+  inside = omega arith
 
   now_here : (get_or (set many number after) number blank).links ≡ with_link link_cmp (get_or many number blank).links link
   now_here = ap (λ (l : Linked Link). l.links) (get_or-set_same many number after blank inside)
@@ -210,11 +210,11 @@ module _ {links : List Link} {at : ℕ} {many : List (Linked Link)} (held : AreH
   still : (x : Link) → Contains (get_or many (bucket_number x.object) blank).links x
       → Contains (get_or (set many number after) (bucket_number x.object) blank).links x
   still x there = ⊎_elim
-      (λ (same : bucket_number x.object ≡ number).
+      (λ same.
       let before : Contains (get_or many number blank).links x = subst (λ n. Contains (get_or many n blank).links x) same there in
       subst (λ n. Contains (get_or (set many number after) n blank).links x) (sym same)
       (subst (λ list. Contains list x) (sym now_here) (with_others link_total link_same (get_or many number blank).links link x before)))
-      (λ (differ : bucket_number x.object ≢ number). subst (λ list. Contains list x) (sym (now_other (bucket_number x.object) differ)) there)
+      (λ differ. subst (λ list. Contains list x) (sym (now_other (bucket_number x.object) differ)) there)
       (cases_eq (bucket_number x.object) number)
 
   new : Contains (get_or (set many number after) (bucket_number link.object) blank).links link
@@ -226,16 +226,16 @@ module _ {links : List Link} {at : ℕ} {many : List (Linked Link)} (held : AreH
   held_more = record {
     size = length-set many number after ∙ held.size;
     kept = λ k d low behind. ⊎_elim
-        (λ (front : k < at). still (get_or links k d) (held.kept k d front behind))
-        (λ (last : at ≤ k). let same : at ≡ k = omega (arith, last, low) in
+        (λ front. still (get_or links k d) (held.kept k d front behind))
+        (λ last. let same : at ≡ k = omega arith in
         subst (λ (l : Link). Contains (get_or (set many number after) (bucket_number l.object) blank).links l) (is d ∙ ap (λ n. get_or links n d) same) new)
         (cases_lt k at);
     from = λ other low x there. ⊎_elim
-        (λ (same : other ≡ number). ⊎_elim
+        (λ same. ⊎_elim
         (held.from number bound x)
-        (λ (last : link ≡ x). subst (Contains links) last (at, within, sym (is link)))
+        (λ last. subst (Contains links) last (at, within, sym (is link)))
         (with_cases link_total link_same (get_or many number blank).links link x
         (subst (λ list. Contains list x) now_here (subst (λ n. Contains (get_or (set many number after) n blank).links x) same there))))
-        (λ (differ : other ≢ number). held.from other low x (subst (λ list. Contains list x) (now_other other differ) there))
+        (λ differ. held.from other low x (subst (λ list. Contains list x) (now_other other differ) there))
         (cases_eq other number);
   }

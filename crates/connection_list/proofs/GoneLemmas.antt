@@ -26,19 +26,18 @@ use Rattle.connection_list.proofs.RoutesLemmas.{rising_keyed}
 pub all_keyed : (P : Connection → Type 0) (rows : List (Keyed Connection)) → All P (map (λ keyed. keyed.row) rows) → All (λ keyed. P keyed.row) rows
 all_keyed P rows all k default within =
     subst P (get_or-map (λ (keyed : Keyed Connection). keyed.row) rows k default default.row within)
-    (all k default.row (omega (arith, length-map rows (λ (keyed : Keyed Connection). keyed.row), within)))
+    (all k default.row (omega (arith, length-map rows (λ (keyed : Keyed Connection). keyed.row))))
 
 -- a place stays sound where rows go
 sound_filter : (keep : Keyed Connection → Bool) (rows : List (Keyed Connection)) (old new : Routes) → IsSound (place_of rows old)
     → new.last_number ≡ old.last_number → IsSound (place_of (filter keep rows) new)
 sound_filter keep rows old new sound same = record {
   rising = λ i j default below within.
-      let inside : j < length (filter keep rows) = omega (arith, within, length-map (filter keep rows) (λ (keyed : Keyed Connection). keyed.row)) in
+      let inside : j < length (filter keep rows) = omega (arith, length-map (filter keep rows) (λ (keyed : Keyed Connection). keyed.row)) in
       let blank : Keyed Connection = record { key = 0; row = default } in
       let rise = AllPairs-filter (λ earlier later. earlier.row.number < later.row.number) keep rows (rising_keyed rows old sound) i j blank below inside in
       omega (
         arith,
-        rise,
         ap (λ (row : Connection). row.number) (get_or-map (λ (keyed : Keyed Connection). keyed.row) (filter keep rows) i blank default
             (omega (arith, below, inside))),
         ap (λ (row : Connection). row.number) (get_or-map (λ (keyed : Keyed Connection). keyed.row) (filter keep rows) j blank default inside),
@@ -47,11 +46,10 @@ sound_filter keep rows old new sound same = record {
       (All-filter keep (λ keyed. 1 ≤ keyed.row.number) rows (all_keyed (λ row. 1 ≤ row.number) rows sound.from_one));
   given = All-map (λ row. row.number ≤ new.last_number) (λ (keyed : Keyed Connection). keyed.row) (filter keep rows)
       (All-filter keep (λ keyed. keyed.row.number ≤ new.last_number) rows (all_keyed (λ row. row.number ≤ new.last_number) rows (rw same sound.given)));
-  fits = omega (arith, same, sound.fits);
+  fits = omega arith;
   few =
       omega (
         arith,
-        sound.few,
         length-map rows (λ (keyed : Keyed Connection). keyed.row),
         length-map (filter keep rows) (λ (keyed : Keyed Connection). keyed.row),
         length-filter keep rows,
@@ -68,9 +66,9 @@ module _ (key : ℕ) (row : Connection) (rows : List (Keyed Connection)) (apart 
       linked_gone link_of (λ keyed. not (keyed.key == key)) rows (link_of (record { key = key; row = row })) object linked
       (all_from (λ keyed. not (keyed.key == key) ≡ true → link_of keyed ≢ link_of (record { key = key; row = row })) rows (λ keyed there keeps same.
       let same_key : keyed.key ≡ key = sym (key_is keyed) ∙ (ap (λ (l : Link). l.key) same ∙ key_is (record { key = key; row = row })) in
-      absurd (grind (arith, nat_tests, same_key, keeps))))
+      absurd (grind (arith, nat_tests))))
       (all_from (λ keyed. not (keyed.key == key) ≡ false → link_of keyed ≡ link_of (record { key = key; row = row })) rows (λ keyed there goes.
-      let same_key : keyed.key ≡ key = grind (arith, nat_tests, goes) in
+      let same_key : keyed.key ≡ key = grind (arith, nat_tests) in
       let same_row : keyed.row ≡ row = only_under rows key row apart stands keyed there same_key in
       ap (λ k. link_of (record { key = k; row = keyed.row })) same_key ∙ ap (λ r. link_of (record { key = key; row = r })) same_row))
       change

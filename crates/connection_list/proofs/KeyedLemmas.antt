@@ -15,7 +15,7 @@ module _ {R : Type 0} where
   pub find_map : (test : R → Bool) (rows : List (Keyed R)) → find test (map (λ keyed. keyed.row) rows)
       ≡ option_map (λ keyed. keyed.row) (find (λ keyed. test keyed.row) rows)
   find_map test [] = refl
-  find_map test (first ∷ rows) = ⊎_elim (λ (yes : test first.row ≡ true). rw yes refl) (λ (no : test first.row ≡ false). rw no (find_map test rows))
+  find_map test (first ∷ rows) = ⊎_elim (λ yes. rw yes refl) (λ no. rw no (find_map test rows))
       (cases_Bool (test first.row))
 
   pub any_map : (test : R → Bool) (rows : List (Keyed R)) → list_any test (map (λ keyed. keyed.row) rows) ≡ list_any (λ keyed. test keyed.row) rows
@@ -25,26 +25,26 @@ module _ {R : Type 0} where
   pub filter_map : (test : R → Bool) (rows : List (Keyed R)) → filter test (map (λ keyed. keyed.row) rows)
       ≡ map (λ keyed. keyed.row) (filter (λ keyed. test keyed.row) rows)
   filter_map test [] = refl
-  filter_map test (first ∷ rows) = ⊎_elim (λ (yes : test first.row ≡ true). rw yes (ap (λ rest. first.row ∷ rest) (filter_map test rows)))
-      (λ (no : test first.row ≡ false). rw no (filter_map test rows)) (cases_Bool (test first.row))
+  filter_map test (first ∷ rows) = ⊎_elim (λ yes. rw yes (ap (λ rest. first.row ∷ rest) (filter_map test rows)))
+      (λ no. rw no (filter_map test rows)) (cases_Bool (test first.row))
 
   -- what is found stands there, and passes
   pub find_stands : (test : Keyed R → Bool) (rows : List (Keyed R)) (keyed : Keyed R) → find test rows ≡ Some keyed → Contains rows keyed × (test keyed ≡ true)
   find_stands test [] keyed found = absurd (cc)
   find_stands test (first ∷ rows) keyed found = ⊎_elim
-      (λ (yes : test first ≡ true).
+      (λ yes.
       let is : Some first ≡ Some keyed = rw yes at found in
       let same : first ≡ keyed = cc in
       ((0, omega arith, same), ap test (sym same) ∙ yes))
-      (λ (no : test first ≡ false). let rest = find_stands test rows keyed (rw no at found) in (contains_later first keyed rows rest.0, rest.1))
+      (λ no. let rest = find_stands test rows keyed (rw no at found) in (contains_later first keyed rows rest.0, rest.1))
       (cases_Bool (test first))
 
   -- a row stands under its key
   pub under_key : (rows : List (Keyed R)) (keyed : Keyed R) → IsApart rows → Contains rows keyed → row_under rows keyed.key ≡ Some keyed.row
-  under_key [] keyed apart there = absurd (omega (arith, there.1))
+  under_key [] keyed apart there = absurd (omega arith)
   under_key (first ∷ rows) keyed apart there = ⊎_elim
       (λ (here : first ≡ keyed). rw (eq-eqb first.key keyed.key (ap (λ (k : Keyed R). k.key) here)) (ap (λ (k : Keyed R). Some k.row) here))
-      (λ (later : Contains rows keyed).
+      (λ later.
       let differ = All-contains (λ (k : Keyed R). first.key ≢ k.key) rows keyed (λ k d within. apart 0 (suc k) d (omega arith) (omega arith)) later in
       rw (ne_eqb first.key keyed.key differ) (under_key rows keyed (λ i j d below within. apart (suc i) (suc j) d (omega arith) (omega arith)) later))
       (contains_cases first keyed rows there)
@@ -53,11 +53,11 @@ module _ {R : Type 0} where
   pub stands_under : (rows : List (Keyed R)) (key : ℕ) (row : R) → row_under rows key ≡ Some row → Contains rows (record { key = key; row = row })
   stands_under [] key row stands = absurd (cc)
   stands_under (first ∷ rows) key row stands = ⊎_elim
-      (λ (same : first.key ≡ key).
+      (λ same.
       let is : Some first.row ≡ Some row = rw (eq-eqb first.key key same) at stands in
       let same_row : first.row ≡ row = cc in
       (0, omega arith, ap (λ k. record { key = k; row = first.row }) same ∙ ap (λ r. record { key = key; row = r }) same_row))
-      (λ (differ : first.key ≢ key). contains_later first (record { key = key; row = row }) rows
+      (λ differ. contains_later first (record { key = key; row = row }) rows
       (stands_under rows key row (rw (ne_eqb first.key key differ) at stands)))
       (cases_eq first.key key)
 
@@ -76,9 +76,9 @@ module _ {R : Type 0} where
   filter_without keep (first ∷ rows) key goes =
       let rest = filter_without keep rows key (λ k d within. goes (suc k) d (omega arith)) in
       ⊎_elim
-      (λ (same : first.key ≡ key). let drops : keep first ≡ false = goes 0 first (omega arith) same in rw (eq-eqb first.key key same, drops) rest)
-      (λ (differ : first.key ≢ key).
-      rw (ne_eqb first.key key differ) (⊎_elim (λ (yes : keep first ≡ true). rw yes (ap (λ list. first ∷ list) rest)) (λ (no : keep first ≡ false). rw no rest)
+      (λ same. let drops : keep first ≡ false = goes 0 first (omega arith) same in rw (eq-eqb first.key key same, drops) rest)
+      (λ differ.
+      rw (ne_eqb first.key key differ) (⊎_elim (λ yes. rw yes (ap (λ list. first ∷ list) rest)) (λ no. rw no rest)
       (cases_Bool (keep first))))
       (cases_eq first.key key)
 

@@ -20,7 +20,7 @@ module _ (made : Option (Box Routes Global)) (seen : Routes) (view_is : routes_i
   pub all_of_none : (P : Keyed Connection → Type 0) → All P rows
   all_of_none P k default within =
       let there = ((subst (IsRouted rows) seen_none routed).sent (get_or rows k default).row.sender).each k default within refl in
-      absurd (omega (arith, there.1))
+      absurd (omega arith)
 
   pub none_under : (key : ℕ) → IsSome (row_under rows key) → ⊥
   none_under key = by rows (λ k default within. all_of_none (λ _. ⊥) k default within)

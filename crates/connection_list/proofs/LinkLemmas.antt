@@ -45,9 +45,9 @@ pub record IsAtLeast (x y : Link) : Type 0 where
 
 pub at_least : (x y : Link) → is_lt (link_cmp x y) ≡ false → IsAtLeast x y
 at_least x y e = record {
-  object = grind (arith, nat_tests, e);
-  source = λ same. grind (arith, nat_tests, e, same);
-  rank = λ same other. grind (arith, nat_tests, e, same, other);
+  object = grind (arith, nat_tests);
+  source = λ same. grind (arith, nat_tests);
+  rank = λ same other. grind (arith, nat_tests);
 }
 
 pub not_below : (x : Link) (rank : ℕ) → rank ≤ x.rank → is_lt (link_cmp x (from x.object x.source rank)) ≡ false
@@ -65,37 +65,37 @@ before_other x y less = at_least y x (ap is_lt (link_total.antisymm y x ∙ ap o
 by_order : {G : Type 0} (x y : Link) → IsAtLeast y x → (x.object < y.object → G) → (x.object ≡ y.object → x.source < y.source → G)
     → (x.object ≡ y.object → x.source ≡ y.source → x.rank ≤ y.rank → G) → G
 by_order x y least by_object by_source by_rank = ⊎_elim
-    (λ (same : x.object ≡ y.object). ⊎_elim
-    (λ (also : x.source ≡ y.source). by_rank same also (least.rank same also))
-    (λ (differs : x.source ≢ y.source). by_source same (omega (arith, least.source same, differs)))
+    (λ same. ⊎_elim
+    (λ also. by_rank same also (least.rank same also))
+    (λ differs. by_source same (omega (arith, least.source same)))
     (cases_eq x.source y.source))
-    (λ (differs : x.object ≢ y.object). by_object (omega (arith, least.object, differs)))
+    (λ differs. by_object (omega arith))
     (cases_eq x.object y.object)
 
 -- what stands before a link that is before a group is before it too, and what stands behind one that is behind it
 module _ (object : ℕ) where
   before_on : (source : Option ℕ) (marks : Option Marks) (x y : Link) → IsAtLeast y x → is_before object source marks y ≡ true
       → is_before object source marks x ≡ true
-  before_on None marks x y least before = grind (arith, nat_tests, before, least.object)
-  before_on (Some source) None x y least before = by_order x y least (λ less. grind (arith, nat_tests, before, less))
-      (λ same less. grind (arith, nat_tests, before, same, less)) (λ same also upto. grind (arith, nat_tests, before, same, also))
-  before_on (Some source) (Some marks) x y least before = by_order x y least (λ less. grind (arith, nat_tests, before, less))
-      (λ same less. grind (arith, nat_tests, before, same, less)) (λ same also upto. grind (arith, nat_tests, before, same, also, upto))
+  before_on None marks x y least before = grind (arith, nat_tests)
+  before_on (Some source) None x y least before = by_order x y least (λ less. grind (arith, nat_tests))
+      (λ same less. grind (arith, nat_tests)) (λ same also upto. grind (arith, nat_tests))
+  before_on (Some source) (Some marks) x y least before = by_order x y least (λ less. grind (arith, nat_tests))
+      (λ same less. grind (arith, nat_tests)) (λ same also upto. grind (arith, nat_tests))
 
   past_on : (source : Option ℕ) (marks : Option Marks) (x y : Link) → IsAtLeast y x → is_past object source marks y ≡ false
       → is_past object source marks x ≡ false
-  past_on None marks x y least past = grind (arith, nat_tests, past, least.object)
-  past_on (Some source) None x y least past = by_order x y least (λ less. grind (arith, nat_tests, past, less))
-      (λ same less. grind (arith, nat_tests, past, same, less)) (λ same also upto. grind (arith, nat_tests, past, same, also))
-  past_on (Some source) (Some marks) x y least past = by_order x y least (λ less. grind (arith, nat_tests, past, less))
-      (λ same less. grind (arith, nat_tests, past, same, less)) (λ same also upto. grind (arith, nat_tests, past, same, also, upto))
+  past_on None marks x y least past = grind (arith, nat_tests)
+  past_on (Some source) None x y least past = by_order x y least (λ less. grind (arith, nat_tests))
+      (λ same less. grind (arith, nat_tests)) (λ same also upto. grind (arith, nat_tests))
+  past_on (Some source) (Some marks) x y least past = by_order x y least (λ less. grind (arith, nat_tests))
+      (λ same less. grind (arith, nat_tests)) (λ same also upto. grind (arith, nat_tests))
 
   -- a link that is neither before a group nor behind it has its object
   pub inside_same : (source : Option ℕ) (marks : Option Marks) (link : Link) → is_before object source marks link ≡ false
       → not (is_past object source marks link) ≡ true → link.object ≡ object
-  inside_same None marks link before past = grind (arith, nat_tests, before, past)
-  inside_same (Some source) None link before past = grind (arith, nat_tests, before, past)
-  inside_same (Some source) (Some marks) link before past = grind (arith, nat_tests, before, past)
+  inside_same None marks link before past = grind (arith, nat_tests)
+  inside_same (Some source) None link before past = grind (arith, nat_tests)
+  inside_same (Some source) (Some marks) link before past = grind (arith, nat_tests)
 
 module _ (links : List Link) (order : IsInOrder link_cmp links) (object : ℕ) (source : Option ℕ) (marks : Option Marks) where
   pub before_parted : IsPartitionedBy (is_before object source marks) links
@@ -112,14 +112,14 @@ module _ (links : List Link) (order : IsInOrder link_cmp links) (object : ℕ) (
 pub below_next : (before there link : Link) → link_cmp before there ≡ Less → there.object ≡ link.object → there.source ≡ link.source
     → before.rank < link.rank → is_lt (link_cmp before link) ≡ true
 below_next before there link less object source rank = by_order before there (before_other before there less)
-    (λ low. grind (arith, nat_tests, low, object))
-    (λ same low. grind (arith, nat_tests, same, low, object, source))
-    (λ same also upto. grind (arith, nat_tests, same, also, object, source, rank))
+    (λ low. grind (arith, nat_tests, object))
+    (λ same low. grind (arith, nat_tests, object, source))
+    (λ same also upto. grind (arith, nat_tests, object, source, rank))
 
 -- a link of the same object and source is not below one with a smaller rank or the same
 pub not_below_other : (there link : Link) → there.object ≡ link.object → there.source ≡ link.source → link.rank ≤ there.rank → link.key ≤ there.key
     → is_lt (link_cmp there link) ≡ false
-not_below_other there link object source rank key = grind (arith, nat_tests, object, source, rank, key)
+not_below_other there link object source rank key = grind (arith, nat_tests, object, source, rank)
 
 module _ (links : List Link) (order : IsInOrder link_cmp links) (object : ℕ) where
   -- where no link is at least the first of an object, none is the object's
@@ -135,7 +135,7 @@ module _ (links : List Link) (order : IsInOrder link_cmp links) (object : ℕ) w
       let first = first_some link_total link_same links order (from object 0 0) least found in
       let low = at_least least (from object 0 0) first.1 in
       let above = at_least link least (first.2 link there (ap (λ o. is_lt (link_cmp link (from o 0 0))) (sym same) ∙ not_below_first link)) in
-      differs (omega (arith, low.object, above.object, same)))
+      differs (omega arith))
 
   -- else that one leads to a connection of the object
   pub one_of : (least : Link) → first_from link_cmp links (from object 0 0) ≡ Some least → least.object ≡ object

@@ -16,16 +16,16 @@ use Rattle.connection_list.proofs.SeenLemmas.{IsSeen, shown_count}
 -- so many elements in front
 pub take_first : {X : Type 0} (n : ℕ) (xs ys : List X) → length xs ≡ n → take n (xs ++ ys) ≡ xs
 take_first zero [] ys h = refl
-take_first zero (x ∷ xs) ys h = absurd (omega (arith, h))
-take_first (suc n) [] ys h = absurd (omega (arith, h))
-take_first (suc n) (x ∷ xs) ys h = ap (λ rest. x ∷ rest) (take_first n xs ys (omega (arith, h)))
+take_first zero (x ∷ xs) ys h = absurd (omega arith)
+take_first (suc n) [] ys h = absurd (omega arith)
+take_first (suc n) (x ∷ xs) ys h = ap (λ rest. x ∷ rest) (take_first n xs ys (omega arith))
 
 -- and no more than there are
 pub take_short : {X : Type 0} (n : ℕ) (xs : List X) → length xs ≤ n → take n xs ≡ xs
 take_short zero [] h = refl
-take_short zero (x ∷ xs) h = absurd (omega (arith, h))
+take_short zero (x ∷ xs) h = absurd (omega arith)
 take_short (suc n) [] h = refl
-take_short (suc n) (x ∷ xs) h = ap (λ rest. x ∷ rest) (take_short n xs (omega (arith, h)))
+take_short (suc n) (x ∷ xs) h = ap (λ rest. x ∷ rest) (take_short n xs (omega arith))
 
 module _ {X : Type 0} (test : X → Bool) (found more left : List X) (row : X) (added : more ≡ found ++ filter test (row ∷ [])) where
   -- one row on, what was found and what is yet to be found are the same
@@ -58,7 +58,7 @@ module _ {rows : Table (List (Keyed Connection))} {routes : Table Routes} {table
 
   -- there are no more of them than a number of 32 bits
   pub few_rows : (test : Connection → Bool) → count_by test (rows_at table place).rows < 2 ^ 31
-  few_rows test = omega (arith, count_by-le-length test (rows_at table place).rows, ap (λ (p : Rows). length p.rows) seen.shows, seen.kept.sound.few)
+  few_rows test = omega (arith, count_by-le-length test (rows_at table place).rows, ap (λ (p : Rows). length p.rows) seen.shows)
 
   -- what was counted up to a position, and what is yet to be counted
   module _ (test : Connection → Bool) where
@@ -70,10 +70,8 @@ module _ {rows : Table (List (Keyed Connection))} {routes : Table Routes} {table
       pub counted_more : IsCounted (position + 1) (count + one)
       counted_more = omega (
         arith,
-        one_is,
         sum_by-cons (λ x. cond (test x) 1 0) row (drop (position + 1) (rows_at table place).rows),
         ap (count_by test) (next_row position key row is within),
-        counted,
       )
 
       pub counted_few : count + one < 2 ^ 31
@@ -83,7 +81,6 @@ module _ {rows : Table (List (Keyed Connection))} {routes : Table Routes} {table
         → count ≡ count_by test (rows_at table place).rows
     counted_all position count whole counted = omega (
       arith,
-      counted,
       ap (count_by test) (drop_all position (rows_at table place).rows
           (omega (arith, whole, shown_count seen))),
     )

@@ -28,10 +28,9 @@ IsRisingKeyed rows = (i j : ℕ) (default : Keyed Connection) → i < j → j < 
 pub rising_keyed : (rows : List (Keyed Connection)) (routes : Routes) → IsSound (place_of rows routes) → IsRisingKeyed rows
 rising_keyed rows routes sound i j default below within =
     let rise = sound.rising i j default.row below (omega (arith, length-map rows (λ (keyed : Keyed Connection). keyed.row), within)) in
-    let low : i < length rows = omega (arith, below, within) in
+    let low : i < length rows = omega (arith, within) in
     omega (
       arith,
-      rise,
       ap (λ (row : Connection). row.number) (get_or-map (λ (keyed : Keyed Connection). keyed.row) rows i default default.row low),
       ap (λ (row : Connection). row.number) (get_or-map (λ (keyed : Keyed Connection). keyed.row) rows j default default.row within),
     )
@@ -42,8 +41,6 @@ last_bound rows routes sound k default within =
     let given = sound.given k default.row (omega (arith, length-map rows (λ (keyed : Keyed Connection). keyed.row), within)) in
     omega (
       arith,
-      given,
-      sound.fits,
       ap (λ (row : Connection). row.number)
           (get_or-map (λ (keyed : Keyed Connection). keyed.row) rows k default default.row within),
     )
@@ -52,7 +49,7 @@ last_bound rows routes sound k default within =
 find_least : {X : Type 0} (number_of : X → ℕ) (test : X → Bool) (rows : List X) → AllPairs (λ earlier later. number_of earlier < number_of later) rows
     → (row : X) → Contains rows row → test row ≡ true
     → All (λ other. test other ≡ true → number_of row ≤ number_of other) rows → find test rows ≡ Some row
-find_least number_of test [] rising row there passes least = absurd (omega (arith, there.1))
+find_least number_of test [] rising row there passes least = absurd (omega arith)
 find_least {X} number_of test (first ∷ rows) rising row there passes least =
     by there.0 there.1 there.2 (λ at within is. find_least number_of test rows (λ i j d low high. rising (suc i) (suc j) d (omega arith) (omega arith)) row
     (at, within, is) passes (λ k d lt yes. least (suc k) d (omega arith) yes))
@@ -63,8 +60,8 @@ find_least {X} number_of test (first ∷ rows) rising row there passes least =
     by (suc at) within is later =
         let below : number_of first < number_of row = omega (arith, rising 0 (suc at) row (omega arith) within, ap number_of is) in
         let fails : test first ≡ false = ⊎_elim
-        (λ (yes : test first ≡ true). absurd (omega (arith, below, least 0 first (omega arith) yes)))
-        (λ (no : test first ≡ false). no)
+        (λ yes. absurd (omega (arith, least 0 first (omega arith) yes)))
+        (λ no. no)
         (cases_Bool (test first)) in
         rw fails (later at (omega arith) is)
 
@@ -97,10 +94,10 @@ module _ (sender signal after up_to : ℕ) (rows : List (Keyed Connection)) (rou
 
   facts : (keyed : Keyed Connection) → calls_next keyed ≡ true → IsNext keyed
   facts keyed next = record {
-    sender_is = grind (arith, nat_tests, next);
-    signal_is = grind (arith, nat_tests, next);
-    above = grind (arith, nat_tests, next);
-    within = grind (arith, nat_tests, next);
+    sender_is = grind (arith, nat_tests);
+    signal_is = grind (arith, nat_tests);
+    above = grind (arith, nat_tests);
+    within = grind (arith, nat_tests);
   }
 
   none_from : All (λ keyed. calls_next keyed ≡ true → ⊥) rows → None ≡ key_in (find calls_next rows)
@@ -108,7 +105,7 @@ module _ (sender signal after up_to : ℕ) (rows : List (Keyed Connection)) (rou
 
   -- no number is above the greatest
   pub none_above : after ≡ 2 ^ 32 - 1 → None ≡ key_in (find calls_next rows)
-  none_above last = none_from (λ k d within next. omega (arith, last, last_bound rows routes kept.sound k d within, (facts (get_or rows k d) next).above))
+  none_above last = none_from (λ k d within next. omega (arith, last_bound rows routes kept.sound k d within, (facts (get_or rows k d) next).above))
 
   -- the link of a connection that the emission calls is not below the first that is looked for
   reaches : (keyed : Keyed Connection) → calls_next keyed ≡ true → is_lt (link_cmp (sent_of keyed) (from sender signal (after + 1))) ≡ false
@@ -116,7 +113,7 @@ module _ (sender signal after up_to : ℕ) (rows : List (Keyed Connection)) (rou
       let is = facts keyed next in
       ap (λ o. is_lt (link_cmp (sent_of keyed) (from o signal (after + 1)))) (sym is.sender_is)
       ∙ (ap (λ s. is_lt (link_cmp (sent_of keyed) (from keyed.row.sender s (after + 1)))) (sym is.signal_is)
-      ∙ not_below (sent_of keyed) (after + 1) (omega (arith, is.above)))
+      ∙ not_below (sent_of keyed) (after + 1) (omega arith))
 
   pub none_next : {list : List Link} → list ≡ links → first_from link_cmp list (from sender signal (after + 1)) ≡ None
       → None ≡ key_in (find calls_next rows)
@@ -153,22 +150,22 @@ module _ (sender signal after up_to : ℕ) (rows : List (Keyed Connection)) (rou
         let sender_is : keyed.row.sender ≡ sender = ap (λ (l : Link). l.object) is ∙ object in
         let signal_is : keyed.row.signal ≡ signal = ap (λ (l : Link). l.source) is ∙ same_signal in
         let number_is : keyed.row.number ≡ link.rank = ap (λ (l : Link). l.rank) is in
-        let next : calls_next keyed ≡ true = grind (arith, nat_tests, sender_is, signal_is, number_is, within, bound) in
+        let next : calls_next keyed ≡ true = grind (arith, nat_tests, sender_is, signal_is, within) in
         ap Some (sym (ap (λ (l : Link). l.key) is))
         ∙ sym (ap key_in (find_least (λ (k : Keyed Connection). k.row.number) calls_next rows (rising_keyed rows routes kept.sound) keyed
         (any.0, any.2, any.3) next (λ k d inside other_next.
         let other = facts (get_or rows k d) other_next in
         let above = at_least (sent_of (get_or rows k d)) link (upto (get_or rows k d) ((kept.routed.sent sender).each k d inside other.sender_is) other_next) in
-        omega (arith, number_is, above.rank (object ∙ sym other.sender_is) (same_signal ∙ sym other.signal_is)))))
+        omega (arith, above.rank (object ∙ sym other.sender_is) (same_signal ∙ sym other.signal_is)))))
 
     pub no_next : (link.object ≡ sender → link.source ≡ signal → link.rank ≤ up_to → ⊥) → None ≡ key_in (find calls_next rows)
     no_next differs = none_from (λ k d inside next.
         let is = facts (get_or rows k d) next in
         let above = at_least (sent_of (get_or rows k d)) link (upto (get_or rows k d) ((kept.routed.sent sender).each k d inside is.sender_is) next) in
         let least = at_least link (from sender signal (after + 1)) low in
-        let object : link.object ≡ sender = omega (arith, above.object, least.object, is.sender_is) in
-        let same_signal : link.source ≡ signal = omega (arith, above.source (object ∙ sym is.sender_is), least.source (sym object), is.signal_is) in
-        differs object same_signal (omega (arith, is.within, above.rank (object ∙ sym is.sender_is) (same_signal ∙ sym is.signal_is))))
+        let object : link.object ≡ sender = omega (arith, above.object) in
+        let same_signal : link.source ≡ signal = omega (arith, above.source (object ∙ sym is.sender_is), least.source (sym object)) in
+        differs object same_signal (omega (arith, above.rank (object ∙ sym is.sender_is) (same_signal ∙ sym is.signal_is))))
 
 -- one more connection is found from both ends
 pub routed_push : (rows : List (Keyed Connection)) (old new : Routes) (keyed : Keyed Connection) → IsRouted rows old
@@ -213,14 +210,14 @@ module _ (object : ℕ) (rows : List (Keyed Connection)) (routes : Routes) (rout
       )
 
   pub touching_sent : (key : ℕ) → Any (λ link. (link.object ≡ object) × (link.key ≡ key)) (links_at false object routes) → Touching key
-  touching_sent key any = touches_from sent_of (λ keyed. refl) (λ keyed is. grind (arith, nat_tests, is)) (links_at false object routes) (routed.sent object)
+  touching_sent key any = touches_from sent_of (λ keyed. refl) (λ keyed is. grind (arith, nat_tests)) (links_at false object routes) (routed.sent object)
       key any
 
   pub touching_received : (found : Option ℕ) → IfSome found (λ key. Any (λ link. (link.object ≡ object) × (link.key ≡ key)) (links_at true object routes))
       → IfSome found Touching
   touching_received None any = tt
   touching_received (Some key) any = touches_from received_of (λ keyed. refl)
-      (λ keyed is. grind (arith, nat_tests, is)) (links_at true object routes) (routed.received object) key any
+      (λ keyed is. grind (arith, nat_tests)) (links_at true object routes) (routed.received object) key any
 
   pub touching_none : All (λ link. link.object ≢ object) (links_at false object routes) → (found : Option ℕ)
       → IfNone found (All (λ link. link.object ≢ object) (links_at true object routes)) → IfNone found (All (λ keyed. touches object keyed.row ≡ false) rows)
@@ -232,4 +229,4 @@ module _ (object : ℕ) (rows : List (Keyed Connection)) (routes : Routes) (rout
       let no_receiver : (get_or rows k d).row.receiver ≢ object = λ is.
       All-contains (λ link. link.object ≢ object) (links_at true object routes) (received_of (get_or rows k d)) received
       ((routed.received object).each k d within is) is in
-      grind (arith, nat_tests, no_sender, no_receiver)
+      grind (arith, nat_tests)

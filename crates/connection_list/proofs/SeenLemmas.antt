@@ -31,26 +31,31 @@ pub record IsSeen (rows : Table (List (Keyed Connection))) (routes : Table Route
   pub is : (default : Routes) → at ≡ get_or routes.places place default
   pub kept : IsPlaceKept (shared.rows_at rows place) at
   pub shows : rows_at table place ≡ place_of (shared.rows_at rows place) at
+  pub sound : IsSound (rows_at table place)
 
 places_there : (rows : Table (List (Keyed Connection))) (routes : Table Routes) (table : Table Rows) (place : ℕ) → AreKept rows.places routes.places
     → paired_tables place_of rows routes ≡ table → IsPlace table place → IsPlace rows place × IsPlace routes place
 places_there rows routes table place kept view_is is_place =
-    let within : IsPlace rows place = omega (arith, is_place, pairs_length place_of rows routes kept.same view_is) in
-    (within, omega (arith, within, kept.same))
+    let within : IsPlace rows place = omega (arith, pairs_length place_of rows routes kept.same view_is) in
+    (within, omega (arith, kept.same))
 
 module _ {rows : Table (List (Keyed Connection))} {routes : Table Routes} {table : Table Rows} {place : ℕ} (kept : AreKept rows.places routes.places)
     (view_is : paired_tables place_of rows routes ≡ table) (is_place : IsPlace table place) where
   pub seen : {at : Routes} → ((default : Routes) → at ≡ get_or routes.places place default) → IsSeen rows routes table place at
   seen {at} is =
       let there = places_there rows routes table place kept view_is is_place in
+      let place_kept = subst (IsPlaceKept (shared.rows_at rows place)) (sym (is at)) (kept.each place at there.0) in
+      let shows : rows_at table place ≡ place_of (shared.rows_at rows place) at =
+      pairs_at place_of rows routes kept.same view_is place [] at no_rows there.0 ∙ ap (place_of (shared.rows_at rows place)) (sym (is at)) in
       record {
         tables = kept;
         view = view_is;
         rows_place = there.0;
         routes_place = there.1;
         is = is;
-        kept = subst (IsPlaceKept (shared.rows_at rows place)) (sym (is at)) (kept.each place at there.0);
-        shows = pairs_at place_of rows routes kept.same view_is place [] at no_rows there.0 ∙ ap (place_of (shared.rows_at rows place)) (sym (is at));
+        kept = place_kept;
+        shows = shows;
+        sound = rw shows place_kept.sound;
       }
 
   -- also where nothing was read there
@@ -69,7 +74,7 @@ module _ {rows : Table (List (Keyed Connection))} {routes : Table Routes} {table
     kept_changed = record {
       same = omega (arith, seen.tables.same, length-set rows.places place list, length-set routes.places place new);
       each = λ other default within. each_with IsPlaceKept rows.places routes.places [] seen.tables.same seen.tables.each place list new seen.rows_place
-          place_kept other default (omega (arith, within, length-set rows.places place list));
+          place_kept other default (omega (arith, length-set rows.places place list));
     }
 
     pub view_changed : paired_tables place_of (with_place rows place list) (with_place routes place new) ≡ with_rows table place (place_of list new)
@@ -106,13 +111,11 @@ module _ {rows : Table (List (Keyed Connection))} {routes : Table Routes} {table
           ∙ (sym (length-map (shared.rows_at new place) (λ keyed. keyed.row)) ∙ ap length gone_rows) in (
             omega (
               arith,
-              first,
-              last,
               length-filter (λ row. not (test row)) (rows_at table place).rows,
               count_by-le-length (λ row. not (test row)) (rows_at table place).rows,
             ),
-            omega (arith, seen.kept.sound.few, before_is, length-map (shared.rows_at rows place) (λ (keyed : Keyed Connection). keyed.row)),
-            omega (arith, first, last, length-without test (rows_at table place).rows),
+            omega (arith, seen.kept.sound.few, length-map (shared.rows_at rows place) (λ (keyed : Keyed Connection). keyed.row)),
+            omega (arith, length-without test (rows_at table place).rows),
           )
 
 -- rows of one number are one
@@ -123,23 +126,14 @@ only_numbered rows routes sound x y there also same =
     let second : get_or rows also.0 x ≡ y = get_or_default rows also.0 x y also.1 ∙ also.2 in
     let number_of = λ (k : Keyed Connection). k.row.number in
     ⊎_elim
-    (λ (less : there.0 < also.0). absurd (omega (
+    (λ less. absurd (omega (arith, rising_keyed rows routes sound there.0 also.0 x less also.1, ap number_of first, ap number_of second)))
+    (λ more. ⊎_elim
+    (λ here. sym first ∙ (ap (λ i. get_or rows i x) (sym here) ∙ second))
+    (λ differ. absurd (omega (
       arith,
-      rising_keyed rows routes sound there.0 also.0 x less also.1,
-      ap number_of first,
-      ap number_of second,
-      same,
-    )))
-    (λ (more : also.0 ≤ there.0). ⊎_elim
-    (λ (here : also.0 ≡ there.0). sym first ∙ (ap (λ i. get_or rows i x) (sym here) ∙ second))
-    (λ (differ : also.0 ≢ there.0). absurd (omega (
-      arith,
-      more,
-      differ,
       rising_keyed rows routes sound also.0 there.0 x (omega (arith, more, differ)) there.1,
       ap number_of first,
       ap number_of second,
-      same,
     )))
     (cases_eq also.0 there.0))
     (cases_lt there.0 also.0)
@@ -155,29 +149,29 @@ numbered_alike rows routes number key kept stands = by (row_under rows key) refl
     by (Some row) is stands =
         let numbered : row.number ≡ number = cc in
         all_from (λ keyed. (keyed.key == key) ≡ has_number number keyed.row) rows (λ keyed there. ⊎_elim
-        (λ (same : keyed.key ≡ key).
+        (λ same.
         let same_row : keyed.row ≡ row = only_under rows key row kept.apart (sym is) keyed there same in
         let same_number : keyed.row.number ≡ number = ap (λ (r : Connection). r.number) same_row ∙ numbered in
         eq-eqb keyed.key key same ∙ sym (eq-eqb keyed.row.number number same_number))
-        (λ (differ : keyed.key ≢ key).
+        (λ differ.
         let other : keyed.row.number ≢ number = λ same_number. differ
         (ap (λ (k : Keyed Connection). k.key) (only_numbered rows routes kept.sound keyed (record { key = key; row = row }) there
         (stands_under rows key row (sym is)) (same_number ∙ sym numbered))) in
-        grind (arith, nat_tests, differ, other))
+        grind (arith, nat_tests))
         (cases_eq keyed.key key))
 
 -- a place where nothing was ever connected
 pub empty_kept : (routes : Routes) → routes.last_number ≡ 0 → IsRouted [] routes → IsPlaceKept [] routes
 empty_kept routes none routed = record {
   sound = record {
-    rising = λ i j d below within. absurd (omega (arith, within));
-    from_one = λ k d within. absurd (omega (arith, within));
-    given = λ k d within. absurd (omega (arith, within));
-    fits = omega (arith, none);
+    rising = λ i j d below within. absurd (omega arith);
+    from_one = λ k d within. absurd (omega arith);
+    given = λ k d within. absurd (omega arith);
+    fits = omega arith;
     few = omega arith;
   };
-  apart = λ i j d below within. absurd (omega (arith, within));
-  short = λ k d within. absurd (omega (arith, within));
+  apart = λ i j d below within. absurd (omega arith);
+  short = λ k d within. absurd (omega arith);
   routed = routed;
 }
 
@@ -191,7 +185,7 @@ module _ (rows : Table (List (Keyed Connection))) (routes : Table Routes) {table
   kept_opened = record {
     same = omega (arith, kept.same, length_push rows.places [], length_push routes.places at);
     each = λ place default within. each_opened IsPlaceKept rows.places routes.places [] kept.same kept.each [] at (empty_kept at none routed) place default
-        (omega (arith, within, length_push rows.places []));
+        (omega (arith, length_push rows.places []));
   }
 
   pub view_opened : paired_tables place_of (opened rows []) (opened routes at) ≡ opened table no_rows

@@ -15,18 +15,18 @@ module _ (change : Connection → Connection) where
   pub find-changed : (test : Connection → Bool) → IsUnseen test → (rows : List Connection) → find test (map change rows) ≡ option_map change (find test rows)
   find-changed test keeps [] = refl
   find-changed test keeps (row ∷ rows) = rw (keeps row)
-      (⊎_elim (λ (yes : test row ≡ true). rw yes refl) (λ (no : test row ≡ false). rw no (find-changed test keeps rows)) (cases_Bool (test row)))
+      (⊎_elim (λ yes. rw yes refl) (λ no. rw no (find-changed test keeps rows)) (cases_Bool (test row)))
 
   pub filter-changed : (test : Connection → Bool) → IsUnseen test → (rows : List Connection) → filter test (map change rows) ≡ map change (filter test rows)
   filter-changed test keeps [] = refl
   filter-changed test keeps (row ∷ rows) =
-      rw (keeps row) (⊎_elim (λ (yes : test row ≡ true). rw yes (ap (λ rest. change row ∷ rest) (filter-changed test keeps rows)))
-      (λ (no : test row ≡ false). rw no (filter-changed test keeps rows)) (cases_Bool (test row)))
+      rw (keeps row) (⊎_elim (λ yes. rw yes (ap (λ rest. change row ∷ rest) (filter-changed test keeps rows)))
+      (λ no. rw no (filter-changed test keeps rows)) (cases_Bool (test row)))
 
   pub all_changed : (P Q : Connection → Type 0) → ((row : Connection) → P row → Q (change row)) → (rows : List Connection) → All P rows
       → All Q (map change rows)
   all_changed P Q each rows all = λ i d within.
-      let inside : i < length rows = omega (arith, within, length-map rows change) in
+      let inside : i < length rows = omega (arith, length-map rows change) in
       subst Q (sym (get_or-map change rows i d d inside)) (each _ (all i d inside))
 
   pub sound_changed : IsUnseen (λ row. row.number) → (place : Rows) → IsSound place
@@ -35,19 +35,19 @@ module _ (change : Connection → Connection) where
       let many = length-map place.rows change in
       record {
         rising = λ i j d below within.
-            let later : j < length place.rows = omega (arith, within, many) in
-            let earlier : i < length place.rows = omega (arith, below, later) in
+            let later : j < length place.rows = omega arith in
+            let earlier : i < length place.rows = omega arith in
             rw (
               get_or-map change place.rows i d d earlier,
               get_or-map change place.rows j d d later,
               keeps (get_or place.rows i d),
               keeps (get_or place.rows j d),
             ) (sound.rising i j d below later);
-        from_one = all_changed (λ row. 1 ≤ row.number) (λ row. 1 ≤ row.number) (λ row h. omega (arith, h, keeps row)) place.rows sound.from_one;
+        from_one = all_changed (λ row. 1 ≤ row.number) (λ row. 1 ≤ row.number) (λ row h. omega (arith, keeps row)) place.rows sound.from_one;
         given = all_changed (λ row. row.number ≤ place.last_number) (λ row. row.number ≤ place.last_number)
-            (λ row h. omega (arith, h, keeps row)) place.rows sound.given;
+            (λ row h. omega (arith, keeps row)) place.rows sound.given;
         fits = sound.fits;
-        few = omega (arith, sound.few, many);
+        few = omega arith;
       }
 
 -- the row with another state, if it is the one

@@ -46,9 +46,9 @@ module _ (number state : ℕ) where
       record {
         sound = subst IsSound (sym (place_stepped rows routes)) (sound_stepped number state (place_of rows routes) kept.sound);
         apart = λ i j d below within.
-            let inside : j < length rows = omega (arith, within, many) in
-            rw (get_or-map stepped_keyed rows i d d (omega (arith, below, inside)), get_or-map stepped_keyed rows j d d inside) (kept.apart i j d below inside);
-        short = λ i d within. let inside : i < length rows = omega (arith, within, many) in rw (get_or-map stepped_keyed rows i d d inside)
+            let inside : j < length rows = omega arith in
+            rw (get_or-map stepped_keyed rows i d d (omega arith), get_or-map stepped_keyed rows j d d inside) (kept.apart i j d below inside);
+        short = λ i d within. let inside : i < length rows = omega arith in rw (get_or-map stepped_keyed rows i d d inside)
             (kept.short i d inside);
         routed = record {
           sent = λ object. linked_map sent_of stepped_keyed sent_same rows object (kept.routed.sent object);
@@ -103,6 +103,13 @@ none_numbered number (row ∷ rows) none = by (has_number number row) refl none 
     by true is none rest = absurd (cc)
     by false is none rest = All-cons (λ row. is_of_functor number row ≡ false) row rows (ap (λ b. b && calls_functor row.callee) is) (rest none)
 
+-- the functor of this row had its state, and got the new one
+pub record IsStepped (number given : ℕ) (rows : Table (List (Keyed Connection))) (routes : Table Routes) (table : Table Rows) (place : ℕ) (row : Connection) :
+    Type 0 where
+  pub kept : AreKept rows.places routes.places
+  pub view : paired_tables place_of rows routes ≡ with_rows table place (with_state number given (rows_at table place))
+  pub state : state_of number (rows_at table place) ≡ Some row.state
+
 module _ {rows : Table (List (Keyed Connection))} {routes : Table Routes} {table : Table Rows} {place : ℕ} {at : Routes}
     (seen : IsSeen rows routes table place at) (number state : ℕ) where
   -- where no connection has the number
@@ -110,12 +117,12 @@ module _ {rows : Table (List (Keyed Connection))} {routes : Table Routes} {table
     not_found : None ≡ find (has_number number) (rows_at table place).rows
     not_found = found_none (has_number number) (shared.rows_at rows place) none ∙ ap (λ (p : Rows). find (has_number number) p.rows) (sym seen.shows)
 
-    pub absent_state : state_of number (rows_at table place) ≡ None
-    absent_state = ap (λ (found : Option Connection). option_and_then (λ row. if calls_functor row.callee then Some row.state else None) found) (sym not_found)
-
-    pub absent_same : table ≡ with_rows table place (with_state number state (rows_at table place))
-    absent_same = sym (ap (λ list. with_rows table place (record { rows = list; last_number = (rows_at table place).last_number }))
-        (same_stepped number state (rows_at table place).rows (none_numbered number (rows_at table place).rows not_found)) ∙ with_same no_rows table place)
+    pub none_stepped : (state_of number (rows_at table place) ≡ None) × (table ≡ with_rows table place (with_state number state (rows_at table place)))
+    none_stepped = (
+      ap (λ (found : Option Connection). option_and_then (λ row. if calls_functor row.callee then Some row.state else None) found) (sym not_found),
+      sym (ap (λ list. with_rows table place (record { rows = list; last_number = (rows_at table place).last_number }))
+          (same_stepped number state (rows_at table place).rows (none_numbered number (rows_at table place).rows not_found)) ∙ with_same no_rows table place),
+    )
 
   -- where one has it
   module _ (key : ℕ) {row : Connection} (found : Some key ≡ option_map (λ keyed. keyed.key)
@@ -134,9 +141,6 @@ module _ {rows : Table (List (Keyed Connection))} {routes : Table Routes} {table
 
     module _ (calls : calls_functor row.callee ≡ true) {new : Table (List (Keyed Connection))}
         (changed : new ≡ with_place rows place (with_row (shared.rows_at rows place) key (record row { state = state }))) where
-      pub functor_state : state_of number (rows_at table place) ≡ Some row.state
-      functor_state = stood_state ∙ ap (λ b. if b then Some row.state else None) calls
-
       new_is : new ≡ with_place rows place (map (stepped_keyed number state) (shared.rows_at rows place))
       new_is = changed ∙ ap (with_place rows place) (with_row_stepped number state (shared.rows_at rows place) key row seen.kept.apart under calls alike)
 
@@ -146,15 +150,15 @@ module _ {rows : Table (List (Keyed Connection))} {routes : Table Routes} {table
       routes_same : with_place routes place at ≡ routes
       routes_same = ap (with_place routes place) (seen.is no_routes) ∙ with_same no_routes routes place
 
-      pub stepped_kept : AreKept new.places routes.places
-      stepped_kept =
+      kept : AreKept new.places routes.places
+      kept =
           subst (λ (t : Table (List (Keyed Connection))). AreKept t.places routes.places) (sym new_is)
           (subst (λ (t : Table Routes). AreKept (with_place rows place (map (stepped_keyed number state) (shared.rows_at rows place))).places t.places)
           routes_same
           (kept_changed seen place_kept))
 
-      pub stepped_view : paired_tables place_of new routes ≡ with_rows table place (with_state number state (rows_at table place))
-      stepped_view =
+      view : paired_tables place_of new routes ≡ with_rows table place (with_state number state (rows_at table place))
+      view =
           ap (λ (t : Table (List (Keyed Connection))). paired_tables place_of t routes) new_is
           ∙ (ap (λ (t : Table Routes). paired_tables place_of (with_place rows place (map (stepped_keyed number state) (shared.rows_at rows place))) t)
           (sym routes_same)
@@ -162,10 +166,10 @@ module _ {rows : Table (List (Keyed Connection))} {routes : Table Routes} {table
           ∙ (ap (with_rows table place) (place_stepped number state (shared.rows_at rows place) at)
           ∙ ap (λ p. with_rows table place (with_state number state p)) (sym seen.shows))))
 
-    module _ (calls : calls_functor row.callee ≡ false) where
-      pub method_state : state_of number (rows_at table place) ≡ None
-      method_state = stood_state ∙ ap (λ b. if b then Some row.state else None) calls
+      pub functor_stepped : IsStepped number state new routes table place row
+      functor_stepped = record { kept = kept; view = view; state = stood_state ∙ ap (λ b. if b then Some row.state else None) calls }
 
+    module _ (calls : calls_functor row.callee ≡ false) where
       none_is : All (λ keyed. is_of_functor number keyed.row ≡ false) (shared.rows_at rows place)
       none_is = λ k d within. one (get_or (shared.rows_at rows place) k d) (Contains-get_or (shared.rows_at rows place) k d within) (alike k d within)
         where
@@ -178,10 +182,12 @@ module _ {rows : Table (List (Keyed Connection))} {routes : Table Routes} {table
                   (only_under (shared.rows_at rows place) key row seen.kept.apart under keyed there (eqb-true keyed.key key (same ∙ is))) ∙ calls
               by false is = refl
 
-      pub method_same : table ≡ with_rows table place (with_state number state (rows_at table place))
-      method_same =
-          sym (ap (λ (p : Rows). with_rows table place (with_state number state p)) seen.shows
-          ∙ (ap (λ list. with_rows table place (record { rows = list; last_number = at.last_number }))
-          (same_stepped number state (map (λ keyed. keyed.row) (shared.rows_at rows place))
-          (All-map (λ row. is_of_functor number row ≡ false) (λ keyed. keyed.row) (shared.rows_at rows place) none_is))
-          ∙ (ap (with_rows table place) (sym seen.shows) ∙ with_same no_rows table place)))
+      pub method_stepped : (state_of number (rows_at table place) ≡ None) × (table ≡ with_rows table place (with_state number state (rows_at table place)))
+      method_stepped = (
+        stood_state ∙ ap (λ b. if b then Some row.state else None) calls,
+        sym (ap (λ (p : Rows). with_rows table place (with_state number state p)) seen.shows
+            ∙ (ap (λ list. with_rows table place (record { rows = list; last_number = at.last_number }))
+            (same_stepped number state (map (λ keyed. keyed.row) (shared.rows_at rows place))
+            (All-map (λ row. is_of_functor number row ≡ false) (λ keyed. keyed.row) (shared.rows_at rows place) none_is))
+            ∙ (ap (with_rows table place) (sym seen.shows) ∙ with_same no_rows table place))),
+      )

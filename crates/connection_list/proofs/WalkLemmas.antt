@@ -79,12 +79,12 @@ module _ (received : Bool) (object : ℕ) (test : Keyed Connection → Bool) whe
       → ((keyed : Keyed Connection) → (link_of received keyed).object ≢ object → test keyed ≡ false) → AreLeft rows links start end → end ≤ start
       → All (λ keyed. test keyed ≡ false) rows
   none_left rows links start end linked others left none = all_from (λ keyed. test keyed ≡ false) rows (λ keyed there. ⊎_elim
-      (λ (here : (link_of received keyed).object ≡ object).
+      (λ here.
       let link : Contains links (link_of received keyed) =
       All-contains (λ k. (link_of received k).object ≡ object → Contains links (link_of received k)) rows keyed linked.each there here in
       ⊎_elim
-      (λ (low : link.0 < start). left.before link.0 (link_of received keyed) (omega arith) low keyed there (sym link.2))
-      (λ (high : start ≤ link.0). left.past link.0 (link_of received keyed) (omega (arith, none, high)) link.1 keyed there (sym link.2))
+      (λ low. left.before link.0 (link_of received keyed) (omega arith) low keyed there (sym link.2))
+      (λ high. left.past link.0 (link_of received keyed) (omega arith) link.1 keyed there (sym link.2))
       (cases_lt link.0 start))
       (others keyed)
       (cases_eq (link_of received keyed).object object))
@@ -106,11 +106,11 @@ module _ (received : Bool) (object : ℕ) (test : Keyed Connection → Bool) whe
   left_front rows links start end key row apart under its fails left = record {
     within = left.within;
     before = λ k d low high. ⊎_elim
-        (λ (front : k < start). left.before k d low front)
-        (λ (here : start ≤ k). let same : k ≡ start = omega (arith, here, high) in subst (λ i. Fails rows (get_or links i d)) (sym same)
+        (λ front. left.before k d low front)
+        (λ here. let same : k ≡ start = omega arith in subst (λ i. Fails rows (get_or links i d)) (sym same)
         (led_fails rows links start key row apart under its fails d))
         (cases_lt k start);
-    inside = λ k d low high. left.inside k d (omega (arith, low)) high;
+    inside = λ k d low high. left.inside k d (omega arith) high;
     past = left.past;
   }
 
@@ -121,18 +121,18 @@ module _ (received : Bool) (object : ℕ) (test : Keyed Connection → Bool) whe
       → AreLeft next after start last
   left_gone rows next links after start end last key order end_is some keep rows_are its links_are left =
       let link : Link = link_of received (record { key = key; row = its.row }) in
-      let within : start < length links = omega (arith, left.within, some) in
+      let within : start < length links = omega arith in
       let seat = seat_found link_total links order link start within (λ d. ap (λ l. link_cmp l link) (sym (its.link d)) ∙ tied_itself link_total link) in
       let removed : after ≡ remove links start = links_are ∙ sym (remove_link link_total links order link start link seat) in
       let shorter : length (remove links start) + 1 ≡ length links = length-remove links start within in
       rw (removed, rows_are) (record {
-        within = omega (arith, shorter, left.within, end_is);
+        within = omega arith;
         before = λ k d low high keyed there is. left.before k d low high keyed (contains_from keep rows keyed there).0
             (is ∙ get_or-remove_below links start d k high within);
         inside = λ k d low high. ap (λ (l : Link). l.object) (get_or-remove_above links start d k low within)
-            ∙ left.inside (k + 1) d (omega (arith, low)) (omega (arith, high, end_is));
-        past = λ k d low high keyed there is. left.past (k + 1) d (omega (arith, low, end_is)) (omega (arith, high, shorter)) keyed
-            (contains_from keep rows keyed there).0 (is ∙ get_or-remove_above links start d k (omega (arith, low, some, end_is)) within);
+            ∙ left.inside (k + 1) d (omega arith) (omega arith);
+        past = λ k d low high keyed there is. left.past (k + 1) d (omega arith) (omega arith) keyed
+            (contains_from keep rows keyed there).0 (is ∙ get_or-remove_above links start d k (omega arith) within);
       })
 
 -- a group is what is left at first

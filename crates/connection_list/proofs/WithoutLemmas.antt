@@ -1,5 +1,5 @@
 -- What is left of a place without the connections that pass a test.
-use Rattle.std.proofs.Common.{◌≡◌, ◌-◌, ◌<◌, ◌≤◌, Bool, true, false, not, is_some, List, [], ◌∷◌, length, filter, find, refl, arith, ⊎_elim}
+use Rattle.std.proofs.Common.{◌≡◌, ◌-◌, ◌<◌, ◌≤◌, Bool, false, not, is_some, List, [], ◌∷◌, length, filter, find, refl, arith, ⊎_elim}
 use Rattle.std.specs.List.{list_any, count_by}
 use Rattle.std.proofs.lemmas.Bool.{cases_Bool}
 use Rattle.std.proofs.lemmas.Grind.{common_steps}
@@ -19,7 +19,7 @@ IsSound-without test place sound =
       from_one = All-filter kept (λ row. 1 ≤ row.number) place.rows sound.from_one;
       given = All-filter kept (λ row. row.number ≤ place.last_number) place.rows sound.given;
       fits = sound.fits;
-      few = omega (arith, sound.few, length-filter kept place.rows, count_by-le-length kept place.rows);
+      few = omega (arith, length-filter kept place.rows, count_by-le-length kept place.rows);
     }
 
 -- as many go as passed
@@ -31,9 +31,9 @@ length-without test rows =
 pub filter_all : (test : Connection → Bool) (rows : List Connection) → list_any test rows ≡ false → filter (λ row. not (test row)) rows ≡ rows
 filter_all test [] none = refl
 filter_all test (row ∷ rows) none =
-    ⊎_elim (λ e. grind (arith, e, none)) (λ e. grind (arith, common_steps, e, filter_all test rows (grind (arith, e, none)))) (cases_Bool (test row))
+    ⊎_elim (λ e. grind arith) (λ e. grind (arith, common_steps, filter_all test rows (grind (arith, e, none)))) (cases_Bool (test row))
 
 -- one is found where any passes
 pub any_found : (test : Connection → Bool) (rows : List Connection) → is_some (find test rows) ≡ list_any test rows
 any_found test [] = refl
-any_found test (row ∷ rows) = ⊎_elim (λ (yes : test row ≡ true). rw yes refl) (λ (no : test row ≡ false). rw no (any_found test rows)) (cases_Bool (test row))
+any_found test (row ∷ rows) = ⊎_elim (λ yes. rw yes refl) (λ no. rw no (any_found test rows)) (cases_Bool (test row))

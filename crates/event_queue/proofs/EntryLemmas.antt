@@ -45,7 +45,7 @@ module _ (entries : List Entry) (object : ℕ) (order : AreEntries entries) wher
   pub is_alone : length entries ≡ 0 → IsSeat entry_cmp entries (of_object object) (Err 0)
   is_alone none = (
     omega arith,
-    record { below = λ k d low high. absurd (omega (arith, high)); above = λ k d low high. absurd (omega (arith, high, none)) },
+    record { below = λ k d low high. absurd (omega arith); above = λ k d low high. absurd (omega (arith, none)) },
   )
 
   pub is_before : (first : Entry) → first ≡ get_or entries 0 first → object < first.object → IsSeat entry_cmp entries (of_object object) (Err 0)
@@ -55,18 +55,18 @@ module _ (entries : List Entry) (object : ℕ) (order : AreEntries entries) wher
   is_behind : (at : ℕ) (last : Entry) → at + 1 ≡ length entries → last ≡ get_or entries at last → last.object < object
       → IsSeat entry_cmp entries (of_object object) (Err (at + 1))
   is_behind at last all is low =
-      let same : at ≡ length entries - 1 = omega (arith, all) in
+      let same : at ≡ length entries - 1 = omega arith in
       subst (λ n. IsSeat entry_cmp entries (of_object object) (Err n)) (sym all)
-      (seat_behind (number_total object_of) entries order (of_object object) (omega (arith, all)) (is ∙ ap (λ n. get_or entries n last) same)
+      (seat_behind (number_total object_of) entries order (of_object object) (omega arith) (is ∙ ap (λ n. get_or entries n last) same)
       (ap is_lt (sym (nat_cmp_is last.object object Less low))))
 
   -- objects are no closer to each other than the positions of their entries
   spread : (first : Entry) → first ≡ get_or entries 0 first → (k : ℕ) (d : Entry) → k < length entries → first.object + k ≤ (get_or entries k d).object
   spread first is zero d within =
       let same : first.object ≡ (get_or entries 0 d).object = ap object_of (is ∙ get_or_default entries 0 first d within) in
-      omega (arith, same)
+      omega arith
   spread first is (suc k) d within =
-      omega (arith, spread first is k d (omega (arith, within)), rises object_of entries order k (suc k) d (omega arith) within)
+      omega (arith, spread first is k d (omega arith), rises object_of entries order k (suc k) d (omega arith) within)
 
   -- so an entry of a lower object at the position of the guess, or the last one before that, is the last
   pub is_last : (first : Entry) → first ≡ get_or entries 0 first → first.object ≤ object → (at : ℕ) (there : Entry) → at < length entries
@@ -75,7 +75,7 @@ module _ (entries : List Entry) (object : ℕ) (order : AreEntries entries) wher
   is_last first is low at there within len all guess found below =
       let far = spread first is at there within in
       let same : there.object ≡ (get_or entries at there).object = ap object_of found in
-      is_behind at there (omega (arith, far, same, guess, all, below, low, within)) found below
+      is_behind at there (omega arith) found below
 
   -- those of lower objects stand before the others
   pub lower_parted : IsPartitionedBy (λ (entry : Entry). nat_lt entry.object object) entries
@@ -188,5 +188,5 @@ module _ {old after : List Entry} {object : ℕ} {count : Count} (now : HasCount
     where
       by : (here : Bool) → (count_at after other).rows ≡ cond here count.rows (count_at old other).rows
           → cond here count.is_dropped (count_at old other).is_dropped ≡ (count_at old other).is_dropped
-      by true rows = absurd (omega (arith, rows, gone, some))
+      by true rows = absurd (omega arith)
       by false rows = refl

@@ -106,7 +106,7 @@ module _ {old : Table (List (Keyed QueuedEvent))} {place : ℕ} {before : Object
       place_there = changes_open [] old now place under.has.changed is_place
 
       inside : position < length (events_at old place)
-      inside = omega (arith, under.within)
+      inside = omega arith
 
       event_there : position < length (events_at now place)
       event_there = grind (arith, common_steps)

@@ -63,10 +63,10 @@ module _ {old middle : Table (List (Keyed QueuedEvent))} {place : ℕ} {before b
 module _ {rows : Table (List (Keyed QueuedEvent))} {logs : Table Log} (are : AreLogged rows logs) {table : Table Queue}
     (view_is : paired_tables queue_of rows logs ≡ table) {place : ℕ} (is_place : IsPlace table place) where
   pub of_rows : IsPlace rows place
-  of_rows = omega (arith, is_place, pairs_length queue_of rows logs are.same view_is)
+  of_rows = omega (arith, pairs_length queue_of rows logs are.same view_is)
 
   pub of_logs : IsPlace logs place
-  of_logs = omega (arith, of_rows, are.same)
+  of_logs = omega (arith, of_rows)
 
   -- what contracts see of the place
   pub seen : {log : Log} → ((d : Log) → log ≡ get_or logs.places place d) → queue_at table place ≡ queue_of (rows_at rows place) log
@@ -101,11 +101,11 @@ module _ {rows : Table (List (Keyed QueuedEvent))} {logs : Table Log} (are : Are
       where
         kept : AreLogged rows' (with_place logs place log)
         kept = record {
-          same = omega (arith, changes_length [] rows rows' place has.changed, are.same, length-set logs.places place log);
+          same = omega (arith, changes_length [] rows rows' place has.changed, length-set logs.places place log);
           each = λ other d within.
               subst (λ (t : Table (List (Keyed QueuedEvent))). IsLogged (events_at t other) (get_or (set logs.places place log) other d)) (sym has.changed)
               (each_with (λ list log. IsLogged (events_of list) log) rows.places logs.places [] are.same are.each place (rows_at rows' place) log of_rows
-              (subst (λ list. IsLogged list log) (sym has.now) holds) other d (omega (arith, within, changes_length [] rows rows' place has.changed)));
+              (subst (λ list. IsLogged list log) (sym has.now) holds) other d (omega (arith, changes_length [] rows rows' place has.changed)));
         }
 
         view : paired_tables queue_of rows' (with_place logs place log) ≡ with_queue table place queue
@@ -135,12 +135,12 @@ module _ {rows : Table (List (Keyed QueuedEvent))} {logs : Table Log} (are : Are
 
     pub lost_noted : {count : ℕ} → count ≡ noted log.lost → IsAfter rows (with_place logs place (record log { lost = count }))
         (with_lost (queue_at table place))
-    lost_noted {count} is = noted_log count log.mismatched (omega (arith, is)) (logged stood).mismatched (with_lost (queue_at table place))
+    lost_noted {count} is = noted_log count log.mismatched (omega arith) (logged stood).mismatched (with_lost (queue_at table place))
         (ap (λ n. record { events = waiting log.objects (events_at rows place); lost = n; mismatched = log.mismatched }) is ∙ ap with_lost (sym (seen stood)))
 
     pub mismatched_noted : {count : ℕ} → count ≡ noted log.mismatched
         → IsAfter rows (with_place logs place (record log { mismatched = count })) (with_mismatched (queue_at table place))
-    mismatched_noted {count} is = noted_log log.lost count (logged stood).lost (omega (arith, is)) (with_mismatched (queue_at table place))
+    mismatched_noted {count} is = noted_log log.lost count (logged stood).lost (omega arith) (with_mismatched (queue_at table place))
         (ap (λ n. record { events = waiting log.objects (events_at rows place); lost = log.lost; mismatched = n }) is ∙ ap with_mismatched (sym (seen stood)))
 
     pub all_cleared : {rows' : Table (List (Keyed QueuedEvent))} → HasEvents rows rows' place [] → {new : Log} → new.lost ≡ 0 → new.mismatched ≡ 0
@@ -177,13 +177,13 @@ module _ {rows : Table (List (Keyed QueuedEvent))} {logs : Table Log} (are : Are
       first_taken {event} first =
           let holds = logged stood in (
             some now_waiting first holds.queued,
-            after_waiting rows' objects (drop 1 now_waiting) has (log.queued - 1) (omega (arith, holds.queued, length-drop 1 now_waiting))
-                (omega (arith, holds.few)) (taken (queue_at table place)) (ap taken (sym (seen stood))),
+            after_waiting rows' objects (drop 1 now_waiting) has (log.queued - 1) (omega (arith, length-drop 1 now_waiting))
+                (omega arith) (taken (queue_at table place)) (ap taken (sym (seen stood))),
           )
         where
           some : (list : List Event) → Some event ≡ slice_get list 0 → log.queued ≡ length list → 0 < log.queued
           some [] none is = absurd (cc)
-          some (head ∷ list) found is = omega (arith, is)
+          some (head ∷ list) found is = omega arith
 
       pub none_taken : None ≡ slice_get now_waiting 0 → IsAfter rows' (with_place logs place (record log { objects = objects })) (taken (queue_at table place))
       none_taken first =
@@ -217,7 +217,7 @@ module _ {rows : Table (List (Keyed QueuedEvent))} {logs : Table Log} (are : Are
       all_dropped most =
           after_counts rows (changes_same [] rows rows place refl) objects left_counted (others object now_waiting) left_waiting (log.queued - waited)
           (omega (arith, left)) (omega (arith, (logged stood).few))
-          (omega (arith, most, (logged stood).few, length-map (rows_at rows place) (λ keyed. keyed.row.event))) (dropped object (queue_at table place))
+          (omega (arith, (logged stood).few, length-map (rows_at rows place) (λ keyed. keyed.row.event))) (dropped object (queue_at table place))
           (ap (dropped object) (sym (seen stood)))
 
       -- or were swept out
@@ -279,9 +279,9 @@ module _ {rows : Table (List (Keyed QueuedEvent))} {logs : Table Log} (are : Are
     where
       kept : AreLogged (opened rows []) (opened logs new)
       kept = record {
-        same = omega (arith, are.same, length_push rows.places [], length_push logs.places new);
+        same = omega (arith, length_push rows.places [], length_push logs.places new);
         each = λ other d within. each_opened (λ list log. IsLogged (events_of list) log) rows.places logs.places [] are.same are.each [] new holds other d
-            (omega (arith, within, length_push rows.places []));
+            (omega (arith, length_push rows.places []));
       }
 
       view : paired_tables queue_of (opened rows []) (opened logs new) ≡ opened table empty_queue

@@ -19,7 +19,7 @@ below_end : (posted : QueuedEvent) (rank : ℕ) → number_of posted < rank * 2 
 below_end posted rank below = omega (arith, below)
 
 behind_end : (posted : QueuedEvent) (rank : ℕ) → rank * 2 ^ 62 + 2 ^ 62 ≤ number_of posted → rank < rank_of (priority_of posted.event)
-behind_end posted rank behind = omega (arith, behind)
+behind_end posted rank behind = omega arith
 
 -- of rows that pass a test the events are those that pass one that agrees
 shown_filter : (test : Keyed QueuedEvent → Bool) (keep : Event → Bool) (rows : List (Keyed QueuedEvent)) → All (λ keyed. test keyed ≡ keep keyed.row.event) rows
@@ -68,7 +68,7 @@ module _ (rows : List (Keyed QueuedEvent)) (row : QueuedEvent) (start : ℕ) (is
       where
         before : All (λ keyed. is_before keyed.row.event row.event ≡ true) rows
         before k d within =
-            let no_lower = below_end (get_or rows k d).row (rank_of (priority_of row.event)) (omega (arith, count.below k d (omega arith) within, is)) in
+            let no_lower = below_end (get_or rows k d).row (rank_of (priority_of row.event)) (omega (arith, count.below k d (omega arith) within)) in
             grind (arith, nat_tests, no_lower)
 
 -- the row that is made for an event, of a number of its priority that has a seat
@@ -78,10 +78,10 @@ module _ (rows : List (Keyed QueuedEvent)) (event : Event) (number start : ℕ) 
   made = record { number = number; event = event }
 
   numbered : number_of made ≡ start + number
-  numbered = omega (arith, few, is)
+  numbered = omega arith
 
   in_end : number_of made < start + 2 ^ 62
-  in_end = omega (arith, few, numbered)
+  in_end = omega (arith, numbered)
 
   seated : IsSeat rows (number_of made) (start + 2 ^ 62)
   seated = grind (arith, common_steps)
@@ -99,20 +99,20 @@ module _ (rows : List (Keyed QueuedEvent)) (event : Event) (number start : ℕ) 
 module _ (rows : List (Keyed QueuedEvent)) (event : Event) (next start number : ℕ) (is : start ≡ rank_of (priority_of event) * 2 ^ 62)
     (below : All (λ keyed. number_of keyed.row < next) rows) (room : next < start + 2 ^ 62) (least : number ≡ next - start) where
   above_all : number < 2 ^ 62
-  above_all = omega (arith, room, least)
+  above_all = omega arith
 
   pub made_above : All (λ keyed. number_of keyed.row < number_of (record { number = number; event = event })) rows
-  made_above k d within = omega (arith, below k d within, numbered rows event number start is above_all behind_all, least)
+  made_above k d within = omega (arith, below k d within, numbered rows event number start is above_all behind_all)
     where
       behind_all : IsSeat rows (start + number) (start + 2 ^ 62)
-      behind_all k d within = inl (omega (arith, below k d within, least))
+      behind_all k d within = inl (omega (arith, below k d within))
 
   pub made_last : (key : ℕ) → events_of (added rows key (record { number = number; event = event })) ≡ placed event (events_of rows)
-  made_last = made_added rows event number start is above_all (λ k d within. inl (omega (arith, below k d within, least)))
+  made_last = made_added rows event number start is above_all (λ k d within. inl (omega (arith, below k d within)))
       (record {
         in_range = omega arith;
-        below = λ k d low high. omega (arith, below k d high, room);
-        above = λ k d low high. absurd (omega (arith, low, high));
+        below = λ k d low high. omega (arith, below k d high);
+        above = λ k d low high. absurd (omega arith);
       })
 
 -- rows rise, so all are below the number after the last one's
@@ -125,9 +125,9 @@ module _ (rows : List (Keyed QueuedEvent)) (end : ℕ) where
   pub last_below : (count at key : ℕ) (row : QueuedEvent) → IsCountBelow rows end count → count ≡ at + 1 → IsAtPosition rows at key row → number_of row < end
   last_below count at key row below is stands =
       let d : Keyed QueuedEvent = record { key = key; row = row } in
-      let under = below.below at d (omega arith) (omega (arith, is)) in
+      let under = below.below at d (omega arith) (omega arith) in
       let same : number_of (get_or rows at d).row ≡ number_of row = ap (λ (keyed : Keyed QueuedEvent). number_of keyed.row) (stands d) in
-      omega (arith, under, same)
+      omega arith
 
   -- a number above that of the last row below the end
   pub seat_behind : IsSound number_of rows → (count at number key : ℕ) (row : QueuedEvent) → IsCountBelow rows end count → count ≡ at + 1
@@ -146,13 +146,13 @@ module _ (rows : List (Keyed QueuedEvent)) (sound : IsSound number_of rows) (num
   module _ (low high at next key : ℕ) (row : QueuedEvent) (looking : IsLooking rows number low high at) (some : low < high)
       (stands : IsAtPosition rows at key row) where
     within : at < length rows
-    within = omega (arith, (looking.between some).1, looking.in_range.1)
+    within = omega (arith, (looking.between some).1)
 
     -- what stands before a row that is below is below
     pub look_right : number_of row < number → next ≡ at + 1 + (high - (at + 1)) / 2 → IsLooking rows number (at + 1) high next
     look_right under is = record {
       in_range = (omega (arith, (looking.between some).1), looking.in_range.1);
-      between = λ left. (omega (arith, is), omega (arith, is, left));
+      between = λ left. (omega arith, omega arith);
       below = λ k d from until. grind (arith, nat_tests, stands d, sound.rising k at d, within, cases_lt k at);
       above = looking.above;
     }
@@ -161,7 +161,7 @@ module _ (rows : List (Keyed QueuedEvent)) (sound : IsSound number_of rows) (num
     pub look_left : number ≤ number_of row → next ≡ low + (at - low) / 2 → IsLooking rows number low at next
     look_left over is = record {
       in_range = ((looking.between some).0, omega (arith, within));
-      between = λ left. (omega (arith, is), omega (arith, is, left));
+      between = λ left. (omega arith, omega arith);
       below = looking.below;
       above = λ k d from until. grind (arith, nat_tests, stands d, sound.rising at k d, within, cases_lt at k);
     }

@@ -66,12 +66,12 @@ younger a b same lt = λ i. ordering_then (ordering_then (equal_cmp b.parent a.p
 
 pub not_below : (a b : Child) → is_lt (child_cmp a b) ≡ false → a.parent ≤ b.parent
 not_below a b e = ⊎_elim
-    (λ (low : nat_lt b.parent a.parent ≡ true).
+    (λ low.
     let less : is_lt (child_cmp a b) ≡ true =
     λ i. is_lt (ordering_then (ordering_then (less_cmp b.parent a.parent (ltb-true _ _ low) i) (nat_cmp a.stamp b.stamp))
     (nat_cmp a.number b.number)) in
     absurd (false≢true (sym e ∙ less)))
-    (λ (high : nat_lt b.parent a.parent ≡ false). ltb-false _ _ high)
+    (λ high. ltb-false _ _ high)
     (cases_Bool (nat_lt b.parent a.parent))
 
 -- the links of rows where one moves, or goes, which is the only one of its number
@@ -87,12 +87,12 @@ module _ {key n : ℕ} {row : Row} {keyed : List (Keyed Row)} {links : List Chil
       (All-weaker (λ (r : Row). (r.number == n) ≡ true → r ≡ row)
       (λ (r : Row). ((child_of r ≡ child_of row) × (child_of (change_one f n r) ≡ child_of (f row)))
       ⊎ ((child_of r ≢ child_of row) × (child_of (change_one f n r) ≡ child_of r))) (λ r same. ⊎_elim
-      (λ (here : (r.number == n) ≡ true). inl (
+      (λ here. inl (
         ap child_of (same here),
         ap child_of (cond-true (r.number == n) (f r) r here)
             ∙ ap (λ q. child_of (f q)) (same here),
       ))
-      (λ (other : (r.number == n) ≡ false). inr (other_link r other, ap child_of (cond-false (r.number == n) (f r) r other)))
+      (λ other. inr (other_link r other, ap child_of (cond-false (r.number == n) (f r) r other)))
       (cases_Bool (r.number == n))) (rows_of keyed) stands.only)
       (any_of (λ (r : Row). child_of r ≡ child_of row) (rows_of keyed) row stands.there refl))
 
@@ -140,7 +140,7 @@ sorted_rise (row ∷ rest) differ = inserted_rise row (by_stamp rest)
 in_order : (o : ℕ) (rows : List Row) → All (λ (r : Row). order_of r.parent ≡ o) rows → AllPairs (λ (a b : Row). a.stamp < b.stamp) rows
     → IsInOrder child_cmp (map child_of rows)
 in_order o rows same rise i j d lt within =
-    let inside : j < length rows = omega (arith, within, length-map rows child_of) in
+    let inside : j < length rows = omega (arith, length-map rows child_of) in
     rw (get_or-map child_of rows i nobody d (omega arith), get_or-map child_of rows j nobody d inside)
     (younger (child_of (get_or rows i nobody)) (child_of (get_or rows j nobody)) (same i nobody (omega arith) ∙ sym (same j nobody inside))
     (rise i j nobody lt inside))
@@ -206,9 +206,9 @@ module _ (rows : List Row) (links : List Child) (linked : AreLinked child_of row
 parents_fall : (list : List Child) → IsInOrder child_cmp list → (i j : ℕ) (d : Child) → i ≤ j → j < length list
     → (get_or list j d).parent ≤ (get_or list i d).parent
 parents_fall list order i j d le within = ⊎_elim
-    (λ (same : i ≡ j). omega (arith, ap (λ k. (get_or list k d).parent) same))
+    (λ same. omega (arith, ap (λ k. (get_or list k d).parent) same))
     (λ differ. not_below (get_or list j d) (get_or list i d)
-    (ap is_lt (child_total.antisymm (get_or list j d) (get_or list i d) ∙ ap ordering_reverse (order i j d (omega (arith, le, differ)) within))))
+    (ap is_lt (child_total.antisymm (get_or list j d) (get_or list i d) ∙ ap ordering_reverse (order i j d (omega arith) within))))
     (cases_eq i j)
 
 pub parted : (list : List Child) → IsInOrder child_cmp list → (parent : ℕ) → IsPartitionedBy (λ (c : Child). nat_le parent c.parent) list
@@ -220,18 +220,18 @@ pub count_from_ends : (list : List Child) → IsInOrder child_cmp list → (pare
     → IsCountFrom list parent count
 count_from_ends list order parent count within next last = record {
   within = within;
-  before = λ k d lt. omega (arith, last (omega (arith, lt)) d, parents_fall list order k (count - 1) d (omega (arith, lt)) (omega (arith, lt, within)));
-  behind = λ k d ge inside. omega (arith, next (omega (arith, ge, inside)) d, parents_fall list order count k d ge inside);
+  before = λ k d lt. omega (arith, last (omega arith) d, parents_fall list order k (count - 1) d (omega arith) (omega arith));
+  behind = λ k d ge inside. omega (arith, next (omega arith) d, parents_fall list order count k d ge inside);
 }
 
 -- none has a parent where none stands behind those of a later one, or the first that does is of an earlier one
 pub none_of : (list : List Child) → IsInOrder child_cmp list → (parent from : ℕ) → IsCountFrom list (parent + 1) from
     → (from < length list → (d : Child) → (get_or list from d).parent ≢ parent) → All (λ (child : Child). child.parent ≢ parent) list
 none_of list order parent from starts other k d within = λ same. ⊎_elim
-    (λ (lt : k < from). absurd (omega (arith, starts.before k d lt, same)))
-    (λ (ge : from ≤ k).
-    let inside : from < length list = omega (arith, ge, within) in
-    absurd (omega (arith, parents_fall list order from k d ge within, starts.behind from d (omega arith) inside, other inside d, same)))
+    (λ lt. absurd (omega (arith, starts.before k d lt)))
+    (λ ge.
+    let inside : from < length list = omega arith in
+    absurd (omega (arith, parents_fall list order from k d ge within, starts.behind from d (omega arith) inside, other inside d)))
     (cases_lt k from)
 
 no_one : Child
@@ -268,29 +268,29 @@ module _ {X : Type 0} where
 
 module _ (list : List Child) (parent from to : ℕ) (starts : IsCountFrom list (parent + 1) from) (ends : IsCountFrom list parent to) where
   pub group_order : from ≤ to
-  group_order = ⊎_elim (λ lt. absurd (omega (arith, starts.before to no_one lt, ends.behind to no_one (omega arith) (omega (arith, lt, starts.within)))))
+  group_order = ⊎_elim (λ lt. absurd (omega (arith, starts.before to no_one lt, ends.behind to no_one (omega arith) (omega arith))))
       (λ ge. ge) (cases_lt to from)
 
   pub group_between : take (to - from) (drop from list) ≡ filter (λ child. child.parent == parent) list
   group_between = sym (stretch (λ (child : Child). child.parent == parent) list from to group_order ends.within
-      (λ k d lt. ne_eqb (get_or list k d).parent parent (λ same. absurd (omega (arith, starts.before k d lt, same))))
-      (λ k d ge lt. eq-eqb (get_or list k d).parent parent (omega (arith, starts.behind k d ge (omega (arith, lt, ends.within)), ends.before k d lt)))
-      (λ k d ge lt. ne_eqb (get_or list k d).parent parent (λ same. absurd (omega (arith, ends.behind k d ge lt, same)))))
+      (λ k d lt. ne_eqb (get_or list k d).parent parent (λ same. absurd (omega (arith, starts.before k d lt))))
+      (λ k d ge lt. eq-eqb (get_or list k d).parent parent (omega (arith, starts.behind k d ge (omega arith), ends.before k d lt)))
+      (λ k d ge lt. ne_eqb (get_or list k d).parent parent (λ same. absurd (omega (arith, ends.behind k d ge lt)))))
 
 -- the first of a stretch, and the rest
 pub stretch_next : {X : Type 0} (list : List X) (from to : ℕ) (d : X) → from < to → to ≤ length list
     → slice_range list from to ≡ get_or list from d ∷ slice_range list (from + 1) to
 stretch_next list from to d less within =
-    let one : to - from ≡ suc (to - (from + 1)) = omega (arith, less) in
+    let one : to - from ≡ suc (to - (from + 1)) = omega arith in
     let next : suc from ≡ from + 1 = omega arith in
     ap (λ n. take n (drop from list)) one
-    ∙ (ap (take (suc (to - (from + 1)))) (drop-cons list from d (omega (arith, less, within)))
+    ∙ (ap (take (suc (to - (from + 1)))) (drop-cons list from d (omega arith))
     ∙ ap (λ k. get_or list from d ∷ take (to - (from + 1)) (drop k list)) next)
 
 -- nothing stands behind its end
 pub stretch_ends : {X : Type 0} (list : List X) (from to : ℕ) → to ≤ from → slice_range list from to ≡ []
 stretch_ends list from to past =
-    let none : to - from ≡ 0 = omega (arith, past) in ap (λ n. take n (drop from list)) none
+    let none : to - from ≡ 0 = omega arith in ap (λ n. take n (drop from list)) none
 
 -- one that passes gives way to one that does not
 fewer : (p : Row → Bool) (rows : List Row) (k : ℕ) (d x : Row) → k < length rows → p (get_or rows k d) ≡ true → p x ≡ false
@@ -321,10 +321,10 @@ same_parent (Some p) n e = ap Some (eqb-true p n e)
 module _ {rows : List Row} {links : List Child} (linked : AreLinked child_of rows links) (object : ℕ) where
   pub none_there : All (λ (child : Child). child.parent ≢ object) links → map (orphaned object) rows ≡ rows
   none_there none = (orphans_none object rows (all_from (λ (r : Row). has_parent (Some object) r ≡ false) rows (λ r there. ⊎_elim
-      (λ (has : has_parent (Some object) r ≡ true).
+      (λ has.
       absurd (All-contains (λ (child : Child). child.parent ≢ object) links (child_of r) none
       (All-contains (λ r. Contains links (child_of r)) rows r linked.each there) (order_same r.parent (Some object) has)))
-      (λ (lacks : has_parent (Some object) r ≡ false). lacks)
+      (λ lacks. lacks)
       (cases_Bool (has_parent (Some object) r))))).0
 
   -- a child that becomes a root is as it is when the object has gone, and there is one child less
@@ -354,7 +354,7 @@ module _ {rows : List Row} {links : List Child} (linked : AreLinked child_of row
       has = by row.parent (ap (λ (c : Child). c.parent) some.4 ∙ same)
         where
           by : (p : Option ℕ) → order_of p ≡ object → is_same p (Some object) ≡ true
-          by None e = absurd (omega (arith, begins, e))
+          by None e = absurd (omega arith)
           by (Some p) e = eq-eqb p object e
 
       alike : orphaned object (frees row) ≡ orphaned object row
@@ -375,18 +375,18 @@ module _ (forest : Forest) (sound : IsSound forest) where
   -- who is not there has no child
   childless : (n : ℕ) → row_of forest.rows n ≡ None → All (λ (r : Row). has_parent (Some n) r ≡ false) forest.rows
   childless n absent k d within = ⊎_elim
-      (λ (has : has_parent (Some n) (get_or forest.rows k d) ≡ true).
+      (λ has.
       let row : Row = get_or forest.rows k d in
       let below : parent_of forest.rows row.number ≡ Some n =
       ap (option_and_then (λ (r : Row). r.parent)) (at_place (λ r. r) row.number forest.rows k d sound.numbers_rise within refl).0
       ∙ same_parent row.parent n has in
       absurd (false≢true (ap is_some (sym absent) ∙ sound.parents row.number n below)))
-      (λ (lacks : has_parent (Some n) (get_or forest.rows k d) ≡ false). lacks)
+      (λ lacks. lacks)
       (cases_Bool (has_parent (Some n) (get_or forest.rows k d)))
 
   pub parents_begin : All (λ (r : Row). has_parent (Some 0) r ≡ false) forest.rows
   parents_begin = childless 0 (nowhere number_of (λ r. r) 0 forest.rows nobody
-      (λ k within is. absurd (omega (arith, sound.numbers_begin k nobody within, is)))).0
+      (λ k within is. absurd (omega (arith, sound.numbers_begin k nobody within)))).0
 
   pub none_below : (parent : Option ℕ) → is_same parent (Some 0) ≡ true → children forest.rows parent ≡ []
   unfolding children

@@ -49,12 +49,12 @@ counted_of forest sound = record {
   apart = λ i j d lt within. record {
     number = omega (
       arith,
-      below_from_sorted (numbers forest.rows) i j 0 sound.numbers_rise lt (omega (arith, within, length-map forest.rows number_of)),
+      below_from_sorted (numbers forest.rows) i j 0 sound.numbers_rise lt (omega (arith, length-map forest.rows number_of)),
       get_or-map number_of forest.rows i d 0 (omega arith),
       get_or-map number_of forest.rows j d 0 within,
     );
     stamp = λ same. eqb-false _ _ (apart_from_distinct nat_eq (stamps forest.rows) i j 0 sound.stamps_differ lt
-        (omega (arith, within, length-map forest.rows (λ (row : Row). row.stamp))))
+        (omega (arith, length-map forest.rows (λ (row : Row). row.stamp))))
         (get_or-map (λ (row : Row). row.stamp) forest.rows i d 0 (omega arith) ∙ (same ∙ sym (get_or-map (λ (row : Row). row.stamp) forest.rows j d 0 within)));
   };
   numbers_fit = sound.numbers_fit;
@@ -65,7 +65,7 @@ counted_of forest sound = record {
 pub sound_from : (forest : Forest) (rank : ℕ → ℕ) → IsCounted forest → AreRanked forest.rows rank → IsSound forest
 sound_from forest rank counted ranked = record {
   numbers_rise = sorted_from_strictly_increasing (numbers forest.rows) (λ k within.
-      let inside : k + 1 < length forest.rows = omega (arith, within, length-map forest.rows number_of) in
+      let inside : k + 1 < length forest.rows = omega (arith, length-map forest.rows number_of) in
       omega (
         arith,
         (counted.apart k (k + 1) nobody (omega arith) inside).number,
@@ -76,7 +76,7 @@ sound_from forest rank counted ranked = record {
   numbers_given = λ k d within. (counted.each k d within).number;
   numbers_fit = counted.numbers_fit;
   stamps_differ = IsDistinct-from_apart nat_eq (stamps forest.rows) (λ i j d lt within.
-      let inside : j < length forest.rows = omega (arith, within, length-map forest.rows (λ (row : Row). row.stamp)) in
+      let inside : j < length forest.rows = omega (arith, length-map forest.rows (λ (row : Row). row.stamp)) in
       ne_eqb _ _ (λ same. (counted.apart i j nobody lt inside).stamp
       (sym (get_or-map (λ (row : Row). row.stamp) forest.rows i nobody d (omega arith))
       ∙ (same ∙ get_or-map (λ (row : Row). row.stamp) forest.rows j nobody d inside))));
@@ -122,12 +122,12 @@ module _ (f : Row → Row) (keeps : (row : Row) → (f row).number ≡ row.numbe
   apart-mapped : (P : Row → Type 0) → ((a b : Row) → P a → P b → Precedes a b → (f a).stamp ≢ (f b).stamp) → All P rows → AllPairs Precedes rows
       → AllPairs Precedes (map f rows)
   apart-mapped P differ all apart i j d lt within =
-      let inside : j < length rows = omega (arith, within, length-map rows f) in
+      let inside : j < length rows = omega (arith, length-map rows f) in
       let a : Row = get_or rows i d in
       let b : Row = get_or rows j d in
       let before : Precedes a b = apart i j d lt inside in
       rw (get_or-map f rows i d d (omega arith), get_or-map f rows j d d inside)
-      (record { number = omega (arith, keeps a, keeps b, before.number); stamp = differ a b (all i d (omega arith)) (all j d inside) before })
+      (record { number = omega (arith, keeps a, keeps b); stamp = differ a b (all i d (omega arith)) (all j d inside) before })
 
 -- edits that keep stamps too, and give no row another parent
 module _ (f : Row → Row) (number : (row : Row) → (f row).number ≡ row.number) (stamp : (row : Row) → (f row).stamp ≡ row.stamp)
@@ -140,15 +140,15 @@ module _ (f : Row → Row) (number : (row : Row) → (f row).number ≡ row.numb
       (record {
         each = each-mapped f number forest.rows (IsGiven forest.last_number forest.last_stamp) (IsGiven forest.last_number forest.last_stamp)
             (λ row given. record {
-              begins = omega (arith, number row, given.begins);
-              number = omega (arith, number row, given.number);
-              stamp = omega (arith, stamp row, given.stamp);
+              begins = omega (arith, number row);
+              number = omega (arith, number row);
+              stamp = omega (arith, stamp row);
             }) counted.each;
         apart = apart-mapped f number forest.rows (IsGiven forest.last_number forest.last_stamp)
             (λ a b _ _ before same. before.stamp (sym (stamp a) ∙ (same ∙ stamp b))) counted.each counted.apart;
         numbers_fit = counted.numbers_fit;
         stamps_fit = counted.stamps_fit;
-        objects = omega (arith, counted.objects, length-map forest.rows f);
+        objects = omega (arith, length-map forest.rows f);
       })
       (record {
         parents = λ n p is.
@@ -194,7 +194,7 @@ module _ (forest : Forest) (o : ℕ) (sound : IsSound forest) (childless : (n : 
         apart = AllPairs-filter Precedes keep forest.rows counted.apart;
         numbers_fit = counted.numbers_fit;
         stamps_fit = counted.stamps_fit;
-        objects = omega (arith, counted.objects, length-filter keep forest.rows, count_by-le-length keep forest.rows);
+        objects = omega (arith, length-filter keep forest.rows, count_by-le-length keep forest.rows);
       })
       (record {
         parents = λ n p is.
@@ -243,7 +243,7 @@ module _ (forest : Forest) (parent : Option ℕ) (class : ℕ) (sound : IsSound 
   row_of-new : (n : ℕ) → row_of (forest.rows ++ new_row ∷ []) n ≡ cond (n == new) (Some new_row) (row_of forest.rows n)
   row_of-new n = find-append (has_number n) forest.rows (new_row ∷ []) ∙ ⊎_elim
       (λ (same : n ≡ new).
-      let absent = (nowhere number_of (λ r. r) new forest.rows new_row (λ k within is. absurd (omega (arith, sound.numbers_given k new_row within, is)))).0 in
+      let absent = (nowhere number_of (λ r. r) new forest.rows new_row (λ k within is. absurd (omega (arith, sound.numbers_given k new_row within)))).0 in
       rw (same, absent, eq-eqb new new refl) refl)
       (λ other. rw (ne_eqb n new other, ne_eqb new n (λ same. other (sym same))) (by (row_of forest.rows n)))
       (cases_eq n new)
@@ -253,7 +253,7 @@ module _ (forest : Forest) (parent : Option ℕ) (class : ℕ) (sound : IsSound 
       by (Some row) = refl
 
   old : (n : ℕ) → is_there forest.rows n ≡ true → n ≢ new
-  old n there same = let place = there_at forest.rows n there in absurd (omega (arith, sound.numbers_given place.0 nobody place.1, place.2 nobody, same))
+  old n there same = let place = there_at forest.rows n there in absurd (omega (arith, sound.numbers_given place.0 nobody place.1, place.2 nobody))
 
   row_of-old : (n : ℕ) → n ≢ new → row_of (forest.rows ++ new_row ∷ []) n ≡ row_of forest.rows n
   row_of-old n other = row_of-new n ∙ cond-false (n == new) (Some new_row) (row_of forest.rows n) (ne_eqb n new other)
@@ -268,12 +268,12 @@ module _ (forest : Forest) (parent : Option ℕ) (class : ℕ) (sound : IsSound 
       (record {
         each = All-push (IsGiven (forest.last_number + 1) (forest.last_stamp + 1)) forest.rows new_row
             (All-weaker (IsGiven forest.last_number forest.last_stamp) (IsGiven (forest.last_number + 1) (forest.last_stamp + 1))
-            (λ row given. record { begins = given.begins; number = omega (arith, given.number); stamp = omega (arith, given.stamp) }) forest.rows counted.each)
+            (λ row given. record { begins = given.begins; number = omega arith; stamp = omega arith }) forest.rows counted.each)
             (record { begins = omega arith; number = omega arith; stamp = omega arith });
         apart = all_pairs_push Precedes forest.rows new_row counted.apart
             (λ k d within. record {
               number = omega (arith, (counted.each k d within).number);
-              stamp = λ same. absurd (omega (arith, same, (counted.each k d within).stamp));
+              stamp = λ same. absurd (omega (arith, (counted.each k d within).stamp));
             });
         numbers_fit = omega arith;
         stamps_fit = omega arith;
@@ -281,7 +281,7 @@ module _ (forest : Forest) (parent : Option ℕ) (class : ℕ) (sound : IsSound 
       })
       (record {
         parents = λ n p is. ⊎_elim
-            (λ (same : n ≡ new).
+            (λ same.
             let at : parent ≡ Some p = ap (option_and_then (λ (row : Row). row.parent))
             (sym (row_of-new n ∙ cond-true (n == new) (Some new_row) (row_of forest.rows n) (eq-eqb n new same))) ∙ is in
             let there = there_above p at in (
@@ -303,7 +303,7 @@ module _ (forest : Forest) (o : ℕ) (sound : IsSound forest) where
       × ((f g : ℕ) → g ≡ f + steps → levels_within f forest.rows n + steps ≤ levels_within g forest.rows o)
   hangs zero n in' = absurd (cc)
   hangs (suc f) n in' = ⊎_elim
-      (λ (here : (o == n) ≡ true).
+      (λ here.
       let same : o ≡ n = eqb-true o n here in (
         0,
         omega (arith, ap (above forest.rows) same),
@@ -323,7 +323,7 @@ module _ (forest : Forest) (o : ℕ) (sound : IsSound forest) where
       by rest (Some p) is later =
           let up = rest p later in (
             suc up.0,
-            omega (arith, up.1, above_parent forest sound n p is),
+            omega (arith, above_parent forest sound n p is),
             λ f g sum. omega (arith, levels_child forest.rows f n p is, up.2 (suc f) g (omega arith)),
           )
 
@@ -385,23 +385,23 @@ module _ (forest : Forest) (o : ℕ) (parent : Option ℕ) (sound : IsSound fore
       (record {
         each = each-mapped (change_one moves o) move_number forest.rows (IsGiven forest.last_number forest.last_stamp)
             (IsGiven forest.last_number (forest.last_stamp + 1)) (λ row given. record {
-              begins = omega (arith, move_number row, given.begins);
-              number = omega (arith, move_number row, given.number);
-              stamp = cond_both (has_number o row) (moves row) row (λ r. r.stamp ≤ forest.last_stamp + 1) (λ _. omega arith) (λ _. omega (arith, given.stamp));
+              begins = omega (arith, move_number row);
+              number = omega (arith, move_number row);
+              stamp = cond_both (has_number o row) (moves row) row (λ r. r.stamp ≤ forest.last_stamp + 1) (λ _. omega arith) (λ _. omega arith);
             }) counted.each;
         apart = apart-mapped (change_one moves o) move_number forest.rows (IsGiven forest.last_number forest.last_stamp) move_apart counted.each counted.apart;
         numbers_fit = counted.numbers_fit;
         stamps_fit = omega arith;
-        objects = omega (arith, counted.objects, length-map forest.rows (change_one moves o));
+        objects = omega (arith, length-map forest.rows (change_one moves o));
       })
       (record {
         parents = λ n p is. ⊎_elim
-            (λ (here : (n ≡ o) × (parent ≡ Some p)).
+            (λ here.
             let at = above_it p here.1 in (
               there-mapped (change_one moves o) move_number forest.rows p ∙ at.0,
               rw (here.0, at.1, below_itself forest o sound there) (omega (arith, ap (depth_at forest.rows) here.1, ap length (sound.lines p at.0))),
             ))
-            (λ (elsewhere : (n ≢ o) × (parent_of forest.rows n ≡ Some p)).
+            (λ elsewhere.
             (there-mapped (change_one moves o) move_number forest.rows p ∙ sound.parents n p elsewhere.1, rank_parent n p elsewhere.0 elsewhere.1))
             (parent_of-moved n p is);
         shallow = λ n stood.
@@ -413,8 +413,6 @@ module _ (forest : Forest) (o : ℕ) (parent : Option ℕ) (sound : IsSound fore
             let left : ℕ = length forest.rows - hung.0 - 1 in
             omega (
               arith,
-              fits,
-              hung.1,
               few_above forest o sound n stands,
               levels_one forest.rows left n,
               hung.2 (suc left) (length forest.rows) (omega (arith, hung.1, few_above forest o sound n stands)),
@@ -427,7 +425,7 @@ module _ (forest : Forest) (o : ℕ) (parent : Option ℕ) (sound : IsSound fore
       move_apart a b is_a is_b before = by (a.number == o) (b.number == o) refl refl
         where
           by : (x y : Bool) → (a.number == o) ≡ x → (b.number == o) ≡ y → (cond x (moves a) a).stamp ≢ (cond y (moves b) b).stamp
-          by true true at_a at_b = λ same. absurd (omega (arith, before.number, eqb-true a.number o at_a, eqb-true b.number o at_b))
-          by true false at_a at_b = λ same. absurd (omega (arith, same, is_b.stamp))
-          by false true at_a at_b = λ same. absurd (omega (arith, same, is_a.stamp))
+          by true true at_a at_b = λ same. absurd (omega (arith, eqb-true a.number o at_a, eqb-true b.number o at_b))
+          by true false at_a at_b = λ same. absurd (omega arith)
+          by false true at_a at_b = λ same. absurd (omega arith)
           by false false at_a at_b = before.stamp

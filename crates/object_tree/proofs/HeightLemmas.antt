@@ -31,9 +31,9 @@ pub levels_end : (most : ℕ) (rows : List Row) (number so_far : ℕ) (kids : Li
     → 1 + so_far ≡ levels_within most rows number
 unfolding children
 levels_end zero rows number so_far kids some past all = absurd (some refl)
-levels_end (suc most) rows number so_far (kid ∷ kids) some past all = absurd (omega (arith, past))
+levels_end (suc most) rows number so_far (kid ∷ kids) some past all = absurd (omega arith)
 levels_end (suc most) rows number so_far [] some past all =
     let e : suc most - 1 ≡ most = omega arith in
     let f : ℕ → ℕ = levels_within most rows in
     let at_end : max so_far 0 ≡ greatest (map f (numbers (by_stamp (filter (has_parent (Some number)) rows)))) = rw e at all in
-    omega (arith, at_end, greatest-by_stamp f (filter (has_parent (Some number)) rows))
+    omega (arith, greatest-by_stamp f (filter (has_parent (Some number)) rows))

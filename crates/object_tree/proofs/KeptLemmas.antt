@@ -66,13 +66,13 @@ module _ {rows : Shared} {kinships : Table Kinship} {table : Table Forest} (kept
 
   module _ (place : ℕ) (is_place : IsPlace table place) where
     pub in_kinships : IsPlace kinships place
-    in_kinships = omega (arith, is_place, as_many)
+    in_kinships = omega (arith, as_many)
 
     pub in_rows : IsPlace rows place
     in_rows = omega (arith, in_kinships, kept.same)
 
     each_kept : (other : ℕ) (default : Kinship) → other < length rows.places → IsPlaceKept (rows_at rows other) (get_or kinships.places other default)
-    each_kept other default within = kept.each other default (omega (arith, within, kept.same))
+    each_kept other default within = kept.each other default (omega (arith, kept.same))
 
     -- other rows and another kinship at the place
     pub becomes : {new_rows : Shared} {new_kinships : Table Kinship} (keyed : List (Keyed Row)) (kinship : Kinship) (forest : Forest)
@@ -83,7 +83,7 @@ module _ {rows : Shared} {kinships : Table Kinship} {table : Table Forest} (kept
       kept = rw (rows_are, kinships_are) (record {
         same = length-set rows.places place keyed ∙ (kept.same ∙ sym (length-set kinships.places place kinship));
         each = λ other default within. each_with IsPlaceKept rows.places kinships.places [] kept.same each_kept place keyed kinship in_rows
-            (record { linked = linked; sound = rw is sound }) other default (omega (arith, within, length-set kinships.places place kinship, kept.same));
+            (record { linked = linked; sound = rw is sound }) other default (omega (arith, length-set kinships.places place kinship, kept.same));
       });
       seen =
           (λ i. paired_tables forest_of (rows_are i) (kinships_are i))
@@ -139,8 +139,8 @@ module _ {rows : Shared} {kinships : Table Kinship} {table : Table Forest} (kept
       pub below_next : All (λ (k : Keyed Row). k.row.number < now.last_number + 1) (rows_at rows place)
       below_next k d within =
           let given : (get_or (rows_of (rows_at rows place)) k d.row).number ≤ now.last_number =
-          here.sound.numbers_given k d.row (omega (arith, within, length-map (rows_at rows place) (λ (k : Keyed Row). k.row))) in
-          omega (arith, given, ap number_of (get_or-map (λ (k : Keyed Row). k.row) (rows_at rows place) k d d.row within))
+          here.sound.numbers_given k d.row (omega (arith, length-map (rows_at rows place) (λ (k : Keyed Row). k.row))) in
+          omega (arith, ap number_of (get_or-map (λ (k : Keyed Row). k.row) (rows_at rows place) k d d.row within))
 
       -- an object that came to another parent
       pub moved_to : {new_rows : Shared} (children : Linked Child) (o : ℕ) (parent : Option ℕ) → set_parent_refusal (forest_at table place) o parent ≡ None
@@ -243,7 +243,7 @@ pub ready_kept : {rows new_rows : Shared} {kinships new_kinships : Table Kinship
     → new_kinships.places ≡ kinships.places → IsKept new_rows new_kinships
 ready_kept {rows} {new_rows} {kinships} {new_kinships} kept rows_are kinships_are = record {
   same = ap length rows_are ∙ (kept.same ∙ sym (ap length kinships_are));
-  each = λ place default within. rw (rows_are, kinships_are) (kept.each place default (omega (arith, within, ap length kinships_are)));
+  each = λ place default within. rw (rows_are, kinships_are) (kept.each place default (omega (arith, ap length kinships_are)));
 }
 
 -- one more place
@@ -255,8 +255,8 @@ module _ {rows new_rows : Shared} {kinships new_kinships : Table Kinship} {table
   open_kept none = rw (rows_are, kinships_are) (record {
     same = omega (arith, length_push rows.places [], length_push kinships.places kinship, kept.same);
     each = λ place default within. each_opened IsPlaceKept rows.places kinships.places [] kept.same
-        (λ other d inside. kept.each other d (omega (arith, inside, kept.same))) [] kinship
-        (empty_kept kinship none number stamp) place default (omega (arith, within, length_push kinships.places kinship, kept.same));
+        (λ other d inside. kept.each other d (omega (arith, kept.same))) [] kinship
+        (empty_kept kinship none number stamp) place default (omega (arith, length_push kinships.places kinship, kept.same));
   })
 
   pub open_seen : paired_tables forest_of new_rows new_kinships ≡ opened table empty_forest

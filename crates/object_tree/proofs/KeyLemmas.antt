@@ -48,7 +48,7 @@ stands keyed key n row sound under numbered = record {
   is_row = (by_number (λ r. r)).0 ∙ ap Some (is row);
   there = (place.at, within, is row);
   only = λ k d inside same. ⊎_elim
-      (λ (here : k ≡ place.at). ap (λ i. get_or (rows_of keyed) i d) here ∙ is d)
+      (λ here. ap (λ i. get_or (rows_of keyed) i d) here ∙ is d)
       (λ differ. absurd (apart number_of (rows_of keyed) (rises keyed sound) k place.at d inside within differ
       (eqb-true _ _ same ∙ sym (ap number_of (is d) ∙ numbered))))
       (cases_eq k place.at);

@@ -142,8 +142,8 @@ module _ (rows : List Row) (dep : ℕ → ℕ) (lower : (n c : ℕ) → among (c
           (cases_eq i k)
       by None is (Some x) later = (
         later.0,
-        omega (arith, later.1),
-        omega (arith, later.2),
+        omega arith,
+        omega arith,
         later.3,
         λ i le lt. ⊎_elim (λ same. ap (λ j. find passes (level j n)) same ∙ is) (λ other. later.4 i (omega arith) lt) (cases_eq i k),
       )

@@ -25,7 +25,7 @@ found {X} p (first ∷ rest) x e = by (p first) refl e (found p rest x)
   where
     by : (b : Bool) → p first ≡ b → cond b (Some first) (find p rest) ≡ Some x → (find p rest ≡ Some x → Found p rest x) → Found p (first ∷ rest) x
     by true is e later = let same : first ≡ x = cc in record { at = 0; within = omega arith; is = λ d. same; passes = ap p (sym same) ∙ is }
-    by false is e later = let there = later e in record { at = suc there.at; within = omega (arith, there.within); is = there.is; passes = there.passes }
+    by false is e later = let there = later e in record { at = suc there.at; within = omega arith; is = there.is; passes = there.passes }
 
 module _ {X : Type 0} (key : X → ℕ) where
   -- the list where the elements of a key are changed, and the list without them

@@ -108,4 +108,4 @@ levels_child rows f n p e = by (row_of rows n) refl e
     by (Some row) is e =
         let pass : has_parent (Some p) row ≡ true = ap (λ q. is_same q (Some p)) e ∙ eq-eqb p p refl in
         let has = greatest_has (λ (r : Row). levels_within f rows r.number) (has_parent (Some p)) rows n row is pass in
-        omega (arith, has, ap (levels_within f rows) (row-number rows n row is))
+        omega (arith, ap (levels_within f rows) (row-number rows n row is))

@@ -101,7 +101,7 @@ module _ {R N : Type 0} {number : R → ℕ} {value : N → ℕ} {slots : Slots 
     key_found (entry ∷ entries) index (suc at) n d within e =
         let head = first entry entries index.stand in
         let below = index.rising 0 (suc at) d (omega arith) within in
-        rw (head.stands, ne_eqb (number head.row) n (λ same. absurd (omega (arith, head.numbered, below))))
+        rw (head.stands, ne_eqb (number head.row) n (λ same. absurd (omega arith)))
         (key_found entries (tail index) at n d (omega arith) e)
 
     -- and one that no entry has finds none
@@ -119,7 +119,7 @@ module _ {R N : Type 0} {number : R → ℕ} {value : N → ℕ} {slots : Slots 
     row_stands (entry ∷ entries) stand key row found =
         let head = first entry entries stand in
         ⊎_elim
-        (λ (same : entry.key ≡ key).
+        (λ same.
         let is_row : Some head.row ≡ Some row = rw (head.stands, eq-eqb entry.key key same) at found in
         let same_row : head.row ≡ row = cc in
         record {
@@ -129,9 +129,9 @@ module _ {R N : Type 0} {number : R → ℕ} {value : N → ℕ} {slots : Slots 
           stands = ap (slot_at slots) (sym same)
               ∙ (head.stands ∙ ap (λ r. Some (record { place = place; row = r })) same_row);
         })
-        (λ (differ : entry.key ≢ key).
+        (λ differ.
         let rest = row_stands entries (others entry entries stand) key row (rw (head.stands, ne_eqb entry.key key differ) at found) in
-        record { at = suc rest.at; within = omega (arith, rest.within); is = λ d. rest.is d; stands = rest.stands })
+        record { at = suc rest.at; within = omega arith; is = λ d. rest.is d; stands = rest.stands })
         (cases_eq entry.key key)
 
     pub row_none : (entries : List (Entry N)) → All (IsEntry number value slots place) entries → (key : ℕ) → Apart key entries
@@ -151,16 +151,16 @@ module _ {R N : Type 0} {number : R → ℕ} {value : N → ℕ} {slots : Slots 
     row_found (entry ∷ entries) stand (suc at) key d row within e stands =
         let rest = row_found entries (others entry entries stand) at key d row (omega arith) e stands in
         ⊎_elim
-        (λ (same : entry.key ≡ key). rw ((first entry entries stand).stands, eq-eqb entry.key key same)
+        (λ same. rw ((first entry entries stand).stands, eq-eqb entry.key key same)
         (ap (option_map (λ (s : Slot R). s.row)) (sym (first entry entries stand).stands ∙ (ap (slot_at slots) same ∙ stands))))
-        (λ (differ : entry.key ≢ key). rw ((first entry entries stand).stands, ne_eqb entry.key key differ) rest)
+        (λ differ. rw ((first entry entries stand).stands, ne_eqb entry.key key differ) rest)
         (cases_eq entry.key key)
 
     -- two entries of one place have two keys
     pub keys_apart : {entries : List (Entry N)} → IsIndex number value slots place entries → AllPairs (λ earlier later. earlier.key ≢ later.key) entries
     keys_apart index i j d lt within same =
         let later = index.stand j d within in
-        absurd (omega (arith, index.rising i j d lt within, later.numbered, same_number later.stands (index.stand i d (omega arith)) same))
+        absurd (omega (arith, index.rising i j d lt within, same_number later.stands (index.stand i d (omega arith)) same))
 
     -- what callers know of the rows
     pub sound_rows : (entries : List (Entry N)) → IsIndex number value slots place entries → IsSound number (rows_of slots entries)
@@ -233,10 +233,10 @@ module _ {R N : Type 0} {number : R → ℕ} {value : N → ℕ} {slots : Slots 
       let head = first entry entries stand in
       let rest = rows_with slots' same stands entries (others entry entries stand) in
       ⊎_elim
-      (λ (e : entry.key ≡ key).
+      (λ e.
       rw (head.stands, ap (slot_at slots') e ∙ stands, eq-eqb entry.key key e)
       (ap (λ k. record { key = k; row = row } ∷ with_row (rows_of slots entries) key row) (sym e)
       ∙ ap (λ rows. record { key = entry.key; row = row } ∷ rows) rest))
-      (λ (differ : entry.key ≢ key). rw (head.stands, same entry.key differ ∙ head.stands, ne_eqb entry.key key differ)
+      (λ differ. rw (head.stands, same entry.key differ ∙ head.stands, ne_eqb entry.key key differ)
       (ap (λ rows. record { key = entry.key; row = head.row } ∷ rows) rest))
       (cases_eq entry.key key)

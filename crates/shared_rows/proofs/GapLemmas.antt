@@ -82,7 +82,7 @@ module _ {T : Type 0} where
   pub place_within : (places : List T) (start gone at place : ℕ) → start + gone ≤ length places → at < length (without places start gone)
       → ((at < start) × (place ≡ at)) ⊎ ((start ≤ at) × (place ≡ at + gone))
       → place < length places
-  place_within places start gone at place within low (inl before) = omega (arith, before.0, before.1)
+  place_within places start gone at place within low (inl before) = omega arith
   place_within places start gone at place within low (inr behind) = omega (arith, length-without)
 
   -- another element in its place
@@ -208,3 +208,6 @@ module _ {T : Type 0} where
         get_behind places start gone k d,
         get_behind places start gone (k - 1) d,
       ))
+
+-- what the functions of a gap need of these
+pub ruleset of_gaps = (length-without, without_none, without_back, without_push, without_narrower, without_wider, insert_behind, remove_behind)

@@ -63,12 +63,7 @@ module _ {R N : Type 0} {number : R → ℕ} {value : N → ℕ} {slots : Slots 
   module _ {room place : ℕ} (kept : IsKept number value slots indexes) (view_is : table_of slots indexes room ≡ table) (is_place : IsPlace table place) where
     pub seen_by : {index : Gapped (Entry N)} → ((d : Gapped (Entry N)) → index ≡ get_or indexes place d) → IsSeen number value slots indexes table place index
     seen_by {index = index} is =
-        let within : place < length indexes = omega (
-          arith,
-          is_place,
-          ap (λ (t : Shown R). length t.places) view_is,
-          length-map indexes (λ i. rows_of slots i.items),
-        ) in
+        let within : place < length indexes = omega (arith, ap (λ (t : Shown R). length t.places) view_is, length-map indexes (λ i. rows_of slots i.items)) in
         let entries : IsIndex number value slots place index.items =
         subst (λ (i : Gapped (Entry N)). IsIndex number value slots place i.items) (sym (is index)) (kept.each place index within) in
         let rows : rows_at table place ≡ rows_of slots index.items =
@@ -89,7 +84,7 @@ module _ {R N : Type 0} {number : R → ℕ} {value : N → ℕ} {slots : Slots 
 
     pub seen_at : (index : Gapped (Entry N)) × IsSeen number value slots indexes table place index
     seen_at =
-        let at = index_at indexes (omega (arith, is_place, ap (λ (t : Shown R). length t.places) view_is, length-map indexes (λ i. rows_of slots i.items))) in
+        let at = index_at indexes (omega (arith, ap (λ (t : Shown R). length t.places) view_is, length-map indexes (λ i. rows_of slots i.items))) in
         (at.0, seen_by at.1)
 
   module _ {place : ℕ} {index : Gapped (Entry N)} (seen : IsSeen number value slots indexes table place index) where
@@ -116,12 +111,12 @@ module _ {R N : Type 0} {number : R → ℕ} {value : N → ℕ} {slots : Slots 
     -- each entry shows the row of its slot
     pub entry_some : (at : ℕ) {entry : Entry N} → at < length (rows_at table place) → entry ≡ get_or index.items at entry → IsSome (slot_at slots entry.key)
     entry_some at {entry} within is = subst (λ (e : Entry N). IsSome (slot_at slots e.key)) (sym is)
-        (rw (seen.entries.stand at entry (omega (arith, within, seen.count))).stands refl)
+        (rw (seen.entries.stand at entry (omega (arith, within))).stands refl)
 
     pub entry_shown : (at : ℕ) {entry : Entry N} {slot : Slot R} → at < length (rows_at table place) → entry ≡ get_or index.items at entry
         → slot_at slots entry.key ≡ Some slot → IsAtPosition (rows_at table place) at entry.key slot.row
     entry_shown at {entry} {slot} within is stands default =
-        let inner : at < length index.items = omega (arith, within, seen.count) in
+        let inner : at < length index.items = omega (arith, within) in
         let there = seen.entries.stand at entry inner in
         let same = sym there.stands ∙ (ap (λ (e : Entry N). slot_at slots e.key) (sym is) ∙ stands) in
         ap (λ rows. get_or rows at default) seen.rows
@@ -171,7 +166,7 @@ module _ {R N : Type 0} {number : R → ℕ} {value : N → ℕ} {slots : Slots 
         (seen.entries.stand there.at d there.within) (there.is d) ∙ sym is))
 
     pub none_there : rows_at table place ≡ [] → index.items ≡ []
-    none_there empty = nil_from_length index.items (omega (arith, seen.count, ap length empty))
+    none_there empty = nil_from_length index.items (omega (arith, ap length empty))
 
     pub vacant_seen : (key : ℕ) → slot_at slots key ≡ None → row_under (rows_at table place) key ≡ None
     vacant_seen key vacant =
@@ -269,14 +264,14 @@ module _ {R N : Type 0} {number : R → ℕ} {value : N → ℕ} {slots slots' :
             → get_or (map after_rows (set indexes place new)) other d ≡ get_or (set (map before_rows indexes) place rows) other d
         at other d within =
             let outer : other < length (set indexes place new) = omega (arith, within, length-map (set indexes place new) after_rows) in
-            let inner : other < length indexes = omega (arith, outer, length-set indexes place new) in
+            let inner : other < length indexes = omega (arith, length-set indexes place new) in
             get_or-map after_rows (set indexes place new) other index d outer ∙ ⊎_elim
-            (λ (here : other ≡ place).
+            (λ here.
             ap (λ k. after_rows (get_or (set indexes place new) k index)) here
             ∙ (ap after_rows (get_or-set_same indexes place new index seen.within) ∙ (ap (rows_of slots') new_is ∙ (rows_are ∙ (ap f (sym seen.rows)
-            ∙ (sym (get_or-set_same (map before_rows indexes) place rows d (omega (arith, seen.within, length-map indexes before_rows)))
+            ∙ (sym (get_or-set_same (map before_rows indexes) place rows d (omega (arith, length-map indexes before_rows)))
             ∙ ap (λ k. get_or (set (map before_rows indexes) place rows) k d) (sym here)))))))
-            (λ (differ : other ≢ place).
+            (λ differ.
             ap after_rows (get_or-set_other indexes place other new index differ)
             ∙ (rows_same slots slots' change.same (get_or indexes other index).items (apart other index inner differ)
             ∙ (sym (get_or-map before_rows indexes other index d inner) ∙ sym (get_or-set_other (map before_rows indexes) place other rows d differ))))
@@ -353,27 +348,25 @@ module _ {R N : Type 0} {number : R → ℕ} {value : N → ℕ} {slots : Slots 
         below_entry k d within =
             let entry = seen.entries.stand k d within in
             let default : Keyed R = record { key = 0; row = row } in
-            let lower = below k default (omega (arith, within, seen.count)) in
+            let lower = below k default (omega (arith, within)) in
             omega (
               arith,
-              lower,
               ap (λ rows. number (get_or rows k default).row) seen.rows,
               ap (λ (keyed : Keyed R). number keyed.row) (row_at index.items seen.entries.stand k d default entry.row within entry.stands),
-              entry.numbered,
             )
 
         count : IsCountBelow value index.items (number row) (length index.items)
-        count = record { in_range = omega arith; below = λ k d from upto. below_entry k d upto; above = λ k d from upto. absurd (omega (arith, from, upto)) }
+        count = record { in_range = omega arith; below = λ k d from upto. below_entry k d upto; above = λ k d from upto. absurd (omega arith) }
 
         last : inserted number (rows_at table place) key row ≡ added (rows_at table place) key row
         last =
             let rows = rows_at table place in
             let front : filter (λ keyed. nat_lt (number keyed.row) (number row)) rows ≡ rows =
             filter_front (λ keyed. nat_lt (number keyed.row) (number row)) rows (length rows) (λ k d low high. lt-ltb _ _ (below k d high))
-            (λ k d low high. absurd (omega (arith, low, high))) ∙ take_all (length rows) rows (omega arith) in
+            (λ k d low high. absurd (omega arith)) ∙ take_all (length rows) rows (omega arith) in
             let back : filter (λ keyed. nat_lt (number row) (number keyed.row)) rows ≡ [] =
             filter_back (λ keyed. nat_lt (number row) (number keyed.row)) rows (length rows)
-            (λ k d low high. le-ltb _ _ (let lower = below k d high in omega (arith, lower))) (λ k d low high. absurd (omega (arith, low, high)))
+            (λ k d low high. le-ltb _ _ (let lower = below k d high in omega arith)) (λ k d low high. absurd (omega arith))
             ∙ drop_all (length rows) rows (omega arith) in
             rw (front, back) refl
 
@@ -436,9 +429,9 @@ module _ {R N : Type 0} {number : R → ℕ} {value : N → ℕ} {slots : Slots 
         stand = λ k d inner.
             let is = seen.entries.stand k d inner in
             ⊎_elim
-            (λ (here : (get_or index.items k d).key ≡ key). record
+            (λ here. record
             { row = row; stands = ap (slot_at (set slots key new)) here ∙ stands; numbered = sym (same_number stood is here ∙ equal) })
-            (λ (differ : (get_or index.items k d).key ≢ key). record
+            (λ differ. record
             { row = is.row; stands = same (get_or index.items k d).key differ ∙ is.stands; numbered = is.numbered })
             (cases_eq (get_or index.items k d).key key);
       })
@@ -460,11 +453,11 @@ pub kept_open : {R N : Type 0} {number : R → ℕ} {value : N → ℕ} {slots :
     → (index : Gapped (Entry N)) → index.items ≡ [] → IsKept number value slots (indexes ++ index ∷ [])
 kept_open {N = N} {number = number} {value = value} {slots = slots} {indexes = indexes} kept index items = record {
   each = λ place d within. ⊎_elim
-      (λ (below : place < length indexes). subst (λ (i : Gapped (Entry N)). IsIndex number value slots place i.items)
+      (λ below. subst (λ (i : Gapped (Entry N)). IsIndex number value slots place i.items)
       (sym (get_or_append_left indexes (index ∷ []) d place below)) (kept.each place d below))
-      (λ (above : length indexes ≤ place).
+      (λ above.
       subst (λ (i : Gapped (Entry N)). IsIndex number value slots place i.items)
-      (sym (get_or_push indexes index d place (omega (arith, within, above, length_push indexes index))))
+      (sym (get_or_push indexes index d place (omega (arith, within, length_push indexes index))))
       (rw items (record { rising = λ i j e lt inner. absurd (omega arith); stand = λ k e inner. absurd (omega arith) })))
       (cases_lt place (length indexes));
   total = omega (arith, kept.total, sum_by_push (λ (i : Gapped (Entry N)). length i.items) indexes index, ap length items);

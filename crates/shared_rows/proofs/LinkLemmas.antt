@@ -83,8 +83,8 @@ find_at p (x ∷ xs) (suc n) fails passes =
 pub parted_by : {X : Type 0} (p : X → Bool) (xs : List X)
     → ((i j : ℕ) (d : X) → i < j → j < length xs → p (get_or xs j d) ≡ true → p (get_or xs i d) ≡ true) → IsPartitionedBy p xs
 parted_by p xs earlier i j d upto within passes = ⊎_elim
-    (λ (front : i < j). earlier i j d front within passes)
-    (λ (at : j ≤ i). let same : i ≡ j = omega arith in ap (λ n. p (get_or xs n d)) same ∙ passes)
+    (λ front. earlier i j d front within passes)
+    (λ at. let same : i ≡ j = omega arith in ap (λ n. p (get_or xs n d)) same ∙ passes)
     (cases_lt i j)
 
 -- where the elements that pass a test end, two neighbours tell
@@ -94,8 +94,8 @@ pub parted_at : {X : Type 0} (p : X → Bool) (xs : List X) → IsPartitionedBy 
 parted_at p xs parted at within low high = (
   λ k d first upto. parted k (at - 1) d (omega arith) (omega arith) (low (omega arith) d),
   λ k d from inside. ⊎_elim
-      (λ (passes : p (get_or xs k d) ≡ true). let there = parted at k d from inside passes in let here = high (omega arith) d in absurd (cc))
-      (λ (fails : p (get_or xs k d) ≡ false). fails)
+      (λ passes. let there = parted at k d from inside passes in let here = high (omega arith) d in absurd (cc))
+      (λ fails. fails)
       (cases_Bool (p (get_or xs k d))),
 )
 
@@ -156,13 +156,13 @@ module _ {K : Type 0} {cmp : K → K → Ordering} (total : IsTotalOrder cmp) wh
       within,
       record {
         below = λ k d from upto. ⊎_elim
-            (λ (before : k < at - 1). total.trans (get_or links k d) (get_or links (at - 1) d) link (order k (at - 1) d before (omega arith))
+            (λ before. total.trans (get_or links k d) (get_or links (at - 1) d) link (order k (at - 1) d before (omega arith))
             (low (omega arith) d))
-            (λ (here : at - 1 ≤ k). let same : k ≡ at - 1 = omega arith in ap (λ n. cmp (get_or links n d) link) same ∙ low (omega arith) d)
+            (λ here. let same : k ≡ at - 1 = omega arith in ap (λ n. cmp (get_or links n d) link) same ∙ low (omega arith) d)
             (cases_lt k (at - 1));
         above = λ k d from upto. ⊎_elim
-            (λ (behind : at < k). total.trans link (get_or links at d) (get_or links k d) (high (omega arith) d) (order at k d behind upto))
-            (λ (here : k ≤ at). let same : k ≡ at = omega arith in ap (λ n. cmp link (get_or links n d)) same ∙ high (omega arith) d)
+            (λ behind. total.trans link (get_or links at d) (get_or links k d) (high (omega arith) d) (order at k d behind upto))
+            (λ here. let same : k ≡ at = omega arith in ap (λ n. cmp link (get_or links n d)) same ∙ high (omega arith) d)
             (cases_lt at k);
       },
     )
@@ -205,14 +205,14 @@ module _ {K : Type 0} {cmp : K → K → Ordering} (total : IsTotalOrder cmp) wh
         (middle : AllWithin (λ other. cmp other link ≡ Equal) links before from) where
       not_below : AllWithin (λ other. is_lt (cmp other link) ≡ false) links before (length links)
       not_below = λ k d low high. ⊎_elim
-          (λ (mid : k < from). ap is_lt (middle k d low mid))
-          (λ (behind : from ≤ k). ap is_lt (below_back link (get_or links k d) (between.above k d behind high)))
+          (λ mid. ap is_lt (middle k d low mid))
+          (λ behind. ap is_lt (below_back link (get_or links k d) (between.above k d behind high)))
           (cases_lt k from)
 
       not_above : AllWithin (λ other. is_lt (cmp link other) ≡ false) links 0 from
       not_above = λ k d low high. ⊎_elim
-          (λ (front : k < before). ap is_lt (below_back (get_or links k d) link (between.below k d low front)))
-          (λ (mid : before ≤ k). ap is_lt (total.antisymm link (get_or links k d) ∙ ap ordering_reverse (middle k d mid high)))
+          (λ front. ap is_lt (below_back (get_or links k d) link (between.below k d low front)))
+          (λ mid. ap is_lt (total.antisymm link (get_or links k d) ∙ ap ordering_reverse (middle k d mid high)))
           (cases_lt k before)
 
       with_between : with_link cmp links link ≡ take before links ++ link ∷ drop from links
@@ -227,7 +227,7 @@ module _ {K : Type 0} {cmp : K → K → Ordering} (total : IsTotalOrder cmp) wh
         let next : suc at ≡ at + 1 = omega arith in
         set_split links at link seat.0
         ∙ (ap (λ from. take at links ++ link ∷ drop from links) next
-        ∙ sym (with_between at (at + 1) (omega arith) (omega (arith, seat.0)) seat.2
+        ∙ sym (with_between at (at + 1) (omega arith) (omega arith) seat.2
         (λ k d low high. let here : k ≡ at = omega arith in ap (λ i. cmp (get_or links i d) link) here ∙ seat.1 d)))
 
     pub insert_link : (at : ℕ) → IsSeat cmp links link (Err at) → insert links at link ≡ with_link cmp links link
@@ -244,8 +244,8 @@ module _ {K : Type 0} {cmp : K → K → Ordering} (total : IsTotalOrder cmp) wh
     without_absent at seat =
         sym (filter_front (λ other. not (is_eq (cmp other link))) links (length links)
         (λ k d low high. ⊎_elim
-        (λ (below : k < at). ap (λ o. not (is_eq o)) (seat.1.below k d low below))
-        (λ (above : at ≤ k). ap (λ o. not (is_eq o)) (below_back link (get_or links k d) (seat.1.above k d above high)))
+        (λ below. ap (λ o. not (is_eq o)) (seat.1.below k d low below))
+        (λ above. ap (λ o. not (is_eq o)) (below_back link (get_or links k d) (seat.1.above k d above high)))
         (cases_lt k at))
         (λ k d low high. absurd (omega arith)) ∙ take_all (length links) links (omega arith))
 
@@ -279,6 +279,6 @@ order_kept {K} cmp links at within ordered left same = subst (λ (list : List K)
 pub memory_kept : {K : Type 0} (capacity : ℕ) (items : Gapped K) (at : ℕ) → at < length items.items → HasMemory capacity items → (left : Gapped K)
     → left ≡ record items { items = remove items.items at } → HasMemory capacity left
 memory_kept {K} capacity items at within memory left same = (
-  omega (arith, memory.0, ap (λ (list : Gapped K). length list.items) same, length-remove items.items at within),
-  omega (arith, memory.1, ap (λ (list : Gapped K). list.capacity) same),
+  omega (arith, ap (λ (list : Gapped K). length list.items) same, length-remove items.items at within),
+  omega (arith, ap (λ (list : Gapped K). list.capacity) same),
 )

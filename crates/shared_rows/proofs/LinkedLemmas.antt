@@ -17,7 +17,7 @@ module _ {X : Type 0} where
   contains_first x xs = (0, omega arith, refl)
 
   pub contains_later : (first x : X) (xs : List X) → Contains xs x → Contains (first ∷ xs) x
-  contains_later first x xs there = (suc there.0, omega (arith, there.1), there.2)
+  contains_later first x xs there = (suc there.0, omega arith, there.2)
 
   pub contains_cases : (first x : X) (xs : List X) → Contains (first ∷ xs) x → (first ≡ x) ⊎ Contains xs x
   contains_cases first x xs there = by there.0 there.1 there.2
@@ -28,12 +28,12 @@ module _ {X : Type 0} where
 
   -- what a filter keeps
   pub contains_kept : (p : X → Bool) (xs : List X) (x : X) → Contains xs x → p x ≡ true → Contains (filter p xs) x
-  contains_kept p [] x there passes = absurd (omega (arith, there.1))
+  contains_kept p [] x there passes = absurd (omega arith)
   contains_kept p (first ∷ xs) x there passes =
       ⊎_elim
-      (λ (here : first ≡ x). let test : p first ≡ true = ap p here ∙ passes in rw test
+      (λ here. let test : p first ≡ true = ap p here ∙ passes in rw test
       (subst (Contains (first ∷ filter p xs)) here (contains_first first (filter p xs))))
-      (λ (later : Contains xs x). by (p first) (contains_kept p xs x later passes))
+      (λ later. by (p first) (contains_kept p xs x later passes))
       (contains_cases first x xs there)
     where
       by : (kept : Bool) → Contains (filter p xs) x → Contains (cond kept (first ∷ filter p xs) (filter p xs)) x
@@ -54,10 +54,10 @@ module _ {X : Type 0} where
   any_of P xs x there holds = (there.0, x, there.1, there.2, holds)
 
 pub contains_map : {X Y : Type 0} (f : X → Y) (xs : List X) (x : X) → Contains xs x → Contains (map f xs) (f x)
-contains_map f [] x there = absurd (omega (arith, there.1))
+contains_map f [] x there = absurd (omega arith)
 contains_map f (first ∷ xs) x there = ⊎_elim
-    (λ (here : first ≡ x). subst (λ y. Contains (f first ∷ map f xs) (f y)) here (contains_first (f first) (map f xs)))
-    (λ (later : Contains xs x). contains_later (f first) (f x) (map f xs) (contains_map f xs x later))
+    (λ here. subst (λ y. Contains (f first ∷ map f xs) (f y)) here (contains_first (f first) (map f xs)))
+    (λ later. contains_later (f first) (f x) (map f xs) (contains_map f xs x later))
     (contains_cases first x xs there)
 
 pub contains_mapped : {X Y : Type 0} (f : X → Y) (xs : List X) (y : Y) → Contains (map f xs) y → (x : X) × Contains xs x × (f x ≡ y)
@@ -94,27 +94,27 @@ linked_same link_of change keeps rows links linked = are_linked link_of (map cha
 module _ {K : Type 0} {cmp : K → K → Ordering} (total : IsTotalOrder cmp) where
   -- a link that is there, gone
   pub length-without : (links : List K) (link : K) → Contains links link → length (without_link cmp links link) < length links
-  length-without [] link there = absurd (omega (arith, there.1))
+  length-without [] link there = absurd (omega arith)
   length-without (first ∷ links) link there = ⊎_elim
-      (λ (here : first ≡ link). let tied : is_eq (cmp first link) ≡ true = ap (λ x. is_eq (cmp x link)) here ∙ ap is_eq (tied_itself total link) in
+      (λ here. let tied : is_eq (cmp first link) ≡ true = ap (λ x. is_eq (cmp x link)) here ∙ ap is_eq (tied_itself total link) in
       rw tied (omega (arith, length-filter (λ other. not (is_eq (cmp other link))) links, count_by-le-length (λ other. not (is_eq (cmp other link))) links)))
-      (λ (later : Contains links link). by (is_eq (cmp first link)) (length-without links link later))
+      (λ later. by (is_eq (cmp first link)) (length-without links link later))
       (contains_cases first link links there)
     where
       by : (tied : Bool) → length (without_link cmp links link) < length links
           → length (cond (not tied) (first ∷ without_link cmp links link) (without_link cmp links link)) < length (first ∷ links)
-      by true less = omega (arith, less)
-      by false less = omega (arith, less)
+      by true less = omega arith
+      by false less = omega arith
 
 module _ {K : Type 0} {cmp : K → K → Ordering} (total : IsTotalOrder cmp) (same : (x y : K) → cmp x y ≡ Equal → x ≡ y) where
   above : (x : K) (xs : List K) → IsInOrder cmp (x ∷ xs) → (z : K) → Contains xs z → cmp x z ≡ Less
-  above x xs order z there = ap (cmp x) (sym there.2) ∙ order 0 (suc there.0) z (omega arith) (omega (arith, there.1))
+  above x xs order z there = ap (cmp x) (sym there.2) ∙ order 0 (suc there.0) z (omega arith) (omega arith)
 
   in_rest : (x y : K) (xs ys : List K) → x ≡ y → IsInOrder cmp (x ∷ xs) → ((z : K) → Contains (x ∷ xs) z → Contains (y ∷ ys) z) → (z : K) → Contains xs z
       → Contains ys z
   in_rest x y xs ys heads order to z there = ⊎_elim
-      (λ (here : y ≡ z). let tied : cmp x z ≡ Equal = ap (cmp x) (sym (heads ∙ here)) ∙ tied_itself total x in absurd (cc (tied, above x xs order z there)))
-      (λ (later : Contains ys z). later)
+      (λ here. let tied : cmp x z ≡ Equal = ap (cmp x) (sym (heads ∙ here)) ∙ tied_itself total x in absurd (cc (tied, above x xs order z there)))
+      (λ later. later)
       (contains_cases y z ys (to z (contains_later x z xs there)))
 
   -- links in order are known by what they contain
@@ -129,10 +129,10 @@ module _ {K : Type 0} {cmp : K → K → Ordering} (total : IsTotalOrder cmp) (s
     where
       heads : x ≡ y
       heads = ⊎_elim
-          (λ (here : y ≡ x). sym here)
-          (λ (later : Contains ys x). ⊎_elim
-          (λ (here : x ≡ y). here)
-          (λ (back : Contains xs y).
+          (λ here. sym here)
+          (λ later. ⊎_elim
+          (λ here. here)
+          (λ back.
           let turned : cmp y x ≡ Greater = total.antisymm y x ∙ ap ordering_reverse (above x xs in_xs y back) in
           absurd (cc (turned, above y ys in_ys x later)))
           (contains_cases x y xs (from y (contains_first y ys))))
@@ -153,10 +153,10 @@ module _ {K : Type 0} {cmp : K → K → Ordering} (total : IsTotalOrder cmp) (s
 
   pub with_cases : (links : List K) (link x : K) → Contains (with_link cmp links link) x → Contains links x ⊎ (link ≡ x)
   with_cases links link x there = ⊎_elim
-      (λ (front : Contains (filter (λ other. is_lt (cmp other link)) links) x). inl (contains_from (λ other. is_lt (cmp other link)) links x front).0)
-      (λ (back : Contains (link ∷ filter (λ other. is_lt (cmp link other)) links) x). ⊎_elim
-      (λ (here : link ≡ x). inr here)
-      (λ (later : Contains (filter (λ other. is_lt (cmp link other)) links) x). inl (contains_from (λ other. is_lt (cmp link other)) links x later).0)
+      (λ front. inl (contains_from (λ other. is_lt (cmp other link)) links x front).0)
+      (λ back. ⊎_elim
+      (λ here. inr here)
+      (λ later. inl (contains_from (λ other. is_lt (cmp link other)) links x later).0)
       (contains_cases link x _ back))
       (Contains-append_cases _ _ x there)
 
@@ -182,12 +182,12 @@ module _ {K : Type 0} {cmp : K → K → Ordering} (total : IsTotalOrder cmp) (s
         → AreLinked link_of (rows ++ row ∷ []) (with_link cmp links (link_of row))
     linked_push rows links row linked = are_linked link_of (rows ++ row ∷ []) (with_link cmp links (link_of row))
         (λ r there. ⊎_elim
-        (λ (old : Contains rows r). with_others links (link_of row) (link_of r) (link_there rows links linked r old))
-        (λ (here : row ≡ r). subst (λ r. Contains (with_link cmp links (link_of row)) (link_of r)) here (with_itself links (link_of row)))
+        (λ old. with_others links (link_of row) (link_of r) (link_there rows links linked r old))
+        (λ here. subst (λ r. Contains (with_link cmp links (link_of row)) (link_of r)) here (with_itself links (link_of row)))
         (Contains-push_cases rows row r there))
         (λ link there. ⊎_elim
-        (λ (old : Contains links link). let r = row_there rows links linked link old in (r.0, Contains-append_left rows (row ∷ []) r.0 r.1, r.2))
-        (λ (here : link_of row ≡ link). (row, Contains-push rows row, here))
+        (λ old. let r = row_there rows links linked link old in (r.0, Contains-append_left rows (row ∷ []) r.0 r.1, r.2))
+        (λ here. (row, Contains-push rows row, here))
         (with_cases links (link_of row) link there))
 
     -- rows go that have one link
@@ -203,8 +203,8 @@ module _ {K : Type 0} {cmp : K → K → Ordering} (total : IsTotalOrder cmp) (s
         let kept = without_from links gone link there in
         let row = row_there rows links linked link kept.0 in
         ⊎_elim
-        (λ (keeps : keep row.0 ≡ true). (row.0, contains_kept keep rows row.0 row.1 keeps, row.2))
-        (λ (goes : keep row.0 ≡ false). absurd (kept.1 (sym row.2 ∙ All-contains (λ r. keep r ≡ false → link_of r ≡ gone) rows row.0 go row.1 goes)))
+        (λ keeps. (row.0, contains_kept keep rows row.0 row.1 keeps, row.2))
+        (λ goes. absurd (kept.1 (sym row.2 ∙ All-contains (λ r. keep r ≡ false → link_of r ≡ gone) rows row.0 go row.1 goes)))
         (cases_Bool (keep row.0)))
 
     -- rows that change keep their links, but for those of one link, which get another one
@@ -226,14 +226,14 @@ module _ {K : Type 0} {cmp : K → K → Ordering} (total : IsTotalOrder cmp) (s
         (with_others rest come (link_of from.0) (without_others links gone (link_of from.0) (link_there rows links linked from.0 from.1) stays.0)))
         (case from.0 cases from.1)))
         (λ link there. ⊎_elim
-        (λ (old : Contains rest link).
+        (λ old.
         let kept = without_from links gone link old in
         let row = row_there rows links linked link kept.0 in
         ⊎_elim
         (λ moves. absurd (kept.1 (sym row.2 ∙ moves.0)))
         (λ stays. (change row.0, contains_map change rows row.0 row.1, stays.1 ∙ row.2))
         (case row.0 cases row.1))
-        (λ (here : come ≡ link).
+        (λ here.
         let stood : Contains rows some.1 = (some.0, some.2, some.3) in
         ⊎_elim
         (λ moves. (change some.1, contains_map change rows some.1 stood, moves.1 ∙ here))
@@ -247,24 +247,24 @@ module _ {K : Type 0} {cmp : K → K → Ordering} (total : IsTotalOrder cmp) (s
       × ((other : K) → Contains links other → is_lt (cmp other from) ≡ false → is_lt (cmp other link) ≡ false)
   first_some [] order from link found = absurd (cc)
   first_some (first ∷ links) order from link found = ⊎_elim
-      (λ (below : is_lt (cmp first from) ≡ true).
+      (λ below.
       let rest = first_some links (λ i j d lt within. order (suc i) (suc j) d (omega arith) (omega arith)) from link (rw below at found) in (
         contains_later first link links rest.0,
         rest.1,
         λ other there above. ⊎_elim
-            (λ (here : first ≡ other). let low : is_lt (cmp other from) ≡ true = ap (λ k. is_lt (cmp k from)) (sym here) ∙ below in absurd (cc (low, above)))
-            (λ (later : Contains links other). rest.2 other later above)
+            (λ here. let low : is_lt (cmp other from) ≡ true = ap (λ k. is_lt (cmp k from)) (sym here) ∙ below in absurd (cc (low, above)))
+            (λ later. rest.2 other later above)
             (contains_cases first other links there),
       ))
-      (λ (least : is_lt (cmp first from) ≡ false).
+      (λ least.
       let is_first : Some first ≡ Some link = rw least at found in
       let here : first ≡ link = cc in (
         subst (Contains (first ∷ links)) here (contains_first first links),
         ap (λ k. is_lt (cmp k from)) (sym here) ∙ least,
         λ other there above. ⊎_elim
-            (λ (same_one : first ≡ other). ap is_lt (ap (λ k. cmp k link) (sym same_one ∙ here) ∙ tied_itself total link))
-            (λ (later : Contains links other).
-            let less : cmp first other ≡ Less = ap (cmp first) (sym later.2) ∙ order 0 (suc later.0) other (omega arith) (omega (arith, later.1)) in
+            (λ same_one. ap is_lt (ap (λ k. cmp k link) (sym same_one ∙ here) ∙ tied_itself total link))
+            (λ later.
+            let less : cmp first other ≡ Less = ap (cmp first) (sym later.2) ∙ order 0 (suc later.0) other (omega arith) (omega arith) in
             ap is_lt (ap (cmp other) (sym here) ∙ (total.antisymm other first ∙ ap ordering_reverse less)))
             (contains_cases first other links there),
       ))
@@ -272,11 +272,11 @@ module _ {K : Type 0} {cmp : K → K → Ordering} (total : IsTotalOrder cmp) (s
 
   -- where there is none, all are below
   pub first_none : (links : List K) → (from : K) → first_from cmp links from ≡ None → (other : K) → Contains links other → is_lt (cmp other from) ≡ true
-  first_none [] from none other there = absurd (omega (arith, there.1))
+  first_none [] from none other there = absurd (omega arith)
   first_none (first ∷ links) from none other there = ⊎_elim
-      (λ (below : is_lt (cmp first from) ≡ true). ⊎_elim
-      (λ (here : first ≡ other). ap (λ k. is_lt (cmp k from)) (sym here) ∙ below)
-      (λ (later : Contains links other). first_none links from (rw below at none) other later)
+      (λ below. ⊎_elim
+      (λ here. ap (λ k. is_lt (cmp k from)) (sym here) ∙ below)
+      (λ later. first_none links from (rw below at none) other later)
       (contains_cases first other links there))
-      (λ (least : is_lt (cmp first from) ≡ false). let some : Some first ≡ None = rw least at none in absurd (cc))
+      (λ least. let some : Some first ≡ None = rw least at none in absurd (cc))
       (cases_Bool (is_lt (cmp first from)))

@@ -144,6 +144,6 @@ module _ {K : Type 0} (number : K → ℕ) where
 
   pub seat_vacant : (links : List K) (probe : K) (at : ℕ) → IsSeat (on number nat_cmp) links probe (Err at) → numbered (number probe) links ≡ None
   seat_vacant links probe at seat = numbered_none links (number probe) (λ k d within same. ⊎_elim
-      (λ (low : k < at). omega (arith, ranked (number (get_or links k d)) (number probe) Less (sym (seat.1.below k d (omega arith) low)), same))
-      (λ (high : at ≤ k). omega (arith, ranked (number probe) (number (get_or links k d)) Less (sym (seat.1.above k d high within)), same))
+      (λ low. omega (arith, ranked (number (get_or links k d)) (number probe) Less (sym (seat.1.below k d (omega arith) low))))
+      (λ high. omega (arith, ranked (number probe) (number (get_or links k d)) Less (sym (seat.1.above k d high within))))
       (cases_lt k at))

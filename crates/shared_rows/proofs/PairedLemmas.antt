@@ -69,9 +69,9 @@ module _ {P Q : Type 0} (Fact : P → Q → Type 0) (firsts : List P) (seconds :
   pub each_with : (place : ℕ) (first : P) (second : Q) → place < length firsts → Fact first second → (other : ℕ) (q : Q) → other < length firsts
       → Fact (get_or (set firsts place first) other p) (get_or (set seconds place second) other q)
   each_with place first second is_place holds other q within = ⊎_elim
-      (λ (here : other ≡ place).
-      rw (here, get_or-set_same firsts place first p is_place, get_or-set_same seconds place second q (omega (arith, is_place, same))) holds)
-      (λ (differ : other ≢ place). rw (get_or-set_other firsts place other first p differ, get_or-set_other seconds place other second q differ)
+      (λ here.
+      rw (here, get_or-set_same firsts place first p is_place, get_or-set_same seconds place second q (omega arith)) holds)
+      (λ differ. rw (get_or-set_other firsts place other first p differ, get_or-set_other seconds place other second q differ)
       (each other q within))
       (cases_eq other place)
 
@@ -79,11 +79,11 @@ module _ {P Q : Type 0} (Fact : P → Q → Type 0) (firsts : List P) (seconds :
   pub each_opened : (first : P) (second : Q) → Fact first second → (place : ℕ) (q : Q) → place < length firsts + 1
       → Fact (get_or (firsts ++ first ∷ []) place p) (get_or (seconds ++ second ∷ []) place q)
   each_opened first second holds place q within = ⊎_elim
-      (λ (old : place < length firsts). rw (
+      (λ old. rw (
         get_or_append_left firsts (first ∷ []) p place old,
-        get_or_append_left seconds (second ∷ []) q place (omega (arith, old, same)),
+        get_or_append_left seconds (second ∷ []) q place (omega arith),
       ) (each place q old))
-      (λ (last : length firsts ≤ place).
-      let here : length firsts ≡ place = omega (arith, last, within) in
-      rw (get_or_push firsts first p place here, get_or_push seconds second q place (omega (arith, here, same))) holds)
+      (λ last.
+      let here : length firsts ≡ place = omega arith in
+      rw (get_or_push firsts first p place here, get_or_push seconds second q place (omega arith)) holds)
       (cases_lt place (length firsts))

@@ -35,8 +35,8 @@ module _ {T : Type 0} (p : T → Bool) (xs : List T) where
   pub at_failing : (base size : ℕ) → Halved base size → HoldsAt (λ y. p y ≡ false) xs base → IsPartitionedBy p xs
       → IsPartitionPoint (λ y. p y ≡ true) (λ y. p y ≡ false) xs base
   at_failing base size n q first = (
-    λ k d a b. ⊎_elim (λ (front : base ≡ 0). absurd (omega arith))
-        (λ (passes : HoldsAt (λ y. p y ≡ true) xs base). let here : p (get_or xs base d) ≡ true = passes d in let there : p (get_or xs base d) ≡ false = q d in
+    λ k d a b. ⊎_elim (λ front. absurd (omega arith))
+        (λ passes. let here : p (get_or xs base d) ≡ true = passes d in let there : p (get_or xs base d) ≡ false = q d in
         absurd (cc)) n.low,
     from_failing base base (omega arith) q first,
   )

@@ -37,7 +37,7 @@ pub changes_length : {T : Type 0} (default : T) (old new : Table T) (place : ℕ
 changes_length default old new place e = ap (λ table. length table.places) e ∙ grind (arith, common_steps)
 
 pub changes_open : {T : Type 0} (default : T) (old new : Table T) (place : ℕ) → ChangesAt default place old new → IsPlace old place → IsPlace new place
-changes_open default old new place e is_place = omega (arith, changes_length default old new place e, is_place)
+changes_open default old new place e is_place = omega (arith, changes_length default old new place e)
 
 -- whatever stood at a place before another value is put there
 pub with_after : {T : Type 0} (default : T) (old new : Table T) (place : ℕ) (value : T) → ChangesAt default place old new

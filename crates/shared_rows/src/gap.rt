@@ -1,4 +1,6 @@
 //! The gap.
+#![tactic(auto, using(crate::proofs::GapLemmas::of_gaps))]
+
 ghost use Rattle.std.specs.Prelude.{◌≡◌, ◌+◌, ◌-◌, ◌<◌, ◌≤◌, ◌↔◌, ◌++◌, ◌∷◌, [], length, set, slice_index_or, IfOk, IsTrue, OnErr};
 ghost use Rattle.std.specs.List.{insert, remove};
 ghost use Rattle.std.specs.Vec.{vec_capacity};

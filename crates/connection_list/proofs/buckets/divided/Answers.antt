@@ -5,7 +5,7 @@ use Rattle.connection_list.proofs.buckets.divided.Goals as goal
 pub links-preserved : goal.links-preserved
 links-preserved c =
     let within : c.links.at < length c.args.few.now.links =
-    omega (arith, c.links-test.true, c.len-at-end.ensures, ap length c.as_buffer-all.ensures.links) in
+    omega (arith, ap length c.as_buffer-all.ensures.links) in
     held_more c.links.invariant within
     (λ default. c.get-link.ensures default ∙ ap (λ list. get_or list c.links.at default) c.as_buffer-all.ensures.links)
     c.bucket_number-number.ensures.number c.bucket_number-number.ensures.bound c.index_mut-bucket.result.now c.insert.new.self
@@ -14,5 +14,5 @@ links-preserved c =
 pub returns : goal.returns
 returns c =
     let past : length c.args.few.now.links ≤ c.links.at =
-    omega (arith, c.links-test.false, c.len-at-end.ensures, ap length c.as_buffer-all.ensures.links) in
+    omega (arith, ap length c.as_buffer-all.ensures.links) in
     held_all c.args.few.now.links c.links.at c.links.many.items past c.links.invariant

@@ -4,7 +4,7 @@ use Rattle.event_queue.proofs.EntryLemmas.{entry_put}
 use Rattle.event_queue.proofs.object_counts.insert_first.Goals as goal
 
 pub insert_reserved-requires-clause-within : goal.insert_reserved-requires-clause-within
-insert_reserved-requires-clause-within c = omega (arith, c.requires.seat.0, ap length c.in_ok-reserve.ensures.items)
+insert_reserved-requires-clause-within c = omega (arith, ap length c.in_ok-reserve.ensures.items)
 
 pub returns-clause-ok : goal.returns-clause-ok
 returns-clause-ok c =

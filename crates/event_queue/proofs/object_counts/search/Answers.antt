@@ -9,12 +9,12 @@ returns-then-at-len c =
     let point = IsPartitionPoint-from_clause (λ (entry : Entry). nat_lt entry.object c.args.object) c.args.entries.now.items c.partition_point-at.result
     c.partition_point-at.ensures.partitioned (lower_parted c.args.entries.now.items c.args.object c.requires) (λ a r k called. search rules) in
     is_between c.args.entries.now.items c.args.object c.requires c.partition_point-at.result c.partition_point-at.ensures.bound point
-    (λ d within same. absurd (omega (arith, within, c.if-at-len.true, c.len.ensures)))
+    (λ d within same. absurd (omega arith))
 
 pub returns-then-there-object : goal.returns-then-there-object
 returns-then-there-object c =
     is_there c.args.entries.now.items c.args.object c.requires c.partition_point-at.result c.get-there.result
-    (omega (arith, c.partition_point-at.ensures.bound, c.len.ensures, c.if-at-len.false)) c.get-there.ensures c.if-there-object.true
+    (omega arith) c.get-there.ensures c.if-there-object.true
 
 pub returns-else-there-object : goal.returns-else-there-object
 returns-else-there-object c =

@@ -10,8 +10,8 @@ looks-preserved c =
     elim c.if-number.branch [
       | then-number w ↦ rw (w.low-is, w.high-is)
           (look_right rows c.len-high.ensures.sound c.args.number c.looks.low c.looks.high c.looks.at _ c.at.result.0 c.at.result.1.now c.looks.invariant
-          c.looks-test.true c.at.ensures (omega (arith, c.number.ensures, w.if-number.true)) refl)
+          c.looks-test.true c.at.ensures (omega arith) refl)
       | else-number w ↦ rw (w.low-is, w.high-is)
           (look_left rows c.len-high.ensures.sound c.args.number c.looks.low c.looks.high c.looks.at _ c.at.result.0 c.at.result.1.now c.looks.invariant
-          c.looks-test.true c.at.ensures (omega (arith, c.number.ensures, w.if-number.false)) refl)
+          c.looks-test.true c.at.ensures (omega arith) refl)
     ]

@@ -6,11 +6,11 @@ use Rattle.event_queue.proofs.order.next_number.Goals as goal
 pub returns-clause-few : goal.returns-clause-few
 returns-clause-few c =
     let below = last_below (rows_at c.args.rows.now c.args.place) (c.args.start + 2 ^ 62) c.args.before
-    (c.args.before - 1) c.at.result.0 c.at.result.1.now c.requires.before (omega (arith, c.if-before-eq0.false)) c.at.ensures in
-    omega (arith, below, c.number-next.ensures, c.if-next-start.false, c.saturating_sub.ensures)
+    (c.args.before - 1) c.at.result.0 c.at.result.1.now c.requires.before (omega arith) c.at.ensures in
+    omega arith
 
 pub returns-clause-seat : goal.returns-clause-seat
 returns-clause-seat c =
     seat_behind (rows_at c.args.rows.now c.args.place) (c.args.start + 2 ^ 62) c.requires.sound c.args.before (c.args.before - 1)
     (c.args.start + c.saturating_sub.result) c.at.result.0 c.at.result.1.now c.requires.before
-    (omega (arith, c.if-before-eq0.false)) c.at.ensures (omega (arith, c.number-next.ensures, c.saturating_sub.ensures))
+    (omega arith) c.at.ensures (omega arith)

@@ -1,5 +1,4 @@
-use Rattle.std.proofs.Common.{◌∙◌, ◌-◌, ap, sym, subst, arith}
-use Rattle.std.proofs.lemmas.Grind.{common_steps}
+use Rattle.std.proofs.Common.{◌∙◌, ◌-◌, ap, sym, subst}
 use Rattle.event_queue.specs.Inside.{IsCounted, count_of, is_dropped}
 use Rattle.event_queue.proofs.OrderLemmas.{taking_first, taking_on}
 use Rattle.event_queue.proofs.order.take_first.Goals as goal
@@ -17,6 +16,3 @@ rows-preserved c =
     (subst (λ n. IsCounted c.rows.objects c.subtract-was_dropped.new.self n (count_of c.rows.objects n - 1)) c.object.ensures
     c.subtract-was_dropped.ensures.counted) c.subtract-was_dropped.ensures.marks
     (ap (is_dropped c.rows.objects) (sym c.object.ensures) ∙ (sym c.subtract-was_dropped.ensures.was ∙ c.if-not-was_dropped.false))
-
-pub returns-clause-rest : goal.returns-clause-rest
-returns-clause-rest c = grind (arith, common_steps)

@@ -13,5 +13,5 @@ kids-preserved c =
     ∙ ap (λ (child : Child). child ∷ rest) (sym (c.get.ensures c.get.result)) in (
       rw c.push_reserved.ensures.items (append_assoc c.kids.found.items (c.get.result.number ∷ []) (map (λ (child : Child). child.number) rest)
           ∙ (ap (λ kids. c.kids.found.items ++ map (λ (child : Child). child.number) kids) (sym next) ∙ c.kids.invariant.0)),
-      omega (arith, c.kids.invariant.1, c.kids-test.true, c.push_reserved.ensures.len, c.push_reserved.ensures.capacity),
+      omega arith,
     )

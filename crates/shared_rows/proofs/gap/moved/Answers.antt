@@ -12,12 +12,12 @@ returns-clause-items g c =
           let copy = w.copy_within.ensures in
           ap (λ places. without places.items c.args.to c.args.gap.gone) w.places-is
           ∙ moved_right list w.copy_within.new.self.items c.args.gap.start c.args.gap.gone c.args.to (omega arith) c.requires.within
-          (omega (arith, copy.len)) copy.by_index.0 copy.by_index.1 copy.by_index.2
+          (omega arith) copy.by_index.0 copy.by_index.1 copy.by_index.2
       | then-gone-gt0+else-start-to w ↦
           let copy = w.copy_within-else-start-to.ensures in
           ap (λ places. without places.items c.args.to c.args.gap.gone) w.places-is
           ∙ moved_left list w.copy_within-else-start-to.new.self.items c.args.gap.start c.args.gap.gone c.args.to (omega arith) c.requires.gap.0
-          (omega (arith, copy.len)) copy.by_index.0 copy.by_index.1 copy.by_index.2
+          (omega arith) copy.by_index.0 copy.by_index.1 copy.by_index.2
       | else-gone-gt0 w ↦
           let none : c.args.gap.gone ≡ 0 = omega arith in
           ap (λ places. without places.items c.args.to c.args.gap.gone) w.places-is

@@ -8,7 +8,7 @@ returns-clause-items g c =
     let list = c.args.places.now.items in
     let none : c.args.gap.gone ≡ 0 = omega arith in
     without_end c.copies.places.items list c.len-len.result c.min-gone.result c.copies.invariant.items
-    (omega (arith, c.copies.invariant.count, c.copies-test.false, c.copies.auto.copy-end))
+    (omega arith)
     ∙ sym (ap (λ n. without list c.args.gap.start n) none ∙ without_none list c.args.gap.start)
 
 pub returns-clause-some : goal.returns-clause-some

@@ -9,7 +9,6 @@ pub index-requires : goal.index-requires
 index-requires g c =
     omega (
       arith,
-      c.args.places.now.ok.0,
       place_within c.args.places.now.items c.args.gap.start c.args.gap.gone c.args.at c.position.result c.requires.gap.0 c.requires.within c.position.ensures,
     )
 

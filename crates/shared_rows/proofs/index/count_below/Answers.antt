@@ -8,8 +8,8 @@ returns-in-Some g c =
     let some : 0 < length c.args.entries.now.items = c.in-Some.ensures.variant.0 refl in
     let last = c.in-Some.ensures.lookup ∙ ap (λ n. slice_index_or c.args.entries.now.items (n - 1) c.in-Some.last) (sym c.len.ensures) in
     let low : g.N.Number.value c.in-Some.last.number < c.args.number = search rules in
-    counted_all g.N.Number.value c.args.entries.now.items c.requires c.args.number c.len.result c.in-Some.last (omega (arith, c.len.ensures))
-    (omega (arith, some, c.len.ensures)) last low
+    counted_all g.N.Number.value c.args.entries.now.items c.requires c.args.number c.len.result c.in-Some.last (omega arith)
+    (omega arith) last low
 
 pub returns-in_default : goal.returns-in_default
 returns-in_default g c =

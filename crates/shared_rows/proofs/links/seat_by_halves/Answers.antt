@@ -9,12 +9,12 @@ returns-then-at-len g c =
     let point = IsPartitionPoint-from_clause (λ other. is_lt (g.K.Ord.cmp other c.args.link)) c.args.links.now.items c.partition_point-at.result
     c.partition_point-at.ensures.partitioned (below_parted g.met.K.Ord.total _ c.requires _) (λ a r k called. search rules) in
     seat_parted g.met.K.Ord.total _ c.requires _ c.partition_point-at.result c.partition_point-at.ensures.bound point
-    (λ d within. absurd (omega (arith, within)))
+    (λ d within. absurd (omega arith))
 
 pub returns-then-is_eq : goal.returns-then-is_eq
 returns-then-is_eq g c =
     seat_found g.met.K.Ord.total _ c.requires _ c.partition_point-at.result
-    (omega (arith, c.partition_point-at.ensures.bound, c.len.ensures, c.if-at-len.false))
+    (omega arith)
     (λ d. ap (λ other. g.K.Ord.cmp other c.args.link) (sym (c.get.ensures d)) ∙ (sym c.cmp.ensures ∙ equal_from c.cmp.result (sym c.if-is_eq.ensures)))
 
 pub returns-else-is_eq : goal.returns-else-is_eq

@@ -7,13 +7,13 @@ use Rattle.connection_list.proofs.buckets.Buckets.insert_reserved.Goals as goal
 
 pub returns-then-number-len : goal.returns-then-number-len
 returns-then-number-len c =
-    let within : c.bucket_number-number.result < length c.self.inside.many.items = omega (arith, c.if-number-len.true, c.self.inside.many.ok) in
+    let within : c.bucket_number-number.result < length c.self.inside.many.items = omega arith in
     changes_many c.self.view_is c.args.link.object c.bucket_number-number.ensures.number (λ links. with_link link_cmp links c.args.link)
     c.index_mut-bucket.result.now c.insert_reserved.new.self within c.index_mut-bucket.ensures.value
     (ap (λ (l : Linked Link). l.links) c.insert_reserved.ensures)
 
 pub returns-else-number-len : goal.returns-else-number-len
 returns-else-number-len c =
-    let past : length c.self.inside.many.items ≤ c.bucket_number-number.result = omega (arith, c.if-number-len.false, c.self.inside.many.ok) in
+    let past : length c.self.inside.many.items ≤ c.bucket_number-number.result = omega arith in
     changes_few c.self.view_is c.args.link.object c.bucket_number-number.ensures.number (λ links. with_link link_cmp links c.args.link)
     c.insert_reserved-else-number-len.new.self past (ap (λ (l : Linked Link). l.links) c.insert_reserved-else-number-len.ensures)

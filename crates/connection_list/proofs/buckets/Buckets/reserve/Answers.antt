@@ -4,7 +4,7 @@ use Rattle.connection_list.proofs.buckets.Buckets.reserve.Goals as goal
 
 pub returns-then-number-len-clause-same : goal.returns-then-number-len-clause-same
 returns-then-number-len-clause-same c =
-    let within : c.bucket_number-number.result < length c.self.inside.many.items = omega (arith, c.if-number-len.true, c.self.inside.many.ok) in
+    let within : c.bucket_number-number.result < length c.self.inside.many.items = omega arith in
     same_twice c.args.self.now c.divide.new.self
     (record { few = c.self.inside.few; many = set c.self.inside.many.items c.bucket_number-number.result c.reserve.new.self }) c.divide.ensures
     (same_many c.self.view_is c.args.object c.bucket_number-number.ensures.number c.index_mut-bucket.result.now c.reserve.new.self within
@@ -12,7 +12,7 @@ returns-then-number-len-clause-same c =
 
 pub returns-else-number-len-clause-same : goal.returns-else-number-len-clause-same
 returns-else-number-len-clause-same c =
-    let past : length c.self.inside.many.items ≤ c.bucket_number-number.result = omega (arith, c.if-number-len.false, c.self.inside.many.ok) in
+    let past : length c.self.inside.many.items ≤ c.bucket_number-number.result = omega arith in
     same_twice c.args.self.now c.divide.new.self (record { few = c.reserve-else-number-len.new.self; many = c.self.inside.many.items }) c.divide.ensures
     (same_few c.self.view_is c.args.object c.bucket_number-number.ensures.number c.reserve-else-number-len.new.self past
     c.reserve-else-number-len.ensures.links)

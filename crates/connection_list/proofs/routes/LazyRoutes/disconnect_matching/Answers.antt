@@ -16,7 +16,7 @@ links-init c =
     )
 
 pub key_at-key-requires : goal.key_at-key-requires
-key_at-key-requires c = omega (arith, c.links.invariant.1.within, c.links-test.true)
+key_at-key-requires c = omega arith
 
 pub get-requires-clause-place : goal.get-requires-clause-place
 get-requires-clause-place c = still_place (λ keyed. matches c.args.pattern.now keyed.row) c.args.place c.args.rows.now c.links.rows c.args.self.now c.links.self
@@ -25,7 +25,7 @@ get-requires-clause-place c = still_place (λ keyed. matches c.args.pattern.now 
 pub get-requires-clause-stands : goal.get-requires-clause-stands
 get-requires-clause-stands c =
     let its = led c.group-group.result.received (rows_at c.links.rows c.args.place) c.links.self c.group-group.result.object c.links.at
-    c.key_at-key.result c.links.invariant.0.kept (omega (arith, c.links.invariant.1.within, c.links-test.true))
+    c.key_at-key.result c.links.invariant.0.kept (omega arith)
     (λ d. c.links.invariant.1.inside c.links.at d (omega arith) c.links-test.true) c.key_at-key.ensures.key in
     rw its.under refl
 
@@ -39,7 +39,7 @@ links-preserved-then-matches c =
     let end = c.group-group.result.received in
     let object = c.group-group.result.object in
     let its = led end rows c.links.self c.group-group.result.object c.links.at c.key_at-key.result
-    c.links.invariant.0.kept (omega (arith, c.links.invariant.1.within, c.links-test.true))
+    c.links.invariant.0.kept (omega arith)
     (λ d. c.links.invariant.1.inside c.links.at d (omega arith) c.links-test.true) c.key_at-key.ensures.key in
     let there = stands_under rows c.key_at-key.result c.get.result.now c.get.ensures.row in (
       one_more_gone test c.args.place c.args.rows.now c.links.rows c.args.self.now c.links.self c.links.invariant.0 c.take_out.new.rows c.take_out.new.self
@@ -52,7 +52,7 @@ links-preserved-then-matches c =
           ) c.take_out.ensures.gone,
       left_gone end object test rows (rows_at c.take_out.new.rows c.args.place) (links_at end object c.links.self)
           (links_at end object c.take_out.new.self) c.links.at c.links.end (c.links.end - 1) c.key_at-key.result c.key_at-key.ensures.sound
-          (omega (arith, c.links-test.true)) c.links-test.true
+          (omega arith) c.links-test.true
           (λ keyed. not (keyed.key == c.key_at-key.result)) c.take_out.ensures.gone.rows its
           (loses end object (record { key = c.key_at-key.result; row = its.row }) c.links.self c.take_out.new.self its.has
           (c.take_out.ensures.links end its.row its.under)) c.links.invariant.1,
@@ -65,7 +65,7 @@ links-preserved c =
     let end = c.group-group.result.received in
     let object = c.group-group.result.object in
     let its = led end rows c.links.self c.group-group.result.object c.links.at c.key_at-key.result
-    c.links.invariant.0.kept (omega (arith, c.links.invariant.1.within, c.links-test.true))
+    c.links.invariant.0.kept (omega arith)
     (λ d. c.links.invariant.1.inside c.links.at d (omega arith) c.links-test.true) c.key_at-key.ensures.key in (
       c.links.invariant.0,
       left_front end object test rows (links_at end object c.links.self) c.links.at c.links.end c.key_at-key.result c.get.result.now
@@ -81,4 +81,4 @@ returns c =
     all_gone test c.args.place c.args.rows.now c.links.rows c.args.self.now c.links.self c.links.invariant.0
     (none_left end object test rows (links_at end object c.links.self) c.links.at c.links.end
     (linked_end end rows c.links.self object c.links.invariant.0.kept.routed) c.group-group.ensures.others c.links.invariant.1
-    (omega (arith, c.links-test.false)))
+    (omega arith))

@@ -15,7 +15,7 @@ links-init c = left_first (λ keyed. same_ends c.args.new.now keyed.row) (rows_a
 pub get-requires-clause-stands : goal.get-requires-clause-stands
 get-requires-clause-stands c =
     let its = led c.joining-group.result.received (rows_at c.args.rows.now c.args.place) c.args.self.now c.joining-group.result.object c.links.at
-    c.key_at-key.result c.requires.kept (omega (arith, c.links.invariant.within, c.links-test.true))
+    c.key_at-key.result c.requires.kept (omega arith)
     (λ d. c.links.invariant.inside c.links.at d (omega arith) c.links-test.true) c.key_at-key.ensures.key in
     rw its.under refl
 
@@ -30,7 +30,7 @@ pub links-preserved : goal.links-preserved
 links-preserved c =
     let rows = rows_at c.args.rows.now c.args.place in
     let its = led c.joining-group.result.received rows c.args.self.now c.joining-group.result.object c.links.at
-    c.key_at-key.result c.requires.kept (omega (arith, c.links.invariant.within, c.links-test.true))
+    c.key_at-key.result c.requires.kept (omega arith)
     (λ d. c.links.invariant.inside c.links.at d (omega arith) c.links-test.true) c.key_at-key.ensures.key in
     left_front c.joining-group.result.received c.joining-group.result.object (λ keyed. same_ends c.args.new.now keyed.row) rows
     (links_at c.joining-group.result.received c.joining-group.result.object c.args.self.now) c.links.at c.joining-group.result.end c.key_at-key.result
@@ -44,4 +44,4 @@ returns c =
     sym (list_any_none test rows (none_left c.joining-group.result.received c.joining-group.result.object test rows
     (links_at c.joining-group.result.received c.joining-group.result.object c.args.self.now) c.links.at c.joining-group.result.end
     (linked_end c.joining-group.result.received rows c.args.self.now c.joining-group.result.object c.requires.kept.routed)
-    c.joining-group.ensures.others c.links.invariant (omega (arith, c.links-test.false))))
+    c.joining-group.ensures.others c.links.invariant (omega arith)))

@@ -34,7 +34,7 @@ returns-then-link-sender c = λ rows kept.
     (λ object signal within. elim c.then-link-sender.branch [
       | then-link-sender-via-then-link-sender w ↦ w.if-link-sender.true object
       | then-link-sender-via-else-link-sender+then-link-signal w ↦ w.if-link-signal.true signal
-      | then-link-sender-via-else-link-sender+else-link-signal+then-link-up_to w ↦ omega (arith, w.if-link-up_to.true, within)
+      | then-link-sender-via-else-link-sender+else-link-signal+then-link-up_to w ↦ omega arith
     ])
 
 pub returns : goal.returns

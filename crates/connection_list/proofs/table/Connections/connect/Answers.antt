@@ -23,7 +23,6 @@ overflow_add-last_number c =
     let short : c.last_number.result + 1 < 4294967296 =
     omega (
       arith,
-      c.last_number.ensures,
       number_fits (seen c.self.invariant c.self.view_is c.requires c.get_mut-routes.ensures.value)
           c.reserve.ensures.same c.args.new c.args.unique c.in_default.ensures.refusal,
     ) in

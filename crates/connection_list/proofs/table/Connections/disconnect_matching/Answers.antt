@@ -9,11 +9,9 @@ len-before-requires c = (seen_anyhow c.self.invariant c.self.view_is c.requires)
 pub get_mut-routes-requires : goal.get_mut-routes-requires
 get_mut-routes-requires c = (seen_anyhow c.self.invariant c.self.view_is c.requires).routes_place
 
-pub disconnect_matching-requires-clause-place : goal.disconnect_matching-requires-clause-place
-disconnect_matching-requires-clause-place c = (seen_anyhow c.self.invariant c.self.view_is c.requires).rows_place
-
-pub disconnect_matching-requires-clause-kept : goal.disconnect_matching-requires-clause-kept
-disconnect_matching-requires-clause-kept c = (seen c.self.invariant c.self.view_is c.requires c.get_mut-routes.ensures.value).kept
+pub disconnect_matching-requires : goal.disconnect_matching-requires
+disconnect_matching-requires c =
+    let at = seen c.self.invariant c.self.view_is c.requires c.get_mut-routes.ensures.value in record { place = at.rows_place; kept = at.kept }
 
 pub len-requires : goal.len-requires
 len-requires c = gone_place (seen c.self.invariant c.self.view_is c.requires c.get_mut-routes.ensures.value) c.disconnect_matching.ensures
@@ -26,16 +24,18 @@ pub overflow_cast-result : goal.overflow_cast-result
 overflow_cast-result c =
     let count = gone_count (seen c.self.invariant c.self.view_is c.requires c.get_mut-routes.ensures.value) c.disconnect_matching.ensures
     (matches c.args.pattern.now) (λ k d within. refl) c.len-before.ensures.len c.len.ensures.len in
-    let short : c.len-before.result - c.len.result < 4294967296 = omega (arith, count.1) in
+    let short : c.len-before.result - c.len.result < 4294967296 = omega arith in
     search rules
 
 pub invariant_of-self : goal.invariant_of-self
 invariant_of-self c = gone_kept (seen c.self.invariant c.self.view_is c.requires c.get_mut-routes.ensures.value) c.disconnect_matching.ensures
 
-pub returns-clause-count : goal.returns-clause-count
-returns-clause-count c = (gone_count (seen c.self.invariant c.self.view_is c.requires c.get_mut-routes.ensures.value) c.disconnect_matching.ensures
-    (matches c.args.pattern.now) (λ k d within. refl) c.len-before.ensures.len c.len.ensures.len).2
-
-pub returns-clause-rows : goal.returns-clause-rows
-returns-clause-rows c = gone_view (seen c.self.invariant c.self.view_is c.requires c.get_mut-routes.ensures.value) c.disconnect_matching.ensures
-    (matches c.args.pattern.now) (λ k d within. refl)
+pub returns : goal.returns
+returns c =
+    let at = seen c.self.invariant c.self.view_is c.requires c.get_mut-routes.ensures.value in
+    let gone = c.disconnect_matching.ensures in
+    let test = matches c.args.pattern.now in
+    record {
+      count = (gone_count at gone test (λ k d within. refl) c.len-before.ensures.len c.len.ensures.len).2;
+      rows = gone_view at gone test (λ k d within. refl);
+    }

@@ -6,11 +6,9 @@ use Rattle.connection_list.proofs.table.Connections.drop_object.Goals as goal
 pub get_mut-routes-requires : goal.get_mut-routes-requires
 get_mut-routes-requires c = (seen_anyhow c.self.invariant c.self.view_is c.requires).routes_place
 
-pub drop_object-requires-clause-place : goal.drop_object-requires-clause-place
-drop_object-requires-clause-place c = (seen_anyhow c.self.invariant c.self.view_is c.requires).rows_place
-
-pub drop_object-requires-clause-kept : goal.drop_object-requires-clause-kept
-drop_object-requires-clause-kept c = (seen c.self.invariant c.self.view_is c.requires c.get_mut-routes.ensures.value).kept
+pub drop_object-requires : goal.drop_object-requires
+drop_object-requires c =
+    let at = seen c.self.invariant c.self.view_is c.requires c.get_mut-routes.ensures.value in record { place = at.rows_place; kept = at.kept }
 
 pub invariant_of-self : goal.invariant_of-self
 invariant_of-self c =

@@ -16,7 +16,7 @@ overflow_add-sent c =
     omega (
       arith,
       counted_few (seen_anyhow c.self.invariant c.self.view_is c.requires) (λ (row : Connection). row.sender == c.args.object) c.rows.position _
-          c.rows.sent _ c.at.result.1.now c.at.ensures (omega (arith, c.rows-test.true, c.len-position-end.ensures.len)) c.one_where-sent.ensures
+          c.rows.sent _ c.at.result.1.now c.at.ensures (omega arith) c.one_where-sent.ensures
           c.rows.invariant.sent,
     )
 
@@ -25,14 +25,14 @@ overflow_add-received c =
     omega (
       arith,
       counted_few (seen_anyhow c.self.invariant c.self.view_is c.requires) (λ (row : Connection). row.receiver == c.args.object) c.rows.position _
-          c.rows.received _ c.at.result.1.now c.at.ensures (omega (arith, c.rows-test.true, c.len-position-end.ensures.len)) c.one_where-received.ensures
+          c.rows.received _ c.at.result.1.now c.at.ensures (omega arith) c.one_where-received.ensures
           c.rows.invariant.received,
     )
 
 pub rows-preserved : goal.rows-preserved
 rows-preserved c =
     let seen = seen_anyhow c.self.invariant c.self.view_is c.requires in
-    let within : c.rows.position < length (shared.rows_at c.self.inside.rows c.args.place) = omega (arith, c.rows-test.true, c.len-position-end.ensures.len) in
+    let within : c.rows.position < length (shared.rows_at c.self.inside.rows c.args.place) = omega arith in
     record {
       sent = counted_more seen (λ (row : Connection). row.sender == c.args.object) c.rows.position _ c.rows.sent _ c.at.result.1.now c.at.ensures within
           c.one_where-sent.ensures c.rows.invariant.sent;
@@ -43,9 +43,9 @@ rows-preserved c =
 pub returns-clause-sent : goal.returns-clause-sent
 returns-clause-sent c =
     counted_all (seen_anyhow c.self.invariant c.self.view_is c.requires) (λ (row : Connection). row.sender == c.args.object) c.rows.position c.rows.sent
-    (omega (arith, c.rows-test.false, c.len-position-end.ensures.len)) c.rows.invariant.sent
+    (omega arith) c.rows.invariant.sent
 
 pub returns-clause-received : goal.returns-clause-received
 returns-clause-received c =
     counted_all (seen_anyhow c.self.invariant c.self.view_is c.requires) (λ (row : Connection). row.receiver == c.args.object) c.rows.position c.rows.received
-    (omega (arith, c.rows-test.false, c.len-position-end.ensures.len)) c.rows.invariant.received
+    (omega arith) c.rows.invariant.received

@@ -15,17 +15,13 @@ as_row : (found : Option (Keyed Connection)) → is_some (option_map (λ keyed. 
 as_row None = refl
 as_row (Some keyed) = refl
 
-pub returns-clause-sent : goal.returns-clause-sent
-returns-clause-sent c =
+pub returns : goal.returns
+returns c =
     let at = seen c.self.invariant c.self.view_is c.requires c.get-routes.ensures in
     let rows = rows_at c.self.inside.rows c.args.place in
-    let test = is_next c.args.sender c.args.signal 0 c.get-routes.result.now.last_number in
-    rw (at.shows, sym c.last_number.ensures)
-    (c.is_some.ensures ∙ (ap is_some (c.next_sent-key.ensures rows at.kept)
-    ∙ (as_row (find (λ keyed. is_next c.args.sender c.args.signal 0 c.last_number.result keyed.row) rows)
-    ∙ sym (ap is_some (find_map (is_next c.args.sender c.args.signal 0 c.last_number.result) rows)))))
-
-pub returns-clause-sound : goal.returns-clause-sound
-returns-clause-sound c =
-    let at = seen c.self.invariant c.self.view_is c.requires c.get-routes.ensures in
-    rw at.shows at.kept.sound
+    record {
+      sent = rw (at.shows, sym c.last_number.ensures) (c.is_some.ensures ∙ (ap is_some (c.next_sent-key.ensures rows at.kept)
+          ∙ (as_row (find (λ keyed. is_next c.args.sender c.args.signal 0 c.last_number.result keyed.row) rows)
+          ∙ sym (ap is_some (find_map (is_next c.args.sender c.args.signal 0 c.last_number.result) rows)))));
+      sound = at.sound;
+    }

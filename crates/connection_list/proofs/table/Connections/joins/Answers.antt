@@ -10,11 +10,8 @@ use Rattle.connection_list.proofs.table.Connections.joins.Goals as goal
 pub get-requires : goal.get-requires
 get-requires c = (seen_anyhow c.self.invariant c.self.view_is c.requires).routes_place
 
-pub joins-requires-clause-place : goal.joins-requires-clause-place
-joins-requires-clause-place c = (seen_anyhow c.self.invariant c.self.view_is c.requires).rows_place
-
-pub joins-requires-clause-kept : goal.joins-requires-clause-kept
-joins-requires-clause-kept c = (seen c.self.invariant c.self.view_is c.requires c.get.ensures).kept
+pub joins-requires : goal.joins-requires
+joins-requires c = let at = seen c.self.invariant c.self.view_is c.requires c.get.ensures in record { place = at.rows_place; kept = at.kept }
 
 pub returns : goal.returns
 returns c =

@@ -24,12 +24,12 @@ rows-preserved c =
     let test = is_listed c.args.object c.args.after in
     let rows = (rows_at c.args.self.now c.args.place).rows in
     let seen = seen_anyhow c.self.invariant c.self.view_is c.requires in
-    let next = next_row seen c.rows.position _ _ c.at.ensures (omega (arith, c.rows-test.true, c.len-position-end.ensures.len)) in
+    let next = next_row seen c.rows.position _ _ c.at.ensures (omega arith) in
     record {
       all =
           found_on test c.rows.found _ (drop (c.rows.position + 1) rows) _ c.in_ok-add_listed.ensures
           ∙ (ap (λ left. c.rows.found ++ filter test left) (sym next) ∙ c.rows.invariant.all);
-      few = omega (arith, found_few test c.rows.found _ [] _ c.in_ok-add_listed.ensures, c.rows.invariant.few, c.len.ensures, c.if-len-eq-LISTED.false);
+      few = omega (arith, found_few test c.rows.found _ [] _ c.in_ok-add_listed.ensures);
     }
 
 pub returns : goal.returns
@@ -37,7 +37,7 @@ returns c =
     let test = is_listed c.args.object c.args.after in
     let rows = (rows_at c.args.self.now c.args.place).rows in
     let seen = seen_anyhow c.self.invariant c.self.view_is c.requires in
-    let whole : length rows ≤ c.rows.position = omega (arith, c.rows-test.false, c.len-position-end.ensures.len, shown_count seen) in
+    let whole : length rows ≤ c.rows.position = omega (arith, shown_count seen) in
     sym (take_short 1000 c.rows.found c.rows.invariant.few)
     ∙ ap (take 1000) (sym (append-nil c.rows.found)
     ∙ (ap (λ left. c.rows.found ++ filter test left) (sym (drop_all c.rows.position rows whole)) ∙ c.rows.invariant.all))

@@ -8,37 +8,32 @@ use Rattle.connection_list.proofs.table.Connections.next_after.Goals as goal
 pub get-requires : goal.get-requires
 get-requires c = (seen_anyhow c.self.invariant c.self.view_is c.requires).routes_place
 
-pub returns-in_err-key-clause-next : goal.returns-in_err-key-clause-next
-returns-in_err-key-clause-next c =
+pub returns-in_err-key : goal.returns-in_err-key
+returns-in_err-key c =
     let at = seen c.self.invariant c.self.view_is c.requires c.get.ensures in
-    c.from_residual.ensures ∙ (found_none (is_next c.args.sender c.args.signal c.args.after c.args.up_to) (rows_at c.self.inside.rows c.args.place)
-    (c.in_err-key.ensures (rows_at c.self.inside.rows c.args.place) at.kept)
-    ∙ ap (λ (place : Rows). find (is_next c.args.sender c.args.signal c.args.after c.args.up_to) place.rows) (sym at.shows))
+    let rows = rows_at c.self.inside.rows c.args.place in
+    let test = is_next c.args.sender c.args.signal c.args.after c.args.up_to in
+    record {
+      next = c.from_residual.ensures ∙ (found_none test rows (c.in_err-key.ensures rows at.kept)
+          ∙ ap (λ (place : Rows). find test place.rows) (sym at.shows));
+      sound = at.sound;
+    }
 
-pub returns-in_err-key-clause-sound : goal.returns-in_err-key-clause-sound
-returns-in_err-key-clause-sound c =
+pub get-requires-2 : goal.get-requires-2
+get-requires-2 c =
     let at = seen c.self.invariant c.self.view_is c.requires c.get.ensures in
-    rw at.shows at.kept.sound
+    let rows = rows_at c.self.inside.rows c.args.place in
+    let found = found_under (is_next c.args.sender c.args.signal c.args.after c.args.up_to) rows c.in_ok-key.key at.kept.apart
+    (c.in_ok-key.ensures rows at.kept) in
+    record { place = at.rows_place; stands = rw found.stands refl }
 
-pub get-requires-2-clause-place : goal.get-requires-2-clause-place
-get-requires-2-clause-place c = (seen_anyhow c.self.invariant c.self.view_is c.requires).rows_place
-
-pub get-requires-2-clause-stands : goal.get-requires-2-clause-stands
-get-requires-2-clause-stands c =
+pub returns : goal.returns
+returns c =
     let at = seen c.self.invariant c.self.view_is c.requires c.get.ensures in
-    let found = found_under (is_next c.args.sender c.args.signal c.args.after c.args.up_to)
-    (rows_at c.self.inside.rows c.args.place) c.in_ok-key.key at.kept.apart (c.in_ok-key.ensures (rows_at c.self.inside.rows c.args.place) at.kept) in
-    rw found.stands refl
-
-pub returns-clause-next : goal.returns-clause-next
-returns-clause-next c =
-    let at = seen c.self.invariant c.self.view_is c.requires c.get.ensures in
-    let found = found_under (is_next c.args.sender c.args.signal c.args.after c.args.up_to)
-    (rows_at c.self.inside.rows c.args.place) c.in_ok-key.key at.kept.apart (c.in_ok-key.ensures (rows_at c.self.inside.rows c.args.place) at.kept) in
-    sym c.get-2.ensures.row ∙ (found.stands ∙
-    (sym found.is ∙ ap (λ (place : Rows). find (is_next c.args.sender c.args.signal c.args.after c.args.up_to) place.rows) (sym at.shows)))
-
-pub returns-clause-sound : goal.returns-clause-sound
-returns-clause-sound c =
-    let at = seen c.self.invariant c.self.view_is c.requires c.get.ensures in
-    rw at.shows at.kept.sound
+    let rows = rows_at c.self.inside.rows c.args.place in
+    let test = is_next c.args.sender c.args.signal c.args.after c.args.up_to in
+    let found = found_under test rows c.in_ok-key.key at.kept.apart (c.in_ok-key.ensures rows at.kept) in
+    record {
+      next = sym c.get-2.ensures.row ∙ (found.stands ∙ (sym found.is ∙ ap (λ (place : Rows). find test place.rows) (sym at.shows)));
+      sound = at.sound;
+    }

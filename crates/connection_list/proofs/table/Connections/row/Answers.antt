@@ -8,24 +8,20 @@ use Rattle.connection_list.proofs.table.Connections.row.Goals as goal
 pub find-requires : goal.find-requires
 find-requires c = (seen_anyhow c.self.invariant c.self.view_is c.requires).rows_place
 
-pub returns-in_err-key-clause-row : goal.returns-in_err-key-clause-row
-returns-in_err-key-clause-row c =
+pub returns-in_err-key : goal.returns-in_err-key
+returns-in_err-key c =
     let at = seen_anyhow c.self.invariant c.self.view_is c.requires in
-    c.from_residual.ensures ∙ (found_none (has_number c.args.number) (rows_at c.self.inside.rows c.args.place) c.in_err-key.ensures.found
-    ∙ ap (λ (place : Rows). find (has_number c.args.number) place.rows) (sym at.shows))
+    record {
+      row = c.from_residual.ensures ∙ (found_none (has_number c.args.number) (rows_at c.self.inside.rows c.args.place) c.in_err-key.ensures.found
+          ∙ ap (λ (place : Rows). find (has_number c.args.number) place.rows) (sym at.shows));
+      sound = at.sound;
+    }
 
-pub returns-in_err-key-clause-sound : goal.returns-in_err-key-clause-sound
-returns-in_err-key-clause-sound c =
-    let at = seen_anyhow c.self.invariant c.self.view_is c.requires in
-    rw at.shows at.kept.sound
-
-pub returns-clause-row : goal.returns-clause-row
-returns-clause-row c =
+pub returns : goal.returns
+returns c =
     let at = seen_anyhow c.self.invariant c.self.view_is c.requires in
     let found = found_under (has_number c.args.number) (rows_at c.self.inside.rows c.args.place) c.in_ok-key.key at.kept.apart c.in_ok-key.ensures.found in
-    sym c.get.ensures.row ∙ (found.stands ∙ (sym found.is ∙ ap (λ (place : Rows). find (has_number c.args.number) place.rows) (sym at.shows)))
-
-pub returns-clause-sound : goal.returns-clause-sound
-returns-clause-sound c =
-    let at = seen_anyhow c.self.invariant c.self.view_is c.requires in
-    rw at.shows at.kept.sound
+    record {
+      row = sym c.get.ensures.row ∙ (found.stands ∙ (sym found.is ∙ ap (λ (place : Rows). find (has_number c.args.number) place.rows) (sym at.shows)));
+      sound = at.sound;
+    }

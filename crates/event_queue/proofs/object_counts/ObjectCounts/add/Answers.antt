@@ -10,33 +10,30 @@ pub overflow_add-rows : goal.overflow_add-rows
 overflow_add-rows c =
     let was = count_was c.self.view_is c.args.object c.in-Ok.at c.get-rows.result c.in-Ok.ensures (c.get-rows.ensures c.get-rows.result) in
     let rows = ap (λ (count : Count). count.rows) was in
-    omega (arith, c.requires, rows)
+    omega arith
 
 pub invariant_of-self : goal.invariant_of-self
 invariant_of-self c = still_entries c.self.inside.entries.items c.args.object c.self.invariant _ _ c.replace_count.ensures
 
-pub returns-in-Ok-clause-ok : goal.returns-in-Ok-clause-ok
-returns-in-Ok-clause-ok c =
+pub returns-in-Ok : goal.returns-in-Ok
+returns-in-Ok c =
     let was = count_was c.self.view_is c.args.object c.in-Ok.at c.get-rows.result c.in-Ok.ensures (c.get-rows.ensures c.get-rows.result) in
-    rows_now (count_now c.self.view_is c.args.object _ c.replace_count.ensures) _ (ap (λ (count : Count). count.rows + 1) was)
-
-pub returns-in-Ok-clause-marks : goal.returns-in-Ok-clause-marks
-returns-in-Ok-clause-marks c = marks_now (count_now c.self.view_is c.args.object _ c.replace_count.ensures)
+    record {
+      ok = rows_now (count_now c.self.view_is c.args.object _ c.replace_count.ensures) _ (ap (λ (count : Count). count.rows + 1) was);
+      marks = marks_now (count_now c.self.view_is c.args.object _ c.replace_count.ensures);
+      err = tt;
+    }
 
 pub invariant_of-self-in-Err : goal.invariant_of-self-in-Err
 invariant_of-self-in-Err c =
     order_either c.self.inside.entries.items c.args.object _ _ c.self.invariant c.insert_first.result c.insert_first.ensures.ok c.insert_first.ensures.err
 
-pub returns-in-Err-clause-ok : goal.returns-in-Err-clause-ok
-returns-in-Err-clause-ok c =
-    on_ok_weaker c.insert_first.result (λ put. rows_now (count_now c.self.view_is c.args.object _ put) _
-    (ap (λ (count : Count). count.rows + 1) (none_was c.self.view_is c.args.object c.in-Err.at c.in-Err.ensures)))
-    c.insert_first.ensures.ok
-
-pub returns-in-Err-clause-marks : goal.returns-in-Err-clause-marks
-returns-in-Err-clause-marks c =
-    on_ok_weaker c.insert_first.result (λ put. marks_now (count_now c.self.view_is c.args.object _ put)) c.insert_first.ensures.ok
-
-pub returns-in-Err-clause-err : goal.returns-in-Err-clause-err
-returns-in-Err-clause-err c =
-    on_err_weaker c.insert_first.result (λ same other. ap (λ (list : ObjectCounts). count_at list other) (same ∙ c.self.view_is)) c.insert_first.ensures.err
+pub returns-in-Err : goal.returns-in-Err
+returns-in-Err c = record {
+  ok = on_ok_weaker c.insert_first.result (λ put. rows_now (count_now c.self.view_is c.args.object _ put) _
+      (ap (λ (count : Count). count.rows + 1) (none_was c.self.view_is c.args.object c.in-Err.at c.in-Err.ensures)))
+      c.insert_first.ensures.ok;
+  marks = on_ok_weaker c.insert_first.result (λ put. marks_now (count_now c.self.view_is c.args.object _ put)) c.insert_first.ensures.ok;
+  err = on_err_weaker c.insert_first.result (λ same other. ap (λ (list : ObjectCounts). count_at list other) (same ∙ c.self.view_is))
+      c.insert_first.ensures.err;
+}

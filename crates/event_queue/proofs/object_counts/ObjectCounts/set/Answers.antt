@@ -12,4 +12,4 @@ returns-in-Ok c = (count_now c.self.view_is c.args.object c.args.count c.replace
 pub returns-in_default : goal.returns-in_default
 returns-in_default c =
     let rows = ap (λ (count : Count). count.rows) (none_was c.self.view_is c.args.object c.in_default.field-0 c.in_default.ensures) in
-    absurd (omega (arith, c.requires, rows))
+    absurd (omega arith)

@@ -12,42 +12,27 @@ pub returns-in_default-clause-counted : goal.returns-in_default-clause-counted
 returns-in_default-clause-counted c =
     none_fewer c.self.view_is c.args.object (none_was c.self.view_is c.args.object c.in_default.field-0 c.in_default.ensures)
 
-pub returns-then-count-le1-clause-was : goal.returns-then-count-le1-clause-was
-returns-then-count-le1-clause-was c =
-    ap (λ (count : Count). count.is_dropped)
-    (count_was c.self.view_is c.args.object c.in-Ok.at c.get.result c.in-Ok.ensures (c.get.ensures c.get.result))
-
-pub returns-then-count-le1-clause-counted : goal.returns-then-count-le1-clause-counted
-returns-then-count-le1-clause-counted c =
+pub returns-then-count-le1 : goal.returns-then-count-le1
+returns-then-count-le1 c =
     let was = count_was c.self.view_is c.args.object c.in-Ok.at c.get.result c.in-Ok.ensures (c.get.ensures c.get.result) in
     let rows = ap (λ (count : Count). count.rows) was in
-    rows_now (count_left c.self.view_is c.args.object (ap (λ buffer. buffer.items) c.remove.ensures.others
-    ∙ entry_gone c.self.inside.entries.items c.args.object c.self.invariant c.in-Ok.at c.in-Ok.ensures))
-    _ (omega (arith, rows, c.if-count-le1.true))
-
-pub returns-then-count-le1-clause-marks : goal.returns-then-count-le1-clause-marks
-returns-then-count-le1-clause-marks c =
-    marks_left (count_left c.self.view_is c.args.object (ap (λ buffer. buffer.items) c.remove.ensures.others
-    ∙ entry_gone c.self.inside.entries.items c.args.object c.self.invariant c.in-Ok.at c.in-Ok.ensures)) refl
+    let left = count_left c.self.view_is c.args.object (ap (λ buffer. buffer.items) c.remove.ensures.others
+    ∙ entry_gone c.self.inside.entries.items c.args.object c.self.invariant c.in-Ok.at c.in-Ok.ensures) in
+    record { was = ap (λ (count : Count). count.is_dropped) was; counted = rows_now left _ (omega arith); marks = marks_left left refl }
 
 pub invariant_of-self : goal.invariant_of-self
 invariant_of-self c =
     fewer_entries c.self.inside.entries.items c.args.object c.self.invariant c.in-Ok.at _ c.in-Ok.ensures (ap (λ buffer. buffer.items) c.remove.ensures.others)
 
-pub returns-clause-was : goal.returns-clause-was
-returns-clause-was c =
-    ap (λ (count : Count). count.is_dropped)
-    (count_was c.self.view_is c.args.object c.in-Ok.at c.get.result c.in-Ok.ensures (c.get.ensures c.get.result))
-
-pub returns-clause-counted : goal.returns-clause-counted
-returns-clause-counted c =
+pub returns : goal.returns
+returns c =
     let was = count_was c.self.view_is c.args.object c.in-Ok.at c.get.result c.in-Ok.ensures (c.get.ensures c.get.result) in
-    rows_now (count_now c.self.view_is c.args.object _ c.replace_count.ensures) _ (ap (λ (count : Count). count.rows - 1) was)
-
-pub returns-clause-marks : goal.returns-clause-marks
-returns-clause-marks c other some =
-    let was = count_was c.self.view_is c.args.object c.in-Ok.at c.get.result c.in-Ok.ensures (c.get.ensures c.get.result) in
-    marks_kept (count_now c.self.view_is c.args.object _ c.replace_count.ensures) (ap (λ (count : Count). count.is_dropped) was) other
+    let dropped = ap (λ (count : Count). count.is_dropped) was in
+    record {
+      was = dropped;
+      counted = rows_now (count_now c.self.view_is c.args.object _ c.replace_count.ensures) _ (ap (λ (count : Count). count.rows - 1) was);
+      marks = λ other some. marks_kept (count_now c.self.view_is c.args.object _ c.replace_count.ensures) dropped other;
+    }
 
 pub invariant_of-self-2 : goal.invariant_of-self-2
 invariant_of-self-2 c = still_entries c.self.inside.entries.items c.args.object c.self.invariant _ _ c.replace_count.ensures

@@ -5,8 +5,5 @@ use Rattle.event_queue.proofs.table.Queues.counts.Goals as goal
 pub get-log-requires : goal.get-log-requires
 get-log-requires c = search (rules, of_logs)
 
-pub returns-clause-counts : goal.returns-clause-counts
-returns-clause-counts c = search (rules, counts_told)
-
-pub returns-clause-sound : goal.returns-clause-sound
-returns-clause-sound c = sound_at c.self.invariant c.self.view_is c.requires c.get-log.ensures
+pub returns : goal.returns
+returns c = record { counts = search (rules, counts_told); sound = sound_at c.self.invariant c.self.view_is c.requires c.get-log.ensures }

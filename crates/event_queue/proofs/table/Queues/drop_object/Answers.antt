@@ -34,10 +34,10 @@ pub invariant_of-self-else-len-log : goal.invariant_of-self-else-len-log
 invariant_of-self-else-len-log c =
     (all_dropped c.self.invariant c.self.view_is c.requires c.get_mut-log.ensures.value c.drop_events.new.self c.args.object c.drop_events.ensures.counted
     c.drop_events.ensures.marks c.drop_events.ensures.waited
-    (omega (arith, c.len.ensures.len, c.if-len-log.false))).kept
+    (omega arith)).kept
 
 pub returns-else-len-log : goal.returns-else-len-log
 returns-else-len-log c =
     (all_dropped c.self.invariant c.self.view_is c.requires c.get_mut-log.ensures.value c.drop_events.new.self c.args.object c.drop_events.ensures.counted
     c.drop_events.ensures.marks c.drop_events.ensures.waited
-    (omega (arith, c.len.ensures.len, c.if-len-log.false))).view
+    (omega arith)).view

@@ -6,9 +6,7 @@ invariant_of-self c = (opened_by c.self.invariant c.args.self.now c.self.view_is
     c.open-2.new.self c.open.new.self c.open-2.ensures.opened c.open.ensures.opened).kept
 
 pub returns : goal.returns
-returns c = record {
-  place = (opened_by c.self.invariant c.args.self.now c.self.view_is c.new.result c.new.ensures.lost c.new.ensures.mismatched c.new.ensures.logged
-      c.open-2.new.self c.open.new.self c.open-2.ensures.opened c.open.ensures.opened).place c.open-2.result c.open-2.ensures.place;
-  opened = (opened_by c.self.invariant c.args.self.now c.self.view_is c.new.result c.new.ensures.lost c.new.ensures.mismatched c.new.ensures.logged
-      c.open-2.new.self c.open.new.self c.open-2.ensures.opened c.open.ensures.opened).view;
-}
+returns c =
+    let its = opened_by c.self.invariant c.args.self.now c.self.view_is c.new.result c.new.ensures.lost c.new.ensures.mismatched c.new.ensures.logged
+    c.open-2.new.self c.open.new.self c.open-2.ensures.opened c.open.ensures.opened in
+    record { place = its.place c.open-2.result c.open-2.ensures.place; opened = its.view }

@@ -10,7 +10,7 @@ get_mut-log-requires c = search (rules, of_logs)
 
 pub returns-then-log-ge-EVENTS-clause-answer : goal.returns-then-log-ge-EVENTS-clause-answer
 returns-then-log-ge-EVENTS-clause-answer c =
-    sym (full_stays c.self.invariant c.self.view_is c.requires c.get_mut-log.ensures.value c.args.event (omega (arith, c.if-log-ge-EVENTS.true))).0
+    sym (full_stays c.self.invariant c.self.view_is c.requires c.get_mut-log.ensures.value c.args.event (omega arith)).0
 
 pub returns-then-log-ge-EVENTS-clause-ok : goal.returns-then-log-ge-EVENTS-clause-ok
 returns-then-log-ge-EVENTS-clause-ok c = search (rules, full_stays)
@@ -49,15 +49,15 @@ returns-in-Err-clause-err c = rw c.in-Err.ensures.err ((unposted c.self.invarian
 
 pub invariant_of-self-2 : goal.invariant_of-self-2
 invariant_of-self-2 c =
-    (one_posted c.self.invariant c.self.view_is c.requires c.get_mut-log.ensures.value c.args.event (omega (arith, c.if-log-ge-EVENTS.false))
+    (one_posted c.self.invariant c.self.view_is c.requires c.get_mut-log.ensures.value c.args.event (omega arith)
     (waits_placed c.make_way.ensures.rest c.add.new.self c.object-object.result c.make_way.ensures.way c.in_ok-add.ensures.ok c.in_ok-add.ensures.marks
     c.args.event (sym c.object-object.ensures) c.in_default.ensures.ok)).kept
 
 pub returns-clause-answer : goal.returns-clause-answer
-returns-clause-answer c = sym (takes_more c.self.invariant c.self.view_is c.requires c.get_mut-log.ensures.value (omega (arith, c.if-log-ge-EVENTS.false)))
+returns-clause-answer c = sym (takes_more c.self.invariant c.self.view_is c.requires c.get_mut-log.ensures.value (omega arith))
 
 pub returns-clause-ok : goal.returns-clause-ok
 returns-clause-ok c =
-    (one_posted c.self.invariant c.self.view_is c.requires c.get_mut-log.ensures.value c.args.event (omega (arith, c.if-log-ge-EVENTS.false))
+    (one_posted c.self.invariant c.self.view_is c.requires c.get_mut-log.ensures.value c.args.event (omega arith)
     (waits_placed c.make_way.ensures.rest c.add.new.self c.object-object.result c.make_way.ensures.way c.in_ok-add.ensures.ok c.in_ok-add.ensures.marks
     c.args.event (sym c.object-object.ensures) c.in_default.ensures.ok)).view

@@ -20,7 +20,7 @@ kids-preserved t c =
     stretch_next all c.kids.at c.kids-kids.result.end c.get-child.result c.kids-test.true c.kids-kids.ensures.within.within
     ∙ ap (λ (child : Child). child ∷ rest) (sym (c.get-child.ensures c.get-child.result)) in
     let larger : c.max-below.result ≡ max c.kids.below c.levels_within.result = search rules in
-    let within : c.max-below.result ≤ c.args.most - 1 = omega (arith, larger, c.kids.invariant.1, c.levels_within.ensures.bound) in (
+    let within : c.max-below.result ≤ c.args.most - 1 = omega arith in (
       rw (larger, c.levels_within.ensures.value)
           (sym (greatest_more (levels_within (c.args.most - 1) (forest_at c.args.self.now c.args.place).rows)
           (slice_range all c.kids.at c.kids-kids.result.end) rest c.get-child.result c.kids.below next) ∙ c.kids.invariant.0),

@@ -34,12 +34,12 @@ levels-preserved c =
     (c.in_ok-extend_from_slice.ensures.items ∙ ap (λ numbers. c.levels.found.items ++ numbers) c.as_slice-numbers.ensures.value) next
     ∙ (append_assoc c.levels.found.items level (left (children_of rows level))
     ∙ (ap (λ l. c.levels.found.items ++ l) (sym
-    (level_more (length rows) c.levels._step rows level (omega (arith, c.levels-test.true, c.count-step-end.ensures)))) ∙ c.levels.invariant))
+    (level_more (length rows) c.levels._step rows level (omega arith))) ∙ c.levels.invariant))
 
 pub returns : goal.returns
 returns c =
     let rows = (forest_at c.args.self.now c.args.place).rows in
     sym (append-nil c.levels.found.items)
     ∙ (ap (λ left. c.levels.found.items ++ left)
-    (sym (level_none (length rows) c.levels._step rows c.levels.level.items (omega (arith, c.levels-test.false, c.count-step-end.ensures))))
+    (sym (level_none (length rows) c.levels._step rows c.levels.level.items (omega arith)))
     ∙ c.levels.invariant)

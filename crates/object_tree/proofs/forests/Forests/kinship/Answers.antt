@@ -6,10 +6,7 @@ use Rattle.object_tree.proofs.forests.Forests.kinship.Goals as goal
 pub get-requires : goal.get-requires
 get-requires c = in_kinships c.self.invariant c.self.view_is c.args.place c.requires
 
-pub returns-clause-number : goal.returns-clause-number
-returns-clause-number c = ap (λ (forest : Forest). forest.last_number)
-    (sym (forest_is c.self.invariant c.self.view_is c.args.place c.requires c.get.result.now c.get.ensures))
-
-pub returns-clause-stamp : goal.returns-clause-stamp
-returns-clause-stamp c = ap (λ (forest : Forest). forest.last_stamp)
-    (sym (forest_is c.self.invariant c.self.view_is c.args.place c.requires c.get.result.now c.get.ensures))
+pub returns : goal.returns
+returns c =
+    let is = forest_is c.self.invariant c.self.view_is c.args.place c.requires c.get.result.now c.get.ensures in
+    record { number = ap (λ (forest : Forest). forest.last_number) (sym is); stamp = ap (λ (forest : Forest). forest.last_stamp) (sym is) }

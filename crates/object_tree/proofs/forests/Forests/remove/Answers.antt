@@ -15,23 +15,19 @@ take-requires c = in_rows c.self.invariant c.self.view_is c.args.place c.require
 pub get_mut-requires : goal.get_mut-requires
 get_mut-requires c = in_kinships c.self.invariant c.self.view_is c.args.place c.requires
 
-pub orphan-requires-clause-place : goal.orphan-requires-clause-place
-orphan-requires-clause-place c = middle_place c.self.invariant c.self.view_is c.args.place c.requires
-    (stands (rows_at c.self.inside.rows c.args.place) c.in-Some.ensures.taken.0 c.args.object c.in-Some.row c.take.ensures.sound c.in-Some.ensures.taken.2
-    c.in-Some.ensures.taken.3) c.get_mut.result.now c.get_mut.ensures.value c.in-Some.ensures.taken.4
-
-pub orphan-requires-clause-object : goal.orphan-requires-clause-object
-orphan-requires-clause-object c = number_begins (forest_at c.args.self.now c.args.place)
-    (sound_anyhow c.self.invariant c.self.view_is c.args.place c.requires) c.args.object c.in-Some.row
-    (is_row c.self.invariant c.self.view_is c.args.place c.requires
-    (stands (rows_at c.self.inside.rows c.args.place) c.in-Some.ensures.taken.0 c.args.object c.in-Some.row c.take.ensures.sound c.in-Some.ensures.taken.2
-    c.in-Some.ensures.taken.3))
-
-pub orphan-requires-clause-linked : goal.orphan-requires-clause-linked
-orphan-requires-clause-linked c = middle_linked c.self.invariant c.self.view_is c.args.place c.requires
-    (stands (rows_at c.self.inside.rows c.args.place) c.in-Some.ensures.taken.0 c.args.object c.in-Some.row c.take.ensures.sound c.in-Some.ensures.taken.2
-    c.in-Some.ensures.taken.3) c.get_mut.result.now c.get_mut.ensures.value c.in-Some.ensures.taken.4
-    (ap (λ (l : Linked Child). l.links) c.remove.ensures ∙ λ i. without_link child_cmp c.get_mut.result.now.children.links (c.child_of.ensures i))
+pub orphan-requires : goal.orphan-requires
+orphan-requires c =
+    let stood = stands (rows_at c.self.inside.rows c.args.place) c.in-Some.ensures.taken.0 c.args.object c.in-Some.row c.take.ensures.sound
+    c.in-Some.ensures.taken.2 c.in-Some.ensures.taken.3 in
+    record {
+      place = middle_place c.self.invariant c.self.view_is c.args.place c.requires stood c.get_mut.result.now c.get_mut.ensures.value
+          c.in-Some.ensures.taken.4;
+      object = number_begins (forest_at c.args.self.now c.args.place) (sound_anyhow c.self.invariant c.self.view_is c.args.place c.requires) c.args.object
+          c.in-Some.row (is_row c.self.invariant c.self.view_is c.args.place c.requires stood);
+      linked = middle_linked c.self.invariant c.self.view_is c.args.place c.requires stood c.get_mut.result.now c.get_mut.ensures.value
+          c.in-Some.ensures.taken.4
+          (ap (λ (l : Linked Child). l.links) c.remove.ensures ∙ λ i. without_link child_cmp c.get_mut.result.now.children.links (c.child_of.ensures i));
+    }
 
 pub invariant_of-self : goal.invariant_of-self
 invariant_of-self c = (gone c.self.invariant c.self.view_is c.args.place c.requires

@@ -13,21 +13,22 @@ invariant_of-self c = (edited c.self.invariant c.self.view_is c.args.place c.req
     (stands_under c.get-row.ensures.sound c.get-row.ensures.row c.in-Some.ensures.stands) (λ row. record row { blocked = c.args.on }) c.replace.ensures.new
     (λ _. refl) (λ _. refl) (λ _. refl)).kept
 
-pub returns-clause-after : goal.returns-clause-after
+pub returns : goal.returns
 unfolding with_blocked
-returns-clause-after c = (edited c.self.invariant c.self.view_is c.args.place c.requires
-    (stands_under c.get-row.ensures.sound c.get-row.ensures.row c.in-Some.ensures.stands) (λ row. record row { blocked = c.args.on }) c.replace.ensures.new
-    (λ _. refl) (λ _. refl) (λ _. refl)).seen
+returns c =
+    let stood = stands_under c.get-row.ensures.sound c.get-row.ensures.row c.in-Some.ensures.stands in
+    record {
+      before = ap (λ found. option_map_or (λ (row : Row). row.blocked) found false)
+          (sym (is_row c.self.invariant c.self.view_is c.args.place c.requires stood));
+      after = (edited c.self.invariant c.self.view_is c.args.place c.requires stood (λ row. record row { blocked = c.args.on }) c.replace.ensures.new
+          (λ _. refl) (λ _. refl) (λ _. refl)).seen;
+    }
 
-pub returns-in_default-clause-after : goal.returns-in_default-clause-after
+pub returns-in_default : goal.returns-in_default
 unfolding with_blocked
-returns-in_default-clause-after c = absent_same c.self.invariant c.self.view_is c.args.place c.requires
-    (λ row. record row { blocked = c.args.on }) c.args.object c.in_default.ensures.found
-
-pub returns-in_default-clause-before : goal.returns-in_default-clause-before
-returns-in_default-clause-before c = ap (λ found. option_map_or (λ (row : Row). row.blocked) found false)
-    (sym (absent c.self.invariant c.self.view_is c.args.place c.requires c.args.object c.in_default.ensures.found))
-
-pub returns-clause-before : goal.returns-clause-before
-returns-clause-before c = ap (λ found. option_map_or (λ (row : Row). row.blocked) found false)
-    (sym (is_row c.self.invariant c.self.view_is c.args.place c.requires (stands_under c.get-row.ensures.sound c.get-row.ensures.row c.in-Some.ensures.stands)))
+returns-in_default c = record {
+  before = ap (λ found. option_map_or (λ (row : Row). row.blocked) found false)
+      (sym (absent c.self.invariant c.self.view_is c.args.place c.requires c.args.object c.in_default.ensures.found));
+  after = absent_same c.self.invariant c.self.view_is c.args.place c.requires (λ row. record row { blocked = c.args.on }) c.args.object
+      c.in_default.ensures.found;
+}

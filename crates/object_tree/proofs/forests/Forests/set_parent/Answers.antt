@@ -18,12 +18,11 @@ overflow_add-kinship c = omega (
       (forest_is c.self.invariant c.self.view_is c.args.place c.requires c.get_mut-kinship.result.now c.get_mut-kinship.ensures.value),
 )
 
-pub hang-requires-clause-place : goal.hang-requires-clause-place
-hang-requires-clause-place c = in_rows c.self.invariant c.self.view_is c.args.place c.requires
-
-pub hang-requires-clause-linked : goal.hang-requires-clause-linked
-hang-requires-clause-linked c = (here c.self.invariant c.self.view_is c.args.place c.requires c.get_mut-kinship.result.now
-    c.get_mut-kinship.ensures.value).linked
+pub hang-requires : goal.hang-requires
+hang-requires c = record {
+  place = in_rows c.self.invariant c.self.view_is c.args.place c.requires;
+  linked = (here c.self.invariant c.self.view_is c.args.place c.requires c.get_mut-kinship.result.now c.get_mut-kinship.ensures.value).linked;
+}
 
 pub invariant_of-self : goal.invariant_of-self
 invariant_of-self c = (moved_to c.self.invariant c.self.view_is c.args.place c.requires c.get_mut-kinship.result.now c.get_mut-kinship.ensures.value

@@ -1,10 +1,6 @@
-use Rattle.std.proofs.Common.{arith, rules}
-use Rattle.std.proofs.lemmas.Grind.{common_steps}
+use Rattle.std.proofs.Common.{rules}
 use Rattle.shared_rows.proofs.GapLemmas.{without_none}
 use Rattle.shared_rows.proofs.buffer.GapBuffer.new.Goals as goal
 
 pub returns : goal.returns
 returns g c = search (rules, without_none)
-
-pub invariant_of-result : goal.invariant_of-result
-invariant_of-result g c = grind (arith, common_steps)

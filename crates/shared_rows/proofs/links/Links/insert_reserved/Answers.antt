@@ -21,7 +21,7 @@ invariant_of-self g c =
     let ordered = with_order g.met.K.Ord.total _ c.self.invariant.0 c.args.link in
     rw c.set.ensures (
       subst (IsInOrder g.K.Ord.cmp) (sym (set_link g.met.K.Ord.total _ c.self.invariant.0 c.args.link c.in-Ok.at c.in-Ok.ensures)) ordered,
-      (omega (arith, length-set c.self.inside.items.items c.in-Ok.at c.args.link, c.self.invariant.1.0), c.self.invariant.1.1),
+      (omega (arith, length-set c.self.inside.items.items c.in-Ok.at c.args.link), c.self.invariant.1.1),
     )
 
 pub invariant_of-self-in-Err : goal.invariant_of-self-in-Err
@@ -37,9 +37,8 @@ invariant_of-self-in-Err g c =
           length-insert c.self.inside.items.items c.in-Err.at c.args.link seat.0,
           ap (λ (l : Linked g.row.K.Denot). length l.links) c.self.view_is,
           ap (λ (l : Linked g.row.K.Denot). l.capacity) c.self.view_is,
-          c.requires,
           ap length items,
         ),
-        omega (arith, c.self.invariant.1.1, ap (λ buffer. buffer.capacity) c.insert_reserved.ensures),
+        omega (arith, ap (λ buffer. buffer.capacity) c.insert_reserved.ensures),
       ),
     )

@@ -1,5 +1,4 @@
 use Rattle.std.proofs.Common.{length, ap, arith}
-use Rattle.std.proofs.lemmas.Grind.{common_steps}
 use Rattle.shared_rows.specs.Links.{Linked}
 use Rattle.shared_rows.proofs.LinkedLemmas.{length-without}
 use Rattle.shared_rows.proofs.links.Links.replace.Goals as goal
@@ -10,13 +9,9 @@ insert_reserved-requires g c =
     let new = c.remove.ensures in
     omega (
       arith,
-      c.self.invariant.1.0,
       length-without g.met.K.Ord.total c.args.self.now.links c.args.old c.requires,
       ap (λ (l : Linked g.row.K.Denot). length l.links) old,
       ap (λ (l : Linked g.row.K.Denot). l.capacity) old,
       ap (λ (l : Linked g.row.K.Denot). length l.links) new,
       ap (λ (l : Linked g.row.K.Denot). l.capacity) new,
     )
-
-pub returns : goal.returns
-returns g c = grind (arith, common_steps)

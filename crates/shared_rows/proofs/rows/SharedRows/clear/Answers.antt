@@ -1,6 +1,5 @@
 use Rattle.std.proofs.Common.{◌≡◌, ◌∙◌, ◌-◌, [], length, is_some, ap, arith}
 use Rattle.shared_rows.proofs.TableLemmas.{changes_open, changes_twice, changes_with, with_there}
-use Rattle.std.proofs.lemmas.Grind.{common_steps}
 use Rattle.shared_rows.specs.Rows.{rows_at, without}
 use Rattle.shared_rows.proofs.RowsLemmas.{length-without, some_at}
 use Rattle.shared_rows.proofs.rows.SharedRows.clear.Goals as goal
@@ -8,7 +7,7 @@ use Rattle.shared_rows.proofs.rows.SharedRows.clear.Goals as goal
 pub remove-requires-clause-stands : goal.remove-requires-clause-stands
 remove-requires-clause-stands g c =
     some_at (rows_at c.rows.self c.args.place) (c.len-in-rows.result - 1) c.at-key.result.0 c.at-key.result.1.now
-    (omega (arith, c.len.ensures.len, c.len-in-rows.ensures.len, c.rows-test.true)) c.at-key.ensures
+    (omega (arith, c.len-in-rows.ensures.len)) c.at-key.ensures
 
 pub rows-smaller : goal.rows-smaller
 rows-smaller g c =
@@ -25,12 +24,3 @@ rows-preserved g c =
       place = changes_open [] c.rows.self c.remove.new.self c.args.place after c.rows.invariant.place;
       changed = changes_twice [] c.args.self.now c.rows.self c.remove.new.self c.args.place c.rows.invariant.changed after;
     }
-
-pub rows-init : goal.rows-init
-rows-init g c = grind (arith, common_steps)
-
-pub drop_index-requires-clause-empty : goal.drop_index-requires-clause-empty
-drop_index-requires-clause-empty g c = grind (arith, common_steps)
-
-pub returns : goal.returns
-returns g c = grind (arith, common_steps)

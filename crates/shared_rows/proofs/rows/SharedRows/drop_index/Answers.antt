@@ -1,5 +1,4 @@
-use Rattle.std.proofs.Common.{◌∙◌, refl, sym, arith}
-use Rattle.std.proofs.lemmas.Grind.{common_steps}
+use Rattle.std.proofs.Common.{◌∙◌, refl, sym}
 use Rattle.shared_rows.proofs.KeptLemmas.{none_there, seen_by, unchanged}
 use Rattle.shared_rows.proofs.rows.SharedRows.drop_index.Goals as goal
 
@@ -12,6 +11,3 @@ pub returns : goal.returns
 returns g c =
     let seen = seen_by c.self.invariant c.self.view_is c.requires.place c.get_mut.ensures.value in
     (unchanged c.self.invariant seen c.self.view_is c.new.result refl (c.new.ensures ∙ sym (none_there seen c.requires.empty))).view
-
-pub get_mut-requires : goal.get_mut-requires
-get_mut-requires g c = grind (arith, common_steps)

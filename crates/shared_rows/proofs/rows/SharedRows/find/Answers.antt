@@ -1,5 +1,4 @@
-use Rattle.std.proofs.Common.{sym, arith}
-use Rattle.std.proofs.lemmas.Grind.{common_steps}
+use Rattle.std.proofs.Common.{sym}
 use Rattle.shared_rows.proofs.KeptLemmas.{number_absent, number_found, number_stands, seen_by}
 use Rattle.shared_rows.proofs.rows.SharedRows.find.Goals as goal
 
@@ -16,6 +15,3 @@ pub returns-in-None : goal.returns-in-None
 returns-in-None g c =
     let seen = seen_by c.self.invariant c.self.view_is c.requires c.get-entries.ensures in
     record { found = sym (number_absent seen c.args.number c.in-None.ensures.absent); stands = tt; sound = seen.sound }
-
-pub get-entries-requires : goal.get-entries-requires
-get-entries-requires g c = grind (arith, common_steps)

@@ -1,6 +1,5 @@
-use Rattle.std.proofs.Common.{◌≡◌, ◌∙◌, None, get_or, sym, ap, subst, rules, arith}
+use Rattle.std.proofs.Common.{◌≡◌, ◌∙◌, None, get_or, sym, ap, subst, rules}
 use Rattle.std.specs.List.{insert}
-use Rattle.std.proofs.lemmas.Grind.{common_steps}
 use Rattle.shared_rows.specs.Index.{IsCountBelow, IsRisingIndex}
 use Rattle.shared_rows.proofs.KeptLemmas.{come, come_between, on_err, seen_by, unchanged, vacant_seen}
 use Rattle.shared_rows.proofs.rows.SharedRows.insert.Goals as goal
@@ -51,6 +50,3 @@ returns-clause-vacant g c =
     let seen = seen_by c.self.invariant c.self.view_is c.requires.place c.get_mut-index.ensures.value in
     vacant_seen seen c.vacant_key-key.result
     (ap (λ slab. get_or slab.slots c.vacant_key-key.result None) (sym c.reserve.ensures.rest_kept) ∙ c.vacant_key-key.ensures.vacant)
-
-pub get_mut-index-requires : goal.get_mut-index-requires
-get_mut-index-requires g c = grind (arith, common_steps)

@@ -1,5 +1,4 @@
-use Rattle.std.proofs.Common.{◌∙◌, sym, arith}
-use Rattle.std.proofs.lemmas.Grind.{common_steps}
+use Rattle.std.proofs.Common.{◌∙◌, sym}
 use Rattle.shared_rows.proofs.KeptLemmas.{seen_by}
 use Rattle.shared_rows.proofs.rows.SharedRows.len.Goals as goal
 
@@ -7,6 +6,3 @@ pub returns : goal.returns
 returns g c =
     let seen = seen_by c.self.invariant c.self.view_is c.requires c.get.ensures in
     record { len = c.len.ensures ∙ sym seen.count; sound = seen.sound }
-
-pub get-requires : goal.get-requires
-get-requires g c = grind (arith, common_steps)

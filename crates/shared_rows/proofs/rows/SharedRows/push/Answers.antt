@@ -1,5 +1,4 @@
-use Rattle.std.proofs.Common.{◌≡◌, ◌∙◌, ◌++◌, ◌∷◌, [], None, get_or, sym, ap, rules, arith}
-use Rattle.std.proofs.lemmas.Grind.{common_steps}
+use Rattle.std.proofs.Common.{◌≡◌, ◌∙◌, ◌++◌, ◌∷◌, [], None, get_or, sym, ap, rules}
 use Rattle.shared_rows.proofs.KeptLemmas.{come, come_last, on_err, seen_by, unchanged, vacant_seen}
 use Rattle.shared_rows.proofs.rows.SharedRows.push.Goals as goal
 
@@ -40,6 +39,3 @@ returns-clause-vacant g c =
     let seen = seen_by c.self.invariant c.self.view_is c.requires.place c.get_mut-index.ensures.value in
     vacant_seen seen c.vacant_key-key.result
     (ap (λ slab. get_or slab.slots c.vacant_key-key.result None) (sym c.reserve.ensures.rest_kept) ∙ c.vacant_key-key.ensures.vacant)
-
-pub get_mut-index-requires : goal.get_mut-index-requires
-get_mut-index-requires g c = grind (arith, common_steps)

@@ -1,5 +1,4 @@
-use Rattle.std.proofs.Common.{◌∙◌, sym, ap, arith}
-use Rattle.std.proofs.lemmas.Grind.{common_steps}
+use Rattle.std.proofs.Common.{◌∙◌, sym, ap}
 use Rattle.shared_rows.proofs.KeptLemmas.{number_there, removed, seen_at, seen_by, slot_some, slot_under}
 use Rattle.shared_rows.proofs.rows.SharedRows.remove.Goals as goal
 
@@ -21,15 +20,12 @@ invariant_of-self g c =
     (rw c.unwrap-at.ensures at c.position.ensures.found) (sym (c.value.ensures ∙ c.number.ensures))
     c.remove-row.ensures.updates.others c.remove-row.ensures.len (ap (λ index. index.items) c.remove.ensures.others)).kept
 
-pub returns-clause-row : goal.returns-clause-row
-returns-clause-row g c = (slot_under (seen_at c.self.invariant c.self.view_is c.requires.place).1 c.args.key c.requires.stands c.remove-row.ensures.value).1
-
-pub returns-clause-rest : goal.returns-clause-rest
-returns-clause-rest g c =
+pub returns : goal.returns
+returns g c =
     let seen = seen_by c.self.invariant c.self.view_is c.requires.place c.get_mut-index.ensures.value in
-    (removed c.self.invariant seen c.self.view_is c.remove.new.self c.args.key c.requires.stands c.remove-row.ensures.value
-    (rw c.unwrap-at.ensures at c.position.ensures.found) (sym (c.value.ensures ∙ c.number.ensures))
-    c.remove-row.ensures.updates.others c.remove-row.ensures.len (ap (λ index. index.items) c.remove.ensures.others)).view
-
-pub get_mut-index-requires : goal.get_mut-index-requires
-get_mut-index-requires g c = grind (arith, common_steps)
+    record {
+      row = (slot_under seen c.args.key c.requires.stands c.remove-row.ensures.value).1;
+      rest = (removed c.self.invariant seen c.self.view_is c.remove.new.self c.args.key c.requires.stands c.remove-row.ensures.value
+          (rw c.unwrap-at.ensures at c.position.ensures.found) (sym (c.value.ensures ∙ c.number.ensures))
+          c.remove-row.ensures.updates.others c.remove-row.ensures.len (ap (λ index. index.items) c.remove.ensures.others)).view;
+    }

@@ -1,5 +1,4 @@
-use Rattle.std.proofs.Common.{refl, ap, arith}
-use Rattle.std.proofs.lemmas.Grind.{common_steps}
+use Rattle.std.proofs.Common.{refl, ap}
 use Rattle.shared_rows.proofs.KeptLemmas.{number_absent, number_found, number_some, removed, row_numbered, seen_by, slot_some, unchanged}
 use Rattle.shared_rows.proofs.rows.SharedRows.take.Goals as goal
 
@@ -35,22 +34,22 @@ invariant_of-self-2 g c =
     (row_numbered seen c.in_ok-at.ensures.found entry c.remove-row.ensures.value).1 c.remove-row.ensures.updates.others c.remove-row.ensures.len
     (ap (λ index. index.items) c.remove-entry.ensures.others)).kept
 
-pub returns-clause-taken : goal.returns-clause-taken
-returns-clause-taken g c =
+pub returns : goal.returns
+returns g c =
     let seen = seen_by c.self.invariant c.self.view_is c.requires c.get_mut-index.ensures.value in
     let entry = c.remove-entry.ensures.element c.remove-entry.result in
-    let row = row_numbered seen c.in_ok-at.ensures.found entry c.remove-row.ensures.value in (
-      c.remove-entry.result.key,
-      number_found seen c.in_ok-at.ensures.found entry,
-      row.0,
-      row.1,
-      (removed c.self.invariant seen c.self.view_is c.remove-entry.new.self c.remove-entry.result.key
-          (number_some seen c.in_ok-at.ensures.found entry) c.remove-row.ensures.value c.in_ok-at.ensures.found
-          row.1 c.remove-row.ensures.updates.others c.remove-row.ensures.len (ap (λ index. index.items) c.remove-entry.ensures.others)).view,
-    )
-
-pub returns-clause-sound : goal.returns-clause-sound
-returns-clause-sound g c = (seen_by c.self.invariant c.self.view_is c.requires c.get_mut-index.ensures.value).sound
-
-pub get_mut-index-requires : goal.get_mut-index-requires
-get_mut-index-requires g c = grind (arith, common_steps)
+    let row = row_numbered seen c.in_ok-at.ensures.found entry c.remove-row.ensures.value in
+    record {
+      taken = (
+        c.remove-entry.result.key,
+        number_found seen c.in_ok-at.ensures.found entry,
+        row.0,
+        row.1,
+        (removed c.self.invariant seen c.self.view_is c.remove-entry.new.self c.remove-entry.result.key
+            (number_some seen c.in_ok-at.ensures.found entry) c.remove-row.ensures.value c.in_ok-at.ensures.found
+            row.1 c.remove-row.ensures.updates.others c.remove-row.ensures.len (ap (λ index. index.items) c.remove-entry.ensures.others)).view,
+      );
+      absent = tt;
+      unchanged = tt;
+      sound = seen.sound;
+    }
