@@ -1,6 +1,6 @@
 -- Methods and properties that are declared once.
 use Rattle.std.proofs.Common.{Ordering, ◌≡◌, ◌∙◌, ℕ, zero, suc, ◌+◌, Bool, true, false, not, cond, ◌&&◌, ◌||◌, List, [], ◌∷◌, ◌++◌, Some, Ok, map, position}
-use Rattle.std.proofs.Common.{bytes_eq, is_none, slice_get, take, refl, sym, ap, subst, IsTrue, Decides}
+use Rattle.std.proofs.Common.{bytes_eq, is_none, slice_get, take, refl, sym, ap, subst, IsTrue, Decides, Result}
 use Rattle.std.specs.Cmp.Lexicographic.{pointwise, pointwise_decides, slice_cmp}
 use Rattle.std.specs.List.{All, list_all, list_any, position_from}
 use Rattle.std.specs.BTreeSet.{BTreeSet, Updates, contains}
@@ -20,11 +20,12 @@ use Rattle.class_table.specs.declared.class.Property.{Property}
 use Rattle.class_table.specs.declared.declare.Signed.{Signed}
 use Rattle.class_table.specs.declared.form.PropertyForm.{PropertyForm}
 use Rattle.class_table.specs.Declaring.{SignedMethod, new_names, new_signatures}
+use Rattle.class_table.specs.declared.fault.Stop.{Stop}
+use Rattle.class_table.specs.Faults.{Gives}
 use Rattle.class_table.specs.Forms.{property_seen}
 use Rattle.class_table.specs.Lookup.{are_distinct_methods, are_distinct_properties, is_distinct, is_same, method_number, names, property_number, signatures}
 use Rattle.class_table.specs.Lookup.{text_of}
 use Rattle.class_table.specs.Signed.{signed_seen}
-use Rattle.class_table.specs.Steps.{Read}
 use Rattle.class_table.specs.Written.{WrittenProperty}
 use Rattle.class_table.proofs.ListLemmas.{list_any-map}
 
@@ -212,6 +213,10 @@ seen_twice texts i text at once found =
     let whole = split texts i text at in
     ap (is_distinct bytes_eq) whole.1 ∙ found_again (take i texts) text whole.0 once found
 
--- two values that one reading gives
-pub same_value : {A : Type 0} (x y : A) (read : Read A) → read ≡ Ok x → read ≡ Ok y → x ≡ y
-same_value x y read e f = cc
+-- what is declared once, by the texts that a reading gives, where nothing is inherited
+pub once_by_texts : (whole inherited new : Bool) (wanted given texts : List (List ℕ)) (result : Result Bool Stop) → whole ≡ inherited && new
+    → inherited ≡ true → new ≡ is_distinct bytes_eq wanted → Gives (λ list. list) (Ok given) (Ok wanted) → given ≡ texts
+    → Gives (λ once. once) result (Ok (is_distinct bytes_eq texts)) → Gives (λ once. once) result (Ok whole)
+once_by_texts whole inherited new wanted given texts result split none once reading same gives =
+    let listed : wanted ≡ texts = cc in
+    subst (λ (b : Bool). Gives (λ once. once) result (Ok b)) (sym (split ∙ ap (λ b. b && new) none ∙ once ∙ ap (is_distinct bytes_eq) listed)) gives

@@ -1,7 +1,6 @@
 -- What the bytes that were read say of all bytes that a file has.
 use Rattle.std.proofs.Common.{◌≡◌, ◌∙◌, ◌<◌, ◌≤◌, ◌++◌, ℕ, false, List, length, nat_le, take, Option, Some, None, Result, Ok, Err, IfSome, refl, sym, ap, subst}
 use Rattle.std.proofs.Common.{inl, inr, arith, append-nil}
-use Rattle.std.proofs.Math.Seq.{take-append_seam}
 use Rattle.std.proofs.lemmas.Bool.{cases_Bool, leb-false, leb-true, lt-leb}
 use Rattle.std.proofs.lemmas.List.{length-take-le, take_all}
 use Rattle.std.specs.Io.KnownBytes.{Consumes, IsAtEnd}
@@ -14,13 +13,6 @@ use Rattle.command_line.specs.ClassBytes.{Answers, AnswersOfFile}
 use Rattle.command_line.specs.declared.class_file.TheConstants.{MOST_BYTES}
 use Rattle.command_line.specs.declared.class_file.ClassFileError.{ClassFileError}
 use Rattle.command_line.specs.declared.class_file.ClassFileError.TheVariants.{Refused, Unreadable, Memory}
-
--- as many as were wanted
-pub all_wanted : (a b : Option (List ℕ)) (bytes : List ℕ) (most : ℕ) → Consumes a b bytes → length bytes ≡ most → IfSome a (λ left. bytes ≡ take most left)
-all_wanted None b bytes most consumed is = tt
-all_wanted (Some left) None bytes most consumed is = absurd consumed
-all_wanted (Some left) (Some rest) bytes most consumed is =
-    sym (ap (take most) consumed ∙ ap (λ n. take n (bytes ++ rest)) (sym is) ∙ take-append_seam bytes rest)
 
 -- as many as there were
 pub all_there : (a b : Option (List ℕ)) (bytes : List ℕ) (most : ℕ) → Consumes a b bytes → IsAtEnd b → length bytes ≤ most

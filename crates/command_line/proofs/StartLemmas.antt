@@ -1,5 +1,5 @@
 -- What the answers of the command line and of the class file say of the start.
-use Rattle.std.proofs.Common.{◌≡◌, ◌⊎◌, ℕ, Bool, true, false, List, Option, Some, None, Result, Ok, Err, refl, sym, subst, inl, inr}
+use Rattle.std.proofs.Common.{◌≡◌, ◌⊎◌, ℕ, Bool, true, List, Option, Some, None, Result, Ok, Err, refl, sym, subst, inl, inr}
 use Rattle.std.specs.Prelude.{IsErrAnd}
 use Rattle.std.proofs.lemmas.Bool.{false_from_ne_true}
 use Rattle.command_line.specs.Asked.{Asked, AreOf, asked, is_named}
@@ -9,7 +9,7 @@ use Rattle.command_line.specs.declared.class_file.ClassFileError.{ClassFileError
 use Rattle.command_line.specs.declared.class_file.ClassFileError.TheVariants.{Refused, Unreadable, Memory}
 use Rattle.command_line.specs.declared.ending.Ending.{Ending}
 use Rattle.command_line.specs.declared.options.Options.{Options}
-use Rattle.command_line.specs.Ending.{EndsByClasses, IsOfBadName, IsOutOfMemory}
+use Rattle.command_line.specs.Ending.{EndsByClasses, IsOutOfMemory}
 use Rattle.command_line.specs.Start.{Files, AreWords, EndsAt, EndsFor, EndsRun, SaysNoWords, Starts, StartsByProcess}
 
 ends_at : (files : Files) (path : Option (List ℕ)) (error : ClassFileError) (ending : Ending) → AnswersAt files.holds files.readable path (Err error)
@@ -36,11 +36,6 @@ ends_for files wanted options error ending are named answers (inr ends) = elim (
   | inl memory ↦ inl memory
   | inr told ↦ inr (ends_as files wanted options ending true are named told)
 ]
-
--- and where the name is none
-pub ends_by_name : (files : Files) (wanted : Asked) (options : Options) (ending : Ending) → AreOf wanted options → is_named options.slice ≡ false
-    → IsOfBadName ending → EndsFor files wanted ending
-ends_by_name files wanted options ending are unnamed ends = ends_as files wanted options ending false are unnamed ends
 
 -- a start by these words is one by the words of the command line
 pub starts_by : {T : Type 0} (texts : T → List (List ℕ)) (given : Option (List (List ℕ))) (files : Files) (found : T) (result : Result Beginning Ending)

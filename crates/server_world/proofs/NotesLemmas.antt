@@ -1,7 +1,6 @@
 -- What is noted of commands, as it stands, and the way back over it.
 use Rattle.std.proofs.Common.{◌≡◌, ◌∙◌, ℕ, zero, suc, ◌+◌, ◌<◌, ◌≤◌, ◌==◌, ◌||◌, Bool, true, false, List, [], ◌∷◌, ◌++◌, length, drop, get_or, set, reverse}
 use Rattle.std.proofs.Common.{add-one, drop-cons, refl, sym, ap, ap₂, subst, ⊎_elim, arith}
-use Rattle.std.proofs.Math.Seq.{drop-length}
 use Rattle.std.specs.List.{All, list_any}
 use Rattle.std.proofs.lemmas.Bool.{both_ways, cases_Bool, eq-eqb, or_left}
 use Rattle.std.proofs.lemmas.Grind.{get_or-set_at}
@@ -101,18 +100,6 @@ marked_member table at place members inside is = ⊎_elim
     (cases_Bool (place == at))
 
 module _ (session sessions : ℕ) (notes : List (Note ℕ)) where
-  -- before the last note nobody is a member but the session itself
-  pub back_begins : (table : List Bool) → session < sessions → length table ≡ sessions → ((k : ℕ) → k < sessions → get_or table k false ≡ false)
-      → IsBack session sessions notes (length notes) (set table session true) []
-  back_begins table there long none =
-      let ends : drop (length notes) notes ≡ [] = drop-length notes in
-      record {
-        long = length-set table session true ∙ long;
-        members = λ place within. marked_member table session place [] (omega arith) (none place within)
-            ∙ ap (λ notes. is_in by_place place (back by_place session notes).members) (sym ends);
-        found = ap (λ rest. marked_from (length notes) (back by_place session rest).marks) (sym ends);
-      }
-
   module _ (left at : ℕ) (table : List Bool) (places : List ℕ) (note : Note ℕ) (is : left ≡ at + 1) (next : drop at notes ≡ note ∷ drop left notes)
       (within : IsWithin sessions note) (on : IsBack session sessions notes left table places) where
     -- is the command of this note kept

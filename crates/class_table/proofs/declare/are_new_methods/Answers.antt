@@ -1,22 +1,11 @@
-use Rattle.std.proofs.Common.{◌≡◌, ◌∙◌, ◌&&◌, ◌++◌, Bool, Ok, refl, sym, ap, subst, map, bytes_eq, rules}
-use Rattle.class_table.specs.Declaring.{new_signatures}
-use Rattle.class_table.specs.Faults.{Gives}
-use Rattle.class_table.specs.Lookup.{are_distinct_methods, is_distinct, methods, signatures, text_of}
-use Rattle.class_table.specs.Signed.{signed_seen}
-use Rattle.class_table.proofs.OnceLemmas.{new_methods_once, methods_by_text, same_value}
+use Rattle.std.proofs.Common.{◌∙◌, sym, rules}
+use Rattle.class_table.specs.Lookup.{methods}
+use Rattle.class_table.proofs.OnceLemmas.{methods_by_text, new_methods_once, once_by_texts}
 use Rattle.class_table.proofs.declare.are_new_methods.Goals as goal
 
 pub returns : goal.returns
 returns c =
-    let base = methods c.args.table.now c.args.base in
-    let new = c.args.signed.now in
-    let texts = c.as_slice.result.now in
-    let same : c.in_ok-texts.texts.items ≡ texts = search rules in
-    let listed : map (λ n. text_of n.signature) new ≡ texts =
-    same_value (map (λ n. text_of n.signature) new) _ (Ok (map (λ n. text_of n.signature) new)) refl c.in_ok-texts.ensures ∙ same in
-    let is : are_distinct_methods (signatures base ++ new_signatures (map signed_seen new)) ≡ is_distinct bytes_eq texts =
-    new_methods_once base new c.requires.once
-    ∙ (ap (λ b. b && are_distinct_methods (new_signatures (map signed_seen new))) (sym c.are_not_inherited.ensures ∙ c.if-not-are_not_inherited.false)
-    ∙ (methods_by_text new c.requires.normal ∙ ap (is_distinct bytes_eq) listed)) in
-    let P : Bool → Type 0 = λ b. Gives (λ b. b) c.are_distinct.result (Ok b) in
-    subst P (sym is) c.are_distinct.ensures
+    once_by_texts _ _ _ _ c.in_ok-texts.texts.items c.as_slice.result.now c.are_distinct.result
+    (new_methods_once (methods c.args.table.now c.args.base) c.args.signed.now c.requires.once)
+    (sym c.are_not_inherited.ensures ∙ c.if-not-are_not_inherited.false)
+    (methods_by_text c.args.signed.now c.requires.normal) c.in_ok-texts.ensures (search rules) c.are_distinct.ensures
