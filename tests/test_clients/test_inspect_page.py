@@ -2,6 +2,7 @@
 compared with what the plain program knows."""
 
 import json
+import os
 import subprocess
 import sys
 import time
@@ -20,7 +21,8 @@ from .inspectors import InspectCases, address_in
 
 MANY = 1_000
 OBJECTS = 4_096
-FIRST_PICTURE = 60  # seconds up to the first picture, on a machine that does much else
+FIRST_PICTURE, WHERE_BUSY = 1, 60  # seconds up to the first picture
+TRIES = 10  # one has to show it in time, since others use the machine too
 ROWS_MOST = 150  # rows that are in the page at once
 MARKUP = "<img src=x onerror=document.title='run'><b>bold</b>"
 FALL = {"do": "invoke", "object": 1, "method": "fall()", "args": []}  # by which nearly all objects go
@@ -280,8 +282,12 @@ class Many(PageCases):
                 client.hear()
             self.give(clients[0], [{**CELL, "parent": 1 + at // 8} for at in range(OBJECTS - 1)])
             asker.until(self, lambda it: it["commands"] == MANY + OBJECTS - 1 and not it["waiting"], "about")
-            sessions_after, objects_after = self.first_pictures(asker)
-            self.assertLess(max(sessions_after, objects_after), FIRST_PICTURE, "seconds up to the first picture")
+            is_busy = os.getloadavg()[0] > (os.cpu_count() or 1) / 2
+            most, tried = WHERE_BUSY if is_busy else FIRST_PICTURE, []
+            while not tried or (max(tried[-1]) > most and len(tried) < TRIES):
+                tried.append(self.first_pictures(asker))
+            sessions_after, objects_after = min(tried, key=max)
+            self.assertLess(max(sessions_after, objects_after), most, "seconds up to the first picture")
             self.tell(f"{MANY} sessions after {sessions_after:.2f} s, {OBJECTS} objects after {objects_after:.2f} s")
 
     def first_pictures(self, asker):
