@@ -113,9 +113,9 @@ class Deadlines(LimitedCases):
         with self.limited("command_seconds = 3\n", "--workers", "1", server=[sys.executable, "-c", slowly]) as (path, _):
             one, two = (self.entered(path, group) for group in ("desk", "lamp"))
             for client, _ in (one, two):
-                client.say(*[ONE] * 8)
+                client.say(*[ONE] * 12)  # 3.6 seconds of its own, and 7.2 with the other's
             for client, name in (one, two):
-                self.assertEqual([client.hear() for _ in range(8)], [reply(at, name) for at in range(1, 9)], name)
+                self.assertEqual([client.hear() for _ in range(12)], [reply(at, name) for at in range(1, 13)], name)
 
 
 class Memory(LimitedCases):
